@@ -1,0 +1,82 @@
+// One object holds the store and the console, so that one clock orders what is written and what is said.
+ghost use Rattle.std.specs.Prelude.{◌≡◌, ◌⊎◌, ◌++◌, ℕ, ◌+◌, ◌^◌, ◌<◌, ◌≤◌, length, take, drop, IsTrue, IfOk, OnOk, OnErr};
+ghost use Rattle.host_port.specs.Host.{Told, MayLeave, disk_now, said_now, Rose, GoesOn, Throughout, KeepsDisk, KeepsSaid, KeepsInput, Moves, AddsPart, RaisesTakesAlone, RaisesSaysAlone, RaisesDiskAlone, WrittenPart, written, synced};
+
+/// A call of a host failed.
+#[derive(Clone, Copy, Debug, PartialEq, Eq)]
+pub struct Failed;
+
+pub trait Host {
+    /// All that it tells.
+    ghost told: { Self → Told };
+
+    /// Hands over bytes of the input; 0 bytes are its end.
+    fn take(&mut self, into: &mut [u8]) -> Result<usize, Failed>
+        requires { 0 < length into.old }
+        ensures course { GoesOn (told self.old) (told self.new) }
+        ensures disk { KeepsDisk (told self.old) (told self.new) }
+        ensures said { KeepsSaid (told self.old) (told self.new) }
+        ensures bound { IfOk result (λ n. n ≤ length into.new) }
+        ensures moved { IfOk result (λ n. IsTrue (told self.old).tells → Moves (told self.old) (told self.new) (take n into.new)) }
+        ensures alone { RaisesTakesAlone (told self.old) (told self.new) }
+        ensures cause { OnErr result (Rose (told self.old).take_faults (told self.new).take_faults) };
+
+    /// Says all the bytes, or fails.
+    fn say(&mut self, bytes: &[u8]) -> Result<(), Failed>
+        ensures course { GoesOn (told self.old) (told self.new) }
+        ensures disk { KeepsDisk (told self.old) (told self.new) }
+        ensures input { KeepsInput (told self.old) (told self.new) }
+        ensures part { Throughout (told self.old) (told self.new) (λ _ said. AddsPart (said_now (told self.old)) bytes.now said) }
+        ensures whole { OnOk result (IsTrue (told self.old).tells → said_now (told self.new) ≡ said_now (told self.old) ++ bytes.now) }
+        ensures alone { RaisesSaysAlone (told self.old) (told self.new) }
+        ensures cause { OnErr result (Rose (told self.old).say_faults (told self.new).say_faults) };
+
+    /// The file's length.
+    fn len(&mut self) -> Result<u64, Failed>
+        ensures course { GoesOn (told self.old) (told self.new) }
+        ensures disk { KeepsDisk (told self.old) (told self.new) }
+        ensures said { KeepsSaid (told self.old) (told self.new) }
+        ensures input { KeepsInput (told self.old) (told self.new) }
+        ensures length { IfOk result (λ n. IsTrue (told self.old).tells → n ≡ length (disk_now (told self.old)).now) }
+        ensures alone { RaisesDiskAlone (told self.old) (told self.new) }
+        ensures cause { OnErr result (Rose (told self.old).disk_faults (told self.new).disk_faults) };
+
+    /// Reads the file from a place on.
+    fn read_at(&mut self, at: u64, into: &mut [u8]) -> Result<(), Failed>
+        requires { IsTrue (told self.old).tells → at + length into.old ≤ length (disk_now (told self.old)).now }
+        ensures course { GoesOn (told self.old) (told self.new) }
+        ensures disk { KeepsDisk (told self.old) (told self.new) }
+        ensures said { KeepsSaid (told self.old) (told self.new) }
+        ensures input { KeepsInput (told self.old) (told self.new) }
+        ensures bytes { OnOk result (IsTrue (told self.old).tells → into.new ≡ take (length into.old) (drop at (disk_now (told self.old)).now)) }
+        ensures alone { RaisesDiskAlone (told self.old) (told self.new) }
+        ensures cause { OnErr result (Rose (told self.old).disk_faults (told self.new).disk_faults) };
+
+    /// Writes over what is there, and past the end. Until a sync, a stop may leave any bytes in the range.
+    fn write_at(&mut self, at: u64, bytes: &[u8]) -> Result<(), Failed>
+        requires place { IsTrue (told self.old).tells → at ≤ length (disk_now (told self.old)).now }
+        requires limit { at + length bytes.now ≤ 2 ^ 40 }
+        ensures course { GoesOn (told self.old) (told self.new) }
+        ensures said { KeepsSaid (told self.old) (told self.new) }
+        ensures input { KeepsInput (told self.old) (told self.new) }
+        ensures part { Throughout (told self.old) (told self.new)
+            (λ disk _. WrittenPart (disk_now (told self.old)) (record { from = at; to = at + length bytes.now }) disk) }
+        ensures whole { OnOk result (IsTrue (told self.old).tells → disk_now (told self.new) ≡ written (disk_now (told self.old)) at bytes.now) }
+        ensures alone { RaisesDiskAlone (told self.old) (told self.new) }
+        ensures cause { OnErr result (Rose (told self.old).disk_faults (told self.new).disk_faults) };
+
+    /// After it, a stop leaves what a read gives.
+    fn sync(&mut self) -> Result<(), Failed>
+        ensures course { GoesOn (told self.old) (told self.new) }
+        ensures said { KeepsSaid (told self.old) (told self.new) }
+        ensures input { KeepsInput (told self.old) (told self.new) }
+        ensures before_or_after { Throughout (told self.old) (told self.new)
+            (λ disk _. (disk ≡ disk_now (told self.old)) ⊎ (disk ≡ synced (disk_now (told self.old)))) }
+        ensures stable { OnOk result (IsTrue (told self.old).tells → disk_now (told self.new) ≡ synced (disk_now (told self.old))) }
+        ensures kept { OnErr result (KeepsDisk (told self.old) (told self.new)) }
+        ensures alone { RaisesDiskAlone (told self.old) (told self.new) }
+        ensures cause { OnErr result (Rose (told self.old).disk_faults (told self.new).disk_faults) };
+
+    /// What a read gives is what a stop may leave.
+    ghost now_is_left: { (host : Self) (t : ℕ) → IsTrue (told host).tells → t ≤ (told host).clock → MayLeave ((told host).disk t) ((told host).disk t).now };
+}
