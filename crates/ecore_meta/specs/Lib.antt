@@ -1,0 +1,5 @@
+pub mod Meta
+pub mod Supers
+pub mod Tables
+pub mod Typing
+pub mod Sound

@@ -1,0 +1,24 @@
+-- What contracts see of a metamodel.
+use Rattle.std.specs.Prelude.{ℕ, Bool, false, List, slice_get, nat_eq}
+use Rattle.std.specs.List.{list_any}
+use Rattle.std.specs.Option.{option_map_or}
+use Rattle.ecore_meta.specs.declared.meta.Class.{Class}
+use Rattle.ecore_meta.specs.declared.meta.Feature.{Feature}
+use Rattle.ecore_meta.specs.declared.meta.EnumLiteral.{EnumLiteral}
+use Rattle.ecore_meta.specs.Supers.{is_above}
+
+-- classes and features by number, for each class its direct supertypes, and for each enum its literals
+pub record Meta : Type 0 where
+  pub uri : List ℕ
+  pub classes : List Class
+  pub features : List Feature
+  pub supers : List (List ℕ)
+  pub literals : List (List EnumLiteral)
+
+-- c is d, or d is above it
+abbrev pub is_a : Meta → ℕ → ℕ → Bool
+is_a meta c d = is_above meta.supers c d
+
+-- whether a class has a feature, its own or inherited
+abbrev pub has_feature : Meta → ℕ → ℕ → Bool
+has_feature meta c f = option_map_or (λ class. list_any (nat_eq f) class.features) (slice_get meta.classes c) false

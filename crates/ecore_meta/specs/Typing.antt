@@ -1,0 +1,62 @@
+-- What a metamodel says of its features by number.
+use Rattle.std.specs.Prelude.{ℕ, ℤ, pos, negsuc, Bool, true, false, List, [], Option, None, slice_get, nat_lt, ◌&&◌, length}
+use Rattle.std.specs.Option.{option_map_or}
+use Rattle.ecore_meta.specs.Meta.{Meta, has_feature, is_a}
+use Rattle.ecore_meta.specs.declared.meta.EnumLiteral.{EnumLiteral}
+use Rattle.ecore_meta.specs.declared.meta.Kind.{Kind}
+use Rattle.ecore_meta.specs.declared.meta.Kind.TheVariants.{Bounded, Free, Skip}
+use Rattle.ecore_meta.specs.declared.meta.Scalar.{Scalar}
+use Rattle.ecore_meta.specs.declared.meta.Scalar.TheVariants.{Text as TextType, Flag as FlagType, Byte, Short, Int, Long, Literal as LiteralType}
+use Rattle.ecore_meta.specs.declared.meta.Value.{Value}
+use Rattle.ecore_meta.specs.declared.meta.Value.TheVariants.{Text, Flag, Whole, Literal}
+
+-- a whole number of so many signed bits, by the power below them
+abbrev pub in_width : ℕ → ℤ → Bool
+in_width half (pos n) = nat_lt n half
+in_width half (negsuc n) = nat_lt n half
+
+-- the literals of an enum, none where there is no such enum
+abbrev pub literals_of : Meta → ℕ → List EnumLiteral
+literals_of meta e = option_map_or (λ ls. ls) (slice_get meta.literals e) []
+
+-- how many literals an enum has
+abbrev pub literal_count : Meta → ℕ → ℕ
+literal_count meta e = option_map_or length (slice_get meta.literals e) 0
+
+-- the value is of the type
+abbrev pub fits : Meta → Scalar → Value → Bool
+fits meta TextType (Text a) = true
+fits meta FlagType (Flag a) = true
+fits meta Byte (Whole a) = in_width 128 a
+fits meta Short (Whole a) = in_width 32768 a
+fits meta Int (Whole a) = in_width 2147483648 a
+fits meta Long (Whole a) = in_width 9223372036854775808 a
+fits meta (LiteralType e) (Literal n) = nat_lt n (literal_count meta e)
+fits meta s v = false
+
+-- the kind of a feature, Skip for a number that is none
+abbrev pub kind_of : Meta → ℕ → Kind
+kind_of meta f = option_map_or (λ feature. feature.kind) (slice_get meta.features f) Skip
+
+-- the upper bound of a feature, None for a number that is none
+abbrev pub upper_of : Meta → ℕ → Option ℕ
+upper_of meta f = option_map_or (λ feature. feature.upper) (slice_get meta.features f) None
+
+-- the opposite of a plain feature
+abbrev pub opposite_in : Kind → Option ℕ
+opposite_in (Bounded target opposite) = opposite
+opposite_in (Free target opposite) = opposite
+opposite_in k = None
+
+abbrev pub opposite_of : Meta → ℕ → Option ℕ
+opposite_of meta f = opposite_in (kind_of meta f)
+
+-- a plain reference to elements of a class
+abbrev pub plain_to : Meta → Kind → ℕ → Bool
+plain_to meta (Bounded target opposite) d = is_a meta d target
+plain_to meta (Free target opposite) d = is_a meta d target
+plain_to meta k d = false
+
+-- an element of class c may have a link by the feature to one of class d
+abbrev pub links : Meta → ℕ → ℕ → ℕ → Bool
+links meta c f d = has_feature meta c f && plain_to meta (kind_of meta f) d

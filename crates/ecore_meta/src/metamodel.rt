@@ -1,0 +1,84 @@
+ghost use Rattle.std.specs.Prelude.{◌≡◌, ◌<◌, length, slice_get, Some, nat_eq};
+ghost use Rattle.std.specs.List.{list_any};
+ghost use Rattle.std.specs.Option.{option_map_or};
+ghost use Rattle.ecore_meta.specs.Meta.{is_a, has_feature};
+ghost use Rattle.ecore_meta.specs.Typing.{literal_count};
+
+use crate::{Class, EnumLiteral, Feature, Text};
+use std::marker::Model;
+
+/// A metamodel, which contracts see as its classes with their supertypes, its features and its enums.
+#[derive(Debug, Drop)]
+pub struct Metamodel {
+    uri: Text,
+    classes: Vec<Class>,
+    features: Vec<Feature>,
+    /// The direct supertypes of each class.
+    supers: Vec<Vec<u32>>,
+    /// Each class and all those above it.
+    above: Vec<Vec<u32>>,
+    literals: Vec<Vec<EnumLiteral>>,
+}
+
+fn holds(xs: &[u32], x: u32) -> bool
+    ensures { result ≡ list_any (nat_eq x) xs.now }
+{
+    xs.iter().any(|y| x == *y)
+}
+
+impl Model for Metamodel {
+    ghost use Rattle.std.specs.Prelude.{map};
+    ghost use Rattle.ecore_meta.specs.Meta.{Meta};
+    ghost use Rattle.ecore_meta.specs.Tables.{Agrees};
+
+    ghost Value = { Meta };
+
+    ghost view = { λ a. record { uri = a.uri; classes = a.classes.items; features = a.features.items; supers = map (λ v. v.items) a.supers.items; literals = map (λ v. v.items) a.literals.items } };
+
+    ghost invariant = { λ a. Agrees (map (λ v. v.items) a.supers.items) (map (λ v. v.items) a.above.items) };
+}
+
+impl Metamodel {
+    /// The namespace URI.
+    pub fn uri(&self) -> &str
+        ensures { result.now ≡ self.now.uri }
+    {
+        self.uri.as_str()
+    }
+
+    /// Whether the class c is d, or d is above it.
+    pub fn is_a(&self, c: u32, d: u32) -> bool
+        ensures { result ≡ is_a self.now c d }
+    {
+        match self.above.get(c as usize) {
+            None => false,
+            Some(above) => holds(above.as_slice(), d),
+        }
+    }
+
+    /// Whether the class has the feature, its own or inherited.
+    pub fn has_feature(&self, c: u32, f: u32) -> bool
+        ensures { result ≡ has_feature self.now c f }
+    {
+        match self.classes.get(c as usize) {
+            None => false,
+            Some(class) => holds(class.features.as_slice(), f),
+        }
+    }
+
+    /// The class of that number.
+    pub fn class(&self, n: u32) -> &Class
+        requires { n < length self.now.classes }
+        ensures { slice_get self.now.classes n ≡ Some result.now }
+    {
+        &self.classes[n as usize]
+    }
+
+    /// The feature of that number.
+    pub fn feature(&self, n: u32) -> &Feature
+        requires { n < length self.now.features }
+        ensures { slice_get self.now.features n ≡ Some result.now }
+    {
+        &self.features[n as usize]
+    }
+}
