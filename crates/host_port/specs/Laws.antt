@@ -2,8 +2,8 @@
 use Rattle.std.specs.Prelude.{◌≡◌, ℕ, ◌+◌, ◌-◌, ◌<◌, ◌≤◌, max, List, [], ◌∷◌, ◌++◌, length, take, drop, get_or, All, refl}
 use Rattle.std.proofs.Common.{inl, inr, ◌∙◌, ap, subst, arith, length-append}
 use Rattle.std.proofs.lemmas.List.{length-take, length-drop, get_or_append_left, get_or-append_right, get_or-take, get_or-drop}
-use Rattle.host_port.specs.declared.memory.Call.{Call}
-use Rattle.host_port.specs.declared.memory.Call.TheVariants.{Quiet, Say, Write, Sync}
+use Rattle.host_port.specs.declared.calls.Call.{Call}
+use Rattle.host_port.specs.declared.calls.Call.TheVariants.{Quiet, Say, Write, Sync}
 use Rattle.host_port.specs.Host.{Disk, Span, IsOutside, furthest, MayLeave, overwritten}
 use Rattle.host_port.specs.Replay.{at_start, after_call, after_calls, disk_after}
 

@@ -1,8 +1,8 @@
-use Rattle.std.proofs.Common.{◌++◌, [], ◌∷◌, length, ℕ, List, ⊎_elim, sym, ◌∙◌, ap, arith}
+use Rattle.std.proofs.Common.{refl, inl, ◌++◌, [], ◌∷◌, length, ℕ, List, ⊎_elim, sym, ◌∙◌, ap, arith}
 use Rattle.std.proofs.lemmas.List.{append-nil, take_all}
-use Rattle.host_port.specs.declared.memory.Call.TheVariants.{Say}
+use Rattle.host_port.specs.declared.calls.Call.TheVariants.{Say}
 use Rattle.host_port.specs.Replay.{after_calls, at_start, said_in, said_after}
-use Rattle.host_port.proofs.Replaying.{after-push, said-push, disk_during, said_during, quiet_disk, quiet_file, quiet_words, quiet_said}
+use Rattle.host_port.proofs.Replaying.{listed_in, after-push, said-push, disk_during, said_during, quiet_disk, quiet_file, quiet_words, quiet_said}
 use Rattle.host_port.proofs.memory.MemoryHostHost.say.Goals as goal
 
 pub invariant_of-self-clause-file_is : goal.invariant_of-self-clause-file_is
@@ -53,3 +53,11 @@ returns-in-Ok-clause-part c = λ told t low high.
     (λ e. (0, e ∙ sym (append-nil before)))
     (λ e. (length c.args.bytes.now, e ∙ ap (λ (l : List ℕ). before ++ l) (v.1 ∙ sym (take_all (length c.args.bytes.now) c.args.bytes.now (omega arith)))))
     (said_during c.args.self.now.first.items calls c.try_say.new.calls.items (Say v.0) noted t low high)
+
+pub returns-then-not-begins-clause-failed : goal.returns-then-not-begins-clause-failed
+returns-then-not-begins-clause-failed c = record {
+  cause = inl (listed_in _ _ _ c.deref.ensures.value c.if-not-begins.ensures.listed);
+  disk = λ told t low high. quiet_disk c.args.self.now.first.items c.args.self.now.calls.items c.begins.new.calls.items c.if-not-begins.ensures.refused t low high;
+  said = λ told t low high. quiet_said c.args.self.now.calls.items c.begins.new.calls.items c.if-not-begins.ensures.refused t low high;
+  input = record { taken = refl; left = refl };
+}

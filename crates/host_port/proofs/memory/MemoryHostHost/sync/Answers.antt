@@ -1,8 +1,8 @@
-use Rattle.std.proofs.Common.{◌++◌, [], ◌∷◌, inl, sym, ◌∙◌, ap}
+use Rattle.std.proofs.Common.{refl, ◌++◌, [], ◌∷◌, inl, sym, ◌∙◌, ap}
 use Rattle.std.proofs.lemmas.List.{append-nil}
-use Rattle.host_port.specs.declared.memory.Call.TheVariants.{Sync}
+use Rattle.host_port.specs.declared.calls.Call.TheVariants.{Sync}
 use Rattle.host_port.specs.Replay.{after_calls, at_start, said_in}
-use Rattle.host_port.proofs.Replaying.{after-push, said-push, disk_end, disk_during, quiet_disk, quiet_file, quiet_words}
+use Rattle.host_port.proofs.Replaying.{listed_in, after-push, said-push, disk_end, disk_during, quiet_said, quiet_disk, quiet_file, quiet_words}
 use Rattle.host_port.proofs.memory.MemoryHostHost.sync.Goals as goal
 
 pub invariant_of-self-clause-file_is : goal.invariant_of-self-clause-file_is
@@ -36,3 +36,11 @@ pub returns-clause-stable : goal.returns-clause-stable
 returns-clause-stable c = λ told.
     let noted = c.if-not-note.ensures.noted ∙ ap (λ l. l ++ Sync ∷ []) c.if-not-begins.ensures.going_on.0 in
     disk_end c.args.self.now.first.items c.args.self.now.calls.items c.note.new.calls.items Sync noted
+
+pub returns-then-not-begins-clause-failed : goal.returns-then-not-begins-clause-failed
+returns-then-not-begins-clause-failed c = record {
+  cause = inl (listed_in _ _ _ c.deref.ensures.value c.if-not-begins.ensures.listed);
+  disk = λ told t low high. quiet_disk c.args.self.now.first.items c.args.self.now.calls.items c.begins.new.calls.items c.if-not-begins.ensures.refused t low high;
+  said = λ told t low high. quiet_said c.args.self.now.calls.items c.begins.new.calls.items c.if-not-begins.ensures.refused t low high;
+  input = record { taken = refl; left = refl };
+}

@@ -1,9 +1,9 @@
-use Rattle.std.proofs.Common.{◌++◌, [], ◌∷◌, length, ℕ, List, ⊎_elim, sym, ◌∙◌, ap}
+use Rattle.std.proofs.Common.{refl, inl, ◌++◌, [], ◌∷◌, length, ℕ, List, ⊎_elim, sym, ◌∙◌, ap}
 use Rattle.std.proofs.lemmas.List.{append-nil}
-use Rattle.host_port.specs.declared.memory.Call.TheVariants.{Write}
+use Rattle.host_port.specs.declared.calls.Call.TheVariants.{Write}
 use Rattle.host_port.specs.Host.{written, overwritten}
 use Rattle.host_port.specs.Replay.{after_calls, at_start, said_in, disk_after}
-use Rattle.host_port.proofs.Replaying.{after-push, said-push, disk_end, disk_during, quiet_disk, quiet_file, quiet_words, not_yet, whole_write}
+use Rattle.host_port.proofs.Replaying.{listed_in, after-push, said-push, disk_end, disk_during, quiet_said, quiet_disk, quiet_file, quiet_words, not_yet, whole_write}
 use Rattle.host_port.proofs.memory.MemoryHostHost.write_at.Goals as goal
 
 pub invariant_of-self-clause-file_is : goal.invariant_of-self-clause-file_is
@@ -53,3 +53,11 @@ returns-in-Ok-clause-whole c = λ told.
     let start = at_start c.args.self.now.first.items in
     let noted = v.2 ∙ ap (λ l. l ++ Write c.args.at v.0 ∷ []) c.if-not-begins.ensures.going_on.0 in
     disk_end c.args.self.now.first.items calls c.try_write.new.calls.items (Write c.args.at v.0) noted ∙ ap (λ (l : List ℕ). written (disk_after c.args.self.now.first.items calls (length calls)) c.args.at l) v.1
+
+pub returns-then-not-begins-clause-failed : goal.returns-then-not-begins-clause-failed
+returns-then-not-begins-clause-failed c = record {
+  cause = inl (listed_in _ _ _ c.deref.ensures.value c.if-not-begins.ensures.listed);
+  disk = λ told t low high. quiet_disk c.args.self.now.first.items c.args.self.now.calls.items c.begins.new.calls.items c.if-not-begins.ensures.refused t low high;
+  said = λ told t low high. quiet_said c.args.self.now.calls.items c.begins.new.calls.items c.if-not-begins.ensures.refused t low high;
+  input = record { taken = refl; left = refl };
+}
