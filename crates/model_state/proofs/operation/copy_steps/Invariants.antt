@@ -1,0 +1,6 @@
+-- the ids so far
+use Rattle.std.proofs.Common.{◌≡◌, take}
+use Rattle.model_state.proofs.operation.copy_steps.Given as goal
+
+abbrev pub invariant-loop-step : goal.invariant-loop-step
+invariant-loop-step l = l.copied ≡ take l.step-index l.steps

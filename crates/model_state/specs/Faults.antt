@@ -1,0 +1,15 @@
+-- What calls that refuse answer.
+use Rattle.std.specs.Prelude.{◌≡◌, ◌⊎◌, ℕ, List, Option, Some, false}
+use Rattle.model_state.specs.declared.id.IdFault.{IdFault}
+use Rattle.model_state.specs.declared.id.IdFault.TheVariants.{Bad, Memory as IdMemory}
+use Rattle.model_state.specs.declared.step.StepFault.{StepFault}
+use Rattle.model_state.specs.declared.step.StepFault.TheVariants.{Memory}
+use Rattle.model_state.specs.Ident.{is_id}
+
+-- want of memory, or the fault of the first test that fails
+abbrev pub IsFault : Option StepFault → StepFault → Type 0
+IsFault first e = (e ≡ Memory) ⊎ (first ≡ Some e)
+
+-- want of memory, or Bad where the text is no id
+abbrev pub IsIdFault : List ℕ → IdFault → Type 0
+IsIdFault text e = (e ≡ IdMemory) ⊎ (e ≡ Bad) × (is_id text ≡ false)

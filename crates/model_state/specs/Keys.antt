@@ -1,0 +1,27 @@
+-- The orders of the keys of a state.
+use Rattle.std.specs.Prelude.{ℕ, Bool, List, ◌&&◌, nat_eq}
+use Rattle.std.specs.declared.cmp.Ordering.{Ordering}
+use Rattle.std.specs.Ordering.{nat_cmp, ordering_then}
+use Rattle.std.specs.Cmp.Lexicographic.{slice_cmp}
+use Rattle.finite_maps.specs.Equal.{text_eq}
+
+-- an id is seen as its bytes, and ids stand in the order of their bytes
+abbrev pub Name : Type 0
+Name = List ℕ
+
+abbrev pub id_cmp : Name → Name → Ordering
+id_cmp = slice_cmp nat_cmp
+
+-- an element and a feature
+abbrev pub AttrKey : Type 0
+AttrKey = Name × ℕ
+
+abbrev pub attr_cmp : AttrKey → AttrKey → Ordering
+attr_cmp x y = ordering_then (id_cmp x.0 y.0) (nat_cmp x.1 y.1)
+
+-- a source, a feature and a target
+abbrev pub RowKey : Type 0
+RowKey = Name × ℕ × Name
+
+abbrev pub row_cmp : RowKey → RowKey → Ordering
+row_cmp x y = ordering_then (ordering_then (id_cmp x.0 y.0) (nat_cmp x.1 y.1)) (id_cmp x.2 y.2)

@@ -1,0 +1,12 @@
+pub mod Ident
+pub mod Keys
+pub mod Typing
+pub mod State
+pub mod Steps
+pub mod Good
+pub mod Chains
+pub mod Faults
+pub mod Lists
+pub mod Listing
+pub mod Ranks
+pub mod Packages

@@ -1,0 +1,46 @@
+-- The lists of a state: the targets of a feature, the elements of a place, the rows to an element, the ids.
+use Rattle.std.specs.Prelude.{◌≡◌, ℕ, Bool, List, [], ◌∷◌, map, nat_eq, ◌&&◌, Option, None, Some, unwrap_or}
+use Rattle.std.specs.List.{filter}
+use Rattle.std.specs.declared.cmp.Ordering.{Ordering}
+use Rattle.std.specs.Ordering.{nat_cmp, ordering_then}
+use Rattle.std.specs.FinMap.{FinMap, get, entries, keys}
+use Rattle.finite_maps.specs.Equal.{text_eq}
+use Rattle.finite_maps.specs.Sorts.{in_order, picked}
+use Rattle.model_state.specs.declared.entry.Entry.{Entry}
+use Rattle.model_state.specs.declared.entry.Incoming.{Incoming}
+use Rattle.model_state.specs.declared.step.Place.{Place}
+use Rattle.model_state.specs.Keys.{Name, RowKey, id_cmp, row_cmp}
+use Rattle.model_state.specs.State.{State, place_eq}
+
+-- by rank, and then by id
+abbrev pub entry_cmp : Entry → Entry → Ordering
+entry_cmp x y = ordering_then (nat_cmp x.rank y.rank) (id_cmp x.id y.id)
+
+-- a row of a feature of an element
+abbrev pub is_of : Name → ℕ → RowKey → Bool
+is_of a f k = text_eq a k.0 && nat_eq f k.1
+
+abbrev pub row_entry : RowKey × ℕ → Entry
+row_entry e = record { rank = e.1; id = e.0.2 }
+
+-- the targets of a feature of an element, by rank and then by id
+abbrev pub targets : FinMap row_cmp ℕ → Name → ℕ → List Entry
+targets row a f = in_order entry_cmp (map row_entry (picked (λ e. is_of a f e.0) row))
+
+abbrev pub rank_at : FinMap id_cmp ℕ → Name → ℕ
+rank_at prank e = unwrap_or (get prank e) 0
+
+-- the elements of a place, by rank and then by id
+abbrev pub children : FinMap id_cmp Place → FinMap id_cmp ℕ → Place → List Entry
+children place prank p = in_order entry_cmp (map (λ (e : Name × Place). record { rank = rank_at prank e.0; id = e.0 }) (picked (λ e. place_eq p e.1) place))
+
+abbrev pub row_incoming : RowKey × ℕ → Incoming
+row_incoming e = record { source = e.0.0; feature = e.0.1; rank = e.1 }
+
+-- the rows to an element, by source and then by feature
+abbrev pub incoming : FinMap row_cmp ℕ → Name → List Incoming
+incoming row b = map row_incoming (picked (λ e. text_eq b e.0.2) row)
+
+-- the live elements, in the order of their bytes
+abbrev pub ids : State → List Name
+ids m = keys m.kind

@@ -1,0 +1,84 @@
+-- What a metamodel says of classes, features and values.
+use Rattle.std.specs.Prelude.{ℕ, Bool, true, false, Option, None, Some, slice_get, nat_eq, not, cond}
+use Rattle.std.specs.Ordering.{int_eq}
+use Rattle.std.specs.Option.{option_map_or}
+use Rattle.finite_maps.specs.Equal.{option_eq, text_eq}
+pub use Rattle.ecore_meta.specs.Meta.{has_feature, is_a}
+pub use Rattle.ecore_meta.specs.Typing.{in_width, literal_count, fits, kind_of, upper_of, opposite_of, plain_to, links}
+use Rattle.ecore_meta.specs.Meta.{Meta}
+use Rattle.ecore_meta.specs.declared.meta.Class.{Class}
+use Rattle.ecore_meta.specs.declared.meta.Kind.{Kind}
+use Rattle.ecore_meta.specs.declared.meta.Kind.TheVariants.{Attr, AttrMany, Bounded, Free, Contains}
+use Rattle.ecore_meta.specs.declared.meta.Value.{Value}
+use Rattle.ecore_meta.specs.declared.meta.Value.TheVariants.{Text, Flag, Whole, Literal}
+
+abbrev pub flag_eq : Bool → Bool → Bool
+flag_eq true b = b
+flag_eq false b = not b
+
+-- equal values
+abbrev pub value_eq : Value → Value → Bool
+value_eq (Text a) (Text b) = text_eq a b
+value_eq (Flag a) (Flag b) = flag_eq a b
+value_eq (Whole a) (Whole b) = int_eq a b
+value_eq (Literal a) (Literal b) = nat_eq a b
+value_eq a b = false
+
+-- a containment of elements of a class
+abbrev pub contains_to : Meta → Kind → ℕ → Bool
+contains_to meta (Contains target opposite) d = is_a meta d target
+contains_to meta k d = false
+
+-- a class that exists and is not abstract
+abbrev pub is_concrete : Meta → ℕ → Bool
+is_concrete meta c = option_map_or (λ class. not class.is_abstract) (slice_get meta.classes c) false
+
+-- the value is the default of the single attribute
+abbrev pub is_default : Kind → Value → Bool
+is_default (Attr scalar default) v = option_eq value_eq default (Some v)
+is_default k v = false
+
+-- a value of a single attribute
+abbrev pub attr_fits : Meta → Kind → Value → Bool
+attr_fits meta (Attr scalar default) v = fits meta scalar v
+attr_fits meta k v = false
+
+-- a single attribute
+abbrev pub is_attr : Kind → Bool
+is_attr (Attr scalar default) = true
+is_attr k = false
+
+abbrev pub bounded_kind : Kind → Bool
+bounded_kind (Bounded target opposite) = true
+bounded_kind k = false
+
+abbrev pub contains_kind : Kind → Bool
+contains_kind (Contains target opposite) = true
+contains_kind k = false
+
+-- the bound of a feature's rows, and of its children
+abbrev pub row_upper : Meta → ℕ → Option ℕ
+row_upper meta f = cond (bounded_kind (kind_of meta f)) (upper_of meta f) None
+
+abbrev pub child_upper : Meta → ℕ → Option ℕ
+child_upper meta f = cond (contains_kind (kind_of meta f)) (upper_of meta f) None
+
+-- a many-valued attribute, and whether it holds each value once
+abbrev pub is_many : Kind → Bool
+is_many (AttrMany scalar unique) = true
+is_many k = false
+
+abbrev pub is_unique : Kind → Bool
+is_unique (AttrMany scalar unique) = unique
+is_unique k = false
+
+-- a value of a many-valued attribute
+abbrev pub many_fits : Meta → Kind → Value → Bool
+many_fits meta (AttrMany scalar unique) v = fits meta scalar v
+many_fits meta k v = false
+
+-- a plain reference
+abbrev pub is_plain : Kind → Bool
+is_plain (Bounded target opposite) = true
+is_plain (Free target opposite) = true
+is_plain k = false

@@ -1,0 +1,38 @@
+ghost use Rattle.std.specs.Prelude.{◌≡◌, IfOk, List, Some};
+ghost use Rattle.std.specs.Option.{option_copied};
+ghost use Rattle.model_state.specs.Keys.{Name};
+ghost use Rattle.model_state.specs.Chains.{IsChain, parent_of};
+
+use crate::{Id, Look, Place};
+use ecore_meta::List;
+use std::alloc::{AllocError, Global};
+
+fn parent(place: &Place) -> Option<&Id>
+    ensures { option_copied result ≡ parent_of place.now }
+{
+    match place {
+        Place::Root => None,
+        Place::Inside { parent, .. } => Some(parent),
+    }
+}
+
+/// The containers of a place, the innermost first, up to the root.
+pub fn chain<L: Look>(alloc: Global, look: &L, place: &Place) -> Result<List<Id>, AllocError>
+    requires ends { (xs : List Name) × IsChain (L.state look.now).place (Some place.now) xs }
+    ensures chain { IfOk result (λ l. IsChain (L.state look.now).place (Some place.now) l) }
+{
+    let mut above = List::new(alloc);
+    let mut next = place;
+    for _ in 0..u64::MAX {
+        let Some(container) = parent(next) else {
+            return Ok(above);
+        };
+        above.push(container.copy(alloc)?)?;
+        let Some(placed) = look.placed(container) else {
+            return Ok(above);
+        };
+        next = &placed.place;
+    }
+    // No memory holds so many ids.
+    Err(AllocError)
+}

@@ -1,0 +1,18 @@
+//! The state of a model, its steps, and what they do.
+#![tactic(auto)]
+
+mod containers;
+mod entry;
+mod id;
+mod look;
+mod operation;
+mod rank;
+mod step;
+
+pub use containers::chain;
+pub use entry::{Entry, Incoming};
+pub use id::{Id, IdFault};
+pub use look::{Change, Look};
+pub use operation::{OpKind, Operation, Package};
+pub use rank::rank_between;
+pub use step::{Place, Placed, Step, StepFault};

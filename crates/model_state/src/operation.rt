@@ -1,0 +1,53 @@
+ghost use Rattle.std.specs.Prelude.{◌≡◌, IfOk};
+
+use crate::Step;
+use ecore_meta::{List, Text};
+use std::alloc::{AllocError, Global};
+
+/// The kind of a simple operation, after the operations of EMFStore.
+#[derive(Clone, Copy, Debug, PartialEq, Eq, Drop)]
+pub enum OpKind {
+    Create,
+    Delete,
+    Attribute,
+    ManyAttribute,
+    Reference,
+    Move,
+}
+
+/// An operation: the steps of one edit, or a composite of several under a name.
+#[derive(Debug, Drop)]
+pub enum Operation {
+    Simple { kind: OpKind, steps: List<Step> },
+    Composite { name: Text, steps: List<Step> },
+}
+
+/// A change package: operations in the order in which they were recorded.
+pub type Package = List<Operation>;
+
+fn copy_steps(alloc: Global, steps: &List<Step>) -> Result<List<Step>, AllocError>
+    ensures { IfOk result (λ w. w ≡ steps.now) }
+{
+    let mut copied = List::new(alloc);
+    for step in steps.as_slice() {
+        copied.push(step.copy(alloc)?)?;
+    }
+    Ok(copied)
+}
+
+impl Operation {
+    pub fn copy(&self, alloc: Global) -> Result<Operation, AllocError>
+        ensures { IfOk result (λ o. o ≡ self.now) }
+    {
+        match self {
+            Operation::Simple { kind, steps } => Ok(Operation::Simple {
+                kind: *kind,
+                steps: copy_steps(alloc, steps)?,
+            }),
+            Operation::Composite { name, steps } => Ok(Operation::Composite {
+                name: name.copy(alloc)?,
+                steps: copy_steps(alloc, steps)?,
+            }),
+        }
+    }
+}

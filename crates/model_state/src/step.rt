@@ -1,0 +1,270 @@
+ghost use Rattle.std.specs.Prelude.{◌≡◌, IfOk};
+
+use crate::Id;
+use ecore_meta::{List, Value};
+use std::alloc::{AllocError, Global};
+use thiserror::Error;
+
+/// Where an element stands: at the root of the model, or in a containment of its parent.
+#[derive(Debug, PartialEq, Drop)]
+pub enum Place {
+    Root,
+    Inside { parent: Id, feature: u32 },
+}
+
+/// Where an element stands, and its rank in that list.
+#[derive(Debug, Drop)]
+pub struct Placed {
+    pub place: Place,
+    pub rank: u64,
+}
+
+/// A change of one entry of a model. Each step names what was there before, so that it can be undone.
+#[derive(Debug, Drop)]
+pub enum Step {
+    /// A single attribute gets another value; none stands for one that isn't set.
+    Put {
+        e: Id,
+        f: u32,
+        old: Option<Value>,
+        new: Option<Value>,
+    },
+    /// A value comes into a many-valued attribute, in front of the value at `at`.
+    Ins {
+        e: Id,
+        f: u32,
+        at: u32,
+        v: Value,
+    },
+    /// The value at `at` of a many-valued attribute goes.
+    Del {
+        e: Id,
+        f: u32,
+        at: u32,
+        v: Value,
+    },
+    /// The value at `from` of a many-valued attribute is taken out and put at `to`.
+    Shift {
+        e: Id,
+        f: u32,
+        from: u32,
+        to: u32,
+    },
+    /// A reference comes, with the rank `ra` in its list, and its opposite with the rank `rb` in that list.
+    Link {
+        a: Id,
+        f: u32,
+        ra: u64,
+        b: Id,
+        rb: Option<u64>,
+    },
+    /// A reference goes, and its opposite with it.
+    Unlink {
+        a: Id,
+        f: u32,
+        ra: u64,
+        b: Id,
+        rb: Option<u64>,
+    },
+    /// A reference gets another rank in its list; its opposite keeps its own.
+    RerankRow {
+        a: Id,
+        f: u32,
+        b: Id,
+        old: u64,
+        new: u64,
+    },
+    /// An element comes, without values and references.
+    New {
+        e: Id,
+        class: u32,
+        place: Place,
+        rank: u64,
+    },
+    /// An element goes that holds nothing and that nothing names.
+    Gone {
+        e: Id,
+        class: u32,
+        place: Place,
+        rank: u64,
+    },
+    /// An element goes to another place. The containers of both places are recorded, so that moves which would
+    /// make a cycle touch what each other reads.
+    Move {
+        e: Id,
+        from: Place,
+        from_rank: u64,
+        to: Place,
+        to_rank: u64,
+        above_from: List<Id>,
+        above_to: List<Id>,
+    },
+    /// An element gets another rank where it stands.
+    RerankPlace {
+        e: Id,
+        old: u64,
+        new: u64,
+    },
+}
+
+/// Why a step can't be taken: the first of its tests that fails.
+#[derive(Clone, Copy, Debug, PartialEq, Eq, Drop, Error)]
+pub enum StepFault {
+    /// An element or a reference that the step names isn't there.
+    #[error("not there")]
+    NotThere,
+    /// What the step brings is there already.
+    #[error("there already")]
+    There,
+    /// What is there isn't what the step says was there before.
+    #[error("something else is there")]
+    OldDiffers,
+    /// A list is at its upper bound.
+    #[error("the list is full")]
+    Bound,
+    /// The metamodel doesn't allow it, whatever the state.
+    #[error("a wrong type")]
+    WrongType,
+    /// The containers aren't those recorded, or the element would come to stand inside itself.
+    #[error("other containers")]
+    Chain,
+    /// The element still holds something, or something names it.
+    #[error("not empty")]
+    NotEmpty,
+    /// The step changes nothing, names a place past a list's end, or sets a default.
+    #[error("a step of a wrong form")]
+    BadStep,
+    #[error("out of memory")]
+    Memory,
+}
+
+impl Place {
+    pub fn copy(&self, alloc: Global) -> Result<Place, AllocError>
+        ensures { IfOk result (λ p. p ≡ self.now) }
+    {
+        match self {
+            Place::Root => Ok(Place::Root),
+            Place::Inside { parent, feature } => Ok(Place::Inside {
+                parent: parent.copy(alloc)?,
+                feature: *feature,
+            }),
+        }
+    }
+}
+
+fn copy_value(alloc: Global, v: &Option<Value>) -> Result<Option<Value>, AllocError>
+    ensures { IfOk result (λ w. w ≡ v.now) }
+{
+    match v {
+        None => Ok(None),
+        Some(v) => Ok(Some(v.copy(alloc)?)),
+    }
+}
+
+fn copy_ids(alloc: Global, ids: &List<Id>) -> Result<List<Id>, AllocError>
+    ensures { IfOk result (λ w. w ≡ ids.now) }
+{
+    let mut copied = List::new(alloc);
+    for id in ids.as_slice() {
+        copied.push(id.copy(alloc)?)?;
+    }
+    Ok(copied)
+}
+
+impl Step {
+    pub fn copy(&self, alloc: Global) -> Result<Step, AllocError>
+        ensures { IfOk result (λ s. s ≡ self.now) }
+    {
+        match self {
+            Step::Put { e, f, old, new } => Ok(Step::Put {
+                e: e.copy(alloc)?,
+                f: *f,
+                old: copy_value(alloc, old)?,
+                new: copy_value(alloc, new)?,
+            }),
+            Step::Ins { e, f, at, v } => Ok(Step::Ins {
+                e: e.copy(alloc)?,
+                f: *f,
+                at: *at,
+                v: v.copy(alloc)?,
+            }),
+            Step::Del { e, f, at, v } => Ok(Step::Del {
+                e: e.copy(alloc)?,
+                f: *f,
+                at: *at,
+                v: v.copy(alloc)?,
+            }),
+            Step::Shift { e, f, from, to } => Ok(Step::Shift {
+                e: e.copy(alloc)?,
+                f: *f,
+                from: *from,
+                to: *to,
+            }),
+            Step::Link { a, f, ra, b, rb } => Ok(Step::Link {
+                a: a.copy(alloc)?,
+                f: *f,
+                ra: *ra,
+                b: b.copy(alloc)?,
+                rb: *rb,
+            }),
+            Step::Unlink { a, f, ra, b, rb } => Ok(Step::Unlink {
+                a: a.copy(alloc)?,
+                f: *f,
+                ra: *ra,
+                b: b.copy(alloc)?,
+                rb: *rb,
+            }),
+            Step::RerankRow { a, f, b, old, new } => Ok(Step::RerankRow {
+                a: a.copy(alloc)?,
+                f: *f,
+                b: b.copy(alloc)?,
+                old: *old,
+                new: *new,
+            }),
+            Step::New {
+                e,
+                class,
+                place,
+                rank,
+            } => Ok(Step::New {
+                e: e.copy(alloc)?,
+                class: *class,
+                place: place.copy(alloc)?,
+                rank: *rank,
+            }),
+            Step::Gone {
+                e,
+                class,
+                place,
+                rank,
+            } => Ok(Step::Gone {
+                e: e.copy(alloc)?,
+                class: *class,
+                place: place.copy(alloc)?,
+                rank: *rank,
+            }),
+            Step::Move {
+                e,
+                from,
+                from_rank,
+                to,
+                to_rank,
+                above_from,
+                above_to,
+            } => Ok(Step::Move {
+                e: e.copy(alloc)?,
+                from: from.copy(alloc)?,
+                from_rank: *from_rank,
+                to: to.copy(alloc)?,
+                to_rank: *to_rank,
+                above_from: copy_ids(alloc, above_from)?,
+                above_to: copy_ids(alloc, above_to)?,
+            }),
+            Step::RerankPlace { e, old, new } => Ok(Step::RerankPlace {
+                e: e.copy(alloc)?,
+                old: *old,
+                new: *new,
+            }),
+        }
+    }
+}
