@@ -1,2 +1,6 @@
 pub mod Course
 pub mod Replaying
+pub mod ScriptBlocks
+pub mod ScriptCuts
+pub mod ScriptEnds
+pub mod ScriptItems

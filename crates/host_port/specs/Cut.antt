@@ -1,0 +1,130 @@
+-- The items of a script's input: lines, and lines with their blocks, followed by the end or by a fault with its place.
+use Rattle.std.specs.Prelude.{ℕ, ◌+◌, ◌-◌, ◌==◌, ◌&&◌, nat_lt, nat_le, not, List, [], ◌∷◌, ◌++◌, length, take, slice_index, Bool, true, false, if◌then◌else◌, Option, Some, None, Result, Ok, Err}
+use Rattle.std.specs.List.{slice_split, before_first}
+use Rattle.std.specs.Str.Lossy.{utf8_valid_len}
+use Rattle.host_port.specs.declared.lines.LineFault.{LineFault}
+use Rattle.host_port.specs.declared.lines.LineFault.TheVariants.{LineTooLong, BlockTooLong, NotText, UnendedBlock, InputTooLong}
+use Rattle.host_port.specs.declared.lines.TheConstants.{LINE_LIMIT, BLOCK_LIMIT, INPUT_LIMIT}
+
+abbrev pub is_lf : ℕ → Bool
+is_lf b = b == 10
+
+-- a line without a carriage return at its end
+abbrev pub without_cr : List ℕ → List ℕ
+without_cr raw = if slice_index raw (length raw - 1) == 13 then take (length raw - 1) raw else raw
+
+-- the bytes as text, or the place of the first byte that is none
+abbrev pub text_at : ℕ → List ℕ → Result (List ℕ) LineFault
+text_at place bytes = if utf8_valid_len bytes == length bytes then Ok bytes else Err (NotText (place + utf8_valid_len bytes))
+
+abbrev pub line_text : Result (List ℕ) LineFault → Result (Option (List ℕ)) LineFault
+line_text (Ok t) = Ok (Some t)
+line_text (Err e) = Err e
+
+abbrev pub line_or_end : ℕ → List ℕ → Bool → Result (Option (List ℕ)) LineFault
+line_or_end place raw ended = if not ended && (length raw == 0) then Ok None else line_text (text_at place (without_cr raw))
+
+-- What stands at place, where the bytes up to the next line feed are raw, and ended says whether there is one:
+-- a line, nothing at the end of the input, or a fault. The length is judged first.
+unfoldable pub line_of : ℕ → List ℕ → Bool → Result (Option (List ℕ)) LineFault
+line_of place raw ended =
+    if nat_lt LINE_LIMIT (length raw) && nat_lt (place + LINE_LIMIT) INPUT_LIMIT then Err (LineTooLong (place + LINE_LIMIT))
+    else if nat_le INPUT_LIMIT (place + length raw) then Err (InputTooLong INPUT_LIMIT)
+    else line_or_end place raw ended
+
+abbrev pub raw_line : List ℕ → List ℕ
+raw_line unread = before_first is_lf unread
+
+abbrev pub is_ended : List ℕ → Bool
+is_ended unread = nat_lt (length (raw_line unread)) (length unread)
+
+-- what the next line of the unread bytes is
+abbrev pub next_line_of : ℕ → List ℕ → Result (Option (List ℕ)) LineFault
+next_line_of place unread = line_of place (raw_line unread) (is_ended unread)
+
+-- an item of a script
+pub record Item : Type 0 where
+  pub line : List ℕ
+  pub block : Option (List ℕ)
+
+-- the items, and what ends them: a fault, or the input's end
+pub record Script : Type 0 where
+  pub items : List Item
+  pub fault : Option LineFault
+
+abbrev pub with_item : List ℕ → Option (List ℕ) → Script → Script
+with_item line block script = record { items = record { line = line; block = block } ∷ script.items; fault = script.fault }
+
+abbrev pub ends_by : Option LineFault → Script
+ends_by fault = record { items = []; fault = fault }
+
+-- is the line `.` alone
+abbrev pub is_dot : List ℕ → Bool
+is_dot [] = false
+is_dot (b ∷ []) = b == 46
+is_dot (b ∷ c ∷ bs) = false
+
+-- the text of a block with one more line, which stands at place; a line that is no text is the block's fault from then on
+abbrev pub line_added : List ℕ → Result (List ℕ) LineFault → Result (List ℕ) LineFault
+line_added text (Err e) = Err e
+line_added text (Ok line) = Ok (text ++ line ++ 10 ∷ [])
+
+abbrev pub text_with : ℕ → Result (List ℕ) LineFault → List ℕ → Result (List ℕ) LineFault
+text_with place (Err e) line = Err e
+text_with place (Ok text) line = line_added text (text_at place line)
+
+-- A line of a block that began at start, where it isn't `.`: a fault of its length, or the text with it. What stands
+-- before it is the text, or the fault of it.
+abbrev pub block_line : ℕ → ℕ → Result (List ℕ) LineFault → List ℕ → Result (Result (List ℕ) LineFault) LineFault
+block_line start place text raw =
+    if nat_lt BLOCK_LIMIT (place + length raw - start) && nat_lt (start + BLOCK_LIMIT) INPUT_LIMIT then Err (BlockTooLong (start + BLOCK_LIMIT))
+    else if nat_le INPUT_LIMIT (place + length raw) then Err (InputTooLong INPUT_LIMIT)
+    else Ok (text_with place text (without_cr raw))
+
+-- does a line end its block
+abbrev pub ends_block : ℕ → List ℕ → Bool
+ends_block place raw = is_dot (without_cr raw) && nat_lt (place + length raw) INPUT_LIMIT
+
+-- the script that begins with a line, by what the line is: with a block, or without
+abbrev pub after_line : (List ℕ → Bool) → Result (Option (List ℕ)) LineFault → (List ℕ → Script) → Script → Script
+after_line takes_block (Err e) block rest = ends_by (Some e)
+after_line takes_block (Ok None) block rest = ends_by None
+after_line takes_block (Ok (Some line)) block rest = if takes_block line then block line else with_item line None rest
+
+-- the script that begins with a line and its block
+abbrev pub after_block : List ℕ → Result (List ℕ) LineFault → Script → Script
+after_block line (Err e) rest = ends_by (Some e)
+after_block line (Ok text) rest = with_item line (Some text) rest
+
+abbrev pub in_block_by : Result (Result (List ℕ) LineFault) LineFault → (Result (List ℕ) LineFault → Script) → Script
+in_block_by (Err e) rest = ends_by (Some e)
+in_block_by (Ok text) rest = rest text
+
+-- The script whose lines, between line feeds, are these, from place on; and the same within the block of a line,
+-- which began at start, and of which text stands before place.
+unfoldable mutual
+  pub cut : (List ℕ → Bool) → ℕ → List (List ℕ) → Script
+  cut takes_block place [] = ends_by None
+  cut takes_block place (raw ∷ []) =
+      after_line takes_block (line_of place raw false) (λ line. ends_by (Some (UnendedBlock (place + length raw)))) (ends_by None)
+  cut takes_block place (raw ∷ next ∷ parts) =
+      after_line takes_block (line_of place raw true)
+      (λ line. cut_block takes_block line (place + length raw + 1) (place + length raw + 1) (Ok []) (next ∷ parts))
+      (cut takes_block (place + length raw + 1) (next ∷ parts))
+
+  pub cut_block : (List ℕ → Bool) → List ℕ → ℕ → ℕ → Result (List ℕ) LineFault → List (List ℕ) → Script
+  cut_block takes_block line start place text [] = ends_by None
+  cut_block takes_block line start place text (raw ∷ []) =
+      if ends_block place raw then after_block line text (ends_by None)
+      else in_block_by (block_line start place text raw) (λ _. ends_by (Some (UnendedBlock (place + length raw))))
+  cut_block takes_block line start place text (raw ∷ next ∷ parts) =
+      if ends_block place raw then after_block line text (cut takes_block (place + length raw + 1) (next ∷ parts))
+      else in_block_by (block_line start place text raw) (λ more. cut_block takes_block line start (place + length raw + 1) more (next ∷ parts))
+
+-- the script that the unread bytes are, from a place on
+abbrev pub script_from : (List ℕ → Bool) → ℕ → List ℕ → Script
+script_from takes_block place unread = cut takes_block place (slice_split is_lf unread)
+
+-- the script that an input is
+abbrev pub script_of : (List ℕ → Bool) → List ℕ → Script
+script_of takes_block input = script_from takes_block 0 input

@@ -1,0 +1,90 @@
+-- What a reader of lines has done.
+use Rattle.std.specs.Prelude.{◌≡◌, ◌⊎◌, ◌<◌, ◌≤◌, ℕ, ◌+◌, List, length, Bool, true, false, Option, Some, None, Result, Ok, Err, string_bytes}
+use Rattle.std.specs.List.{after_first}
+use Rattle.host_port.specs.declared.lines.LineFault.{LineFault}
+use Rattle.host_port.specs.declared.lines.LineFault.TheVariants.{Failed, Memory, BlockTooLong, InputTooLong, UnendedBlock, NotText}
+use Rattle.host_port.specs.declared.lines.block.Block.{Block}
+use Rattle.host_port.specs.declared.lines.Got.{Got}
+use Rattle.host_port.specs.declared.lines.Got.TheVariants.{Line, End}
+use Rattle.host_port.specs.Cut.{is_lf, Script, ends_by, with_item, ends_block, block_line}
+use Rattle.host_port.specs.declared.lines.unread.Stop.{Stop}
+use Rattle.host_port.specs.declared.lines.unread.Stop.TheVariants.{Feed, Close, Far}
+use Rattle.host_port.specs.declared.lines.TheConstants.{BLOCK_LIMIT, INPUT_LIMIT}
+
+-- an error that says nothing of the input, or just this fault
+abbrev pub IsFault : {X : Type 0} → LineFault → Result X LineFault → Type 0
+IsFault Failed read = Unit {0}
+IsFault Memory read = Unit {0}
+IsFault fault read = read ≡ Err fault
+
+abbrev pub IsLineFault : LineFault → Result (Option (List ℕ)) LineFault → Type 0
+IsLineFault fault read = IsFault fault read
+
+abbrev pub IsTextFault : LineFault → Result (List ℕ) LineFault → Type 0
+IsTextFault fault read = IsFault fault read
+
+-- a line, with its text, or the end, or the fault
+abbrev pub GotLine : Result Got LineFault → List ℕ → Result (Option (List ℕ)) LineFault → Type 0
+GotLine (Ok Line) text read = read ≡ Ok (Some text)
+GotLine (Ok End) text read = read ≡ Ok None
+GotLine (Err fault) text read = IsFault fault read
+
+-- the reader has gone behind the next line feed, or to the end
+pub record PastLine (unread_old unread_new : List ℕ) (place_old place_new : ℕ) : Type 0 where
+  pub unread : unread_new ≡ after_first is_lf unread_old
+  pub place : place_new + length unread_new ≡ place_old + length unread_old
+
+-- the fault ends the script, or says nothing of the input
+abbrev pub EndsScript : LineFault → Script → Type 0
+EndsScript Failed whole = Unit {0}
+EndsScript Memory whole = Unit {0}
+EndsScript fault whole = whole ≡ ends_by (Some fault)
+
+-- the script within a block goes on with the block's text and the rest
+abbrev pub GotBlock : Result (Unit {0}) LineFault → List ℕ → List ℕ → Script → Script → Type 0
+GotBlock (Ok x) text line whole rest = whole ≡ with_item line (Some text) rest
+GotBlock (Err fault) text line whole rest = EndsScript fault whole
+
+-- a line of a block was read: the block goes on, or its text is the one at hand
+abbrev pub GotBlockLine : Result Bool LineFault → Script → Script → Script → Type 0
+GotBlockLine (Ok false) whole within ended = whole ≡ within
+GotBlockLine (Ok true) whole within ended = whole ≡ ended
+GotBlockLine (Err fault) whole within ended = EndsScript fault whole
+
+-- The line feed was found, or the input's end.
+abbrev pub is_feed : Stop → Bool
+is_feed Feed = true
+is_feed Close = false
+is_feed Far = false
+
+-- a line of a block that is too long to be one, or stands across the input's limit
+abbrev pub FarFault : ℕ → LineFault → Type 0
+FarFault start e = ((e ≡ BlockTooLong (start + BLOCK_LIMIT)) × (start + BLOCK_LIMIT < INPUT_LIMIT)) ⊎ ((e ≡ InputTooLong INPUT_LIMIT) × (INPUT_LIMIT ≤ start + BLOCK_LIMIT))
+
+abbrev pub BlockFault : Stop → ℕ → ℕ → Result (List ℕ) LineFault → List ℕ → LineFault → Type 0
+BlockFault Far start place text raw e = FarFault start e
+BlockFault Feed start place text raw e = (ends_block place raw ≡ false) × (block_line start place text raw ≡ Err e)
+BlockFault Close start place text raw e = (ends_block place raw ≡ false) × ((block_line start place text raw ≡ Err e)
+    ⊎ ((e ≡ UnendedBlock (place + length raw)) × ((more : Result (List ℕ) LineFault) × (block_line start place text raw ≡ Ok more))))
+
+-- what a line of a block with the bytes raw is: its end, a line more, or a fault
+abbrev pub BlockLine : Stop → ℕ → ℕ → Result (List ℕ) LineFault → Result (List ℕ) LineFault → List ℕ → Result Bool LineFault → Type 0
+BlockLine stop start place old new raw (Ok true) = (ends_block place raw ≡ true) × (new ≡ old) × (stop ≡ Far → ⊥)
+BlockLine stop start place old new raw (Ok false) = (ends_block place raw ≡ false) × (block_line start place old raw ≡ Ok new) × (stop ≡ Feed)
+BlockLine stop start place old new raw (Err Memory) = Unit {0}
+BlockLine stop start place old new raw (Err e) = BlockFault stop start place old raw e
+
+-- what contracts see of a reader: the bytes at hand, the place of the first of them, the text and whether a call failed
+pub record Reader : Type 0 where
+  pub pending : List ℕ
+  pub place : ℕ
+  pub text : List ℕ
+  pub failed : Bool
+
+-- the text of a block's lines, or their fault
+abbrev pub so_far : List ℕ → Option ℕ → Result (List ℕ) LineFault
+so_far text None = Ok text
+so_far text (Some at) = Err (NotText at)
+
+abbrev pub read_so_far : Block → Result (List ℕ) LineFault
+read_so_far block = so_far (string_bytes block.text) block.not_text

@@ -1,0 +1,169 @@
+//! A block of lines, up to the line that ends it.
+ghost use Rattle.std.specs.Prelude.{◌≡◌, ◌≢◌, false, ◌+◌, ◌<◌, ◌≤◌, ◌^◌, ℕ, [], ◌++◌, List, Bool, length, drop, take, IsTrue, IfOk, OnOk, IfErr, IsErrOf, if◌then◌else◌, string_bytes, Ok};
+ghost use Rattle.std.specs.List.{slice_split};
+ghost use Rattle.host_port.specs.Host.{GoesOn, KeepsDisk, KeepsSaid, RaisesTakesAlone, Rose};
+ghost use Rattle.host_port.specs.Cut.{cut_block, script_from, after_block, is_lf, text_with};
+ghost use Rattle.host_port.specs.Reads.{GotBlock, GotBlockLine, BlockLine, FarFault, is_feed, read_so_far};
+
+use super::unread::{Stop, Unread, cut_cr};
+use super::{BLOCK_LIMIT, INPUT_LIMIT, LineFault};
+use crate::Host;
+use std::alloc::{AllocError, Global};
+
+/// The lines of a block so far: their text, or the place of the first byte that is no UTF-8.
+#[derive(Drop)]
+pub struct Block {
+    pub text: String,
+    pub not_text: Option<u64>,
+}
+
+/// The fault of a line of a block that is not read to its end.
+fn far_fault(start: u64) -> LineFault
+    requires { start ≤ 2 ^ 40 }
+    ensures fault { FarFault start result }
+    ensures never { (result ≢ LineFault.Memory) × (result ≢ LineFault.Failed) }
+{
+    if start + BLOCK_LIMIT < INPUT_LIMIT {
+        LineFault::BlockTooLong {
+            at: start + BLOCK_LIMIT,
+        }
+    } else {
+        LineFault::InputTooLong { at: INPUT_LIMIT }
+    }
+}
+
+impl Block {
+    pub fn new(alloc: Global) -> Block {
+        Block {
+            text: String::new(alloc),
+            not_text: None,
+        }
+    }
+
+    fn clear(&mut self)
+        ensures { read_so_far self.new ≡ Ok [] }
+    {
+        self.text.clear();
+        self.not_text = None;
+    }
+
+    /// Adds a line, which stands at a place of the input.
+    #[tactic(auto, using(crate::proofs::ScriptCuts::text_lemmas))]
+    fn add(&mut self, place: u64, line: &[u8]) -> Result<(), AllocError>
+        requires { place + length line.now < 2 ^ 64 }
+        ensures added { OnOk result (read_so_far self.new ≡ text_with place (read_so_far self.old) line.now) }
+    {
+        if self.not_text.is_some() {
+            return Ok(());
+        }
+        match std::str::from_utf8(line) {
+            Err(error) => {
+                self.not_text = Some(place + error.valid_up_to() as u64);
+                Ok(())
+            }
+            Ok(line) => {
+                self.text.push_str(line)?;
+                self.text.push('\n')
+            }
+        }
+    }
+
+    /// What a line is, and the way past it; true where it is the block's end.
+    #[tactic(auto, unfolding(crate::specs::Cut::block_line))]
+    fn line_at(
+        &mut self,
+        unread: &mut Unread,
+        start: u64,
+        len: usize,
+        stop: Stop,
+    ) -> Result<bool, LineFault>
+        requires len { len ≤ length unread.old.pending.items }
+        requires feed { stop ≡ Stop.Feed → len < length unread.old.pending.items }
+        requires near { stop ≢ Stop.Far → unread.old.place + len < 2 ^ 40 }
+        requires start { start ≤ unread.old.place }
+        ensures line { BlockLine stop start unread.old.place (read_so_far self.old) (read_so_far self.new) (take len unread.old.pending.items) result }
+        ensures pending { OnOk result (unread.new.pending.items ≡ drop (if is_feed stop then len + 1 else len) unread.old.pending.items) }
+        ensures place { OnOk result (unread.new.place ≡ unread.old.place + (if is_feed stop then len + 1 else len)) }
+        ensures not_failed { IfErr result (λ e. e ≢ LineFault.Failed) }
+        ensures later { unread.old.place ≤ unread.new.place }
+    {
+        if let Stop::Far = stop {
+            return Err(far_fault(start));
+        }
+        let past = match stop {
+            Stop::Feed => len + 1,
+            _ => len,
+        };
+        let raw = cut_cr(&unread.pending[..len]);
+        if raw.len() == 1 && raw[0] == b'.' {
+            unread.go_past(past);
+            return Ok(true);
+        }
+        let far = unread.place + len as u64;
+        if far - start > BLOCK_LIMIT {
+            return Err(far_fault(start));
+        }
+        if let Stop::Close = stop {
+            return Err(LineFault::UnendedBlock { at: far });
+        }
+        if self.add(unread.place, raw).is_err() {
+            return Err(LineFault::Memory);
+        }
+        unread.go_past(past);
+        Ok(false)
+    }
+
+    /// One line of the block that began at a place; true where it is the block's end.
+    fn line<H: Host>(
+        &mut self,
+        unread: &mut Unread,
+        host: &mut H,
+        start: u64,
+    ) -> Result<bool, LineFault>
+        requires { start ≤ unread.old.place }
+        ensures step { IsTrue (H.told host.old).tells → (takes : List ℕ → Bool) (line : List ℕ) → GotBlockLine result
+            (cut_block takes line start unread.old.place (read_so_far self.old) (slice_split is_lf (unread.old.pending.items ++ (H.told host.old).left)))
+            (cut_block takes line start unread.new.place (read_so_far self.new) (slice_split is_lf (unread.new.pending.items ++ (H.told host.new).left)))
+            (after_block line (read_so_far self.new) (script_from takes unread.new.place (unread.new.pending.items ++ (H.told host.new).left))) }
+        ensures later { unread.old.place ≤ unread.new.place }
+        ensures advances { IfOk result (λ end. end ≡ false → unread.old.place < unread.new.place) }
+        ensures course { GoesOn (H.told host.old) (H.told host.new) }
+        ensures disk { KeepsDisk (H.told host.old) (H.told host.new) }
+        ensures said { KeepsSaid (H.told host.old) (H.told host.new) }
+        ensures alone { RaisesTakesAlone (H.told host.old) (H.told host.new) }
+        ensures cause { IsErrOf result LineFault.Failed → Rose (H.told host.old).take_faults (H.told host.new).take_faults }
+    {
+        let used = unread.place - start;
+        let longest = if used + 2 >= BLOCK_LIMIT {
+            2
+        } else {
+            (BLOCK_LIMIT - used) as usize
+        };
+        let (len, stop) = unread.piece_end(host, longest)?;
+        self.line_at(unread, start, len, stop)
+    }
+
+    /// All lines up to one that is just `.`.
+    pub fn read<H: Host>(&mut self, unread: &mut Unread, host: &mut H) -> Result<(), LineFault>
+        ensures block { IsTrue (H.told host.old).tells → (takes : List ℕ → Bool) (line : List ℕ) → GotBlock result (string_bytes self.new.text) line
+            (cut_block takes line unread.old.place unread.old.place (Ok []) (slice_split is_lf (unread.old.pending.items ++ (H.told host.old).left)))
+            (script_from takes unread.new.place (unread.new.pending.items ++ (H.told host.new).left)) }
+        ensures later { unread.old.place ≤ unread.new.place }
+        ensures course { GoesOn (H.told host.old) (H.told host.new) }
+        ensures disk { KeepsDisk (H.told host.old) (H.told host.new) }
+        ensures said { KeepsSaid (H.told host.old) (H.told host.new) }
+        ensures alone { RaisesTakesAlone (H.told host.old) (H.told host.new) }
+        ensures cause { IsErrOf result LineFault.Failed → Rose (H.told host.old).take_faults (H.told host.new).take_faults }
+    {
+        let start = unread.place;
+        self.clear();
+        'lines: loop {
+            if self.line(unread, host, start)? {
+                return match self.not_text {
+                    Some(at) => Err(LineFault::NotText { at }),
+                    None => Ok(()),
+                };
+            }
+        }
+    }
+}

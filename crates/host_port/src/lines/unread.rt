@@ -1,0 +1,275 @@
+//! The bytes that a host handed over and that are not read yet.
+ghost use Rattle.std.specs.Prelude.{◌≡◌, ◌⊎◌, ◌≢◌, false, ◌+◌, ◌<◌, ◌≤◌, ◌^◌, ℕ, [], ◌++◌, length, drop, take, slice_index, IsTrue, IfOk, OnOk, IfErr, IfSome, IfNone, IsErrOf, if◌then◌else◌, vec_len, string_bytes, Ok};
+ghost use Rattle.host_port.specs.Host.{GoesOn, KeepsDisk, KeepsSaid, RaisesTakesAlone, Rose};
+ghost use Rattle.host_port.specs.Cut.{next_line_of, line_or_end, text_at, without_cr};
+ghost use Rattle.host_port.specs.Reads.{IsLineFault, IsTextFault, GotLine, PastLine};
+
+use super::{Got, INPUT_LIMIT, LINE_LIMIT, LineFault};
+use crate::Host;
+use std::alloc::Global;
+
+const PIECE: usize = 4096;
+
+/// How the search for a line's end ended.
+#[derive(Clone, Copy, Debug, PartialEq, Eq)]
+pub enum Stop {
+    /// At a line feed.
+    Feed,
+    /// At the input's end.
+    Close,
+    /// Neither came within the bytes that were looked at.
+    Far,
+}
+
+/// The bytes at hand from a place in the input on.
+#[derive(Drop)]
+pub struct Unread {
+    pub pending: Vec<u8>,
+    pub place: u64,
+    ghost within: { place + length pending.items ≤ 2 ^ 40 },
+}
+
+/// The first line feed, where none stands before a place.
+fn line_feed(bytes: &[u8], from: usize) -> Option<usize>
+    requires from { from ≤ length bytes.now }
+    requires before { (k : ℕ) → k < from → slice_index bytes.now k ≢ 10 }
+    ensures found { IfSome result (λ i. (i < length bytes.now) × (slice_index bytes.now i ≡ 10) × ((k : ℕ) → k < i → slice_index bytes.now k ≢ 10)) }
+    ensures none { IfNone result ((k : ℕ) → k < length bytes.now → slice_index bytes.now k ≢ 10) }
+{
+    for i in from..bytes.len() {
+        if bytes[i] == b'\n' {
+            return Some(i);
+        }
+    }
+    None
+}
+
+impl Unread {
+    pub fn new(alloc: Global) -> Unread
+        ensures pending { result.pending.items ≡ [] }
+        ensures place { result.place ≡ 0 }
+    {
+        Unread {
+            pending: Vec::new(alloc),
+            place: 0,
+        }
+    }
+
+    /// Takes a piece more; false at the end of the input.
+    fn fill<H: Host>(&mut self, host: &mut H) -> Result<bool, LineFault>
+        requires room { self.old.place + length self.old.pending.items < 2 ^ 40 }
+        ensures unread { IsTrue (H.told host.old).tells → OnOk result (self.new.pending.items ++ (H.told host.new).left ≡ self.old.pending.items ++ (H.told host.old).left) }
+        ensures more { IfOk result (λ more. IsTrue more → vec_len self.old.pending < vec_len self.new.pending) }
+        ensures end { IsTrue (H.told host.old).tells → IfOk result (λ more. more ≡ false → (H.told host.new).left ≡ []) }
+        ensures same { IfOk result (λ more. more ≡ false → self.new.pending.items ≡ self.old.pending.items) }
+        ensures front { OnOk result (take (length self.old.pending.items) self.new.pending.items ≡ self.old.pending.items) }
+        ensures place { self.new.place ≡ self.old.place }
+        ensures err { IfErr result (λ e. (e ≡ LineFault.Failed) ⊎ (e ≡ LineFault.Memory)) }
+        ensures course { GoesOn (H.told host.old) (H.told host.new) }
+        ensures disk { KeepsDisk (H.told host.old) (H.told host.new) }
+        ensures said { KeepsSaid (H.told host.old) (H.told host.new) }
+        ensures alone { RaisesTakesAlone (H.told host.old) (H.told host.new) }
+        ensures cause { IsErrOf result LineFault.Failed → Rose (H.told host.old).take_faults (H.told host.new).take_faults }
+    {
+        let mut piece = [0u8; PIECE];
+        let room = INPUT_LIMIT - self.place - self.pending.len() as u64;
+        let size = room.min(PIECE as u64) as usize;
+        let Ok(count) = host.take(&mut piece[..size]) else {
+            return Err(LineFault::Failed);
+        };
+        if self.pending.extend_from_slice(&piece[..count]).is_err() {
+            return Err(LineFault::Memory);
+        }
+        Ok(count > 0)
+    }
+
+    /// How many bytes stand before the next line feed, and how that was found; past `longest` bytes it gives up.
+    pub fn piece_end<H: Host>(
+        &mut self,
+        host: &mut H,
+        longest: usize,
+    ) -> Result<(usize, Stop), LineFault>
+        ensures unread { IsTrue (H.told host.old).tells → OnOk result (self.new.pending.items ++ (H.told host.new).left ≡ self.old.pending.items ++ (H.told host.old).left) }
+        ensures clear { IfOk result (λ r. (k : ℕ) → k < r.0 → slice_index self.new.pending.items k ≢ 10) }
+        ensures feed { IfOk result (λ r. r.1 ≡ Stop.Feed → (r.0 < length self.new.pending.items) × (slice_index self.new.pending.items r.0 ≡ 10)) }
+        ensures all { IfOk result (λ r. r.1 ≢ Stop.Feed → r.0 ≡ length self.new.pending.items) }
+        ensures end { IsTrue (H.told host.old).tells → IfOk result (λ r. r.1 ≡ Stop.Close → (H.told host.new).left ≡ []) }
+        ensures far { IfOk result (λ r. r.1 ≡ Stop.Far → (longest < r.0) ⊎ (self.new.place + r.0 ≡ 2 ^ 40)) }
+        ensures near { IfOk result (λ r. r.1 ≡ Stop.Close → self.new.place + r.0 < 2 ^ 40) }
+        ensures err { IfErr result (λ e. (e ≡ LineFault.Failed) ⊎ (e ≡ LineFault.Memory)) }
+        ensures place { self.new.place ≡ self.old.place }
+        ensures course { GoesOn (H.told host.old) (H.told host.new) }
+        ensures disk { KeepsDisk (H.told host.old) (H.told host.new) }
+        ensures said { KeepsSaid (H.told host.old) (H.told host.new) }
+        ensures alone { RaisesTakesAlone (H.told host.old) (H.told host.new) }
+        ensures cause { IsErrOf result LineFault.Failed → Rose (H.told host.old).take_faults (H.told host.new).take_faults }
+    {
+        let mut clear = 0;
+        'pieces: loop {
+            if let Some(at) = line_feed(&self.pending, clear) {
+                return Ok((at, Stop::Feed));
+            }
+            clear = self.pending.len();
+            if clear > longest || self.place + clear as u64 == INPUT_LIMIT {
+                return Ok((clear, Stop::Far));
+            }
+            if !self.fill(host)? {
+                return Ok((clear, Stop::Close));
+            }
+        }
+    }
+
+    /// Makes the next line the text.
+    pub fn read_line<H: Host>(&mut self, text: &mut String, host: &mut H) -> Result<Got, LineFault>
+        ensures line { IsTrue (H.told host.old).tells →
+            GotLine result (string_bytes text.new) (next_line_of self.old.place (self.old.pending.items ++ (H.told host.old).left)) }
+        ensures past { IsTrue (H.told host.old).tells → OnOk result (PastLine
+            (self.old.pending.items ++ (H.told host.old).left) (self.new.pending.items ++ (H.told host.new).left) self.old.place self.new.place) }
+        ensures end { IsTrue (H.told host.old).tells → IfOk result (λ got. got ≡ Got.End → (H.told host.new).left ≡ []) }
+        ensures advances { IfOk result (λ got. got ≡ Got.Line → self.old.place < self.new.place) }
+        ensures course { GoesOn (H.told host.old) (H.told host.new) }
+        ensures disk { KeepsDisk (H.told host.old) (H.told host.new) }
+        ensures said { KeepsSaid (H.told host.old) (H.told host.new) }
+        ensures alone { RaisesTakesAlone (H.told host.old) (H.told host.new) }
+        ensures cause { IsErrOf result LineFault.Failed → Rose (H.told host.old).take_faults (H.told host.new).take_faults }
+    {
+        let (len, ended) = self.line_end(host)?;
+        self.line_at(text, len, ended)
+    }
+
+    /// How many bytes the next line has, and whether a line feed follows them.
+    pub fn line_end<H: Host>(&mut self, host: &mut H) -> Result<(usize, bool), LineFault>
+        ensures unread { IsTrue (H.told host.old).tells → OnOk result (self.new.pending.items ++ (H.told host.new).left ≡ self.old.pending.items ++ (H.told host.old).left) }
+        ensures found { IfOk result (λ r. IsTrue r.1 → (r.0 < length self.new.pending.items)
+            × (slice_index self.new.pending.items r.0 ≡ 10)
+            × ((k : ℕ) → k < r.0 → slice_index self.new.pending.items k ≢ 10)) }
+        ensures none { IfOk result (λ r. r.1 ≡ false → (r.0 ≡ length self.new.pending.items)
+            × ((k : ℕ) → k < r.0 → slice_index self.new.pending.items k ≢ 10)) }
+        ensures end { IsTrue (H.told host.old).tells → IfOk result (λ r. r.1 ≡ false → (H.told host.new).left ≡ []) }
+        ensures limit { IfOk result (λ r. r.0 ≤ LINE_LIMIT) }
+        ensures within { IfOk result (λ r. self.new.place + r.0 < 2 ^ 40) }
+        ensures fault { IsTrue (H.told host.old).tells → IfErr result (λ e. IsLineFault e (next_line_of self.old.place (self.old.pending.items ++ (H.told host.old).left))) }
+        ensures place { self.new.place ≡ self.old.place }
+        ensures course { GoesOn (H.told host.old) (H.told host.new) }
+        ensures disk { KeepsDisk (H.told host.old) (H.told host.new) }
+        ensures said { KeepsSaid (H.told host.old) (H.told host.new) }
+        ensures alone { RaisesTakesAlone (H.told host.old) (H.told host.new) }
+        ensures cause { IsErrOf result LineFault.Failed → Rose (H.told host.old).take_faults (H.told host.new).take_faults }
+    {
+        let mut clear = 0;
+        'pieces: loop {
+            if let Some(at) = line_feed(&self.pending, clear) {
+                return self.within_limit(at, true);
+            }
+            clear = self.pending.len();
+            if clear as u64 > LINE_LIMIT || self.place + clear as u64 == INPUT_LIMIT {
+                return self.within_limit(clear, false);
+            }
+            if !self.fill(host)? {
+                return Ok((clear, false));
+            }
+        }
+    }
+
+    fn within_limit(&self, len: usize, ended: bool) -> Result<(usize, bool), LineFault>
+        ensures ok { IfOk result (λ r. (r.0 ≡ len) × (r.1 ≡ ended) × (len ≤ LINE_LIMIT) × (self.now.place + len < 2 ^ 40)) }
+        ensures err { IfErr result (λ e. ((LINE_LIMIT < len) × (e ≡ LineFault.LineTooLong (self.now.place + LINE_LIMIT)))
+            ⊎ ((len ≤ LINE_LIMIT) × (2 ^ 40 ≤ self.now.place + len) × (e ≡ LineFault.InputTooLong INPUT_LIMIT))) }
+    {
+        let len_64 = len as u64;
+        if len_64 > LINE_LIMIT {
+            return Err(LineFault::LineTooLong {
+                at: self.place.saturating_add(LINE_LIMIT),
+            });
+        }
+        if self.place >= INPUT_LIMIT - len_64 {
+            return Err(LineFault::InputTooLong { at: INPUT_LIMIT });
+        }
+        Ok((len, ended))
+    }
+
+    /// Makes the line at hand the text, and goes past it.
+    pub fn line_at(&mut self, text: &mut String, len: usize, ended: bool) -> Result<Got, LineFault>
+        requires len { len ≤ length self.old.pending.items }
+        requires ended { IsTrue ended → len < length self.old.pending.items }
+        requires whole { ended ≡ false → len ≡ length self.old.pending.items }
+        ensures line { GotLine result (string_bytes text.new) (line_or_end self.old.place (take len self.old.pending.items) ended) }
+        ensures pending { OnOk result (self.new.pending.items ≡ drop (if ended then len + 1 else len) self.old.pending.items) }
+        ensures place { OnOk result (self.new.place ≡ self.old.place + (if ended then len + 1 else len)) }
+        ensures advances { IfOk result (λ got. got ≡ Got.Line → self.old.place < self.new.place) }
+        ensures end { IfOk result (λ got. got ≡ Got.End → ended ≡ false) }
+        ensures not_failed { IfErr result (λ e. e ≢ LineFault.Failed) }
+    {
+        if !ended && len == 0 {
+            return Ok(Got::End);
+        }
+        let past = if ended { len + 1 } else { len };
+        self.take_text(text, len, past)?;
+        Ok(Got::Line)
+    }
+
+    /// Makes the first bytes the text, without a carriage return at their end, and goes past them.
+    #[tactic(auto, using(crate::proofs::ScriptCuts::text_lemmas))]
+    fn take_text(&mut self, text: &mut String, len: usize, past: usize) -> Result<(), LineFault>
+        requires len { len ≤ past }
+        requires past { past ≤ length self.old.pending.items }
+        ensures text { OnOk result (text_at self.old.place (without_cr (take len self.old.pending.items)) ≡ Ok (string_bytes text.new)) }
+        ensures pending { OnOk result (self.new.pending.items ≡ drop past self.old.pending.items) }
+        ensures place { OnOk result (self.new.place ≡ self.old.place + past) }
+        ensures fault { IfErr result (λ e. IsTextFault e (text_at self.old.place (without_cr (take len self.old.pending.items)))) }
+        ensures not_failed { IfErr result (λ e. e ≢ LineFault.Failed) }
+    {
+        set_text(text, self.place, cut_cr(&self.pending[..len]))?;
+        self.go_past(past);
+        Ok(())
+    }
+
+    /// Goes past the first bytes.
+    pub fn go_past(&mut self, count: usize)
+        requires count { count ≤ length self.old.pending.items }
+        ensures pending { self.new.pending.items ≡ drop count self.old.pending.items }
+        ensures place { self.new.place ≡ self.old.place + count }
+    {
+        remove_front(&mut self.pending, count);
+        self.place += count as u64;
+    }
+}
+
+/// The line without a carriage return at its end.
+pub fn cut_cr(raw: &[u8]) -> &[u8]
+    ensures line { result.now ≡ without_cr raw.now }
+{
+    let len = raw.len();
+    if len > 0 && raw[len - 1] == b'\r' {
+        return &raw[..len - 1];
+    }
+    raw
+}
+
+#[tactic(auto, using(crate::proofs::ScriptCuts::text_lemmas))]
+fn set_text(text: &mut String, place: u64, bytes: &[u8]) -> Result<(), LineFault>
+    requires { place + length bytes.now < 2 ^ 64 }
+    ensures text { OnOk result (text_at place bytes.now ≡ Ok (string_bytes text.new)) }
+    ensures fault { IfErr result (λ e. IsTextFault e (text_at place bytes.now)) }
+    ensures not_failed { IfErr result (λ e. e ≢ LineFault.Failed) }
+{
+    text.clear();
+    match std::str::from_utf8(bytes) {
+        Err(error) => Err(LineFault::NotText {
+            at: place + error.valid_up_to() as u64,
+        }),
+        Ok(line) => match text.push_str(line) {
+            Ok(()) => Ok(()),
+            Err(_) => Err(LineFault::Memory),
+        },
+    }
+}
+
+fn remove_front(bytes: &mut Vec<u8>, count: usize)
+    requires { count ≤ length bytes.old.items }
+    ensures { bytes.new.items ≡ drop count bytes.old.items }
+{
+    bytes.copy_within(count.., 0);
+    let len = bytes.len();
+    bytes.truncate(len - count);
+}
