@@ -1,12 +1,12 @@
 -- How a write changes the number of entries that pass a test.
 use Rattle.std.proofs.lemmas.Bool.Decides.{nat_tests}
-use Rattle.std.proofs.Common.{length, nat_le, nat_lt, ◌≤◌, ◌≡◌, ℕ, ◌+◌, suc, Bool, true, false, cond, List, [], ◌∷◌, refl, sym, ap, subst, ◌∙◌, arith, not, ◌&&◌}
+use Rattle.std.proofs.Common.{length, nat_le, nat_lt, ◌≤◌, ◌≡◌, ℕ, ◌+◌, Bool, true, false, cond, List, [], ◌∷◌, refl, sym, ap, subst, ◌∙◌, arith, not, ◌&&◌}
 use Rattle.std.specs.Prelude.{Option, None, Some, T}
 use Rattle.std.specs.declared.cmp.Ordering.{Ordering}
 use Rattle.std.specs.declared.cmp.Ordering.TheVariants.{Less, Equal, Greater}
-use Rattle.std.specs.Ordering.{eq_by_cmp, is_eq, is_lt, ordering_reverse}
-use Rattle.std.specs.Cmp.{IsTotalOrder, eq_by_cmp_equiv, alike_right}
-use Rattle.std.specs.FinMap.{FinMap, get, insert, remove, entries, from_sorted, entries_sorted, entries-insert, get-entries, get-remove, get-from_sorted, entries-from_sorted, find, put, is_sorted}
+use Rattle.std.specs.Ordering.{eq_by_cmp, is_eq, is_lt}
+use Rattle.std.specs.Cmp.{eq_by_cmp_equiv, alike_right}
+use Rattle.std.specs.FinMap.{FinMap, get, remove, entries, from_sorted, entries_sorted, entries-insert, get-entries, get-remove, get-from_sorted, entries-from_sorted, find, put, is_sorted}
 use Rattle.std.specs.FinMap.Entries.{below_all, where_key, by_order, is_sorted-where_key, find-where_key}
 use Rattle.finite_maps.specs.Maps.{passes, set, tally, count, counts, is_below, is_within}
 use Rattle.finite_maps.proofs.MapLaws.{IsKeyOrder, same, same_key, own_key}

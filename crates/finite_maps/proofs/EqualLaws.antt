@@ -1,5 +1,5 @@
 -- Tests of equality that hold exactly of equal values.
-use Rattle.std.proofs.Common.{◌≡◌, ℕ, Bool, true, false, List, [], ◌∷◌, refl, sym, ap, subst, ◌∙◌, arith, ◌&&◌, nat_eq, rules}
+use Rattle.std.proofs.Common.{◌≡◌, Bool, true, false, List, [], ◌∷◌, refl, sym, ap, subst, ◌∙◌, ◌&&◌, nat_eq, rules}
 use Rattle.std.specs.Prelude.{Option, None, Some}
 use Rattle.finite_maps.specs.Equal.{option_eq, list_eq, text_eq}
 

@@ -1,12 +1,12 @@
 -- Laws of the writes of finite maps whose order is total and ties only equal keys.
-use Rattle.std.proofs.Common.{◌≡◌, ◌≢◌, ℕ, ◌+◌, suc, Bool, true, false, cond, List, [], ◌∷◌, refl, sym, ap, subst, ◌∙◌, arith}
+use Rattle.std.proofs.Common.{◌≡◌, true, false, cond, List, [], ◌∷◌, refl, sym, ap, subst, ◌∙◌}
 use Rattle.std.specs.Prelude.{Option, None, Some}
 use Rattle.std.specs.declared.cmp.Ordering.{Ordering}
 use Rattle.std.specs.declared.cmp.Ordering.TheVariants.{Less, Equal, Greater}
 use Rattle.std.specs.Ordering.{eq_by_cmp, is_eq}
-use Rattle.std.specs.Cmp.{IsTotalOrder, tied_itself, eq_by_cmp_equiv}
-use Rattle.std.specs.FinMap.{FinMap, get, insert, remove, entries, IsAntisymmetric, same_map, get-insert, get-remove, find, put}
-use Rattle.finite_maps.specs.Maps.{set, set_all, count, counts}
+use Rattle.std.specs.Cmp.{IsTotalOrder, tied_itself}
+use Rattle.std.specs.FinMap.{FinMap, get, IsAntisymmetric, same_map, get-insert, get-remove}
+use Rattle.finite_maps.specs.Maps.{set, set_all}
 
 -- an order that is total and ties only equal keys
 pub record IsKeyOrder {K : Type 0} (R : K → K → Ordering) : Type 0 where

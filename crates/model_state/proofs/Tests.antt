@@ -1,14 +1,13 @@
 -- From a list of tests to its facts, and equalities of values and places.
-use Rattle.std.proofs.Common.{◌≡◌, ℕ, ℤ, Bool, true, false, cond, not, List, [], ◌∷◌, refl, sym, ap, subst, ◌∙◌, ◌&&◌, ◌||◌, rules, arith, nat_eq}
-use Rattle.std.specs.Prelude.{Option, None, Some, int_le}
+use Rattle.std.proofs.Common.{◌≡◌, ℤ, Bool, true, false, cond, List, [], ◌∷◌, refl, sym, ap, ◌∙◌, rules, nat_eq}
+use Rattle.std.specs.Prelude.{None, Some}
 use Rattle.std.specs.Ordering.{int_eq}
-use Rattle.finite_maps.specs.Equal.{option_eq, list_eq, text_eq}
+use Rattle.finite_maps.specs.Equal.{option_eq, list_eq}
 use Rattle.finite_maps.proofs.EqualLaws.{IsEquality, and_first, and_second, and_both, nat_equality, text_equality, option_equality, list_equality}
 use Rattle.ecore_meta.specs.declared.meta.Value.{Value}
 use Rattle.ecore_meta.specs.declared.meta.Value.TheVariants.{Text, Flag, Whole, Literal}
 use Rattle.model_state.specs.declared.step.Place.{Place}
 use Rattle.model_state.specs.declared.step.Place.TheVariants.{Root, Inside}
-use Rattle.model_state.specs.declared.step.StepFault.{StepFault}
 use Rattle.model_state.specs.Typing.{value_eq, flag_eq}
 use Rattle.model_state.specs.State.{place_eq}
 use Rattle.model_state.specs.Steps.{Test, first_fault}

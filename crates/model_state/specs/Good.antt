@@ -2,16 +2,16 @@
 use Rattle.std.specs.Prelude.{◌≡◌, ℕ, ◌≤◌, Bool, true, false, List, [], ◌∷◌, Option, None, Some, is_some, nat_eq, not, ◌&&◌, length, cond}
 use Rattle.std.specs.FinMap.{FinMap, get}
 use Rattle.std.specs.List.{list_all, list_any}
-use Rattle.finite_maps.specs.Maps.{is_below, is_within, count}
+use Rattle.finite_maps.specs.Maps.{is_within, count}
 use Rattle.finite_maps.specs.Equal.{text_eq}
 use Rattle.ecore_meta.specs.Meta.{Meta}
 use Rattle.ecore_meta.specs.declared.meta.Kind.{Kind}
-use Rattle.ecore_meta.specs.declared.meta.Kind.TheVariants.{Attr, AttrMany, Bounded, Free, Contains, Container, Skip}
+use Rattle.ecore_meta.specs.declared.meta.Kind.TheVariants.{Attr, AttrMany}
 use Rattle.ecore_meta.specs.declared.meta.Value.{Value}
 use Rattle.model_state.specs.declared.step.Place.{Place}
 use Rattle.model_state.specs.declared.step.Place.TheVariants.{Root, Inside}
 use Rattle.model_state.specs.Keys.{Name, id_cmp, attr_cmp, row_cmp}
-use Rattle.model_state.specs.Typing.{has_feature, kind_of, upper_of, row_upper, child_upper, opposite_of, is_concrete, contains_to, plain_to, fits, value_eq, is_default}
+use Rattle.model_state.specs.Typing.{has_feature, kind_of, upper_of, row_upper, child_upper, opposite_of, is_concrete, contains_to, fits, value_eq, is_default}
 use Rattle.model_state.specs.State.{State, place_eq}
 use Rattle.model_state.specs.Steps.{class_has, may_link}
 pub use Rattle.model_state.specs.Chains.{IsChain}

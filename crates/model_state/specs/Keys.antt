@@ -1,9 +1,8 @@
 -- The orders of the keys of a state.
-use Rattle.std.specs.Prelude.{ℕ, Bool, List, ◌&&◌, nat_eq}
+use Rattle.std.specs.Prelude.{ℕ, List}
 use Rattle.std.specs.declared.cmp.Ordering.{Ordering}
 use Rattle.std.specs.Ordering.{nat_cmp, ordering_then}
 use Rattle.std.specs.Cmp.Lexicographic.{slice_cmp}
-use Rattle.finite_maps.specs.Equal.{text_eq}
 
 -- an id is seen as its bytes, and ids stand in the order of their bytes
 abbrev pub Name : Type 0

@@ -1,9 +1,8 @@
 -- The lists of a state: the targets of a feature, the elements of a place, the rows to an element, the ids.
-use Rattle.std.specs.Prelude.{◌≡◌, ℕ, Bool, List, [], ◌∷◌, map, nat_eq, ◌&&◌, Option, None, Some, unwrap_or}
-use Rattle.std.specs.List.{filter}
+use Rattle.std.specs.Prelude.{ℕ, Bool, List, map, nat_eq, ◌&&◌, unwrap_or}
 use Rattle.std.specs.declared.cmp.Ordering.{Ordering}
 use Rattle.std.specs.Ordering.{nat_cmp, ordering_then}
-use Rattle.std.specs.FinMap.{FinMap, get, entries, keys}
+use Rattle.std.specs.FinMap.{FinMap, get, keys}
 use Rattle.finite_maps.specs.Equal.{text_eq}
 use Rattle.finite_maps.specs.Sorts.{in_order, picked}
 use Rattle.model_state.specs.declared.entry.Entry.{Entry}

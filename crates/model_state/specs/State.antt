@@ -1,5 +1,5 @@
 -- The state of a model: five finite maps.
-use Rattle.std.specs.Prelude.{◌≡◌, ℕ, Bool, true, false, List, [], ◌∷◌, Option, None, Some, is_some, nat_eq, ◌&&◌, ◌||◌}
+use Rattle.std.specs.Prelude.{ℕ, Bool, true, false, List, [], Option, is_some, nat_eq, ◌&&◌, ◌||◌}
 use Rattle.std.specs.FinMap.{FinMap, get, empty}
 use Rattle.finite_maps.specs.Maps.{set_all, count}
 use Rattle.finite_maps.specs.Equal.{text_eq}

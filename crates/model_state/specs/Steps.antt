@@ -1,10 +1,9 @@
 -- The steps: when each may be taken, what it does, and its reversal.
-use Rattle.std.specs.Prelude.{◌≡◌, ℕ, Bool, true, false, List, [], ◌∷◌, ◌++◌, Option, None, Some, is_some, nat_eq, nat_lt, nat_le, not, ◌&&◌, ◌||◌, cond, length, slice_get}
-use Rattle.std.specs.Option.{option_map, option_map_or}
-use Rattle.std.specs.List.{list_all, list_any, insert, remove}
+use Rattle.std.specs.Prelude.{◌≡◌, ℕ, Bool, true, false, List, [], ◌∷◌, ◌++◌, Option, None, Some, is_some, nat_eq, nat_lt, nat_le, not, ◌&&◌, cond, length, slice_get}
+use Rattle.std.specs.List.{list_any, insert, remove}
 use Rattle.model_state.specs.Lists.{entry_of, values_of, shifted}
 use Rattle.std.specs.FinMap.{FinMap, get}
-use Rattle.finite_maps.specs.Maps.{is_below, is_within}
+use Rattle.finite_maps.specs.Maps.{is_below}
 use Rattle.finite_maps.specs.Equal.{option_eq, list_eq, text_eq}
 use Rattle.ecore_meta.specs.Meta.{Meta}
 use Rattle.ecore_meta.specs.declared.meta.Value.{Value}
@@ -15,7 +14,7 @@ use Rattle.model_state.specs.declared.step.Step.TheVariants.{Put, Ins, Del, Shif
 use Rattle.model_state.specs.declared.step.StepFault.{StepFault}
 use Rattle.model_state.specs.declared.step.StepFault.TheVariants.{NotThere, There, OldDiffers, Bound, WrongType, Chain, NotEmpty, BadStep}
 use Rattle.model_state.specs.Keys.{Name, id_cmp}
-use Rattle.model_state.specs.Typing.{is_plain, is_many, is_unique, many_fits, upper_of, has_feature, is_a, kind_of, row_upper, child_upper, opposite_of, links, contains_to, is_concrete, is_default, attr_fits, is_attr, value_eq}
+use Rattle.model_state.specs.Typing.{is_plain, is_many, is_unique, many_fits, upper_of, has_feature, kind_of, row_upper, child_upper, opposite_of, links, contains_to, is_concrete, is_default, attr_fits, is_attr, value_eq}
 use Rattle.model_state.specs.State.{State, place_eq, is_live, child_count, row_count, value_count, link_count, inner_count, Writes, no_writes, written}
 
 -- a test, and the fault where it fails

@@ -6,7 +6,6 @@ use Rattle.finite_maps.specs.Equal.{option_eq, text_eq}
 pub use Rattle.ecore_meta.specs.Meta.{has_feature, is_a}
 pub use Rattle.ecore_meta.specs.Typing.{in_width, literal_count, fits, kind_of, upper_of, opposite_of, plain_to, links}
 use Rattle.ecore_meta.specs.Meta.{Meta}
-use Rattle.ecore_meta.specs.declared.meta.Class.{Class}
 use Rattle.ecore_meta.specs.declared.meta.Kind.{Kind}
 use Rattle.ecore_meta.specs.declared.meta.Kind.TheVariants.{Attr, AttrMany, Bounded, Free, Contains}
 use Rattle.ecore_meta.specs.declared.meta.Value.{Value}

@@ -1,7 +1,6 @@
 -- the next place is that of the container
-use Rattle.std.proofs.Common.{◌≡◌, sym, ap, subst, ◌∙◌, ◌∷◌, [], ◌++◌}
+use Rattle.std.proofs.Common.{sym, ap, subst, ◌∙◌, ◌∷◌, [], ◌++◌}
 use Rattle.std.specs.Prelude.{Some}
-use Rattle.std.specs.Option.{option_map, option_copied}
 use Rattle.model_state.specs.Chains.{IsChain}
 use Rattle.model_state.proofs.ChainLaws.{go_on}
 use Rattle.model_state.proofs.containers.chain.Goals as goal

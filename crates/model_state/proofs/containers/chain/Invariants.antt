@@ -1,5 +1,5 @@
 -- the containers so far and those of the next place are the chain
-use Rattle.std.proofs.Common.{◌≡◌, List, ◌++◌}
+use Rattle.std.proofs.Common.{List, ◌++◌}
 use Rattle.std.specs.Prelude.{Some}
 use Rattle.model_state.specs.Keys.{Name}
 use Rattle.model_state.specs.Chains.{IsChain}

@@ -1,0 +1,14 @@
+pub mod Births
+pub mod Links
+pub mod Attrs
+pub mod Ranks
+pub mod Moves
+pub mod Inserts
+pub mod Many
+pub mod RowRanks
+pub mod Start
+pub mod Runs
+pub mod Exchange
+pub mod StepNeeds
+pub mod StepTouches
+pub mod Apart

@@ -1,0 +1,9 @@
+//! Laws of the steps: each keeps the invariant of a state, reversal undoes, and steps whose cells keep apart may
+//! change places. A law is the contract of a function that does nothing.
+#![tactic(auto)]
+
+mod laws;
+mod player;
+
+pub use laws::{law_of_exchange, law_of_reversal};
+pub use player::replay;

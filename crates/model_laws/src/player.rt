@@ -1,0 +1,19 @@
+ghost use Rattle.std.specs.Prelude.{◌≡◌, Some, OnOk};
+ghost use Rattle.model_state.specs.Steps.{fold};
+ghost use Rattle.model_state.specs.Good.{Good, Sound};
+
+use ecore_meta::Metamodel;
+use model_state::{Change, Step, StepFault};
+
+/// Takes the steps one by one, up to the first that can't be taken.
+pub fn replay<M: Change>(model: &mut M, meta: &Metamodel, steps: &[Step]) -> Result<(), StepFault>
+    requires sound { Sound meta.now }
+    requires good { Good meta.now (M.state model.old) }
+    ensures done { OnOk result (fold meta.now (M.state model.old) steps.now ≡ Some (M.state model.new)) }
+    ensures good { Good meta.now (M.state model.new) }
+{
+    for step in steps {
+        model.apply(meta, step)?;
+    }
+    Ok(())
+}
