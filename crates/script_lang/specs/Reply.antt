@@ -1,0 +1,43 @@
+-- What is said to a command.
+use Rattle.std.specs.Prelude.{ℕ, List, [], ◌∷◌, ◌++◌, codes}
+use Rattle.std.specs.Fmt.{decimal}
+use Rattle.script_lang.specs.declared.reply.Refusal.{Refusal}
+use Rattle.script_lang.specs.declared.reply.Refusal.TheVariants.{BadLine, NotInit, AlreadyInit, BadMetamodel, NoWorkspace, NoVersion, NoBranch, IdInUse, BadId, NoClass, Abstract, HistoryFull, JournalFull}
+use Rattle.script_lang.specs.declared.reply.Last.{Last}
+use Rattle.script_lang.specs.declared.reply.Last.TheVariants as last
+use Rattle.script_lang.specs.declared.reply.Reply.{Reply}
+
+-- a refusal's number, its name and its fields, with single spaces
+unfoldable pub refusal_text : Refusal → List ℕ
+refusal_text (BadLine column) = codes "1 BadLine " ++ decimal column
+refusal_text NotInit = codes "2 NotInit"
+refusal_text AlreadyInit = codes "3 AlreadyInit"
+refusal_text (BadMetamodel n) = codes "4 BadMetamodel " ++ decimal n
+refusal_text NoWorkspace = codes "5 NoWorkspace"
+refusal_text NoVersion = codes "6 NoVersion"
+refusal_text NoBranch = codes "7 NoBranch"
+refusal_text IdInUse = codes "11 IdInUse"
+refusal_text BadId = codes "12 BadId"
+refusal_text NoClass = codes "13 NoClass"
+refusal_text Abstract = codes "14 Abstract"
+refusal_text HistoryFull = codes "33 HistoryFull"
+refusal_text JournalFull = codes "35 JournalFull"
+
+-- `ok`, with its words where there are any
+abbrev pub ok_line : List ℕ → List ℕ
+ok_line [] = codes "ok"
+ok_line (b ∷ bs) = codes "ok " ++ (b ∷ bs)
+
+-- the line that ends a reply
+abbrev pub last_line : Last → List ℕ
+last_line (last.Ok words) = ok_line words
+last_line (last.No refusal) = codes "no " ++ refusal_text refusal
+
+-- lines, each ended by a line feed
+abbrev pub printed_lines : List (List ℕ) → List ℕ
+printed_lines [] = []
+printed_lines (line ∷ lines) = line ++ (10 ∷ printed_lines lines)
+
+-- a reply: its data lines and then its last line
+abbrev pub printed : Reply → List ℕ
+printed reply = printed_lines reply.lines ++ (last_line reply.last ++ 10 ∷ [])

@@ -1,0 +1,117 @@
+-- The words of a line, with the column of the first that does not fit.
+use Rattle.std.specs.Prelude.{◌≡◌, ℕ, ◌+◌, ◌-◌, ◌^◌, ◌==◌, ◌&&◌, ◌||◌, not, codes, nat_eq, Bool, nat_lt, nat_le, List, [], ◌∷◌, length, slice_index, Option, Some, None, Result, Ok, Err, if◌then◌else◌}
+use Rattle.std.specs.List.{before_first, after_first, list_all}
+use Rattle.std.specs.Char.{is_ascii_digit}
+use Rattle.std.specs.Str.Parse.{digits_value}
+use Rattle.std.specs.Borrow.{Bor}
+use Rattle.std.specs.Cmp.Lexicographic.{pointwise}
+use Rattle.script_lang.specs.declared.fault.ParseFault.{ParseFault}
+use Rattle.script_lang.specs.declared.fault.ParseFault.TheVariants.{BadLine, Memory}
+use Rattle.script_lang.specs.Left.{Left, left_of}
+
+-- one reading after another; the first that does not fit gives its column
+infixl 10 ◌>>=◌
+abbrev pub ◌>>=◌ : {A B : Type 0} → Result A ℕ → (A → Result B ℕ) → Result B ℕ
+(Ok x) >>= f = f x
+(Err e) >>= f = Err e
+
+abbrev pub is_space : ℕ → Bool
+is_space b = b == 32
+
+-- the word at the front of the rest of a line, and what is left behind it; an empty word does not fit
+abbrev pub word_of : ℕ → List ℕ → Result (List ℕ × Left) ℕ
+word_of column rest =
+    let word = before_first is_space rest in
+    if length word == 0 then Err column
+    else Ok (
+      word,
+      record {
+        rest = if nat_lt (length word) (length rest) then Some (after_first is_space rest) else None;
+        column = column + length word + 1;
+      },
+    )
+
+-- a word that is missing is missed one past the end
+abbrev pub word_from : Option (List ℕ) → ℕ → Result (List ℕ × Left) ℕ
+word_from None column = Err (column - 1)
+word_from (Some rest) column = word_of column rest
+
+-- the next word
+unfoldable pub word_at : Left → Result (List ℕ × Left) ℕ
+word_at left = word_from left.rest left.column
+
+-- digits, at least one, and no zero in front of others
+abbrev pub is_numeral : List ℕ → Bool
+is_numeral word = nat_lt 0 (length word) && ((length word == 1) || not (slice_index word 0 == 48)) && list_all is_ascii_digit word
+
+-- a decimal number without needless zeros, below 2 ^ 32
+unfoldable pub number_of : List ℕ → Option ℕ
+number_of word = if is_numeral word && nat_lt (digits_value 10 word) (2 ^ 32) then Some (digits_value 10 word) else None
+
+-- the value of a word that began at the column, where it has one
+abbrev pub found_at : {X : Type 0} → ℕ → Option X → Left → Result (X × Left) ℕ
+found_at column None left = Err column
+found_at column (Some x) left = Ok (x, left)
+
+-- the number, where it is at least that
+abbrev pub not_below : ℕ → Option ℕ → Option ℕ
+not_below least None = None
+not_below least (Some n) = if nat_le least n then Some n else None
+
+-- the next word, a number of at least that
+unfoldable pub number_at : ℕ → Left → Result (ℕ × Left) ℕ
+number_at least left = do
+  word ← word_at left
+  found_at left.column (not_below least (number_of word.0)) word.1
+
+-- no word is left
+abbrev pub end_from : Option (List ℕ) → ℕ → Result (Unit {0}) ℕ
+end_from None column = Ok tt
+end_from (Some rest) column = Err column
+
+abbrev pub end_at : Left → Result (Unit {0}) ℕ
+end_at left = end_from left.rest left.column
+
+-- two texts are one
+abbrev pub is_word : List ℕ → List ℕ → Bool
+is_word = pointwise nat_eq
+
+-- the next word is `/`
+unfoldable pub root_at : Left → Result (Unit {0} × Left) ℕ
+root_at left = do
+  word ← word_at left
+  found_at left.column (if is_word word.0 (codes "/") then Some tt else None) word.1
+
+abbrev pub optional_from : Option (List ℕ) → Left → Result (Option (List ℕ) × Left) ℕ
+optional_from None left = Ok (None, left)
+optional_from (Some rest) left = word_at left >>= λ word. Ok (Some word.0, word.1)
+
+-- the next word, where there is one
+unfoldable pub optional_at : Left → Result (Option (List ℕ) × Left) ℕ
+optional_at left = optional_from left.rest left
+
+-- the fault names the column that reading gives; want of memory says nothing of the line
+abbrev pub IsBad : {X : Type 0} → ParseFault → Result X ℕ → Type 0
+IsBad Memory read = Unit {0}
+IsBad (BadLine column) read = read ≡ Err column
+
+-- a call gave what reading gives, and stands behind it
+abbrev pub Gives : {X : Type 0} → Left → Result X ParseFault → Result (X × Left) ℕ → Type 0
+Gives new (Ok x) read = read ≡ Ok (x, new)
+Gives new (Err e) read = IsBad e read
+
+abbrev pub GivesText : Left → Result (Bor (List ℕ)) ParseFault → Result (List ℕ × Left) ℕ → Type 0
+GivesText new (Ok x) read = read ≡ Ok (x.now, new)
+GivesText new (Err e) read = IsBad e read
+
+abbrev pub GivesEnd : Result (Unit {0}) ParseFault → Result (Unit {0}) ℕ → Type 0
+GivesEnd (Ok x) read = read ≡ Ok tt
+GivesEnd (Err e) read = IsBad e read
+
+abbrev pub GivesOptional : Left → Result (Option (Bor (List ℕ))) ParseFault → Result (Option (List ℕ) × Left) ℕ → Type 0
+GivesOptional new (Ok o) read = read ≡ Ok (left_of o, new)
+GivesOptional new (Err e) read = IsBad e read
+
+abbrev pub GivesUnit : Left → Result (Unit {0}) ParseFault → Result (Unit {0} × Left) ℕ → Type 0
+GivesUnit new (Ok x) read = read ≡ Ok (tt, new)
+GivesUnit new (Err e) read = IsBad e read

@@ -1,0 +1,20 @@
+//! The script: a line as the command that it spells, and a reply as the bytes that are said.
+//!
+//! A line is words separated by exactly one space. What a line means is one command of this project's profile of EMFStore's client operations; a line that
+//! spells none is refused with the column of the first word that does not fit.
+#![tactic(auto)]
+
+mod command;
+mod fault;
+mod laws;
+mod parse;
+mod reply;
+#[cfg(test)]
+mod tests;
+mod words;
+
+pub use command::{Command, Spec};
+pub use fault::ParseFault;
+pub use laws::law_of_lines;
+pub use parse::parse_line;
+pub use reply::{Last, Refusal, Reply, print_reply};

@@ -1,0 +1,112 @@
+// A line as a command: one private function a command.
+ghost use Rattle.std.specs.Prelude.{◌≡◌, ◌-◌, ◌<◌, ◌^◌, length, IfOk, IfNone, IfSome, None, Some};
+ghost use Rattle.script_lang.specs.Command.{GivesCommand, GivesSpec, command_of, init_at, checkout_at, create_at, spec_of, spec_at, tag_of};
+ghost use Rattle.script_lang.specs.declared.command.Spec.TheVariants.{Tag};
+
+use crate::words::{Words, bad_line, is_name, number_of};
+use crate::{Command, ParseFault, Spec};
+use ecore_meta::Text;
+use std::alloc::{AllocError, Global};
+
+/// The command that a line spells.
+///
+/// # Errors
+///
+/// `BadLine` with the column, from 1, of the first word that does not fit, or of one past the end where a word is missing; `Memory`.
+#[tactic(auto, unfolding(crate::specs::Command::command_of))]
+pub fn parse_line(alloc: Global, line: &str) -> Result<Command, ParseFault>
+    requires short { length line.now < 2 ^ 32 - 1 }
+    ensures command { GivesCommand result (command_of line.now) }
+{
+    let mut words = Words::new(line);
+    let first = words.word()?;
+    match first {
+        "init" => init(&words),
+        "checkout" => checkout(alloc, &mut words),
+        "create" => create(alloc, &mut words),
+        _ => Err(ParseFault::BadLine { column: 1 }),
+    }
+}
+
+#[tactic(auto, unfolding(crate::specs::Command::init_at))]
+fn init(words: &Words<'_>) -> Result<Command, ParseFault>
+    ensures { GivesCommand result (init_at words.now) }
+{
+    words.end()?;
+    Ok(Command::Init)
+}
+
+#[tactic(auto, unfolding(crate::specs::Command::checkout_at))]
+fn checkout(alloc: Global, words: &mut Words<'_>) -> Result<Command, ParseFault>
+    ensures { GivesCommand result (checkout_at words.old) }
+{
+    let spec = spec(alloc, words)?;
+    words.end()?;
+    Ok(Command::Checkout { spec })
+}
+
+#[tactic(auto, unfolding(crate::specs::Command::create_at))]
+fn create(alloc: Global, words: &mut Words<'_>) -> Result<Command, ParseFault>
+    ensures { GivesCommand result (create_at words.old) }
+{
+    let ws = words.number(1)?;
+    let class = words.word()?;
+    words.root()?;
+    let id = words.optional_word()?;
+    words.end()?;
+    Ok(Command::Create {
+        ws,
+        class: Text::new(alloc, class)?,
+        id: match id {
+            None => None,
+            Some(id) => Some(Text::new(alloc, id)?),
+        },
+    })
+}
+
+/// The next word, which names a version.
+#[tactic(auto, unfolding(crate::specs::Command::spec_at))]
+fn spec(alloc: Global, words: &mut Words<'_>) -> Result<Spec, ParseFault>
+    ensures { GivesSpec words.new result (spec_at words.old) }
+{
+    let column = words.column();
+    let word = words.word()?;
+    match spec_of(alloc, word)? {
+        Some(spec) => Ok(spec),
+        None => Err(bad_line(column)),
+    }
+}
+
+/// The version that a word names, if it is of the form.
+#[tactic(auto, unfolding(crate::specs::Command::spec_of))]
+fn spec_of(alloc: Global, word: &str) -> Result<Option<Spec>, AllocError>
+    ensures { IfOk result (λ spec. spec ≡ spec_of word.now) }
+{
+    if let Some(number) = number_of(word) {
+        return Ok(Some(Spec::Number(number)));
+    }
+    if is_name(word.as_bytes()) {
+        return Ok(Some(Spec::Branch(Text::new(alloc, word)?)));
+    }
+    match tag_name(word) {
+        Some(name) => Ok(Some(Spec::Tag(Text::new(alloc, name)?))),
+        None => Ok(None),
+    }
+}
+
+/// The name behind `@`, if the word is a tag's.
+fn tag_name(word: &str) -> Option<&str>
+    ensures none { IfNone result (tag_of word.now ≡ None) }
+    ensures some { IfSome result (λ name. tag_of word.now ≡ Some (Tag name.now)) }
+{
+    match word.strip_prefix('@') {
+        Some(name) => {
+            if is_name(name.as_bytes()) {
+                Some(name)
+            } else {
+                None
+            }
+        }
+        None => None,
+    }
+}

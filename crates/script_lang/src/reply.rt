@@ -1,0 +1,126 @@
+// A reply, and the bytes that are said of it.
+ghost use Rattle.std.specs.Prelude.{◌≡◌, ◌++◌, ◌∷◌, [], IfOk, OnOk, string_bytes};
+ghost use Rattle.script_lang.specs.Reply.{printed, printed_lines, last_line, ok_line};
+
+use ecore_meta::{List, Text};
+use std::alloc::{AllocError, Global};
+use std::fmt;
+
+/// Why a command is refused, with the number and the name that its reply has. After each of them the repository and the file are as before.
+#[derive(Clone, Copy, Debug, PartialEq, Eq)]
+pub enum Refusal {
+    /// 1: the line spells no command. The column is a byte's, from 1.
+    BadLine { column: u32 },
+    /// 2: there is no metamodel yet.
+    NotInit,
+    /// 3: there is a metamodel already.
+    AlreadyInit,
+    /// 4: the block is no metamodel, for the fault of that number.
+    BadMetamodel { n: u32 },
+    /// 5: no workspace has that number.
+    NoWorkspace,
+    /// 6: no version has that number, or no version that tag.
+    NoVersion,
+    /// 7: no branch has that name.
+    NoBranch,
+    /// 11: an element with that id is live.
+    IdInUse,
+    /// 12: the text is no id.
+    BadId,
+    /// 13: the metamodel has no class of that name.
+    NoClass,
+    /// 14: the class is abstract.
+    Abstract,
+    /// 33: as many events stand in the history as it can hold.
+    HistoryFull,
+    /// 35: the event's record would pass the journal's limit.
+    JournalFull,
+}
+
+impl fmt::Display for Refusal {
+    ghost use Rattle.std.specs.Prelude.{Some};
+    ghost use Rattle.script_lang.specs.Reply.{refusal_text};
+
+    ghost output = { λ refusal. Some (refusal_text refusal) };
+
+    #[tactic(auto, unfolding(crate::specs::Reply::refusal_text))]
+    fn fmt<W: fmt::Write>(&self, f: &mut fmt::Formatter<W>) -> fmt::Result {
+        match self {
+            Refusal::BadLine { column } => write!(f, "1 BadLine {column}"),
+            Refusal::NotInit => f.write_str("2 NotInit"),
+            Refusal::AlreadyInit => f.write_str("3 AlreadyInit"),
+            Refusal::BadMetamodel { n } => write!(f, "4 BadMetamodel {n}"),
+            Refusal::NoWorkspace => f.write_str("5 NoWorkspace"),
+            Refusal::NoVersion => f.write_str("6 NoVersion"),
+            Refusal::NoBranch => f.write_str("7 NoBranch"),
+            Refusal::IdInUse => f.write_str("11 IdInUse"),
+            Refusal::BadId => f.write_str("12 BadId"),
+            Refusal::NoClass => f.write_str("13 NoClass"),
+            Refusal::Abstract => f.write_str("14 Abstract"),
+            Refusal::HistoryFull => f.write_str("33 HistoryFull"),
+            Refusal::JournalFull => f.write_str("35 JournalFull"),
+        }
+    }
+}
+
+/// The last line of a reply.
+#[derive(Debug, PartialEq, Drop)]
+pub enum Last {
+    /// The command is accepted: the words behind `ok`, or none.
+    Ok(Text),
+    /// The command is refused.
+    No(Refusal),
+}
+
+/// What is said to one command: data lines, and a last line.
+#[derive(Debug, Drop)]
+pub struct Reply {
+    pub lines: List<Text>,
+    pub last: Last,
+}
+
+/// The bytes of a reply: each line, ended by a line feed.
+pub fn print_reply(alloc: Global, reply: &Reply) -> Result<Vec<u8>, AllocError>
+    ensures bytes { IfOk result (λ bytes. bytes.items ≡ printed reply.now) }
+{
+    let mut out = Vec::new(alloc);
+    print_lines(&mut out, reply.lines.as_slice())?;
+    let last = last_line(alloc, &reply.last)?;
+    print_line(&mut out, last.as_str())?;
+    Ok(out)
+}
+
+fn print_lines(out: &mut Vec<u8>, lines: &[Text]) -> Result<(), AllocError>
+    ensures { OnOk result (out.new.items ≡ out.old.items ++ printed_lines lines.now) }
+{
+    for line in lines {
+        print_line(out, line.as_str())?;
+    }
+    Ok(())
+}
+
+fn print_line(out: &mut Vec<u8>, line: &str) -> Result<(), AllocError>
+    ensures { OnOk result (out.new.items ≡ out.old.items ++ line.now ++ 10 ∷ []) }
+{
+    out.extend_from_slice(line.as_bytes())?;
+    out.push(b'\n')?;
+    Ok(())
+}
+
+fn last_line(alloc: Global, last: &Last) -> Result<String, AllocError>
+    ensures { IfOk result (λ line. string_bytes line ≡ last_line last.now) }
+{
+    match last {
+        Last::Ok(words) => ok_line(alloc, words.as_str()),
+        Last::No(refusal) => format!(in alloc; "no {refusal}"),
+    }
+}
+
+fn ok_line(alloc: Global, words: &str) -> Result<String, AllocError>
+    ensures { IfOk result (λ line. string_bytes line ≡ ok_line words.now) }
+{
+    if words.is_empty() {
+        return String::from_str(alloc, "ok");
+    }
+    format!(in alloc; "ok {words}")
+}

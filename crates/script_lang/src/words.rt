@@ -1,0 +1,181 @@
+// The words of a line, one after another.
+ghost use Rattle.std.specs.Prelude.{◌≡◌, ◌-◌, ◌<◌, ◌^◌, length, OnOk, Some};
+ghost use Rattle.std.specs.List.{list_all};
+ghost use Rattle.script_lang.specs.Words.{Gives, GivesText, GivesEnd, GivesUnit, GivesOptional, root_at, optional_at, word_at, number_at, number_of, is_numeral, end_at};
+ghost use Rattle.std.specs.Char.{is_ascii_digit};
+ghost use Rattle.script_lang.specs.Names.{is_name, is_name_byte};
+
+use crate::ParseFault;
+use std::marker::Model;
+
+/// The rest of a line, and the column where its next word begins, from 1.
+#[derive(Drop)]
+pub(crate) struct Words<'a> {
+    rest: Option<&'a str>,
+    column: usize,
+}
+
+impl<'a> Model for Words<'a> {
+    ghost use Rattle.std.specs.Prelude.{◌+◌, ◌≤◌, ◌<◌, ◌^◌, length};
+    ghost use Rattle.script_lang.specs.Left.{Left, left_of, IsWithin};
+
+    ghost Value = { Left };
+
+    ghost view = { λ w. record { rest = left_of w.rest; column = w.column } };
+
+    ghost invariant = { λ w. (1 ≤ w.column) × IsWithin w.rest w.column };
+}
+
+impl<'a> Words<'a> {
+    /// All words of a line.
+    pub(crate) fn new(line: &'a str) -> Words<'a>
+        requires { length line.now < 2 ^ 32 - 1 }
+        ensures rest { result.rest ≡ Some line.now }
+        ensures column { result.column ≡ 1 }
+    {
+        Words {
+            rest: Some(line),
+            column: 1,
+        }
+    }
+
+    /// The column where the next word begins, or would.
+    pub(crate) fn column(&self) -> usize
+        ensures { result ≡ self.now.column }
+    {
+        self.column
+    }
+
+    /// The next word.
+    #[tactic(auto, unfolding(crate::specs::Words::word_at))]
+    pub(crate) fn word(&mut self) -> Result<&'a str, ParseFault>
+        ensures word { GivesText self.new result (word_at self.old) }
+        ensures column { OnOk result (self.old.column < 2 ^ 32) }
+    {
+        let Some(rest) = self.rest else {
+            return Err(bad_line(self.column - 1));
+        };
+        match rest.split_once(' ') {
+            Some((word, after)) => {
+                if word.is_empty() {
+                    return Err(bad_line(self.column));
+                }
+                self.rest = Some(after);
+                self.column = self.column + word.len() + 1;
+                Ok(word)
+            }
+            None => {
+                if rest.is_empty() {
+                    return Err(bad_line(self.column));
+                }
+                self.rest = None;
+                self.column = self.column + rest.len() + 1;
+                Ok(rest)
+            }
+        }
+    }
+
+    /// The next word, a number of at least this.
+    #[tactic(auto, unfolding(crate::specs::Words::number_at))]
+    pub(crate) fn number(&mut self, least: u32) -> Result<u32, ParseFault>
+        ensures { Gives self.new result (number_at least self.old) }
+    {
+        let column = self.column;
+        let word = self.word()?;
+        match number_of(word) {
+            Some(n) if n >= least => Ok(n),
+            _ => Err(bad_line(column)),
+        }
+    }
+
+    /// The word `/`.
+    #[tactic(auto, unfolding(crate::specs::Words::root_at))]
+    pub(crate) fn root(&mut self) -> Result<(), ParseFault>
+        ensures { GivesUnit self.new result (root_at self.old) }
+    {
+        let column = self.column;
+        let word = self.word()?;
+        if word == "/" {
+            Ok(())
+        } else {
+            Err(bad_line(column))
+        }
+    }
+
+    /// The next word, where there is one.
+    #[tactic(auto, unfolding(crate::specs::Words::optional_at))]
+    pub(crate) fn optional_word(&mut self) -> Result<Option<&'a str>, ParseFault>
+        ensures { GivesOptional self.new result (optional_at self.old) }
+    {
+        if self.rest.is_none() {
+            return Ok(None);
+        }
+        let word = self.word()?;
+        Ok(Some(word))
+    }
+
+    /// That no word is left.
+    pub(crate) fn end(&self) -> Result<(), ParseFault>
+        ensures { GivesEnd result (end_at self.now) }
+    {
+        match self.rest {
+            None => Ok(()),
+            Some(_) => Err(bad_line(self.column)),
+        }
+    }
+}
+
+pub(crate) fn bad_line(column: usize) -> ParseFault
+    requires { column < 2 ^ 32 }
+    ensures { result ≡ ParseFault.BadLine column }
+{
+    ParseFault::BadLine {
+        column: column as u32,
+    }
+}
+
+/// The number that a word is, in decimal and without needless zeros.
+#[tactic(auto, unfolding(crate::specs::Words::number_of))]
+pub(crate) fn number_of(word: &str) -> Option<u32>
+    ensures { result ≡ number_of word.now }
+{
+    if !is_numeral(word.as_bytes()) {
+        return None;
+    }
+    match word.parse::<u32>() {
+        Ok(number) => Some(number),
+        Err(_) => None,
+    }
+}
+
+fn is_numeral(word: &[u8]) -> bool
+    ensures { result ≡ is_numeral word.now }
+{
+    !word.is_empty() && (word.len() == 1 || word[0] != b'0') && are_digits(word)
+}
+
+fn are_digits(bytes: &[u8]) -> bool
+    ensures { result ≡ list_all is_ascii_digit bytes.now }
+{
+    bytes.iter().all(|byte| byte.is_ascii_digit())
+}
+
+/// Whether a word is a name: a letter, and at most 63 letters, digits, `_`, `.` or `-` behind it.
+pub(crate) fn is_name(word: &[u8]) -> bool
+    ensures { result ≡ is_name word.now }
+{
+    match word {
+        [] => false,
+        [first, rest @ ..] => {
+            first.is_ascii_alphabetic() && rest.len() <= 63 && are_name_bytes(rest)
+        }
+    }
+}
+
+fn are_name_bytes(bytes: &[u8]) -> bool
+    ensures { result ≡ list_all is_name_byte bytes.now }
+{
+    bytes.iter().all(|byte| {
+        byte.is_ascii_alphanumeric() || *byte == b'_' || *byte == b'.' || *byte == b'-'
+    })
+}
