@@ -1,4 +1,5 @@
 pub mod Course
+pub mod Filling
 pub mod Replaying
 pub mod ScriptBlocks
 pub mod ScriptCuts

@@ -7,7 +7,7 @@ use Rattle.host_port.specs.declared.calls.Call.TheVariants.{Quiet, Say, Write, S
 use Rattle.host_port.specs.Host.{Disk, Span, IsOutside, furthest, MayLeave, overwritten}
 use Rattle.host_port.specs.Replay.{at_start, after_call, after_calls, disk_after}
 
-furthest-push : (n : ℕ) (spans : List Span) (span : Span) → furthest n (spans ++ span ∷ []) ≡ max span.to (furthest n spans)
+pub furthest-push : (n : ℕ) (spans : List Span) (span : Span) → furthest n (spans ++ span ∷ []) ≡ max span.to (furthest n spans)
 furthest-push n [] span = refl
 furthest-push n (s ∷ spans) span = omega (arith, furthest-push n spans span)
 
@@ -17,7 +17,7 @@ longer old at bytes = omega (arith, length-append (take at old ++ bytes) (drop (
 not_past : (old : List ℕ) (at : ℕ) (bytes : List ℕ) → length (overwritten old at bytes) ≤ max (length old) (at + length bytes)
 not_past old at bytes = omega (arith, length-append (take at old ++ bytes) (drop (at + length bytes) old), length-append (take at old) bytes, length-take at old, length-drop (at + length bytes) old)
 
-kept_outside : (old : List ℕ) (at : ℕ) (bytes : List ℕ) (i : ℕ) → i < length old → IsOutside (record { from = at; to = at + length bytes }) i → get_or (overwritten old at bytes) i 0 ≡ get_or old i 0
+pub kept_outside : (old : List ℕ) (at : ℕ) (bytes : List ℕ) (i : ℕ) → i < length old → IsOutside (record { from = at; to = at + length bytes }) i → get_or (overwritten old at bytes) i 0 ≡ get_or old i 0
 kept_outside old at bytes i below (inl before) =
     let front : i < length (take at old) = omega (arith, length-take at old) in
     get_or_append_left (take at old ++ bytes) _ 0 i (omega (arith, length-append (take at old) bytes)) ∙ get_or_append_left (take at old) bytes 0 i front ∙ get_or-take at old i 0 before
@@ -26,10 +26,10 @@ kept_outside old at bytes i below (inr behind) =
     get_or-append_right (take at old ++ bytes) _ (at + length bytes) i 0 long behind ∙ get_or-drop (at + length bytes) old (i - (at + length bytes)) 0
     ∙ ap (λ (k : ℕ). get_or old k 0) (let e : (at + length bytes) + (i - (at + length bytes)) ≡ i = omega (arith, behind) in e)
 
-front_of : (P : Span → Type 0) (spans : List Span) (span : Span) → All P (spans ++ span ∷ []) → All P spans
+pub front_of : (P : Span → Type 0) (spans : List Span) (span : Span) → All P (spans ++ span ∷ []) → All P spans
 front_of P spans span all k d low = subst P (get_or_append_left spans (span ∷ []) d k low) (all k d (omega (arith, low, length-append spans (span ∷ []))))
 
-last_of : (P : Span → Type 0) (spans : List Span) (span : Span) → All P (spans ++ span ∷ []) → P span
+pub last_of : (P : Span → Type 0) (spans : List Span) (span : Span) → All P (spans ++ span ∷ []) → P span
 last_of P spans span all = subst P (get_or_append_right_zero spans span) (all (length spans) span (omega (arith, length-append spans (span ∷ []))))
   where
     get_or_append_right_zero : (spans : List Span) (span : Span) → get_or (spans ++ span ∷ []) (length spans) span ≡ span

@@ -124,17 +124,16 @@ pub(crate) fn shown_bytes<'a>(written: &'a Option<Vec<u8>>, first: &'a Vec<u8>) 
     }
 }
 
-// The bytes with others over them from a place on.
+// The bytes with others over them from a place on, or behind them where they end before it.
 pub(crate) fn overwrite(
     alloc: Global,
     file: &[u8],
     at: u64,
     bytes: &[u8],
 ) -> Result<Vec<u8>, AllocError>
-    requires { at ≤ length file.now }
     ensures { IfOk result (λ v. v.items ≡ overwritten file.now at bytes.now) }
 {
-    let at = at as usize;
+    let at = (at as usize).min(file.len());
     let mut next = file[..at].to_vec(alloc)?;
     next.extend_from_slice(bytes)?;
     if bytes.len() < file.len() - at {
@@ -189,7 +188,6 @@ pub(crate) fn try_write(
     at: u64,
     bytes: &[u8],
 ) -> Result<(), AllocError>
-    requires { at ≤ length (shown written.old first.now.items) }
     ensures written { OnOk result (shown written.new first.now.items ≡ overwritten (shown written.old first.now.items) at bytes.now) }
     ensures noted { OnOk result ((v : Vec _ _) × (v.items ≡ bytes.now) × (calls.new.items ≡ calls.old.items ++ Call.Write at v ∷ [])) }
     ensures written_err { OnErr result (shown written.new first.now.items ≡ shown written.old first.now.items) }
