@@ -1,0 +1,127 @@
+-- What the bytes of a journal stand for.
+use Rattle.std.specs.Prelude.{◌≡◌, ◌≢◌, ◌⊎◌, ℕ, ◌+◌, ◌^◌, ◌<◌, ◌≤◌, Bool, List, [], ◌∷◌, ◌++◌, length, take, drop, slice_index, All}
+use Rattle.std.specs.Int.{to_be_bytes, w32}
+use Rattle.host_port.specs.Host.{Disk, MayLeave}
+use Rattle.commit_journal.specs.Stop.{IsSettled}
+
+-- EMFSTORE, the number 1 and four zero bytes
+unfoldable pub header : List ℕ
+header = 69 ∷ 77 ∷ 70 ∷ 83 ∷ 84 ∷ 79 ∷ 82 ∷ 69 ∷ 0 ∷ 0 ∷ 0 ∷ 1 ∷ 0 ∷ 0 ∷ 0 ∷ 0 ∷ []
+
+-- the header and a closed gate
+unfoldable pub new_file : List ℕ
+new_file = header ++ 0 ∷ []
+
+-- a number as four bytes, the highest first
+unfoldable pub be32 : ℕ → List ℕ
+be32 n = to_be_bytes w32 n
+
+-- an open gate, the length and the form
+abbrev pub record_of : List ℕ → List ℕ
+record_of form = 165 ∷ be32 (length form) ++ form
+
+abbrev pub records : List (List ℕ) → List ℕ
+records [] = []
+records (form ∷ forms) = record_of form ++ records forms
+
+-- what an append writes behind the closed gate: the length, the form and the next closed gate
+abbrev pub behind_gate : List ℕ → List ℕ
+behind_gate form = be32 (length form) ++ form ++ 0 ∷ []
+
+-- a form that a record may hold: with its gate and its length it has at most 2 ^ 24 bytes
+abbrev pub IsShort : List ℕ → Type 0
+IsShort form = length form ≤ 16777211
+
+-- the file begins with the header and the records of these forms, which end at a place
+pub record ReadsTo (file : List ℕ) (forms : List (List ℕ)) (place : ℕ) : Type 0 where
+  pub front : take place file ≡ header ++ records forms
+  pub place_is : place ≡ 16 + length (records forms)
+  pub sizes : All IsShort forms
+
+-- and there stands a closed gate
+pub record EndsAt (file : List ℕ) (forms : List (List ℕ)) (place : ℕ) : Type 0 where
+  pub reads : ReadsTo file forms place
+  pub in_file : place < length file
+  pub closed : slice_index file place ≢ 165
+  pub low : place < 2 ^ 40
+
+-- the file stands for these forms: it is too short to hold any, or its records up to a closed gate are theirs
+abbrev pub StandsFor : List ℕ → List (List ℕ) → Type 0
+StandsFor file forms = ((length file ≤ 17) × (forms ≡ [])) ⊎ ((17 < length file) × ((place : ℕ) × EndsAt file forms place))
+
+-- the file stands for no list of forms
+abbrev pub StandsForNone : List ℕ → Type 0
+StandsForNone file = (forms : List (List ℕ)) → ¬ StandsFor file forms
+
+-- the second file stands for each list that the first one stands for
+abbrev pub StandsForSame : List ℕ → List ℕ → Type 0
+StandsForSame old new = (forms : List (List ℕ)) → StandsFor old forms → StandsFor new forms
+
+-- every file that a stop may leave has P
+abbrev pub StopLeaves : (List ℕ → Type 0) → Disk → Type 0
+StopLeaves P disk = (x : List ℕ) → MayLeave disk x → P x
+
+-- the file stands for the forms, with one more or without it
+abbrev pub IsBeforeOrAfter : List (List ℕ) → List ℕ → List ℕ → Type 0
+IsBeforeOrAfter forms form file = StandsFor file forms ⊎ StandsFor file (forms ++ form ∷ [])
+
+-- a closed gate stands there
+pub record IsClosed (file : List ℕ) (place : ℕ) : Type 0 where
+  pub in_file : place < length file
+  pub closed : slice_index file place ≢ 165
+
+-- neither a closed gate nor a whole record stands there
+pub record IsStuck (file : List ℕ) (place : ℕ) : Type 0 where
+  pub not_closed : place < length file → slice_index file place ≡ 165
+  pub no_record : (form : List ℕ) → IsShort form → place + 5 + length form < 2 ^ 40 → ¬ (take (5 + length form) (drop place file) ≡ record_of form)
+
+-- the first byte that differs from the header
+pub record IsNoHeader (file : List ℕ) (at : ℕ) : Type 0 where
+  pub within : at < 16
+  pub same : take at file ≡ take at header
+  pub differs : slice_index file at ≢ slice_index header at
+
+-- a file that a journal may be read from: it is long enough to hold a record, or new
+abbrev pub IsMounted : List ℕ → Type 0
+IsMounted file = (17 < length file) ⊎ (file ≡ new_file)
+
+-- what mounting leaves of a file: all of it, or a new file where it was too short to hold a record
+abbrev pub MountedFrom : List ℕ → List ℕ → Type 0
+MountedFrom old new = ((17 < length old) × (new ≡ old)) ⊎ ((length old ≤ 17) × (new ≡ new_file))
+
+-- a file while it is read: all of it is stable, and it reads as these forms up to a place
+pub record IsWalked (disk : Disk) (forms : List (List ℕ)) (place : ℕ) : Type 0 where
+  pub settled : IsSettled disk
+  pub mounted : IsMounted disk.now
+  pub reads : ReadsTo disk.now forms place
+
+-- a journal's file between two calls: all of it is stable, and its records are those of the forms
+pub record IsAtRest (disk : Disk) (forms : List (List ℕ)) (end : ℕ) : Type 0 where
+  pub settled : IsSettled disk
+  pub ends : EndsAt disk.now forms end
+
+-- the byte at the gate is as it was and isn't loose, or what stands behind it is stable
+abbrev pub IsGateLast : Disk → ℕ → List ℕ → Disk → Type 0
+IsGateLast old gate behind disk = StopLeaves (λ x. slice_index x gate ≡ slice_index old.now gate) disk ⊎ (take (length behind) (drop (gate + 1) disk.stable) ≡ behind)
+
+pub record JournalState : Type 0 where
+  pub end : ℕ
+  pub broken : Bool
+
+pub record WalkState : Type 0 where
+  pub place : ℕ
+  pub next : ℕ
+  pub ended : Bool
+
+-- the prepared record is that of this form
+abbrev pub Holds : List ℕ → List ℕ → Type 0
+Holds prepared form = prepared ≡ form
+
+-- a record of this size may be appended at a journal's end
+pub record Fits (end size : ℕ) : Type 0 where
+  pub short : size + 5 ≤ 16777216
+  pub room : end + size + 6 ≤ 2 ^ 40
+
+-- the prepared record may be appended at a journal's end
+abbrev pub IsReady : List ℕ → ℕ → Type 0
+IsReady prepared end = (form : List ℕ) × Holds prepared form × Fits end (length form)

@@ -1,0 +1,15 @@
+//! The journal of a store: an append-only file of records, each behind a gate that is opened only once all of its
+//! record is on the disk. Whatever moment a machine stops at, the file reads as the records before an append or as
+//! these with the new one.
+#![tactic(auto)]
+
+mod fault;
+mod fit;
+mod journal;
+mod walk;
+mod write;
+
+pub use fault::JournalFault;
+pub use fit::{Fit, fits};
+pub use journal::{Journal, Prepared, give_up};
+pub use walk::Walk;

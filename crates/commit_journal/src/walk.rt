@@ -1,0 +1,173 @@
+// Reading a journal's records, one after the other.
+ghost use Rattle.std.specs.Prelude.{◌≡◌, ◌≢◌, ◌⊎◌, ◌+◌, ◌^◌, ◌<◌, ◌≤◌, ◌++◌, [], ◌∷◌, List, ℕ, length, take, drop, IsTrue, IfOk, OnOk, IfErr, IfSome, IfNone, MatchOption, OnErr, IsErrOf, true, false};
+ghost use Rattle.host_port.specs.Host.{disk_now, Rose, GoesOn, Throughout, KeepsDisk, KeepsSaid, KeepsInput, RaisesDiskAlone};
+ghost use Rattle.std.specs.Bool.{OnTrue, OnFalse};
+ghost use Rattle.commit_journal.specs.Journal.{WalkState, header, be32, IsWalked, IsClosed, IsStuck, IsNoHeader, IsAtRest, IsShort, MountedFrom, StopLeaves, StandsForSame, StandsForNone};
+ghost use Rattle.commit_journal.specs.Walk.{IfDamaged};
+
+use crate::fault::JournalFault;
+use crate::journal::Journal;
+use crate::write::write_durably;
+use host_port::{Failed, Host};
+use std::alloc::Global;
+use std::marker::Model;
+
+const HEADER: [u8; 16] = *b"EMFSTORE\0\0\0\x01\0\0\0\0";
+
+/// A journal that is being read, record by record.
+#[derive(Drop)]
+pub struct Walk {
+    place: u64,
+    next: u64,
+    ended: bool,
+}
+
+impl Model for Walk {
+    ghost Value = { WalkState };
+
+    ghost view = { λ w. record { place = w.place; next = w.next; ended = w.ended } };
+
+    ghost invariant = { λ w. w.next < 2 ^ 40 };
+}
+
+fn first_difference(head: &[u8; 16]) -> Option<u64>
+    ensures same { IfNone result (head.now ≡ header) }
+    ensures differs { IfSome result (λ at. IsNoHeader head.now at) }
+{
+    for (i, byte) in head.iter().enumerate() {
+        if *byte != HEADER[i] {
+            return Some(i as u64);
+        }
+    }
+    None
+}
+
+// The number that a field of four bytes spells.
+fn number_in(field: &[u8; 4]) -> u32
+    ensures spelt { be32 result ≡ field.now }
+    ensures low { result < 2 ^ 32 }
+{
+    u32::from_be_bytes(*field)
+}
+
+// Whether a record of that size may stand at a gate.
+fn has_room(length: u64, gate: u64, size: u64) -> bool
+    requires gate { gate < 2 ^ 40 }
+    requires field { gate + 5 ≤ length }
+    ensures room { OnTrue result ((size ≤ 16777211) × (gate + 5 + size < 2 ^ 40) × (gate + 5 + size ≤ length)) }
+    ensures none { OnFalse result ((size ≤ 16777211) → (gate + 5 + size < 2 ^ 40) → length < gate + 5 + size) }
+{
+    size <= 16_777_211 && gate + 5 + size < 1 << 40 && size <= length - gate - 5
+}
+
+impl Walk {
+    /// Syncs, and then writes the header and a closed gate where the file is too short to hold a record, and else looks
+    /// at the header. It never answers `Memory`.
+    pub fn mount<H: Host>(host: &mut H) -> Result<Walk, JournalFault>
+        ensures ok { IfOk result (λ walk. walk ≡ record { place = 16; next = 16; ended = false }) }
+        ensures walked { OnOk result (IsTrue (H.told host.old).tells → IsWalked (disk_now (H.told host.new)) [] 16) }
+        ensures same { OnOk result (IsTrue (H.told host.old).tells → StandsForSame (disk_now (H.told host.old)).now (disk_now (H.told host.new)).now) }
+        ensures any_moment { Throughout (H.told host.old) (H.told host.new)
+            (λ disk _. (disk ≡ disk_now (H.told host.old)) ⊎ StopLeaves (StandsForSame (disk_now (H.told host.old)).now) disk) }
+        ensures file { OnOk result (IsTrue (H.told host.old).tells → MountedFrom (disk_now (H.told host.old)).now (disk_now (H.told host.new)).now) }
+        ensures damaged { IfErr result (λ fault. IfDamaged fault (λ at. IsTrue (H.told host.old).tells → IsNoHeader (disk_now (H.told host.old)).now at)) }
+        ensures nothing { IfErr result (λ fault. IfDamaged fault (λ _. IsTrue (H.told host.old).tells → StandsForNone (disk_now (H.told host.old)).now)) }
+        ensures kept { IfErr result (λ fault. IfDamaged fault (λ _. Throughout (H.told host.old) (H.told host.new) (λ disk _. disk.now ≡ (disk_now (H.told host.old)).now))) }
+        ensures cause { IsErrOf result JournalFault.DiskFault → Rose (H.told host.old).disk_faults (H.told host.new).disk_faults }
+        ensures memory { ¬ IsErrOf result JournalFault.Memory }
+        ensures alone { RaisesDiskAlone (H.told host.old) (H.told host.new) }
+        ensures course { GoesOn (H.told host.old) (H.told host.new) }
+        ensures said { KeepsSaid (H.told host.old) (H.told host.new) }
+        ensures input { KeepsInput (H.told host.old) (H.told host.new) }
+    {
+        host.sync()?;
+        let length = host.len()?;
+        if length <= 17 {
+            write_durably(host, 0, b"EMFSTORE\0\0\0\x01\0\0\0\0\0")?;
+            return Ok(Walk::start());
+        }
+        let mut head = [0; 16];
+        host.read_at(0, &mut head)?;
+        match first_difference(&head) {
+            Some(at) => Err(JournalFault::Damaged { at }),
+            None => Ok(Walk::start()),
+        }
+    }
+
+    fn start() -> Walk
+        ensures { result ≡ record { place = 16; next = 16; ended = false } }
+    {
+        Walk {
+            place: 16,
+            next: 16,
+            ended: false,
+        }
+    }
+
+    /// The place of the gate that was opened last.
+    pub fn place(&self) -> u64
+        ensures { result ≡ self.now.place }
+    {
+        self.place
+    }
+
+    /// The next record's form, or `None` at the closed gate.
+    pub fn next_bytes<H: Host>(
+        &mut self,
+        alloc: Global,
+        host: &mut H,
+    ) -> Result<Option<Vec<u8>>, JournalFault>
+        requires walked { IsTrue (H.told host.old).tells → ((forms : List (List ℕ)) × IsWalked (disk_now (H.told host.old)) forms self.old.next) }
+        ensures some { IfOk result (λ next. IfSome next (λ form. (self.new ≡ record { place = self.old.next; next = self.old.next + 5 + length form.items; ended = self.old.ended }) × IsShort form.items)) }
+        ensures none { IfOk result (λ next. IfNone next (self.new ≡ record self.old { ended = true })) }
+        ensures err { OnErr result (self.new ≡ self.old) }
+        ensures low { self.new.next < 2 ^ 40 }
+        ensures walked { IfOk result (λ next. IfSome next (λ form. IsTrue (H.told host.old).tells → (forms : List (List ℕ)) → IsWalked (disk_now (H.told host.old)) forms self.old.next
+            → IsWalked (disk_now (H.told host.new)) (forms ++ form.items ∷ []) self.new.next)) }
+        ensures closed { IfOk result (λ next. IfNone next (IsTrue (H.told host.old).tells → IsClosed (disk_now (H.told host.old)).now self.old.next)) }
+        ensures ended { IfOk result (λ next. IfNone next (IsTrue (H.told host.old).tells → (forms : List (List ℕ)) → IsWalked (disk_now (H.told host.old)) forms self.old.next
+            → IsAtRest (disk_now (H.told host.new)) forms self.new.next)) }
+        ensures damaged { IfErr result (λ fault. IfDamaged fault (λ at. (at ≡ self.old.next) × (IsTrue (H.told host.old).tells → IsStuck (disk_now (H.told host.old)).now at))) }
+        ensures nothing { IfErr result (λ fault. IfDamaged fault (λ _. IsTrue (H.told host.old).tells → StandsForNone (disk_now (H.told host.old)).now)) }
+        ensures cause { IsErrOf result JournalFault.DiskFault → Rose (H.told host.old).disk_faults (H.told host.new).disk_faults }
+        ensures alone { RaisesDiskAlone (H.told host.old) (H.told host.new) }
+        ensures course { GoesOn (H.told host.old) (H.told host.new) }
+        ensures disk { KeepsDisk (H.told host.old) (H.told host.new) }
+        ensures said { KeepsSaid (H.told host.old) (H.told host.new) }
+        ensures input { KeepsInput (H.told host.old) (H.told host.new) }
+    {
+        let gate = self.next;
+        let length = host.len()?;
+        if length <= gate {
+            return Err(JournalFault::Damaged { at: gate });
+        }
+        let mut mark = [0; 1];
+        host.read_at(gate, &mut mark)?;
+        if mark[0] != 165 {
+            self.ended = true;
+            return Ok(None);
+        }
+        if length - gate < 5 {
+            return Err(JournalFault::Damaged { at: gate });
+        }
+        let mut field = [0; 4];
+        host.read_at(gate + 1, &mut field)?;
+        let size = u64::from(number_in(&field));
+        if !has_room(length, gate, size) {
+            return Err(JournalFault::Damaged { at: gate });
+        }
+        let mut form = vec![in alloc; 0; size as usize]?;
+        host.read_at(gate + 5, &mut form)?;
+        self.place = gate;
+        self.next = gate + 5 + size;
+        Ok(Some(form))
+    }
+
+    /// The journal, once its closed gate was found.
+    pub fn finish(self) -> Journal
+        requires { self.ended ≡ true }
+        ensures { result ≡ record { end = self.next; broken = false } }
+    {
+        Journal::at(self.next)
+    }
+}
