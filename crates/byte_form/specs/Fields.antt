@@ -1,0 +1,51 @@
+-- Fields: how each is spelled, and how it is read from the front, with the fault of one that can't be read.
+use Rattle.std.specs.Prelude.{◌≡◌, ℕ, ◌+◌, List, [], ◌∷◌, ◌++◌, length, take, drop, Result, Ok, Err, nat_lt, if◌then◌else◌}
+use Rattle.std.specs.Int.{Width, w32, byte_len, from_be_bytes, to_be_bytes}
+use Rattle.std.specs.Str.{is_utf8}
+use Rattle.byte_form.specs.declared.reader.ReadFault.{ReadFault}
+use Rattle.byte_form.specs.declared.reader.ReadFault.TheVariants.{Short, BadText, Spare, Memory}
+use Rattle.byte_form.specs.Rest.{Rest}
+
+-- one reading after another; the first that fails is the fault
+infixl 10 ◌>>=◌
+abbrev pub ◌>>=◌ : {A B E : Type 0} → Result A E → (A → Result B E) → Result B E
+(Ok x) >>= f = f x
+(Err e) >>= f = Err e
+
+-- a text's spelling: the count of its bytes in four bytes, and the bytes
+abbrev pub text_form : List ℕ → List ℕ
+text_form text = to_be_bytes w32 (length text) ++ text
+
+-- what is left behind so many bytes
+abbrev pub past : Rest → ℕ → Rest
+past r n = record { bytes = drop n r.bytes; place = r.place + n }
+
+abbrev pub byte_from : ℕ → List ℕ → Result (ℕ × Rest) ReadFault
+byte_from place [] = Err (Short place)
+byte_from place (b ∷ bytes) = Ok (b, record { bytes = bytes; place = place + 1 })
+
+-- the byte at the front
+unfoldable pub byte_at : Rest → Result (ℕ × Rest) ReadFault
+byte_at r = byte_from r.place r.bytes
+
+-- the number at the front, the most significant byte first
+unfoldable pub number_at : Width → Rest → Result (ℕ × Rest) ReadFault
+number_at w r = if nat_lt (length r.bytes) (byte_len w) then Err (Short r.place) else Ok (from_be_bytes w (take (byte_len w) r.bytes), past r (byte_len w))
+
+-- a count at the front, and as many bytes behind it, which are text
+unfoldable pub text_at : Rest → Result (List ℕ × Rest) ReadFault
+text_at r = do
+  n ← number_at w32 r
+  if nat_lt (length n.1.bytes) n.0 then Err (Short r.place)
+      else if is_utf8 (take n.0 n.1.bytes) then Ok (take n.0 n.1.bytes, past n.1 n.0)
+      else Err (BadText r.place)
+
+-- nothing is left
+abbrev pub ends_at : Rest → Result (Unit {0}) ReadFault
+ends_at r = if nat_lt 0 (length r.bytes) then Err (Spare r.place) else Ok tt
+
+-- a call gave what reading gives, and stands behind it; after a fault it stands where it stood
+abbrev pub Reads : {X Y : Type 0} → (X → Y) → Rest → Rest → Result X ReadFault → Result (Y × Rest) ReadFault → Type 0
+Reads view old new (Ok x) read = read ≡ Ok (view x, new)
+Reads view old new (Err Memory) read = new ≡ old
+Reads view old new (Err e) read = (read ≡ Err e) × (new ≡ old)

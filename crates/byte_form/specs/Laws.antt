@@ -1,0 +1,39 @@
+-- Each value has one spelling: what is spelled is read again, whatever follows it, and what is read was spelled so.
+use Rattle.std.specs.Prelude.{◌≡◌, ℕ, ◌+◌, ◌^◌, ◌<◌, List, [], ◌∷◌, ◌++◌, length, slice_index, Result, Ok}
+use Rattle.std.specs.Str.{IsUtf8}
+use Rattle.byte_form.specs.Rest.{Rest}
+
+-- what is left at a place
+abbrev pub at : List ℕ → ℕ → Rest
+at bytes place = record { bytes = bytes; place = place }
+
+-- the spelling of each value of the kind is read as the value, whatever stands behind it
+abbrev pub IsReadAgain : {X E : Type 0} → (X → Type 0) → (X → List ℕ) → (Rest → Result (X × Rest) E) → Type 0
+IsReadAgain Is form read = (x : _) → Is x → (rest : List ℕ) (place : ℕ) → read (at (form x ++ rest) place) ≡ Ok (x, at rest (place + length (form x)))
+
+-- a value of the kind stood in front in its spelling
+pub record StoodThere {X : Type 0} (Is : X → Type 0) (form : X → List ℕ) (before after : Rest) (x : X) : Type 0 where
+  pub is : Is x
+  pub bytes : before.bytes ≡ form x ++ after.bytes
+  pub place : after.place ≡ before.place + length (form x)
+
+abbrev pub AreBytes : List ℕ → Type 0
+AreBytes bytes = (i : ℕ) → slice_index bytes i < 256
+
+-- what is read of bytes was spelled so
+abbrev pub IsSpelledSo : {X E : Type 0} → (X → Type 0) → (X → List ℕ) → (Rest → Result (X × Rest) E) → Type 0
+IsSpelledSo Is form read = (before : Rest) → AreBytes before.bytes → (x : _) (after : Rest) → read before ≡ Ok (x, after) → StoodThere Is form before after x
+
+-- no spelling begins another
+abbrev pub NoneBeginsAnother : {X : Type 0} → (X → Type 0) → (X → List ℕ) → Type 0
+NoneBeginsAnother Is form = (x y : _) → Is x → Is y → (rest more : List ℕ) → form x ++ rest ≡ form y ++ more → x ≡ y
+
+abbrev pub IsBelow : ℕ → ℕ → Type 0
+IsBelow limit n = n < limit
+
+abbrev pub byte_form : ℕ → List ℕ
+byte_form n = n ∷ []
+
+-- a text of fewer than 2 ^ 32 bytes
+abbrev pub IsShortText : List ℕ → Type 0
+IsShortText text = (length text < 2 ^ 32) × IsUtf8 text

@@ -1,0 +1,86 @@
+ghost use Rattle.std.specs.Prelude.{◌≡◌, ◌<◌, ◌^◌, ◌++◌, [], ◌∷◌, length, OnOk, OnErr};
+ghost use Rattle.std.specs.Int.{w32, w64, to_be_bytes};
+ghost use Rattle.byte_form.specs.Fields.{text_form};
+
+use std::alloc::{AllocError, Global};
+use std::marker::Model;
+
+/// Bytes that grow field by field. A field for which there is no memory leaves them as they were.
+#[derive(Debug, Drop)]
+pub struct Form {
+    bytes: Vec<u8>,
+}
+
+impl Model for Form {
+    ghost use Rattle.std.specs.Prelude.{List, ℕ};
+
+    ghost Value = { List ℕ };
+
+    ghost view = { λ form. form.bytes.items };
+}
+
+impl Form {
+    /// No bytes yet.
+    pub fn new(alloc: Global) -> Form
+        ensures empty { result ≡ [] }
+    {
+        Form {
+            bytes: Vec::new(alloc),
+        }
+    }
+
+    /// One byte more.
+    pub fn put_u8(&mut self, n: u8) -> Result<(), AllocError>
+        ensures ok { OnOk result (self.new ≡ self.old ++ n ∷ []) }
+        ensures err { OnErr result (self.new ≡ self.old) }
+    {
+        self.bytes.push(n)?;
+        Ok(())
+    }
+
+    /// Four bytes more, the most significant first.
+    pub fn put_u32(&mut self, n: u32) -> Result<(), AllocError>
+        ensures ok { OnOk result (self.new ≡ self.old ++ to_be_bytes w32 n) }
+        ensures err { OnErr result (self.new ≡ self.old) }
+    {
+        self.bytes.extend_from_slice(&n.to_be_bytes())
+    }
+
+    /// Eight bytes more, the most significant first.
+    pub fn put_u64(&mut self, n: u64) -> Result<(), AllocError>
+        ensures ok { OnOk result (self.new ≡ self.old ++ to_be_bytes w64 n) }
+        ensures err { OnErr result (self.new ≡ self.old) }
+    {
+        self.bytes.extend_from_slice(&n.to_be_bytes())
+    }
+
+    /// The count of the text's bytes in four bytes, and those bytes.
+    pub fn put_text(&mut self, text: &str) -> Result<(), AllocError>
+        requires short { length text.now < 2 ^ 32 }
+        ensures ok { OnOk result (self.new ≡ self.old ++ text_form text.now) }
+        ensures err { OnErr result (self.new ≡ self.old) }
+    {
+        let before = self.bytes.len();
+        self.bytes
+            .extend_from_slice(&(text.len() as u32).to_be_bytes())?;
+        if self.bytes.extend_from_slice(text.as_bytes()).is_err() {
+            self.bytes.truncate(before);
+            return Err(AllocError);
+        }
+        Ok(())
+    }
+
+    /// All bytes so far.
+    pub fn bytes(&self) -> &[u8]
+        ensures bytes { result.now ≡ self.now }
+    {
+        &self.bytes
+    }
+
+    /// The bytes, without a copy.
+    pub fn into_bytes(self) -> Vec<u8>
+        ensures bytes { result.items ≡ self }
+    {
+        self.bytes
+    }
+}

@@ -1,0 +1,12 @@
+//! Fields of bytes: numbers most significant byte first, and texts with their length in front. Each value has one spelling, and no spelling begins another.
+#![tactic(auto)]
+
+mod form;
+mod laws;
+mod reader;
+#[cfg(test)]
+mod tests;
+
+pub use form::Form;
+pub use laws::law_of_fields;
+pub use reader::{ReadFault, Reader};
