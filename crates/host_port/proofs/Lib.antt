@@ -1,5 +1,6 @@
 pub mod Course
 pub mod Filling
+pub mod Reading
 pub mod Replaying
 pub mod ScriptBlocks
 pub mod ScriptCuts

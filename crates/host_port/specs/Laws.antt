@@ -1,5 +1,5 @@
 -- What a host in memory always tells.
-use Rattle.std.specs.Prelude.{◌≡◌, ℕ, ◌+◌, ◌-◌, ◌<◌, ◌≤◌, max, List, [], ◌∷◌, ◌++◌, length, take, drop, get_or, All, refl}
+use Rattle.std.specs.Prelude.{◌≡◌, ℕ, ◌+◌, ◌-◌, ◌<◌, ◌≤◌, max, List, [], ◌∷◌, ◌++◌, length, take, drop, get_or, All, IsTrue, false, refl}
 use Rattle.std.proofs.Common.{inl, inr, ◌∙◌, ap, subst, arith, length-append}
 use Rattle.std.proofs.lemmas.List.{length-take, length-drop, get_or_append_left, get_or-append_right, get_or-take, get_or-drop}
 use Rattle.host_port.specs.declared.calls.Call.{Call}
@@ -55,3 +55,7 @@ left_after disk (call ∷ calls) left = left_after (after_call disk call) calls 
 -- what a read gives is what a stop may leave
 pub left_now : (first : List ℕ) (calls : List Call) (t : ℕ) → MayLeave (disk_after first calls t) (disk_after first calls t).now
 left_now first calls t = left_after (at_start first) (take t calls) (record { no_shorter = omega arith; no_longer = omega arith; kept = λ i below all. refl })
+
+-- a host that doesn't tell owes nothing
+pub untold : (disk : Disk) → IsTrue false → MayLeave disk disk.now
+untold disk told = absurd told

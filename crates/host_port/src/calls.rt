@@ -142,17 +142,17 @@ pub(crate) fn overwrite(
     Ok(next)
 }
 
-// Hands over as much of what is left as fits, up to a piece.
-pub(crate) fn hand_over(left: &[u8], piece: u32, into: &mut [u8]) -> usize
-    requires some { 1 ≤ piece }
+// Hands over as much of what is left as fits, up to a number of bytes.
+pub(crate) fn hand_over(left: &[u8], most: usize, into: &mut [u8]) -> usize
+    requires some { 1 ≤ most }
     requires room { 1 ≤ length into.old }
-    ensures count { result ≡ min (min (length into.old) piece) (length left.now) }
+    ensures count { result ≡ min (min (length into.old) most) (length left.now) }
     ensures left { result ≤ length left.now }
     ensures into { result ≤ length into.new }
     ensures bytes { take result into.new ≡ take result left.now }
     ensures end { result ≡ 0 → length left.now ≡ 0 }
 {
-    let count = into.len().min(piece as usize).min(left.len());
+    let count = into.len().min(most).min(left.len());
     into[..count].copy_from_slice(&left[..count]);
     count
 }

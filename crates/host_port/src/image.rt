@@ -1,11 +1,26 @@
 // The file after a stop, from the list of calls.
-ghost use Rattle.std.specs.Prelude.{◌≡◌, IfOk, OnOk};
+ghost use Rattle.std.specs.Prelude.{◌≡◌, ◌-◌, ◌++◌, length, replicate, IfOk, OnOk};
 ghost use Rattle.host_port.specs.Host.{Disk, MayLeave};
 ghost use Rattle.host_port.specs.Image.{IsFilled, IsShownAs};
 ghost use Rattle.host_port.specs.Replay.{at_start, after_call, after_calls, smeared};
 
 use crate::calls::{Call, overwrite};
 use std::alloc::{AllocError, Global};
+
+// The bytes, lengthened to a place with one byte.
+pub(crate) fn lengthen(
+    alloc: Global,
+    bytes: &Vec<u8>,
+    to: u64,
+    fill: u8,
+) -> Result<Vec<u8>, AllocError>
+    ensures { IfOk result (λ v. v.items ≡ bytes.now.items ++ replicate (to - length bytes.now.items) fill) }
+{
+    let gap = (to as usize).saturating_sub(bytes.len());
+    let mut long = bytes.to_vec(alloc)?;
+    long.extend_from_slice(&vec![in alloc; fill; gap]?)?;
+    Ok(long)
+}
 
 // The bytes with one byte in a range, and in the places up to it that there weren't.
 fn smear(
@@ -17,9 +32,7 @@ fn smear(
 ) -> Result<Vec<u8>, AllocError>
     ensures { IfOk result (λ v. v.items ≡ smeared image.now.items at count fill) }
 {
-    let gap = (at as usize).saturating_sub(image.len());
-    let mut long = image.to_vec(alloc)?;
-    long.extend_from_slice(&vec![in alloc; fill; gap]?)?;
+    let long = lengthen(alloc, image, at, fill)?;
     overwrite(alloc, &long, at, &vec![in alloc; fill; count]?)
 }
 
