@@ -58,4 +58,4 @@ left_now first calls t = left_after (at_start first) (take t calls) (record { no
 
 -- a host that doesn't tell owes nothing
 pub untold : (disk : Disk) → IsTrue false → MayLeave disk disk.now
-untold disk told = absurd told
+untold disk told = cc

@@ -1,9 +1,9 @@
 -- A host whose input depends on what was said.
-use Rattle.std.specs.Prelude.{◌≡◌, ℕ, ◌+◌, ◌-◌, ◌^◌, min, Bool, true, false, List, [], ◌∷◌, ◌++◌, length, take, drop, map, replicate, Vec}
+use Rattle.std.specs.Prelude.{ℕ, ◌-◌, Bool, true, false, List, [], ◌∷◌, ◌++◌, length, drop, map, replicate, Vec}
 use Rattle.std.specs.declared.alloc.Global.{Global}
 use Rattle.std.specs.declared.vec.IntoIter.{IntoIter}
 use Rattle.std.specs.Vec.Iter.{into_iter_items}
-use Rattle.host_port.specs.Host.{Disk, Told, overwritten}
+use Rattle.host_port.specs.Host.{Told}
 
 -- the rest of the piece under way, the pieces behind it, and whether something was said since the last `take`
 pub record Talk : Type 0 where

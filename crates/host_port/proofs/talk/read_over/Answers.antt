@@ -1,4 +1,4 @@
-use Rattle.std.proofs.Common.{◌-◌, length, take, drop, sym}
+use Rattle.std.proofs.Common.{◌-◌, length, take, drop}
 use Rattle.std.proofs.lemmas.List.{take_rest}
 use Rattle.host_port.proofs.Reading.{read_padded}
 use Rattle.host_port.proofs.talk.read_over.Goals as goal
