@@ -10,3 +10,4 @@ pub mod Lists
 pub mod Listing
 pub mod Ranks
 pub mod Packages
+pub mod Names

@@ -9,7 +9,7 @@ use Rattle.std.proofs.lemmas.List.{append-nil}
 use Rattle.script_lang.specs.declared.command.Spec.{Spec}
 use Rattle.script_lang.specs.declared.command.Spec.TheVariants.{Number, Branch, Tag}
 use Rattle.script_lang.specs.Left.{Left}
-use Rattle.script_lang.specs.Names.{is_name, is_name_byte}
+use Rattle.model_state.specs.Names.{is_name, is_name_byte}
 use Rattle.script_lang.specs.Words.{◌>>=◌, is_space, is_word, word_at, number_of, is_numeral, number_at, not_below, found_at, root_at, optional_at, end_at}
 use Rattle.script_lang.specs.Command.{spec_of, spec_from, name_or_tag, tag_of, spec_at}
 use Rattle.script_lang.specs.Spelling.{IsWord, IsNumber, IsSpec, spec_word, IsOptionalWord, optional_word, spaced}

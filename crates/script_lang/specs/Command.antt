@@ -6,7 +6,7 @@ use Rattle.script_lang.specs.declared.command.Spec.TheVariants.{Number, Branch, 
 use Rattle.script_lang.specs.declared.command.Command.{Command}
 use Rattle.script_lang.specs.declared.command.Command.TheVariants.{Init, Checkout, Create}
 use Rattle.script_lang.specs.Left.{Left}
-use Rattle.script_lang.specs.Names.{is_name}
+use Rattle.model_state.specs.Names.{is_name}
 use Rattle.script_lang.specs.Words.{◌>>=◌, word_at, number_of, number_at, found_at, end_at, root_at, optional_at, is_word, IsBad}
 
 -- `@` and a name is a tag's

@@ -6,7 +6,7 @@ use Rattle.script_lang.specs.declared.command.Spec.{Spec}
 use Rattle.script_lang.specs.declared.command.Spec.TheVariants.{Number, Branch, Tag}
 use Rattle.script_lang.specs.declared.command.Command.{Command}
 use Rattle.script_lang.specs.declared.command.Command.TheVariants.{Init, Checkout, Create}
-use Rattle.script_lang.specs.Names.{is_name}
+use Rattle.model_state.specs.Names.{is_name}
 use Rattle.script_lang.specs.Words.{is_space}
 use Rattle.script_lang.specs.Command.{command_of}
 

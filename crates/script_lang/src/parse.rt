@@ -3,9 +3,10 @@ ghost use Rattle.std.specs.Prelude.{◌≡◌, ◌-◌, ◌<◌, ◌^◌, length
 ghost use Rattle.script_lang.specs.Command.{GivesCommand, GivesSpec, command_of, init_at, checkout_at, create_at, spec_of, spec_at, tag_of};
 ghost use Rattle.script_lang.specs.declared.command.Spec.TheVariants.{Tag};
 
-use crate::words::{Words, bad_line, is_name, number_of};
+use crate::words::{Words, bad_line, number_of};
 use crate::{Command, ParseFault, Spec};
 use ecore_meta::Text;
+use model_state::is_name;
 use std::alloc::{AllocError, Global};
 
 /// The command that a line spells.
@@ -85,7 +86,7 @@ fn spec_of(alloc: Global, word: &str) -> Result<Option<Spec>, AllocError>
     if let Some(number) = number_of(word) {
         return Ok(Some(Spec::Number(number)));
     }
-    if is_name(word.as_bytes()) {
+    if is_name(word) {
         return Ok(Some(Spec::Branch(Text::new(alloc, word)?)));
     }
     match tag_name(word) {
@@ -101,7 +102,7 @@ fn tag_name(word: &str) -> Option<&str>
 {
     match word.strip_prefix('@') {
         Some(name) => {
-            if is_name(name.as_bytes()) {
+            if is_name(name) {
                 Some(name)
             } else {
                 None

@@ -3,7 +3,6 @@ ghost use Rattle.std.specs.Prelude.{◌≡◌, ◌-◌, ◌<◌, ◌^◌, length
 ghost use Rattle.std.specs.List.{list_all};
 ghost use Rattle.script_lang.specs.Words.{Gives, GivesText, GivesEnd, GivesUnit, GivesOptional, root_at, optional_at, word_at, number_at, number_of, is_numeral, end_at};
 ghost use Rattle.std.specs.Char.{is_ascii_digit};
-ghost use Rattle.script_lang.specs.Names.{is_name, is_name_byte};
 
 use crate::ParseFault;
 use std::marker::Model;
@@ -158,24 +157,4 @@ fn are_digits(bytes: &[u8]) -> bool
     ensures { result ≡ list_all is_ascii_digit bytes.now }
 {
     bytes.iter().all(|byte| byte.is_ascii_digit())
-}
-
-/// Whether a word is a name: a letter, and at most 63 letters, digits, `_`, `.` or `-` behind it.
-pub(crate) fn is_name(word: &[u8]) -> bool
-    ensures { result ≡ is_name word.now }
-{
-    match word {
-        [] => false,
-        [first, rest @ ..] => {
-            first.is_ascii_alphabetic() && rest.len() <= 63 && are_name_bytes(rest)
-        }
-    }
-}
-
-fn are_name_bytes(bytes: &[u8]) -> bool
-    ensures { result ≡ list_all is_name_byte bytes.now }
-{
-    bytes.iter().all(|byte| {
-        byte.is_ascii_alphanumeric() || *byte == b'_' || *byte == b'.' || *byte == b'-'
-    })
 }

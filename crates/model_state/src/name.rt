@@ -1,0 +1,23 @@
+ghost use Rattle.std.specs.Prelude.{◌≡◌};
+ghost use Rattle.std.specs.List.{list_all};
+ghost use Rattle.model_state.specs.Names.{is_name, is_name_byte};
+
+/// Whether a text is a name of a branch, a tag or a composite: a letter, and at most 63 letters, digits, `_`, `.` or `-` behind it, all ASCII.
+pub fn is_name(text: &str) -> bool
+    ensures form { result ≡ is_name text.now }
+{
+    match text.as_bytes() {
+        [] => false,
+        [first, rest @ ..] => {
+            first.is_ascii_alphabetic() && rest.len() <= 63 && are_name_bytes(rest)
+        }
+    }
+}
+
+fn are_name_bytes(bytes: &[u8]) -> bool
+    ensures { result ≡ list_all is_name_byte bytes.now }
+{
+    bytes.iter().all(|byte| {
+        byte.is_ascii_alphanumeric() || *byte == b'_' || *byte == b'.' || *byte == b'-'
+    })
+}
