@@ -27,7 +27,8 @@ fn holds(xs: &[u32], x: u32) -> bool
 }
 
 impl Model for Metamodel {
-    ghost use Rattle.std.specs.Prelude.{map};
+    ghost use Rattle.std.specs.Prelude.{map, length, ◌<◌, ℕ, slice_get, []};
+    ghost use Rattle.std.specs.Option.{option_map_or};
     ghost use Rattle.ecore_meta.specs.Meta.{Meta};
     ghost use Rattle.ecore_meta.specs.Tables.{Agrees};
 
@@ -35,7 +36,7 @@ impl Model for Metamodel {
 
     ghost view = { λ a. record { uri = a.uri; classes = a.classes.items; features = a.features.items; supers = map (λ v. v.items) a.supers.items; literals = map (λ v. v.items) a.literals.items } };
 
-    ghost invariant = { λ a. Agrees (map (λ v. v.items) a.supers.items) (map (λ v. v.items) a.above.items) };
+    ghost invariant = { λ a. Agrees (map (λ v. v.items) a.supers.items) (map (λ v. v.items) a.above.items) × (length a.classes.items < 4294967296) × (length a.features.items < 4294967296) × (length a.literals.items < 4294967296) × ((e : ℕ) → length (option_map_or (λ v. v.items) (slice_get a.literals.items e) []) < 4294967296) };
 }
 
 impl Metamodel {
@@ -44,6 +45,32 @@ impl Metamodel {
         ensures { result.now ≡ self.now.uri }
     {
         self.uri.as_str()
+    }
+
+    pub fn class_count(&self) -> u32
+        ensures { result ≡ length self.now.classes }
+    {
+        self.classes.len() as u32
+    }
+
+    pub fn feature_count(&self) -> u32
+        ensures { result ≡ length self.now.features }
+    {
+        self.features.len() as u32
+    }
+
+    pub fn enum_count(&self) -> u32
+        ensures { result ≡ length self.now.literals }
+    {
+        self.literals.len() as u32
+    }
+
+    /// How many literals an enum has.
+    pub fn literal_count(&self, e: u32) -> u32
+        requires { e < length self.now.literals }
+        ensures { result ≡ literal_count self.now e }
+    {
+        self.literals[e as usize].len() as u32
     }
 
     /// Whether the class c is d, or d is above it.
