@@ -6,7 +6,7 @@ use Rattle.model_state.specs.declared.step.Step.{Step}
 use Rattle.model_state.specs.declared.step.Step.TheVariants.{Put, Ins, Del, Shift, Link, Unlink, RerankRow, New, Gone, Move, RerankPlace}
 use Rattle.model_state.specs.declared.step.StepFault.{StepFault}
 use Rattle.model_state.specs.State.{State}
-use Rattle.model_state.specs.Steps.{Can, fault, apply, rev, rev_all, fold}
+use Rattle.model_state.specs.Steps.{Can, fault, apply, rev, rev_all, fold, fault_along}
 use Rattle.model_state.specs.Good.{Good, Sound}
 use Rattle.model_laws.specs.Laws.{ReversalUndoes, StepsKeepGood}
 use Rattle.model_laws.proofs.Attrs.{put_undone, put_back, put_keeps}
@@ -39,6 +39,13 @@ undoes meta sound m good (Move e from from_rank to to_rank above_from above_to) 
 -- a run goes on where the step can be taken
 pub fold_more : (meta : Meta) (m : State) (s : Step) (ss : List Step) → Can meta m s → fold meta m (s ∷ ss) ≡ fold meta (apply meta m s) ss
 fold_more meta m s ss can = ap (λ (o : Option StepFault). elim o as (λ _. Option State) [ None ↦ fold meta (apply meta m s) ss | Some _ ↦ None ]) can
+
+-- a fault further on is the fault of the whole where the step can be taken, and the step's own where it can't
+pub fault_more : (meta : Meta) (m : State) (s : Step) (ss : List Step) → Can meta m s → fault_along meta m (s ∷ ss) ≡ fault_along meta (apply meta m s) ss
+fault_more meta m s ss can = ap (λ (o : Option StepFault). elim o as (λ _. Option StepFault) [ None ↦ fault_along meta (apply meta m s) ss | Some e ↦ Some e ]) can
+
+pub fault_here : (meta : Meta) (m : State) (s : Step) (ss : List Step) (e : StepFault) → fault meta m s ≡ Some e → fault_along meta m (s ∷ ss) ≡ Some e
+fault_here meta m s ss e is = ap (λ (o : Option StepFault). elim o as (λ _. Option StepFault) [ None ↦ fault_along meta (apply meta m s) ss | Some e ↦ Some e ]) is
 
 -- from a run to its first step
 pub fold_first : (meta : Meta) (m n : State) (s : Step) (ss : List Step) → fold meta m (s ∷ ss) ≡ Some n → Can meta m s × (fold meta (apply meta m s) ss ≡ Some n)

@@ -248,3 +248,8 @@ rev_all (s ∷ ss) = rev_all ss ++ rev s ∷ []
 abbrev pub fold : Meta → State → List Step → Option State
 fold meta m [] = Some m
 fold meta m (s ∷ ss) = elim (fault meta m s) [ None ↦ fold meta (apply meta m s) ss | Some _ ↦ None ]
+
+-- the fault of the first of the steps that can't be taken in its turn
+abbrev pub fault_along : Meta → State → List Step → Option StepFault
+fault_along meta m [] = None
+fault_along meta m (s ∷ ss) = elim (fault meta m s) [ None ↦ fault_along meta (apply meta m s) ss | Some e ↦ Some e ]

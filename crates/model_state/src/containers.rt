@@ -1,20 +1,10 @@
-ghost use Rattle.std.specs.Prelude.{◌≡◌, IfOk, List, Some};
-ghost use Rattle.std.specs.Option.{option_copied};
+ghost use Rattle.std.specs.Prelude.{IfOk, List, Some};
 ghost use Rattle.model_state.specs.Keys.{Name};
-ghost use Rattle.model_state.specs.Chains.{IsChain, parent_of};
+ghost use Rattle.model_state.specs.Chains.{IsChain};
 
 use crate::{Id, Look, Place};
 use ecore_meta::List;
 use std::alloc::{AllocError, Global};
-
-fn parent(place: &Place) -> Option<&Id>
-    ensures { option_copied result ≡ parent_of place.now }
-{
-    match place {
-        Place::Root => None,
-        Place::Inside { parent, .. } => Some(parent),
-    }
-}
 
 /// The containers of a place, the innermost first, up to the root.
 pub fn chain<L: Look>(alloc: Global, look: &L, place: &Place) -> Result<List<Id>, AllocError>
@@ -24,7 +14,7 @@ pub fn chain<L: Look>(alloc: Global, look: &L, place: &Place) -> Result<List<Id>
     let mut above = List::new(alloc);
     let mut next = place;
     for _ in 0..u64::MAX {
-        let Some(container) = parent(next) else {
+        let Some(container) = next.parent() else {
             return Ok(above);
         };
         above.push(container.copy(alloc)?)?;

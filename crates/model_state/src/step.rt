@@ -1,4 +1,7 @@
 ghost use Rattle.std.specs.Prelude.{◌≡◌, IfOk};
+ghost use Rattle.std.specs.Option.{option_copied};
+ghost use Rattle.model_state.specs.Chains.{parent_of};
+ghost use Rattle.model_state.specs.State.{place_eq, is_inside};
 
 use crate::Id;
 use ecore_meta::{List, Value};
@@ -139,6 +142,45 @@ pub enum StepFault {
 }
 
 impl Place {
+    /// The element that the place is inside.
+    pub fn parent(&self) -> Option<&Id>
+        ensures { option_copied result ≡ parent_of self.now }
+    {
+        match self {
+            Place::Root => None,
+            Place::Inside { parent, .. } => Some(parent),
+        }
+    }
+
+    /// Whether the two are the same place.
+    pub fn is_same(&self, other: &Place) -> bool
+        ensures { result ≡ place_eq self.now other.now }
+    {
+        match self {
+            Place::Root => match other {
+                Place::Root => true,
+                Place::Inside { .. } => false,
+            },
+            Place::Inside { parent, feature } => match other {
+                Place::Root => false,
+                Place::Inside {
+                    parent: other,
+                    feature: number,
+                } => parent == other && feature == number,
+            },
+        }
+    }
+
+    /// Whether the place is inside the element.
+    pub fn is_inside(&self, e: &Id) -> bool
+        ensures { result ≡ is_inside e.now self.now }
+    {
+        match self {
+            Place::Root => false,
+            Place::Inside { parent, .. } => e == parent,
+        }
+    }
+
     pub fn copy(&self, alloc: Global) -> Result<Place, AllocError>
         ensures { IfOk result (λ p. p ≡ self.now) }
     {

@@ -1,8 +1,8 @@
 -- one step more
 use Rattle.std.proofs.Common.{◌≡◌, suc, ◌+◌, ◌<◌, length, drop, ◌∷◌, ap, sym, subst, ◌∙◌, add-one, drop-cons}
-use Rattle.model_state.specs.Steps.{fold}
+use Rattle.model_state.specs.Steps.{fold, fault_along}
 use Rattle.model_state.specs.Good.{Good}
-use Rattle.model_laws.proofs.Runs.{undoes, fold_more}
+use Rattle.model_laws.proofs.Runs.{undoes, fold_more, fault_more}
 use Rattle.model_laws.proofs.player.replay.Goals as goal
 
 pub loop-step-preserved : goal.loop-step-preserved
@@ -20,4 +20,5 @@ loop-step-preserved g c =
       sound = c.loop-step.invariant.sound;
       good = subst (λ x. Good meta x) (sym done) (undoes meta c.loop-step.invariant.sound m c.loop-step.invariant.good s can).keeps;
       rest = ap (λ x. fold meta x (drop (i + 1) steps)) done ∙ sym (fold_more meta m s (drop (i + 1) steps) can) ∙ ap (fold meta m) (sym next) ∙ c.loop-step.invariant.rest;
+      faults = ap (λ x. fault_along meta x (drop (i + 1) steps)) done ∙ sym (fault_more meta m s (drop (i + 1) steps) can) ∙ ap (fault_along meta m) (sym next) ∙ c.loop-step.invariant.faults;
     }

@@ -1,6 +1,6 @@
 -- the steps so far are taken, and what is left leads where all lead
 use Rattle.std.proofs.Common.{◌≡◌, drop}
-use Rattle.model_state.specs.Steps.{fold}
+use Rattle.model_state.specs.Steps.{fold, fault_along}
 use Rattle.model_state.specs.Good.{Good, Sound}
 use Rattle.model_laws.proofs.player.replay.Given as goal
 
@@ -11,4 +11,5 @@ invariant-loop-step g l =
       sound : Sound l.meta;
       good : Good l.meta (state l.model);
       rest : fold l.meta (state l.model) (drop l.step-index l.steps) ≡ fold l.meta (state l.fn.model) l.steps;
+      faults : fault_along l.meta (state l.model) (drop l.step-index l.steps) ≡ fault_along l.meta (state l.fn.model) l.steps;
     }

@@ -1,0 +1,13 @@
+use Rattle.std.proofs.Common.{ℕ, sym, ap, ◌∙◌, ◌||◌}
+use Rattle.finite_maps.specs.Equal.{text_eq}
+use Rattle.finite_maps.specs.Maps.{count}
+use Rattle.model_state.specs.Keys.{RowKey}
+use Rattle.model_state.proofs.Orders.{row_order}
+use Rattle.step_apply.proofs.Counted.{count_keys}
+use Rattle.step_apply.proofs.rows.Rows.count_at.Goals as goal
+
+pub returns : goal.returns
+returns c =
+    c.counted_at.ensures.count
+    ∙ sym (count_keys row_order (λ (k : RowKey). text_eq c.args.e.now k.0 || text_eq c.args.e.now k.2) c.self.inside.tree c.counted_at.ensures.ordered)
+    ∙ ap (count (λ (e : RowKey × ℕ). (λ (k : RowKey). text_eq c.args.e.now k.0 || text_eq c.args.e.now k.2) e.0)) c.self.view_is

@@ -1,0 +1,32 @@
+-- What the parts of a model are seen as, with their codes.
+use Rattle.std.specs.Prelude.{ℕ, List, refl}
+use Rattle.std.specs.FinMap.{FinMap, code}
+use Rattle.std.specs.Coded.{Coded, code_by, coded×, coded_ℕ, coded_list}
+use Rattle.ecore_meta.specs.declared.meta.Value.{Value}
+use Rattle.ecore_meta.specs.contracts.meta.Value as value_type
+use Rattle.model_state.specs.declared.step.Place.{Place}
+use Rattle.model_state.specs.contracts.step.Place as place_type
+use Rattle.model_state.specs.Keys.{Name, id_cmp, attr_cmp, row_cmp}
+
+-- where elements stand, and their ranks there
+pub record Spots : Type 0 where
+  pub place : FinMap id_cmp Place
+  pub rank : FinMap id_cmp ℕ
+
+abbrev pub coded_name : Coded Name
+coded_name = coded_list coded_ℕ
+
+abbrev pub spots_code : Coded Spots
+spots_code = code_by (FinMap id_cmp Place × FinMap id_cmp ℕ) (coded× (code coded_name place_type.the_row.coded) (code coded_name coded_ℕ)) (λ s. (s.place, s.rank)) (λ p. record { place = p.0; rank = p.1 }) (λ _. refl)
+
+abbrev pub Values : Type 0
+Values = FinMap attr_cmp (List Value)
+
+abbrev pub values_code : Coded Values
+values_code = code (coded× coded_name coded_ℕ) (coded_list value_type.the_row.coded)
+
+abbrev pub Ranks : Type 0
+Ranks = FinMap row_cmp ℕ
+
+abbrev pub ranks_code : Coded Ranks
+ranks_code = code (code_by (Name × (ℕ × Name)) (coded× coded_name (coded× coded_ℕ coded_name)) (λ k. (k.0, (k.1, k.2))) (λ p. (p.0, p.1.0, p.1.1)) (λ _. refl)) coded_ℕ
