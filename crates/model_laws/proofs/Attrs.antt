@@ -17,7 +17,7 @@ use Rattle.model_state.specs.Good.{AttrOk, ValuesOk, Good}
 use Rattle.model_state.specs.State.{State}
 use Rattle.model_state.specs.Steps.{tests, Can, apply, single, class_has, value_fits, not_default}
 use Rattle.model_state.proofs.Orders.{attr_order}
-use Rattle.model_state.proofs.Tests.{passed, pass, value_equality, values_equality}
+use Rattle.model_state.proofs.StepTests.{passed, pass, value_equality, values_equality}
 use Rattle.finite_maps.proofs.Cases.{not_false, not_true}
 
 -- a value that Put may set is one that the attribute may hold

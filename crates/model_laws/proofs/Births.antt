@@ -19,7 +19,7 @@ use Rattle.model_state.specs.State.{State, place_eq, is_inside, value_count, lin
 use Rattle.model_state.specs.Steps.{tests, Can, apply, class_has, place_live, may_stand, has_room}
 use Rattle.model_state.specs.Good.{AttrOk, RowOk, StandsOk, PlaceOk, IsChain, GoodAttrs, GoodRows, Good}
 use Rattle.model_state.proofs.Orders.{id_order, attr_order, row_order}
-use Rattle.model_state.proofs.Tests.{passed, pass, place_equality, number_equality}
+use Rattle.model_state.proofs.StepTests.{passed, pass, place_equality, number_equality}
 use Rattle.finite_maps.proofs.Cases.{no_some, not_so, not_true, some_none, true_false}
 
 pub no_attr : (meta : Meta) (f : ℕ) (o : Option (List Value)) → AttrOk meta None f o → o ≡ None

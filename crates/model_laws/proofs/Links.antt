@@ -16,7 +16,7 @@ use Rattle.model_state.specs.State.{State, row_count}
 use Rattle.model_state.specs.Steps.{tests, Can, apply, may_link, mirror_write, mirror_given, mirror_at, mirror_room}
 use Rattle.model_state.specs.Good.{RowOk, GoodRows, Good, Sound}
 use Rattle.model_state.proofs.Orders.{row_order}
-use Rattle.model_state.proofs.Tests.{passed, pass, number_equality}
+use Rattle.model_state.proofs.StepTests.{passed, pass, number_equality}
 use Rattle.finite_maps.proofs.Cases.{no_some, not_so, not_true, some_none, true_false}
 
 -- two rows of different features

@@ -20,7 +20,7 @@ use Rattle.model_state.specs.State.{State}
 use Rattle.model_state.specs.Steps.{tests, Can, apply, class_has}
 use Rattle.model_state.specs.Good.{AttrOk, ValuesOk, Good, is_distinct}
 use Rattle.model_state.proofs.Orders.{attr_order}
-use Rattle.model_state.proofs.Tests.{passed, pass, value_equality}
+use Rattle.model_state.proofs.StepTests.{passed, pass, value_equality}
 use Rattle.finite_maps.proofs.Cases.{not_false, not_true}
 use Rattle.model_laws.proofs.Inserts.{remove-insert, insert-remove, length-insert, slice_get-insert, list_all-insert, list_any-insert, list_all-remove, list_any-remove, or_first, or_second, or_none}
 

@@ -20,7 +20,7 @@ use Rattle.model_state.specs.State.{State, place_eq}
 use Rattle.model_state.specs.Steps.{tests, Can, apply, class_has, place_live, may_stand, may_move, has_room, chain_is}
 use Rattle.model_state.specs.Good.{StandsOk, PlaceOk, IsChain, Good}
 use Rattle.model_state.proofs.Orders.{id_order}
-use Rattle.model_state.proofs.Tests.{passed, pass, place_equality, number_equality}
+use Rattle.model_state.proofs.StepTests.{passed, pass, place_equality, number_equality}
 use Rattle.model_laws.proofs.Births.{has_class, other_key}
 use Rattle.finite_maps.proofs.Cases.{not_false, not_so, not_true}
 

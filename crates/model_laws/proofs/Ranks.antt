@@ -14,7 +14,7 @@ use Rattle.model_state.specs.State.{State}
 use Rattle.model_state.specs.Steps.{tests, Can, apply}
 use Rattle.model_state.specs.Good.{PlaceOk, Good}
 use Rattle.model_state.proofs.Orders.{id_order}
-use Rattle.model_state.proofs.Tests.{passed, pass, number_equality}
+use Rattle.model_state.proofs.StepTests.{passed, pass, number_equality}
 use Rattle.finite_maps.proofs.Cases.{not_false, not_true}
 
 -- the rank's value does not matter

@@ -15,7 +15,7 @@ use Rattle.model_state.specs.State.{State}
 use Rattle.model_state.specs.Steps.{tests, Can, apply}
 use Rattle.model_state.specs.Good.{RowOk, Good}
 use Rattle.model_state.proofs.Orders.{row_order}
-use Rattle.model_state.proofs.Tests.{passed, pass, number_equality}
+use Rattle.model_state.proofs.StepTests.{passed, pass, number_equality}
 use Rattle.finite_maps.proofs.Cases.{not_false, not_true}
 
 module _ (meta : Meta) (m : State) (a : Name) (f : ℕ) (b : Name) (old new : ℕ) (can : Can meta m (RerankRow a f b old new)) where

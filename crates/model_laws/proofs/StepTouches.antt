@@ -21,7 +21,7 @@ use Rattle.model_state.specs.State.{State, place_eq, is_inside}
 use Rattle.model_state.specs.Steps.{tests, apply, single, mirror_write}
 use Rattle.model_laws.specs.Cells.{Cell, OfKind, OfPlace, OfRank, OfAttr, OfRow, OfWhole, About, is_finite, has, stands_in, stands_inside, side, mirror_side, place_list, parent_kind, Agree, touches}
 use Rattle.model_state.proofs.Orders.{id_order, attr_order, row_order}
-use Rattle.model_state.proofs.Tests.{passed, place_equality}
+use Rattle.model_state.proofs.StepTests.{passed, place_equality}
 use Rattle.model_laws.proofs.Births.{dead_place}
 use Rattle.model_laws.proofs.Exchange.{LeavesOthers, or_first, or_second, not_first, not_second, has_first}
 use Rattle.model_laws.proofs.StepNeeds.{at_first, further}

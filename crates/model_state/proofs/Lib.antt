@@ -1,3 +1,3 @@
 pub mod Orders
-pub mod Tests
+pub mod StepTests
 pub mod ChainLaws
