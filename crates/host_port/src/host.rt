@@ -2,15 +2,20 @@
 ghost use Rattle.std.specs.Prelude.{◌≡◌, ◌⊎◌, ◌++◌, ℕ, ◌+◌, ◌^◌, ◌<◌, ◌≤◌, length, take, drop, IsTrue, IfOk, OnOk, OnErr};
 ghost use Rattle.host_port.specs.Host.{Told, MayLeave, disk_now, said_now, Rose, GoesOn, Throughout, KeepsDisk, KeepsSaid, KeepsInput, Moves, AddsPart, RaisesTakesAlone, RaisesSaysAlone, RaisesDiskAlone, WrittenPart, written, synced};
 
-/// A call of a host failed.
-#[derive(Clone, Copy, Debug, PartialEq, Eq)]
+use thiserror::Error;
+
+/// A call of a host failed. Its count of faults says which kind of call.
+#[derive(Clone, Copy, Debug, PartialEq, Eq, Error)]
+#[error("a call of the host failed")]
 pub struct Failed;
 
+/// The outside of the program: an input, a console and one file. A call that fails has raised the count of faults of
+/// its kind: that of `take`, that of `say`, or that of the four calls on the file.
 pub trait Host {
-    /// All that it tells.
+    /// All that it tells: what the file may be found to hold at each moment, what was said by then, and the input.
     ghost told: { Self → Told };
 
-    /// Hands over bytes of the input; 0 bytes are its end.
+    /// Puts bytes of the input into the front of `into`, and answers how many; 0 is the input's end.
     fn take(&mut self, into: &mut [u8]) -> Result<usize, Failed>
         requires { 0 < length into.old }
         ensures course { GoesOn (told self.old) (told self.new) }
@@ -31,7 +36,7 @@ pub trait Host {
         ensures alone { RaisesSaysAlone (told self.old) (told self.new) }
         ensures cause { OnErr result (Rose (told self.old).say_faults (told self.new).say_faults) };
 
-    /// The file's length.
+    /// The file's length in bytes.
     fn len(&mut self) -> Result<u64, Failed>
         ensures course { GoesOn (told self.old) (told self.new) }
         ensures disk { KeepsDisk (told self.old) (told self.new) }
@@ -41,7 +46,7 @@ pub trait Host {
         ensures alone { RaisesDiskAlone (told self.old) (told self.new) }
         ensures cause { OnErr result (Rose (told self.old).disk_faults (told self.new).disk_faults) };
 
-    /// Reads the file from a place on.
+    /// Fills `into` with the file's bytes from the place `at` on.
     fn read_at(&mut self, at: u64, into: &mut [u8]) -> Result<(), Failed>
         requires { IsTrue (told self.old).tells → at + length into.old ≤ length (disk_now (told self.old)).now }
         ensures course { GoesOn (told self.old) (told self.new) }
@@ -52,7 +57,8 @@ pub trait Host {
         ensures alone { RaisesDiskAlone (told self.old) (told self.new) }
         ensures cause { OnErr result (Rose (told self.old).disk_faults (told self.new).disk_faults) };
 
-    /// Writes over what is there, and past the end. Until a sync, a stop may leave any bytes in the range.
+    /// Writes the bytes from the place `at` on, over what is there and past the end. Until a sync succeeds, a stop may
+    /// leave any bytes in the range.
     fn write_at(&mut self, at: u64, bytes: &[u8]) -> Result<(), Failed>
         requires place { IsTrue (told self.old).tells → at ≤ length (disk_now (told self.old)).now }
         requires limit { at + length bytes.now ≤ 2 ^ 40 }
@@ -65,7 +71,7 @@ pub trait Host {
         ensures alone { RaisesDiskAlone (told self.old) (told self.new) }
         ensures cause { OnErr result (Rose (told self.old).disk_faults (told self.new).disk_faults) };
 
-    /// After it, a stop leaves what a read gives.
+    /// After it succeeds, a stop leaves what a read gives.
     fn sync(&mut self) -> Result<(), Failed>
         ensures course { GoesOn (told self.old) (told self.new) }
         ensures said { KeepsSaid (told self.old) (told self.new) }
