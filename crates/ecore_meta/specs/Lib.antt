@@ -1,5 +1,11 @@
+pub mod Build
+pub mod Classifiers
+pub mod Document
+pub mod Drafts
+pub mod Faults
 pub mod Meta
+pub mod Names
 pub mod Supers
 pub mod Tables
 pub mod Typing
-pub mod Sound
+pub mod Values

@@ -1,6 +1,9 @@
 -- Classes above a class, by the lists of direct supertypes.
-use Rattle.std.specs.Prelude.{◌≡◌, ℕ, zero, suc, Bool, true, List, [], ◌∷◌, slice_get, nat_eq, is_some, length, ◌&&◌, ◌||◌}
-use Rattle.std.specs.List.{list_any}
+use Rattle.std.specs.Prelude.{◌≡◌, ℕ, zero, suc, Bool, true, List, [], ◌∷◌, slice_get, nat_eq, is_some, length, take, ◌<◌, ◌≤◌, ◌&&◌, ◌||◌}
+use Rattle.std.specs.List.{list_any, IsDistinct}
+use Rattle.std.specs.List.Sorted.{IsStrictlySortedBy}
+use Rattle.std.specs.Ordering.{nat_cmp}
+use Rattle.std.specs.BTreeSet.{BTreeSet, contains}
 use Rattle.std.specs.Option.{option_map_or}
 
 -- the direct supertypes of a class
@@ -24,3 +27,19 @@ within supers (suc n) c d = nat_eq c d || list_any (λ b. within supers n b d) (
 -- d is c or above it: no path needs more steps than there are classes
 unfoldable pub is_above : List (List ℕ) → ℕ → ℕ → Bool
 is_above supers c d = is_some (slice_get supers c) && within supers (length supers) c d
+
+-- every supertype is a class of the package
+abbrev pub Inside : List (List ℕ) → Type 0
+Inside supers = (c b : ℕ) → list_any (nat_eq b) (supers_of supers c) ≡ true → b < length supers
+
+-- a set has the classes of a list, and the list has each once
+pub record Reached (seen : BTreeSet ℕ) (reached : List ℕ) : Type 0 where
+  pub alike : (d : ℕ) → contains nat_cmp seen d ≡ list_any (nat_eq d) reached
+  pub apart : IsDistinct nat_eq reached
+  pub sorted : IsStrictlySortedBy nat_cmp seen.keys
+
+-- the list goes on, with the classes of ups
+pub record Grown (ups : List ℕ) (old new : List ℕ) : Type 0 where
+  pub longer : length old ≤ length new
+  pub kept : take (length old) new ≡ old
+  pub has : (d : ℕ) → list_any (nat_eq d) new ≡ (list_any (nat_eq d) old || list_any (nat_eq d) ups)

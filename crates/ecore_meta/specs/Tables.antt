@@ -1,9 +1,27 @@
 -- What the table of the classes above each class tells.
-use Rattle.std.specs.Prelude.{◌≡◌, ℕ, false, List, slice_get, nat_eq}
-use Rattle.std.specs.List.{list_any}
+use Rattle.std.specs.Prelude.{◌≡◌, ◌<◌, ℕ, false, List, map, slice_get, length}
+use Rattle.std.specs.List.{filter, range_with_len}
+use Rattle.std.specs.Ordering.{nat_cmp}
+use Rattle.std.specs.BTreeSet.{BTreeSet, contains}
 use Rattle.std.specs.Option.{option_map_or}
 use Rattle.ecore_meta.specs.Supers.{is_above}
+use Rattle.ecore_meta.specs.Values.{AreShort}
+use Rattle.ecore_meta.specs.declared.meta.Class.{Class}
+use Rattle.ecore_meta.specs.declared.meta.Feature.{Feature}
+use Rattle.ecore_meta.specs.declared.meta.EnumLiteral.{EnumLiteral}
 
--- the table has d in the row of c exactly where d is c or above it
-abbrev pub Agrees : List (List ℕ) → List (List ℕ) → Type 0
-Agrees supers above = (c d : ℕ) → option_map_or (list_any (nat_eq d)) (slice_get above c) false ≡ is_above supers c d
+-- the table has d in the set of c exactly where d is c or above it
+abbrev pub Agrees : List (List ℕ) → List (BTreeSet ℕ) → Type 0
+Agrees supers above = (c d : ℕ) → option_map_or (λ s. contains nat_cmp s d) (slice_get above c) false ≡ is_above supers c d
+
+-- the classes that each class is, rising
+abbrev pub all_above : List (List ℕ) → List (List ℕ)
+all_above supers = map (λ c. filter (is_above supers c) (range_with_len 0 (length supers))) (range_with_len 0 (length supers))
+
+-- what holds of the tables of a metamodel
+pub record Holds (classes : List Class) (features : List Feature) (supers : List (List ℕ)) (above : List (BTreeSet ℕ)) (literals : List (List EnumLiteral)) : Type 0 where
+  pub agrees : Agrees supers above
+  pub few_classes : length classes < 4294967296
+  pub few_features : length features < 4294967296
+  pub few_enums : length literals < 4294967296
+  pub short : AreShort literals

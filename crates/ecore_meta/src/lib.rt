@@ -2,12 +2,25 @@
 //! of the rows that a document says, or refused with the first fault.
 #![tactic(auto)]
 
+mod building;
+mod classifiers;
+mod drafts;
+mod fault;
+mod faults;
+mod features;
 mod list;
+mod literals;
 mod meta;
 mod metamodel;
+mod names;
 mod rows;
+mod supers;
+mod tables;
 mod text;
+mod values;
 
+pub use building::build;
+pub use fault::MetaFault;
 pub use list::List;
 pub use meta::{Class, EnumLiteral, Feature, Kind, Scalar, Value};
 pub use metamodel::Metamodel;

@@ -1,23 +1,27 @@
-ghost use Rattle.std.specs.Prelude.{◌≡◌, ◌<◌, length, slice_get, Some, nat_eq};
+ghost use Rattle.std.specs.Prelude.{◌≡◌, ◌<◌, length, map, slice_get, Some, nat_eq};
 ghost use Rattle.std.specs.List.{list_any};
 ghost use Rattle.std.specs.Option.{option_map_or};
-ghost use Rattle.ecore_meta.specs.Meta.{is_a, has_feature};
+ghost use Rattle.ecore_meta.specs.Meta.{has_feature, is_a};
 ghost use Rattle.ecore_meta.specs.Typing.{literal_count};
+ghost use Rattle.ecore_meta.specs.Values.{AreShort};
 
-use crate::{Class, EnumLiteral, Feature, Text};
+use crate::meta::{Class, EnumLiteral, Feature};
+use crate::values::at;
+use crate::{Text, tables};
+use std::collections::BTreeSet;
 use std::marker::Model;
 
 /// A metamodel, which contracts see as its classes with their supertypes, its features and its enums.
 #[derive(Debug, Drop)]
 pub struct Metamodel {
-    uri: Text,
-    classes: Vec<Class>,
-    features: Vec<Feature>,
+    pub(crate) uri: Text,
+    pub(crate) classes: Vec<Class>,
+    pub(crate) features: Vec<Feature>,
     /// The direct supertypes of each class.
-    supers: Vec<Vec<u32>>,
+    pub(crate) supers: Vec<Vec<u32>>,
     /// Each class and all those above it.
-    above: Vec<Vec<u32>>,
-    literals: Vec<Vec<EnumLiteral>>,
+    pub(crate) above: Vec<BTreeSet<u32>>,
+    pub(crate) literals: Vec<Vec<EnumLiteral>>,
 }
 
 fn holds(xs: &[u32], x: u32) -> bool
@@ -26,17 +30,27 @@ fn holds(xs: &[u32], x: u32) -> bool
     xs.iter().any(|y| x == *y)
 }
 
+fn count(literals: &[Vec<EnumLiteral>], e: u32) -> u32
+    requires there { e < length literals.now }
+    requires short { AreShort (map (λ ls. ls.items) literals.now) }
+    ensures { result ≡ option_map_or length (slice_get (map (λ ls. ls.items) literals.now) e) 0 }
+{
+    match at(literals, e) {
+        None => 0,
+        Some(literals) => literals.len() as u32,
+    }
+}
+
 impl Model for Metamodel {
-    ghost use Rattle.std.specs.Prelude.{map, length, ◌<◌, ℕ, slice_get, []};
-    ghost use Rattle.std.specs.Option.{option_map_or};
+    ghost use Rattle.std.specs.Prelude.{map};
     ghost use Rattle.ecore_meta.specs.Meta.{Meta};
-    ghost use Rattle.ecore_meta.specs.Tables.{Agrees};
+    ghost use Rattle.ecore_meta.specs.Tables.{Holds};
 
     ghost Value = { Meta };
 
     ghost view = { λ a. record { uri = a.uri; classes = a.classes.items; features = a.features.items; supers = map (λ v. v.items) a.supers.items; literals = map (λ v. v.items) a.literals.items } };
 
-    ghost invariant = { λ a. Agrees (map (λ v. v.items) a.supers.items) (map (λ v. v.items) a.above.items) × (length a.classes.items < 4294967296) × (length a.features.items < 4294967296) × (length a.literals.items < 4294967296) × ((e : ℕ) → length (option_map_or (λ v. v.items) (slice_get a.literals.items e) []) < 4294967296) };
+    ghost invariant = { λ a. Holds a.classes.items a.features.items (map (λ v. v.items) a.supers.items) a.above.items (map (λ v. v.items) a.literals.items) };
 }
 
 impl Metamodel {
@@ -70,17 +84,14 @@ impl Metamodel {
         requires { e < length self.now.literals }
         ensures { result ≡ literal_count self.now e }
     {
-        self.literals[e as usize].len() as u32
+        count(self.literals.as_slice(), e)
     }
 
     /// Whether the class c is d, or d is above it.
     pub fn is_a(&self, c: u32, d: u32) -> bool
         ensures { result ≡ is_a self.now c d }
     {
-        match self.above.get(c as usize) {
-            None => false,
-            Some(above) => holds(above.as_slice(), d),
-        }
+        tables::is_a(self.above.as_slice(), c, d)
     }
 
     /// Whether the class has the feature, its own or inherited.

@@ -1,3 +1,6 @@
+ghost use Rattle.std.specs.Prelude.{◌≡◌};
+ghost use Rattle.ecore_meta.specs.Document.{classifier_name};
+
 use crate::{List, Text};
 
 /// What a document says of a package, in its order: the classifiers by name, and names still to be resolved.
@@ -72,4 +75,16 @@ pub struct FeatureRow {
     pub default_text: Option<Text>,
     /// Volatile, transient or derived: the feature holds nothing.
     pub skipped: bool,
+}
+
+impl ClassifierRow {
+    pub fn name(&self) -> &str
+        ensures { result.now ≡ classifier_name self.now }
+    {
+        match self {
+            ClassifierRow::Class(row) => row.name.as_str(),
+            ClassifierRow::Enum(row) => row.name.as_str(),
+            ClassifierRow::Plain(name) => name.as_str(),
+        }
+    }
 }

@@ -1,0 +1,7 @@
+mod NameLaws
+mod ClassifierLaws
+mod SuperLaws
+mod ParseLaws
+mod RisingLaws
+mod TableLaws
+mod BuildLaws

@@ -1,0 +1,22 @@
+use Rattle.std.proofs.Common.{◌≡◌, ◌∙◌, List, ap, subst, sym, arith, map, length}
+use Rattle.std.proofs.lemmas.List.{length-map}
+use Rattle.ecore_meta.specs.Values.{AreShort}
+use Rattle.ecore_meta.specs.declared.meta.EnumLiteral.{EnumLiteral}
+use Rattle.ecore_meta.proofs.BuildLaws.{classes_count, drafts_few, literals_count, literals_short}
+use Rattle.ecore_meta.proofs.building.assemble.Goals as goal
+
+pub features_of-requires : goal.features_of-requires
+features_of-requires c =
+    let P : List (List EnumLiteral) → Type 0 = λ ls. AreShort ls in
+    subst P (sym (ap (map (λ ls. ls.items)) c.as_slice-3.ensures.value ∙ c.requires.literals)) (literals_short c.args.rows.now.classifiers c.requires.few.parts)
+
+pub invariant_of-result : goal.invariant_of-result
+invariant_of-result c =
+    let P : List (List EnumLiteral) → Type 0 = λ ls. AreShort ls in
+    record {
+      agrees = c.requires.above;
+      few_classes = omega (arith, ap length c.in_ok-classes.ensures, classes_count 0 (map (λ fs. fs.items) c.as_slice.result.now) c.as_slice-2.result.now, ap length c.as_slice-2.ensures, c.requires.few.classifiers);
+      few_features = omega (arith, ap length c.in_ok-features.ensures ∙ length-map c.as_slice-4.result.now _, ap length c.as_slice-4.ensures.value, ap length c.requires.drafts, drafts_few c.args.rows.now.classifiers, c.requires.few.features);
+      few_enums = omega (arith, ap length c.requires.literals, literals_count c.args.rows.now.classifiers, c.requires.few.classifiers);
+      short = subst P (sym c.requires.literals) (literals_short c.args.rows.now.classifiers c.requires.few.parts);
+    }

@@ -1,0 +1,59 @@
+use Rattle.std.proofs.Common.{◌≡◌, ◌∙◌, Bool, true, false, List, ap, subst, sym, arith, map, length}
+use Rattle.std.specs.Prelude.{None, Some}
+use Rattle.std.specs.List.{list_any}
+use Rattle.ecore_meta.specs.Document.{Rows, feature_total}
+use Rattle.ecore_meta.specs.Faults.{IsFault, any_from, bad_bound, bad_default, fault, is_self, is_unanswered, literals_in}
+use Rattle.ecore_meta.specs.Values.{AreShort}
+use Rattle.ecore_meta.specs.declared.meta.EnumLiteral.{EnumLiteral}
+use Rattle.ecore_meta.proofs.BuildLaws.{drafts_few, fourth, literals_short, no_last, third}
+use Rattle.ecore_meta.proofs.building.build.Goals as goal
+
+pub returns-in-Err-clause-fault : goal.returns-in-Err-clause-fault
+returns-in-Err-clause-fault c =
+    let P : Rows → Type 0 = λ rows. IsFault (fault rows) c.in-Err.fault in
+    subst P c.as_slice.ensures c.in-Err.ensures.fault
+
+pub any_self-requires : goal.any_self-requires
+any_self-requires c =
+    omega (arith, ap length c.as_slice-2.ensures.value, ap length c.in-Ok.ensures.drafts, drafts_few c.as_slice.result.now, ap feature_total c.as_slice.ensures, c.requires.features)
+
+pub any_unanswered-requires : goal.any_unanswered-requires
+any_unanswered-requires c =
+    omega (arith, ap length c.as_slice-3.ensures.value, ap length c.in-Ok.ensures.drafts, drafts_few c.as_slice.result.now, ap feature_total c.as_slice.ensures, c.requires.features)
+
+pub returns-then-any_bad_bound-clause-fault : goal.returns-then-any_bad_bound-clause-fault
+returns-then-any_bad_bound-clause-fault c =
+    ap fault (sym c.as_slice.ensures) ∙ c.in-Ok.ensures.rest
+    ∙ third _ _ _ _
+    (sym c.if-any_self.false ∙ c.any_self.ensures ∙ ap (any_from is_self 0) c.as_slice-2.ensures.value)
+    (sym c.if-any_unanswered.false ∙ c.any_unanswered.ensures ∙ ap (λ ds. any_from (is_unanswered ds) 0 ds) c.as_slice-3.ensures.value)
+    (sym c.if-any_bad_bound.true ∙ c.any_bad_bound.ensures ∙ ap (λ ds. list_any (bad_bound ds) ds) c.as_slice-4.ensures.value)
+
+pub any_bad_default-requires : goal.any_bad_default-requires
+any_bad_default-requires c =
+    let P : List (List EnumLiteral) → Type 0 = λ ls. AreShort ls in
+    let Q : Rows → Type 0 = λ rows. AreShort (literals_in rows) in
+    subst P (sym (ap (map (λ ls. ls.items)) c.as_slice-5.ensures.value ∙ c.in-Ok.ensures.literals))
+    (subst Q (sym c.as_slice.ensures) (literals_short c.args.rows.now.classifiers c.requires.parts))
+
+pub returns-then-branch-clause-fault : goal.returns-then-branch-clause-fault
+returns-then-branch-clause-fault c =
+    ap fault (sym c.as_slice.ensures) ∙ c.in-Ok.ensures.rest
+    ∙ fourth _ _ _ _
+    (sym c.if-any_self.false ∙ c.any_self.ensures ∙ ap (any_from is_self 0) c.as_slice-2.ensures.value)
+    (sym c.if-any_unanswered.false ∙ c.any_unanswered.ensures ∙ ap (λ ds. any_from (is_unanswered ds) 0 ds) c.as_slice-3.ensures.value)
+    (sym c.if-any_bad_bound.false ∙ c.any_bad_bound.ensures ∙ ap (λ ds. list_any (bad_bound ds) ds) c.as_slice-4.ensures.value)
+    (sym c.if-branch.true ∙ c.in_ok-any_bad_default.ensures
+    ∙ ap (λ ls. list_any (bad_default ls) c.as_slice-6.result.now) (ap (map (λ ls. ls.items)) c.as_slice-5.ensures.value)
+    ∙ ap (λ ds. list_any (bad_default (map (λ ls. ls.items) c.in-Ok.parts.literals.items)) ds) c.as_slice-6.ensures.value)
+
+pub returns-clause-none : goal.returns-clause-none
+returns-clause-none c =
+    ap fault (sym c.as_slice.ensures) ∙ c.in-Ok.ensures.rest
+    ∙ no_last _ _ _ _
+    (sym c.if-any_self.false ∙ c.any_self.ensures ∙ ap (any_from is_self 0) c.as_slice-2.ensures.value)
+    (sym c.if-any_unanswered.false ∙ c.any_unanswered.ensures ∙ ap (λ ds. any_from (is_unanswered ds) 0 ds) c.as_slice-3.ensures.value)
+    (sym c.if-any_bad_bound.false ∙ c.any_bad_bound.ensures ∙ ap (λ ds. list_any (bad_bound ds) ds) c.as_slice-4.ensures.value)
+    (sym c.if-branch.false ∙ c.in_ok-any_bad_default.ensures
+    ∙ ap (λ ls. list_any (bad_default ls) c.as_slice-6.result.now) (ap (map (λ ls. ls.items)) c.as_slice-5.ensures.value)
+    ∙ ap (λ ds. list_any (bad_default (map (λ ls. ls.items) c.in-Ok.parts.literals.items)) ds) c.as_slice-6.ensures.value)

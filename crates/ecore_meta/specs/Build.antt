@@ -1,0 +1,97 @@
+-- The metamodel that a document without a fault stands for.
+use Rattle.std.specs.Prelude.{◌≡◌, ℕ, ℤ, pos, negsuc, min, suc, ◌<◌, Bool, true, false, List, [], ◌∷◌, Option, None, Some, map, length, cond}
+use Rattle.std.specs.Ordering.{int_eq}
+use Rattle.ecore_meta.specs.Document.{Rows, supers_in, feature_total}
+use Rattle.ecore_meta.specs.Drafts.{drafts}
+use Rattle.ecore_meta.specs.Faults.{contains_back, is_skipped, own_of, features_of, literals_in, Few}
+use Rattle.ecore_meta.specs.Meta.{Meta}
+use Rattle.ecore_meta.specs.Values.{value_of, default_of}
+use Rattle.ecore_meta.specs.declared.drafts.Draft.{Draft}
+use Rattle.ecore_meta.specs.declared.drafts.Target.{Target}
+use Rattle.ecore_meta.specs.declared.drafts.Target.TheVariants.{Skipped, Unsupported, Missing, Elements, Values}
+use Rattle.ecore_meta.specs.declared.drafts.End.{End}
+use Rattle.ecore_meta.specs.declared.drafts.End.TheVariants.{Open, Nowhere, At}
+use Rattle.ecore_meta.specs.declared.meta.Class.{Class}
+use Rattle.ecore_meta.specs.declared.meta.EnumLiteral.{EnumLiteral}
+use Rattle.ecore_meta.specs.declared.meta.Feature.{Feature}
+use Rattle.ecore_meta.specs.declared.meta.Kind.{Kind}
+use Rattle.ecore_meta.specs.declared.meta.Kind.TheVariants.{Attr, AttrMany, Bounded, Free, Contains, Container, Skip}
+use Rattle.ecore_meta.specs.declared.meta.Scalar.{Scalar}
+use Rattle.ecore_meta.specs.declared.meta.Value.{Value}
+use Rattle.ecore_meta.specs.declared.rows.MetaRows.{MetaRows}
+use Rattle.ecore_meta.specs.declared.rows.ClassRow.{ClassRow}
+use Rattle.ecore_meta.specs.declared.rows.ClassifierRow.TheVariants.{Class as ClassOf, Enum, Plain}
+
+-- a bound as a natural number, the greatest that a feature holds where it is greater
+abbrev pub natural : ℤ → ℕ
+natural (pos n) = min n 4294967295
+natural (negsuc n) = 0
+
+abbrev pub end_number : End → Option ℕ
+end_number Open = None
+end_number Nowhere = None
+end_number (At g) = Some g
+
+-- the default of a single attribute: its text's value, or else that of its type
+abbrev pub default_in : List (List EnumLiteral) → Scalar → Option (List ℕ) → Option Value
+default_in literals s None = default_of s
+default_in literals s (Some text) = value_of literals s text
+
+abbrev pub attribute : List (List EnumLiteral) → Draft → Scalar → Kind
+attribute literals d s = cond (int_eq d.upper (pos 1)) (Attr s (default_in literals s d.default_text)) (AttrMany s d.unique)
+
+abbrev pub container : ℕ → End → Kind
+container c Open = Skip
+container c Nowhere = Skip
+container c (At g) = Container c g
+
+abbrev pub plain : Draft → ℕ → Kind
+plain d c = cond (int_eq d.upper (negsuc 0)) (Free c (end_number d.end)) (Bounded c (end_number d.end))
+
+-- a reference: elements inside, the element around where the opposite has elements inside, or links
+abbrev pub reference : List Draft → Draft → ℕ → Kind
+reference ds d c = cond d.containment (Contains c (end_number d.end)) (cond (contains_back ds d.end) (container c d.end) (plain d c))
+
+abbrev pub kind_in : List (List EnumLiteral) → List Draft → Draft → Target → Kind
+kind_in literals ds d Skipped = Skip
+kind_in literals ds d Unsupported = Skip
+kind_in literals ds d Missing = Skip
+kind_in literals ds d (Elements c) = reference ds d c
+kind_in literals ds d (Values s) = attribute literals d s
+
+-- a skipped feature has the bounds 0 and 1
+abbrev pub lower_from : Draft → ℕ
+lower_from d = cond (is_skipped d.target) 0 (natural d.lower)
+
+abbrev pub upper_from : Draft → Option ℕ
+upper_from d = cond (is_skipped d.target) (Some 1) (cond (int_eq d.upper (negsuc 0)) None (Some (natural d.upper)))
+
+abbrev pub feature_from : List (List EnumLiteral) → List Draft → Draft → Feature
+feature_from literals ds d = record { owner = d.owner; name = d.name; lower = lower_from d; upper = upper_from d; kind = kind_in literals ds d d.target }
+
+-- the classes with the features of each
+abbrev pub classes_from : ℕ → List (List ℕ) → Rows → List Class
+classes_from n features [] = []
+classes_from n features (ClassOf c ∷ rows) = record { name = c.name; is_abstract = c.is_abstract; features = own_of features n } ∷ classes_from (suc n) features rows
+classes_from n features (Enum e ∷ rows) = classes_from n features rows
+classes_from n features (Plain t ∷ rows) = classes_from n features rows
+
+abbrev pub meta_of : MetaRows → Meta
+meta_of rows = record {
+  uri = rows.uri;
+  classes = classes_from 0 (features_of rows.classifiers) rows.classifiers;
+  features = map (feature_from (literals_in rows.classifiers) (drafts rows.classifiers)) (drafts rows.classifiers);
+  supers = supers_in rows.classifiers rows.classifiers;
+  literals = literals_in rows.classifiers;
+}
+
+-- the features or literals of each classifier can be numbered
+abbrev pub AreFew : Rows → Type 0
+AreFew [] = Unit {0}
+AreFew (row ∷ rows) = Few row × AreFew rows
+
+-- fewer than 2^32 - 1 classifiers, features, and literals of an enum
+pub record Numbered (rows : Rows) : Type 0 where
+  pub classifiers : length rows < 4294967295
+  pub features : feature_total rows < 4294967295
+  pub parts : AreFew rows

@@ -1,0 +1,221 @@
+-- The faults of a document, each over the whole of it, in the order in which they are looked for.
+use Rattle.std.specs.Prelude.{◌≡◌, ℕ, ℤ, pos, negsuc, ◌+◌, ◌<◌, suc, Bool, true, false, List, [], ◌∷◌, ◌++◌, Option, None, Some, slice_get, map, length, cond, not, is_some, nat_eq, int_lt, int_le, ◌&&◌, ◌||◌}
+use Rattle.std.specs.Ordering.{int_eq}
+use Rattle.std.specs.List.{list_any, filter, flat_map, range_with_len}
+use Rattle.std.specs.Option.{option_map_or, option_and_then}
+use Rattle.ecore_meta.specs.Names.{Name, has_repeat}
+use Rattle.ecore_meta.specs.Supers.{is_above, supers_of}
+use Rattle.ecore_meta.specs.Document.{Rows, classifier_name, feature_names, class_number, supers_in, numbered, features_in}
+use Rattle.ecore_meta.specs.Drafts.{drafts}
+use Rattle.ecore_meta.specs.Values.{value_of}
+use Rattle.ecore_meta.specs.declared.fault.MetaFault.{MetaFault}
+use Rattle.ecore_meta.specs.declared.fault.MetaFault.TheVariants.{DupName, Unsupported as UnsupportedFault, NoType, SuperCycle, Clash, SelfOpposite, BadOpposite, BadBound, BadDefault, Memory}
+use Rattle.ecore_meta.specs.declared.meta.EnumLiteral.{EnumLiteral}
+use Rattle.ecore_meta.specs.declared.rows.ClassifierRow.{ClassifierRow}
+use Rattle.ecore_meta.specs.declared.rows.ClassifierRow.TheVariants.{Class, Enum, Plain}
+use Rattle.ecore_meta.specs.declared.rows.EnumRow.{EnumRow}
+use Rattle.ecore_meta.specs.declared.rows.LiteralRow.{LiteralRow}
+use Rattle.ecore_meta.specs.declared.drafts.Draft.{Draft}
+use Rattle.ecore_meta.specs.declared.drafts.Target.{Target}
+use Rattle.ecore_meta.specs.declared.drafts.Target.TheVariants.{Skipped, Unsupported, Missing, Elements, Values}
+use Rattle.ecore_meta.specs.declared.drafts.End.{End}
+use Rattle.ecore_meta.specs.declared.drafts.End.TheVariants.{Open, Nowhere, At}
+
+-- two features of a class, or two literals of an enum, have one name, or two literals one text
+abbrev pub repeats_within : ClassifierRow → Bool
+repeats_within (Class c) = has_repeat (feature_names c.features)
+repeats_within (Enum e) = has_repeat (map (λ l. l.name) e.literals) || has_repeat (map (λ l. l.literal) e.literals)
+repeats_within (Plain t) = false
+
+abbrev pub dup_name : Rows → Bool
+dup_name rows = has_repeat (map classifier_name rows) || list_any repeats_within rows
+
+abbrev pub is_unsupported : Target → Bool
+is_unsupported Unsupported = true
+is_unsupported Skipped = false
+is_unsupported Missing = false
+is_unsupported (Elements c) = false
+is_unsupported (Values s) = false
+
+-- an attribute has a type of Ecore that is not read
+abbrev pub unsupported : List Draft → Bool
+unsupported ds = list_any (λ d. is_unsupported d.target) ds
+
+abbrev pub is_missing : Target → Bool
+is_missing Missing = true
+is_missing Skipped = false
+is_missing Unsupported = false
+is_missing (Elements c) = false
+is_missing (Values s) = false
+
+-- a supertype is no class of the package
+abbrev pub lacks_super : Rows → ClassifierRow → Bool
+lacks_super all (Class c) = list_any (λ t. not (is_some (class_number all t))) c.supers
+lacks_super all (Enum e) = false
+lacks_super all (Plain t) = false
+
+-- a supertype or a feature's type is none of the package that fits
+abbrev pub no_type : Rows → List Draft → Bool
+no_type rows ds = list_any (lacks_super rows) rows || list_any (λ d. is_missing d.target) ds
+
+-- a class is above one of its supertypes
+abbrev pub is_cyclic : List (List ℕ) → ℕ → Bool
+is_cyclic supers c = list_any (λ b. is_above supers b c) (supers_of supers c)
+
+-- a class is above itself
+abbrev pub super_cycle : List (List ℕ) → Bool
+super_cycle supers = list_any (is_cyclic supers) (range_with_len 0 (length supers))
+
+-- the numbers of the features that each class declares, from a number on
+abbrev pub own_features : ℕ → Rows → List (List ℕ)
+own_features f [] = []
+own_features f (Class c ∷ rows) = range_with_len f (length c.features) ∷ own_features (f + length c.features) rows
+own_features f (Enum e ∷ rows) = own_features f rows
+own_features f (Plain t ∷ rows) = own_features f rows
+
+abbrev pub own_of : List (List ℕ) → ℕ → List ℕ
+own_of own d = option_map_or (λ fs. fs) (slice_get own d) []
+
+-- the features of a class: those that it and the classes above it declare, by number
+unfoldable pub inherited : List (List ℕ) → List (List ℕ) → ℕ → List ℕ
+inherited supers own c = flat_map (own_of own) (filter (is_above supers c) (range_with_len 0 (length supers)))
+
+-- the features of every class
+abbrev pub all_inherited : List (List ℕ) → List (List ℕ) → List (List ℕ)
+all_inherited supers own = map (inherited supers own) (range_with_len 0 (length supers))
+
+abbrev pub draft_name : List Draft → ℕ → Name
+draft_name ds f = option_map_or (λ d. d.name) (slice_get ds f) []
+
+-- a class has two features of one name, inherited ones counted
+abbrev pub clash : List Draft → List (List ℕ) → Bool
+clash ds features = list_any (λ fs. has_repeat (map (draft_name ds) fs)) features
+
+-- some feature passes the test, which sees its number
+abbrev pub any_from : (ℕ → Draft → Bool) → ℕ → List Draft → Bool
+any_from p n [] = false
+any_from p n (d ∷ ds) = p n d || any_from p (suc n) ds
+
+abbrev pub is_at : ℕ → End → Bool
+is_at n Open = false
+is_at n Nowhere = false
+is_at n (At g) = nat_eq n g
+
+-- a reference names itself as its opposite
+abbrev pub is_self : ℕ → Draft → Bool
+is_self n d = is_at n d.end
+
+abbrev pub is_to : ℕ → Target → Bool
+is_to c (Elements d) = nat_eq c d
+is_to c Skipped = false
+is_to c Unsupported = false
+is_to c Missing = false
+is_to c (Values s) = false
+
+-- the other names n back, each has the class of the other as its type, and at most one is a containment
+abbrev pub answers : ℕ → Draft → Option Draft → Bool
+answers n d None = false
+answers n d (Some o) = is_at n o.end && (is_to o.owner d.target && (is_to d.owner o.target && not (d.containment && o.containment)))
+
+abbrev pub bad_end : List Draft → ℕ → Draft → End → Bool
+bad_end ds n d Open = false
+bad_end ds n d Nowhere = true
+bad_end ds n d (At g) = not (answers n d (slice_get ds g))
+
+-- a reference has an opposite that is none
+abbrev pub is_unanswered : List Draft → ℕ → Draft → Bool
+is_unanswered ds n d = bad_end ds n d d.end
+
+abbrev pub contains_back : List Draft → End → Bool
+contains_back ds Open = false
+contains_back ds Nowhere = false
+contains_back ds (At g) = option_map_or (λ o. o.containment) (slice_get ds g) false
+
+-- the bounds are none: the upper is neither -1 nor at least 1, or the lower is below 0 or above it; a container is one
+abbrev pub bad_bounds : List Draft → Draft → Bool
+bad_bounds ds d =
+    int_lt d.lower (pos 0)
+    || not (int_eq d.upper (negsuc 0)) && (int_lt d.upper (pos 1) || int_lt d.upper d.lower)
+    || contains_back ds d.end && not (int_eq d.upper (pos 1))
+
+abbrev pub is_skipped : Target → Bool
+is_skipped Skipped = true
+is_skipped Unsupported = false
+is_skipped Missing = false
+is_skipped (Elements c) = false
+is_skipped (Values s) = false
+
+abbrev pub bad_bound : List Draft → Draft → Bool
+bad_bound ds d = not (is_skipped d.target) && bad_bounds ds d
+
+abbrev pub no_value : List (List EnumLiteral) → Target → Option Name → Bool
+no_value literals (Values s) (Some text) = not (is_some (value_of literals s text))
+no_value literals (Values s) None = false
+no_value literals Skipped text = false
+no_value literals Unsupported text = false
+no_value literals Missing text = false
+no_value literals (Elements c) text = false
+
+-- the default text of a single attribute gives no value
+abbrev pub bad_default : List (List EnumLiteral) → Draft → Bool
+bad_default literals d = int_eq d.upper (pos 1) && no_value literals d.target d.default_text
+
+abbrev pub literal : LiteralRow → EnumLiteral
+literal row = record { name = row.name; text = row.literal }
+
+-- the literals of each enum
+abbrev pub literals_in : Rows → List (List EnumLiteral)
+literals_in [] = []
+literals_in (Class c ∷ rows) = literals_in rows
+literals_in (Enum e ∷ rows) = map literal e.literals ∷ literals_in rows
+literals_in (Plain t ∷ rows) = literals_in rows
+
+abbrev pub first_true : List (Bool × MetaFault) → Option MetaFault
+first_true [] = None
+first_true (t ∷ ts) = cond t.0 (Some t.1) (first_true ts)
+
+-- the first of the faults that are looked for last, in the resolved features alone
+abbrev pub last_fault : List Draft → List (List EnumLiteral) → Option MetaFault
+last_fault ds literals =
+    first_true
+    ((any_from is_self 0 ds, SelfOpposite)
+    ∷ (any_from (is_unanswered ds) 0 ds, BadOpposite)
+    ∷ (list_any (bad_bound ds) ds, BadBound)
+    ∷ (list_any (bad_default literals) ds, BadDefault)
+    ∷ [])
+
+-- the first fault, where the last ones are known
+abbrev pub fault_of : Rows → List Draft → List (List ℕ) → List (List ℕ) → Option MetaFault → Option MetaFault
+fault_of rows ds supers features last =
+    cond (dup_name rows) (Some DupName)
+    (cond (unsupported ds) (Some UnsupportedFault)
+    (cond (no_type rows ds) (Some NoType)
+    (cond (super_cycle supers) (Some SuperCycle)
+    (cond (clash ds features) (Some Clash) last))))
+
+-- the features of every class of a document
+abbrev pub features_of : Rows → List (List ℕ)
+features_of rows = all_inherited (supers_in rows rows) (own_features 0 rows)
+
+-- the first fault of a document
+abbrev pub fault : Rows → Option MetaFault
+fault rows = fault_of rows (drafts rows) (supers_in rows rows) (features_of rows) (last_fault (drafts rows) (literals_in rows))
+
+-- an answer of build but want of memory names the first fault
+abbrev pub IsFault : Option MetaFault → MetaFault → Type 0
+IsFault first Memory = Unit {0}
+IsFault first DupName = first ≡ Some DupName
+IsFault first UnsupportedFault = first ≡ Some UnsupportedFault
+IsFault first NoType = first ≡ Some NoType
+IsFault first SuperCycle = first ≡ Some SuperCycle
+IsFault first Clash = first ≡ Some Clash
+IsFault first SelfOpposite = first ≡ Some SelfOpposite
+IsFault first BadOpposite = first ≡ Some BadOpposite
+IsFault first BadBound = first ≡ Some BadBound
+IsFault first BadDefault = first ≡ Some BadDefault
+
+-- the features or literals of a classifier can be numbered
+abbrev pub Few : ClassifierRow → Type 0
+Few (Class c) = length c.features < 4294967295
+Few (Enum e) = length e.literals < 4294967295
+Few (Plain t) = Unit {0}

@@ -1,0 +1,85 @@
+-- The value that a text stands for.
+use Rattle.std.specs.Prelude.{◌≡◌, ℕ, ℤ, pos, negsuc, neg_ℤ, ◌+◌, ◌-◌, ◌*◌, Bool, true, false, List, [], ◌∷◌, Option, None, Some, slice_get, map, drop, length, codes, cond, not, nat_eq, nat_lt, ◌<◌, ◌&&◌, ◌||◌, if◌then◌else◌, slice_index}
+use Rattle.std.specs.Option.{option_map, option_map_or, option_and_then}
+use Rattle.std.specs.Str.{bytes_eq, all_ascii_digits}
+use Rattle.ecore_meta.specs.Names.{Name, number_of}
+use Rattle.ecore_meta.specs.Typing.{in_width}
+use Rattle.ecore_meta.specs.declared.meta.EnumLiteral.{EnumLiteral}
+use Rattle.ecore_meta.specs.declared.meta.Scalar.{Scalar}
+use Rattle.ecore_meta.specs.declared.meta.Scalar.TheVariants.{Text as TextType, Flag as FlagType, Byte, Short, Int, Long, Literal as LiteralType}
+use Rattle.ecore_meta.specs.declared.meta.Value.{Value}
+use Rattle.ecore_meta.specs.declared.meta.Value.TheVariants.{Text, Flag, Whole, Literal}
+
+-- the number that decimal digits write, after those that gave n
+abbrev pub digits_from : ℕ → List ℕ → ℕ
+digits_from n [] = n
+digits_from n (b ∷ bs) = digits_from (10 * n + (b - 48)) bs
+
+-- one digit or more
+abbrev pub is_numeral : List ℕ → Bool
+is_numeral [] = false
+is_numeral (b ∷ bs) = all_ascii_digits (b ∷ bs)
+
+-- the text begins with a minus
+abbrev pub is_negative : List ℕ → Bool
+is_negative [] = false
+is_negative (b ∷ bs) = nat_eq b 45
+
+-- a whole number: digits, or a minus and digits
+unfoldable pub whole_of : List ℕ → Option ℤ
+whole_of text =
+    if is_negative text then cond (is_numeral (drop 1 text)) (Some (neg_ℤ (pos (digits_from 0 (drop 1 text))))) None
+    else cond (is_numeral text) (Some (pos (digits_from 0 text))) None
+
+-- the number, where 64 bits hold it
+abbrev pub wide : Option ℤ → Option ℤ
+wide o = option_and_then (λ n. cond (in_width 9223372036854775808 n) (Some n) None) o
+
+abbrev pub narrow : ℕ → ℤ → Option Value
+narrow half n = cond (in_width half n) (Some (Whole n)) None
+
+abbrev pub whole_in : ℕ → List ℕ → Option Value
+whole_in half text = option_and_then (narrow half) (whole_of text)
+
+abbrev pub flag_of : List ℕ → Option Value
+flag_of text = if bytes_eq text (codes "true") then Some (Flag true) else if bytes_eq text (codes "false") then Some (Flag false) else None
+
+abbrev pub literals_at : List (List EnumLiteral) → ℕ → List EnumLiteral
+literals_at literals e = option_map_or (λ ls. ls) (slice_get literals e) []
+
+abbrev pub or_else : Option ℕ → Option ℕ → Option ℕ
+or_else None o = o
+or_else (Some n) o = Some n
+
+-- the literal that has this text, or else the one that has this name
+abbrev pub literal_in : List EnumLiteral → List ℕ → Option ℕ
+literal_in ls text = or_else (number_of text (map (λ l. l.text) ls)) (number_of text (map (λ l. l.name) ls))
+
+-- the literal that a text names, of the enum of that number
+abbrev pub named_of : List (List EnumLiteral) → ℕ → List ℕ → Option Value
+named_of literals e text = option_map (λ n. Literal n) (literal_in (literals_at literals e) text)
+
+-- the value of the type that a text stands for
+abbrev pub value_of : List (List EnumLiteral) → Scalar → List ℕ → Option Value
+value_of literals TextType text = Some (Text text)
+value_of literals FlagType text = flag_of text
+value_of literals Byte text = whole_in 128 text
+value_of literals Short text = whole_in 32768 text
+value_of literals Int text = whole_in 2147483648 text
+value_of literals Long text = whole_in 9223372036854775808 text
+value_of literals (LiteralType e) text = named_of literals e text
+
+-- the default of a type: texts have none
+abbrev pub default_of : Scalar → Option Value
+default_of TextType = None
+default_of FlagType = Some (Flag false)
+default_of Byte = Some (Whole (pos 0))
+default_of Short = Some (Whole (pos 0))
+default_of Int = Some (Whole (pos 0))
+default_of Long = Some (Whole (pos 0))
+default_of (LiteralType e) = Some (Literal 0)
+
+-- the literals of each enum can be numbered
+abbrev pub AreShort : List (List EnumLiteral) → Type 0
+AreShort [] = Unit {0}
+AreShort (ls ∷ literals) = (length ls < 4294967296) × AreShort literals

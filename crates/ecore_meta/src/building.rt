@@ -1,0 +1,127 @@
+ghost use Rattle.std.specs.Prelude.{◌≡◌, IfOk, IfErr, None, map};
+ghost use Rattle.ecore_meta.specs.Build.{Numbered, meta_of};
+ghost use Rattle.ecore_meta.specs.Document.{supers_in};
+ghost use Rattle.ecore_meta.specs.Drafts.{drafts};
+ghost use Rattle.ecore_meta.specs.Tables.{Agrees};
+ghost use Rattle.ecore_meta.specs.Faults.{IsFault, fault, features_of, last_fault, literals_in};
+
+use crate::classifiers::Classifiers;
+use crate::drafts::Draft;
+use crate::fault::MetaFault;
+use crate::faults::{
+    any_bad_bound, any_missing, any_repeats_within, any_self, any_unanswered, any_unsupported,
+};
+use crate::features::{all_features, any_bad_default, any_clash, classes_of, features_of};
+use crate::literals::literals_of;
+use crate::meta::EnumLiteral;
+use crate::metamodel::Metamodel;
+use crate::rows::{ClassifierRow, MetaRows};
+use crate::tables::{all_above, any_cycle, own_features};
+use std::alloc::{AllocError, Global};
+use std::collections::BTreeSet;
+
+/// The parts of a metamodel, of a document without a fault.
+#[derive(Drop)]
+pub(crate) struct Parts {
+    pub drafts: Vec<Draft>,
+    pub supers: Vec<Vec<u32>>,
+    pub above: Vec<BTreeSet<u32>>,
+    pub features: Vec<Vec<u32>>,
+    pub literals: Vec<Vec<EnumLiteral>>,
+}
+
+/// The parts of a document, or its first fault of those that the names and the supertypes tell.
+fn checked(alloc: Global, rows: &[ClassifierRow]) -> Result<Parts, MetaFault>
+    requires { Numbered rows.now }
+    ensures fault { IfErr result (IsFault (fault rows.now)) }
+    ensures rest { IfOk result (λ p. fault rows.now ≡ last_fault p.drafts.items (map (λ ls. ls.items) p.literals.items)) }
+    ensures drafts { IfOk result (λ p. p.drafts.items ≡ drafts rows.now) }
+    ensures supers { IfOk result (λ p. map (λ ups. ups.items) p.supers.items ≡ supers_in rows.now rows.now) }
+    ensures above { IfOk result (λ p. Agrees (map (λ ups. ups.items) p.supers.items) p.above.items) }
+    ensures features { IfOk result (λ p. map (λ fs. fs.items) p.features.items ≡ features_of rows.now) }
+    ensures literals { IfOk result (λ p. map (λ ls. ls.items) p.literals.items ≡ literals_in rows.now) }
+{
+    let Some(classifiers) = Classifiers::new(alloc, rows)? else {
+        return Err(MetaFault::DupName);
+    };
+    if any_repeats_within(alloc, rows)? {
+        return Err(MetaFault::DupName);
+    }
+    let drafts = classifiers.drafts(alloc, rows)?;
+    if any_unsupported(drafts.as_slice()) {
+        return Err(MetaFault::Unsupported);
+    }
+    if classifiers.any_lacks_super(rows) || any_missing(drafts.as_slice()) {
+        return Err(MetaFault::NoType);
+    }
+    let supers = classifiers.supers(alloc, rows)?;
+    let above = all_above(alloc, supers.as_slice())?;
+    if any_cycle(supers.as_slice(), above.as_slice()) {
+        return Err(MetaFault::SuperCycle);
+    }
+    let own = own_features(alloc, rows)?;
+    let features = all_features(alloc, supers.as_slice(), above.as_slice(), own.as_slice())?;
+    if any_clash(alloc, drafts.as_slice(), features.as_slice())? {
+        return Err(MetaFault::Clash);
+    }
+    let literals = literals_of(alloc, rows)?;
+    Ok(Parts {
+        drafts,
+        supers,
+        above,
+        features,
+        literals,
+    })
+}
+
+/// The metamodel that a document's rows stand for, or the first fault of the document.
+pub fn build(alloc: Global, rows: &MetaRows) -> Result<Metamodel, MetaFault>
+    requires { Numbered rows.now.classifiers }
+    ensures fault { IfErr result (IsFault (fault rows.now.classifiers)) }
+    ensures none { IfOk result (λ _. fault rows.now.classifiers ≡ None) }
+    ensures built { IfOk result (λ m. m ≡ meta_of rows.now) }
+{
+    let parts = match checked(alloc, rows.classifiers.as_slice()) {
+        Ok(parts) => parts,
+        Err(fault) => return Err(fault),
+    };
+    if any_self(parts.drafts.as_slice()) {
+        return Err(MetaFault::SelfOpposite);
+    }
+    if any_unanswered(parts.drafts.as_slice()) {
+        return Err(MetaFault::BadOpposite);
+    }
+    if any_bad_bound(parts.drafts.as_slice()) {
+        return Err(MetaFault::BadBound);
+    }
+    if any_bad_default(alloc, parts.literals.as_slice(), parts.drafts.as_slice())? {
+        return Err(MetaFault::BadDefault);
+    }
+    Ok(assemble(alloc, rows, parts)?)
+}
+
+fn assemble(alloc: Global, rows: &MetaRows, parts: Parts) -> Result<Metamodel, AllocError>
+    requires few { Numbered rows.now.classifiers }
+    requires drafts { parts.drafts.items ≡ drafts rows.now.classifiers }
+    requires supers { map (λ ups. ups.items) parts.supers.items ≡ supers_in rows.now.classifiers rows.now.classifiers }
+    requires above { Agrees (map (λ ups. ups.items) parts.supers.items) parts.above.items }
+    requires features { map (λ fs. fs.items) parts.features.items ≡ features_of rows.now.classifiers }
+    requires literals { map (λ ls. ls.items) parts.literals.items ≡ literals_in rows.now.classifiers }
+    ensures { IfOk result (λ m. m ≡ meta_of rows.now) }
+{
+    let uri = rows.uri.copy(alloc)?;
+    let classes = classes_of(
+        alloc,
+        parts.features.as_slice(),
+        rows.classifiers.as_slice(),
+    )?;
+    let features = features_of(alloc, parts.literals.as_slice(), parts.drafts.as_slice())?;
+    Ok(Metamodel {
+        uri,
+        classes,
+        features,
+        supers: parts.supers,
+        above: parts.above,
+        literals: parts.literals,
+    })
+}

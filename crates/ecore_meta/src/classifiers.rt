@@ -1,0 +1,202 @@
+ghost use Rattle.std.specs.Prelude.{◌≡◌, ◌<◌, ◌+◌, ◌∷◌, [], IfOk, IfSome, Some, length, map, slice_get};
+ghost use Rattle.std.specs.Option.{option_copied};
+ghost use Rattle.ecore_meta.specs.Names.{number_of, has_repeat};
+ghost use Rattle.ecore_meta.specs.Document.{classifier_name, classifier_named, class_number, feature_names, feature_number, feature_total, number_at, number_in, numbered};
+ghost use Rattle.ecore_meta.specs.Classifiers.{MayHave, FitsIn};
+
+use crate::Text;
+use crate::names::{classifier_names, index};
+use crate::rows::{ClassifierRow, FeatureRow};
+use std::alloc::{AllocError, Global};
+use std::collections::BTreeMap;
+use std::marker::Model;
+
+/// What a name of the package stands for.
+#[derive(Clone, Copy, Debug, PartialEq, Eq)]
+pub(crate) enum Classifier {
+    /// The class of that number; its own features are numbered from `first`.
+    Class { number: u32, first: u32 },
+    /// The enum of that number.
+    Enum { number: u32, is_empty: bool },
+    /// A data type.
+    Plain,
+}
+
+/// The classifiers of a document by name. No name stands twice.
+#[derive(Drop)]
+pub(crate) struct Classifiers<'a> {
+    rows: &'a [ClassifierRow],
+    index: BTreeMap<String, usize>,
+    numbered: Vec<Classifier>,
+}
+
+impl<'a> Model for Classifiers<'a> {
+    ghost use Rattle.ecore_meta.specs.Document.{Rows};
+    ghost use Rattle.ecore_meta.specs.Classifiers.{Tells};
+
+    ghost Value = { Rows };
+
+    ghost view = { λ a. a.rows.now };
+
+    ghost invariant = { λ a. Tells a.rows.now a.index a.numbered.items };
+}
+
+impl<'a> Classifiers<'a> {
+    /// `None` where a name stands twice.
+    pub fn new(
+        alloc: Global,
+        rows: &'a [ClassifierRow],
+    ) -> Result<Option<Classifiers<'a>>, AllocError>
+        requires classifiers { length rows.now < 4294967295 }
+        requires features { feature_total rows.now < 4294967295 }
+        ensures { IfOk result (MayHave rows.now) }
+    {
+        let names = classifier_names(alloc, rows)?;
+        let numbered = number(alloc, rows)?;
+        match index(alloc, names.as_slice())? {
+            None => Ok(None),
+            Some(index) => Ok(Some(Classifiers {
+                rows,
+                index,
+                numbered,
+            })),
+        }
+    }
+
+    pub fn named(&self, name: &str) -> Option<Classifier>
+        ensures { result ≡ classifier_named self.now name.now }
+    {
+        match self.index.get(name) {
+            None => None,
+            Some(place) => at(self.numbered.as_slice(), *place),
+        }
+    }
+
+    pub fn class_number(&self, name: &str) -> Option<u32>
+        ensures { result ≡ class_number self.now name.now }
+    {
+        match self.named(name) {
+            Some(Classifier::Class { number, first: _ }) => Some(number),
+            Some(
+                Classifier::Enum {
+                    number: _,
+                    is_empty: _,
+                },
+            ) => None,
+            Some(Classifier::Plain) => None,
+            None => None,
+        }
+    }
+}
+
+impl<'a> Classifiers<'a> {
+    /// The number of the feature of that name that the class of that name itself declares.
+    pub fn feature_number(&self, class: &str, feature: &str) -> Option<u32>
+        ensures { result ≡ feature_number self.now class.now feature.now }
+    {
+        match self.index.get(class) {
+            None => None,
+            Some(place) => feature_at(self.rows, self.numbered.as_slice(), *place, feature),
+        }
+    }
+}
+
+fn feature_at(
+    rows: &[ClassifierRow],
+    kinds: &[Classifier],
+    place: usize,
+    feature: &str,
+) -> Option<u32>
+    requires kinds { kinds.now ≡ numbered 0 0 0 rows.now }
+    requires few { feature_total rows.now < 4294967295 }
+    ensures { result ≡ number_at rows.now place feature.now }
+{
+    match row_at(rows, place) {
+        Some(row) => number_in(row, at(kinds, place), feature),
+        None => None,
+    }
+}
+
+fn number_in(row: &ClassifierRow, kind: Option<Classifier>, feature: &str) -> Option<u32>
+    requires { FitsIn row.now kind }
+    ensures { result ≡ number_in (Some row.now) kind feature.now }
+{
+    match row {
+        ClassifierRow::Class(row) => match kind {
+            Some(Classifier::Class { number: _, first }) => {
+                match place_of(row.features.as_slice(), feature) {
+                    Some(n) => Some(first + n as u32),
+                    None => None,
+                }
+            }
+            Some(
+                Classifier::Enum {
+                    number: _,
+                    is_empty: _,
+                },
+            ) => None,
+            Some(Classifier::Plain) => None,
+            None => None,
+        },
+        ClassifierRow::Enum(_) => None,
+        ClassifierRow::Plain(_) => None,
+    }
+}
+
+/// The classifiers in their order, each kind numbered by itself.
+fn number(alloc: Global, rows: &[ClassifierRow]) -> Result<Vec<Classifier>, AllocError>
+    requires classifiers { length rows.now < 4294967295 }
+    requires features { feature_total rows.now < 4294967295 }
+    ensures { IfOk result (λ v. v.items ≡ numbered 0 0 0 rows.now) }
+{
+    let mut numbered = Vec::new(alloc);
+    let mut classes: u32 = 0;
+    let mut features: u32 = 0;
+    let mut enums: u32 = 0;
+    for row in rows {
+        match row {
+            ClassifierRow::Class(row) => {
+                numbered.push(Classifier::Class {
+                    number: classes,
+                    first: features,
+                })?;
+                classes += 1;
+                features += row.features.len() as u32;
+            }
+            ClassifierRow::Enum(row) => {
+                numbered.push(Classifier::Enum {
+                    number: enums,
+                    is_empty: row.literals.len() == 0,
+                })?;
+                enums += 1;
+            }
+            ClassifierRow::Plain(_) => numbered.push(Classifier::Plain)?,
+        }
+    }
+    Ok(numbered)
+}
+
+fn row_at(rows: &[ClassifierRow], place: usize) -> Option<&ClassifierRow>
+    ensures { option_copied result ≡ slice_get rows.now place }
+{
+    rows.get(place)
+}
+
+fn at(numbered: &[Classifier], place: usize) -> Option<Classifier>
+    ensures { result ≡ slice_get numbered.now place }
+{
+    numbered.get(place).copied()
+}
+
+/// The place of the first feature of that name.
+fn place_of(features: &[FeatureRow], name: &str) -> Option<usize>
+    ensures place { result ≡ number_of name.now (feature_names features.now) }
+    ensures within { IfSome result (λ n. n < length features.now) }
+{
+    for (n, feature) in features.iter().enumerate() {
+        if feature.name.as_str() == name {
+            return Some(n);
+        }
+    }
+    None
+}

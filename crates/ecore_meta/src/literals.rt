@@ -1,0 +1,87 @@
+ghost use Rattle.std.specs.Prelude.{◌≡◌, ◌<◌, ◌++◌, IfOk, IfSome, OnOk, Some, None, length, map, slice_get};
+ghost use Rattle.ecore_meta.specs.Names.{number_of};
+ghost use Rattle.ecore_meta.specs.Faults.{literal, literals_in};
+ghost use Rattle.ecore_meta.specs.Values.{literal_in};
+
+use crate::meta::EnumLiteral;
+use crate::rows::{ClassifierRow, LiteralRow};
+use std::alloc::{AllocError, Global};
+
+fn literal(alloc: Global, row: &LiteralRow) -> Result<EnumLiteral, AllocError>
+    ensures { IfOk result (λ l. l ≡ literal row.now) }
+{
+    Ok(EnumLiteral {
+        name: row.name.copy(alloc)?,
+        text: row.literal.copy(alloc)?,
+    })
+}
+
+fn all_literals(alloc: Global, rows: &[LiteralRow]) -> Result<Vec<EnumLiteral>, AllocError>
+    ensures { IfOk result (λ v. v.items ≡ map literal rows.now) }
+{
+    let mut literals = Vec::new(alloc);
+    for row in rows {
+        literals.push(literal(alloc, row)?)?;
+    }
+    Ok(literals)
+}
+
+/// The literals of each enum.
+pub(crate) fn literals_of(
+    alloc: Global,
+    rows: &[ClassifierRow],
+) -> Result<Vec<Vec<EnumLiteral>>, AllocError>
+    ensures { IfOk result (λ v. map (λ ls. ls.items) v.items ≡ literals_in rows.now) }
+{
+    let mut literals = Vec::new(alloc);
+    for row in rows {
+        match row {
+            ClassifierRow::Enum(row) => {
+                literals.push(all_literals(alloc, row.literals.as_slice())?)?;
+            }
+            ClassifierRow::Class(_) => {}
+            ClassifierRow::Plain(_) => {}
+        }
+    }
+    Ok(literals)
+}
+
+/// The place of the first literal of that text.
+fn with_text(literals: &[EnumLiteral], text: &str) -> Option<usize>
+    ensures place { result ≡ number_of text.now (map (λ l. l.text) literals.now) }
+    ensures within { IfSome result (λ n. n < length literals.now) }
+{
+    for (n, literal) in literals.iter().enumerate() {
+        if literal.text.as_str() == text {
+            return Some(n);
+        }
+    }
+    None
+}
+
+/// The place of the first literal of that name.
+fn with_name(literals: &[EnumLiteral], name: &str) -> Option<usize>
+    ensures place { result ≡ number_of name.now (map (λ l. l.name) literals.now) }
+    ensures within { IfSome result (λ n. n < length literals.now) }
+{
+    for (n, literal) in literals.iter().enumerate() {
+        if literal.name.as_str() == name {
+            return Some(n);
+        }
+    }
+    None
+}
+
+/// The literal that has this text, or else the one that has this name.
+pub(crate) fn literal_in(literals: &[EnumLiteral], text: &str) -> Option<u32>
+    requires { length literals.now < 4294967296 }
+    ensures { result ≡ literal_in literals.now text.now }
+{
+    match with_text(literals, text) {
+        Some(n) => Some(n as u32),
+        None => match with_name(literals, text) {
+            Some(n) => Some(n as u32),
+            None => None,
+        },
+    }
+}

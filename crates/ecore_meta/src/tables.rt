@@ -1,0 +1,103 @@
+ghost use Rattle.std.specs.Prelude.{◌≡◌, ◌<◌, ◌+◌, ◌++◌, ℕ, IfOk, OnOk, false, length, map, slice_get};
+ghost use Rattle.std.specs.Ordering.{nat_cmp};
+ghost use Rattle.std.specs.List.{flat_map, list_any, range_with_len};
+ghost use Rattle.std.specs.BTreeSet.{contains};
+ghost use Rattle.std.specs.Option.{option_map_or};
+ghost use Rattle.ecore_meta.specs.Names.{has_repeat};
+ghost use Rattle.ecore_meta.specs.Document.{feature_total};
+ghost use Rattle.ecore_meta.specs.Faults.{clash, draft_name, is_cyclic, own_features, own_of, super_cycle};
+ghost use Rattle.ecore_meta.specs.Supers.{Inside, is_above};
+ghost use Rattle.ecore_meta.specs.Tables.{Agrees, all_above};
+
+use crate::drafts::Draft;
+use crate::names::index;
+use crate::rows::ClassifierRow;
+use crate::supers::above;
+use std::alloc::{AllocError, Global};
+use std::collections::BTreeSet;
+
+/// For each class, itself and all those above it.
+pub(crate) fn all_above(
+    alloc: Global,
+    supers: &[Vec<u32>],
+) -> Result<Vec<BTreeSet<u32>>, AllocError>
+    requires inside { Inside (map (λ ups. ups.items) supers.now) }
+    requires few { length supers.now < 4294967296 }
+    ensures has { IfOk result (λ v. Agrees (map (λ ups. ups.items) supers.now) v.items) }
+    ensures rising { IfOk result (λ v. map (λ s. s.keys) v.items ≡ all_above (map (λ ups. ups.items) supers.now)) }
+{
+    let mut table = Vec::new(alloc);
+    for class in 0..supers.len() {
+        table.push(above(alloc, supers, class as u32)?)?;
+    }
+    Ok(table)
+}
+
+/// Whether the class c is d, or d is above it.
+pub(crate) fn is_a(above: &[BTreeSet<u32>], c: u32, d: u32) -> bool
+    ensures { result ≡ option_map_or (λ s. contains nat_cmp s d) (slice_get above.now c) false }
+{
+    match above.get(c as usize) {
+        None => false,
+        Some(set) => set.contains(&d),
+    }
+}
+
+fn any_below(above: &[BTreeSet<u32>], ups: &[u32], class: u32) -> bool
+    ensures { result ≡ list_any (λ b. option_map_or (λ s. contains nat_cmp s class) (slice_get above.now b) false) ups.now }
+{
+    for up in ups {
+        if is_a(above, *up, class) {
+            return true;
+        }
+    }
+    false
+}
+
+/// Whether a class is above itself.
+pub(crate) fn any_cycle(supers: &[Vec<u32>], above: &[BTreeSet<u32>]) -> bool
+    requires agrees { Agrees (map (λ ups. ups.items) supers.now) above.now }
+    requires few { length supers.now < 4294967296 }
+    ensures { result ≡ super_cycle (map (λ ups. ups.items) supers.now) }
+{
+    for (class, ups) in supers.iter().enumerate() {
+        if any_below(above, ups.as_slice(), class as u32) {
+            return true;
+        }
+    }
+    false
+}
+
+fn numbers(alloc: Global, first: u32, count: usize) -> Result<Vec<u32>, AllocError>
+    requires { first + count < 4294967296 }
+    ensures { IfOk result (λ v. v.items ≡ range_with_len first count) }
+{
+    let mut numbers = Vec::new(alloc);
+    for n in 0..count {
+        numbers.push(first + n as u32)?;
+    }
+    Ok(numbers)
+}
+
+/// The numbers of the features that each class itself declares.
+pub(crate) fn own_features(
+    alloc: Global,
+    rows: &[ClassifierRow],
+) -> Result<Vec<Vec<u32>>, AllocError>
+    requires { feature_total rows.now < 4294967295 }
+    ensures { IfOk result (λ v. map (λ fs. fs.items) v.items ≡ own_features 0 rows.now) }
+{
+    let mut own = Vec::new(alloc);
+    let mut first: u32 = 0;
+    for row in rows {
+        match row {
+            ClassifierRow::Class(row) => {
+                own.push(numbers(alloc, first, row.features.len())?)?;
+                first += row.features.len() as u32;
+            }
+            ClassifierRow::Enum(_) => {}
+            ClassifierRow::Plain(_) => {}
+        }
+    }
+    Ok(own)
+}

@@ -1,0 +1,161 @@
+ghost use Rattle.std.specs.Prelude.{◌≡◌, IfOk, IfSome, FitsSigned, Some, None, cond, nat_eq, map, slice_get, slice_index};
+ghost use Rattle.std.specs.Option.{option_copied};
+ghost use mir.Syntax.{w64};
+ghost use Rattle.ecore_meta.specs.Typing.{in_width};
+ghost use Rattle.ecore_meta.specs.declared.meta.Value.TheVariants.{Whole};
+ghost use Rattle.ecore_meta.specs.Values.{AreShort, default_of, flag_of, named_of, value_of, whole_in, whole_of, wide};
+
+use crate::Text;
+use crate::literals::literal_in;
+use crate::meta::{EnumLiteral, Scalar, Value};
+use std::alloc::{AllocError, Global};
+
+fn begins_with_plus(text: &[u8]) -> bool
+    ensures { result ≡ nat_eq (slice_index text.now 0) 43 }
+{
+    match text.first() {
+        None => false,
+        Some(byte) => *byte == b'+',
+    }
+}
+
+/// The whole number of a text: digits, or a minus and digits, within 64 bits.
+fn whole_of(text: &str) -> Option<i64>
+    ensures whole { result ≡ wide (whole_of text.now) }
+    ensures fits { IfSome result (λ n. FitsSigned w64 n) }
+{
+    if begins_with_plus(text.as_bytes()) {
+        return None;
+    }
+    match text.parse::<i64>() {
+        Ok(n) => Some(n),
+        Err(_) => None,
+    }
+}
+
+fn fits_byte(n: i64) -> bool
+    ensures { result ≡ in_width 128 n }
+{
+    -128 <= n && n < 128
+}
+
+fn fits_short(n: i64) -> bool
+    ensures { result ≡ in_width 32768 n }
+{
+    -32768 <= n && n < 32768
+}
+
+fn fits_int(n: i64) -> bool
+    ensures { result ≡ in_width 2147483648 n }
+{
+    -2147483648 <= n && n < 2147483648
+}
+
+fn flag_of(text: &str) -> Option<Value>
+    ensures { result ≡ flag_of text.now }
+{
+    if text == "true" {
+        Some(Value::Flag(true))
+    } else if text == "false" {
+        Some(Value::Flag(false))
+    } else {
+        None
+    }
+}
+
+fn chosen(n: i64, fits: bool) -> Option<Value>
+    ensures { result ≡ cond fits (Some (Whole n)) None }
+{
+    if fits { Some(Value::Whole(n)) } else { None }
+}
+
+fn byte_of(text: &str) -> Option<Value>
+    ensures { result ≡ whole_in 128 text.now }
+{
+    match whole_of(text) {
+        Some(n) => chosen(n, fits_byte(n)),
+        None => None,
+    }
+}
+
+fn short_of(text: &str) -> Option<Value>
+    ensures { result ≡ whole_in 32768 text.now }
+{
+    match whole_of(text) {
+        Some(n) => chosen(n, fits_short(n)),
+        None => None,
+    }
+}
+
+fn int_of(text: &str) -> Option<Value>
+    ensures { result ≡ whole_in 2147483648 text.now }
+{
+    match whole_of(text) {
+        Some(n) => chosen(n, fits_int(n)),
+        None => None,
+    }
+}
+
+fn long_of(text: &str) -> Option<Value>
+    ensures { result ≡ whole_in 9223372036854775808 text.now }
+{
+    match whole_of(text) {
+        Some(n) => Some(Value::Whole(n)),
+        None => None,
+    }
+}
+
+pub(crate) fn at(literals: &[Vec<EnumLiteral>], number: u32) -> Option<&Vec<EnumLiteral>>
+    ensures { option_copied result ≡ slice_get literals.now number }
+{
+    literals.get(number as usize)
+}
+
+fn named_of(literals: &[Vec<EnumLiteral>], number: u32, text: &str) -> Option<Value>
+    requires { AreShort (map (λ ls. ls.items) literals.now) }
+    ensures { result ≡ named_of (map (λ ls. ls.items) literals.now) number text.now }
+{
+    match at(literals, number) {
+        Some(literals) => match literal_in(literals.as_slice(), text) {
+            Some(n) => Some(Value::Literal(n)),
+            None => None,
+        },
+        None => None,
+    }
+}
+
+/// The value of the type that a text stands for.
+pub(crate) fn value_of(
+    alloc: Global,
+    literals: &[Vec<EnumLiteral>],
+    scalar: &Scalar,
+    text: &str,
+) -> Result<Option<Value>, AllocError>
+    requires { AreShort (map (λ ls. ls.items) literals.now) }
+    ensures { IfOk result (λ v. v ≡ value_of (map (λ ls. ls.items) literals.now) scalar.now text.now) }
+{
+    match scalar {
+        Scalar::Text => Ok(Some(Value::Text(Text::new(alloc, text)?))),
+        Scalar::Flag => Ok(flag_of(text)),
+        Scalar::Byte => Ok(byte_of(text)),
+        Scalar::Short => Ok(short_of(text)),
+        Scalar::Int => Ok(int_of(text)),
+        Scalar::Long => Ok(long_of(text)),
+        Scalar::Literal(number) => Ok(named_of(literals, *number, text)),
+    }
+}
+
+/// The default of a type; texts have none.
+pub(crate) fn default_of(scalar: &Scalar) -> Option<Value>
+    ensures { result ≡ default_of scalar.now }
+{
+    match scalar {
+        Scalar::Text => None,
+        Scalar::Flag => Some(Value::Flag(false)),
+        Scalar::Byte => Some(Value::Whole(0)),
+        Scalar::Short => Some(Value::Whole(0)),
+        Scalar::Int => Some(Value::Whole(0)),
+        Scalar::Long => Some(Value::Whole(0)),
+        Scalar::Literal(_) => Some(Value::Literal(0)),
+    }
+}
