@@ -13,3 +13,6 @@ pub use fault::JournalFault;
 pub use fit::{Fit, fits};
 pub use journal::{Journal, Prepared, give_up};
 pub use walk::Walk;
+
+#[cfg(test)]
+mod tests;
