@@ -1,0 +1,55 @@
+-- Events: read again, and spelled so.
+use Rattle.std.proofs.Common.{◌≡◌, ◌⊎◌, inl, inr, ℕ, ◌+◌, List, [], ◌∷◌, ◌++◌, length, true, false, cond, nat_eq, Result, Ok, Err, refl}
+use Rattle.byte_form.specs.Rest.{Rest}
+use Rattle.byte_form.specs.Fields.{◌>>=◌, byte_at}
+use Rattle.byte_form.specs.Laws.{IsReadAgain, IsSpelledSo}
+use Rattle.byte_form.proofs.FieldLemmas.{reached}
+use Rattle.op_form.specs.declared.fault.FormFault.TheVariants.{NotForm}
+use Rattle.op_form.specs.declared.event.Event.{Event}
+use Rattle.op_form.specs.declared.event.Event.TheVariants.{Init, Checkout, Edit, Begin, End, Undo, Discard}
+use Rattle.op_form.specs.Reading.{made, ◌⊗◌, u8_at, u32_at, any_text_at}
+use Rattle.op_form.specs.Events.{init_at, checkout_at, edit_at, begin_at, event_of, event_at, event_form}
+use Rattle.op_form.specs.Laws.{IsEvent}
+use Rattle.op_form.proofs.Codes.{Codes, both, either, u32_codes, text_codes, made_again, made_spelled, byte_stood}
+use Rattle.op_form.proofs.PackageCodes.{package_codes}
+
+event_again : IsReadAgain IsEvent event_form event_at
+unfolding event_at event_form byte_at init_at checkout_at edit_at begin_at
+event_again (Init text) is rest place = made_again text_codes (λ t. Init t) 1 text is rest place
+event_again (Checkout version branch) is rest place = made_again (both u32_codes u32_codes) (λ t. Checkout t.0 t.1) 2 (version, branch) is rest place
+event_again (Edit ws operations) is rest place = made_again (both u32_codes package_codes) (λ t. Edit t.0 t.1) 3 (ws, operations) is rest place
+event_again (Begin ws name) is rest place = made_again (both u32_codes text_codes) (λ t. Begin t.0 t.1) 4 (ws, name) is rest place
+event_again (End ws) is rest place = made_again u32_codes (λ ws. End ws) 5 ws is rest place
+event_again (Undo ws) is rest place = made_again u32_codes (λ ws. Undo ws) 6 ws is rest place
+event_again (Discard ws) is rest place = made_again u32_codes (λ ws. Discard ws) 7 ws is rest place
+
+event_spelled : IsSpelledSo IsEvent event_form event_at
+unfolding event_at event_form init_at checkout_at edit_at begin_at
+event_spelled before bytes event after e =
+    let k = reached (u8_at before) (event_of before.place) (event, after) e in
+    let stood = byte_stood before k.0.0 k.0.1 bytes k.1 in
+    elim (either (nat_eq k.0.0 1) (init_at k.0.1) _ (Ok (event, after)) k.2) [
+      | inl h ↦ made_spelled text_codes (λ t. Init t) 1 IsEvent event_form (λ t is. is) (λ t is. refl) before k.0.1 after event bytes (stood 1 h.0) h.1
+      | inr h ↦ elim (either (nat_eq k.0.0 2) (checkout_at k.0.1) _ (Ok (event, after)) h.1) [
+        | inl i ↦ made_spelled (both u32_codes u32_codes) (λ t. Checkout t.0 t.1) 2 IsEvent event_form (λ t is. is) (λ t is. refl) before k.0.1 after event bytes (stood 2 i.0) i.1
+        | inr i ↦ elim (either (nat_eq k.0.0 3) (edit_at k.0.1) _ (Ok (event, after)) i.1) [
+          | inl j ↦ made_spelled (both u32_codes package_codes) (λ t. Edit t.0 t.1) 3 IsEvent event_form (λ t is. is) (λ t is. refl) before k.0.1 after event bytes (stood 3 j.0) j.1
+          | inr j ↦ elim (either (nat_eq k.0.0 4) (begin_at k.0.1) _ (Ok (event, after)) j.1) [
+            | inl l ↦ made_spelled (both u32_codes text_codes) (λ t. Begin t.0 t.1) 4 IsEvent event_form (λ t is. is) (λ t is. refl) before k.0.1 after event bytes (stood 4 l.0) l.1
+            | inr l ↦ elim (either (nat_eq k.0.0 5) (made (λ ws. End ws) (u32_at k.0.1)) _ (Ok (event, after)) l.1) [
+              | inl m ↦ made_spelled u32_codes (λ ws. End ws) 5 IsEvent event_form (λ t is. is) (λ t is. refl) before k.0.1 after event bytes (stood 5 m.0) m.1
+              | inr m ↦ elim (either (nat_eq k.0.0 6) (made (λ ws. Undo ws) (u32_at k.0.1)) _ (Ok (event, after)) m.1) [
+                | inl n ↦ made_spelled u32_codes (λ ws. Undo ws) 6 IsEvent event_form (λ t is. is) (λ t is. refl) before k.0.1 after event bytes (stood 6 n.0) n.1
+                | inr n ↦ elim (either (nat_eq k.0.0 7) (made (λ ws. Discard ws) (u32_at k.0.1)) (Err (NotForm before.place)) (Ok (event, after)) n.1) [
+                  | inl o ↦ made_spelled u32_codes (λ ws. Discard ws) 7 IsEvent event_form (λ t is. is) (λ t is. refl) before k.0.1 after event bytes (stood 7 o.0) o.1
+                  | inr o ↦ cc
+                ]
+              ]
+            ]
+          ]
+        ]
+      ]
+    ]
+
+pub event_codes : Codes IsEvent event_form event_at
+event_codes = record { again = event_again; spelled = event_spelled }

@@ -1,0 +1,32 @@
+-- Items read one behind another, as far as a loop has come.
+use Rattle.std.proofs.Common.{◌≡◌, ℕ, zero, suc, List, [], ◌∷◌, ◌++◌, refl, sym, ap, ◌∙◌, Result, Ok, Err, append_assoc, append-nil}
+use Rattle.byte_form.specs.Rest.{Rest}
+use Rattle.byte_form.specs.Fields.{◌>>=◌}
+use Rattle.op_form.specs.declared.fault.FormFault.{FormFault}
+use Rattle.op_form.specs.Reading.{Reading, made, items_at}
+
+-- what is read behind the items that were read
+abbrev pub behind : {X : Type 0} → List X → Result (List X × Rest) FormFault → Result (List X × Rest) FormFault
+behind xs (Ok ys) = Ok (xs ++ ys.0, ys.1)
+behind xs (Err e) = Err e
+
+behind_made : {X : Type 0} (xs : List X) (x : X) (read : Result (List X × Rest) FormFault) → behind xs (made (λ ys. x ∷ ys) read) ≡ behind (xs ++ x ∷ []) read
+behind_made xs x (Ok ys) = ap (λ zs. Ok (zs, ys.1)) (sym (append_assoc xs (x ∷ []) ys.0))
+behind_made xs x (Err e) = refl
+
+-- one item more
+pub behind_more : {X : Type 0} (read : Reading X) (xs : List X) (n : ℕ) (before : Rest) (x : X) (after : Rest) → read before ≡ Ok (x, after)
+    → behind xs (items_at read (suc n) before) ≡ behind (xs ++ x ∷ []) (items_at read n after)
+behind_more read xs n before x after e = ap (λ r. behind xs (r >>= λ y. made (λ ys. y.0 ∷ ys) (items_at read n y.1))) e ∙ behind_made xs x (items_at read n after)
+
+-- no item more
+pub behind_none : {X : Type 0} (read : Reading X) (xs : List X) (r : Rest) → behind xs (items_at read 0 r) ≡ Ok (xs, r)
+behind_none read xs r = ap (λ zs. Ok (zs, r)) (append-nil xs)
+
+-- an item that can't be read
+pub behind_fault : {X : Type 0} (read : Reading X) (xs : List X) (n : ℕ) (before : Rest) (e : FormFault) → read before ≡ Err e → behind xs (items_at read (suc n) before) ≡ Err e
+behind_fault read xs n before e is = ap (λ r. behind xs (r >>= λ y. made (λ ys. y.0 ∷ ys) (items_at read n y.1))) is
+
+pub nothing_behind : {X : Type 0} (read : Result (List X × Rest) FormFault) → behind [] read ≡ read
+nothing_behind (Ok ys) = refl
+nothing_behind (Err e) = refl

@@ -1,0 +1,53 @@
+-- The bytes of events: a byte for the kind, and the fields in their order.
+use Rattle.std.specs.Prelude.{◌≡◌, ℕ, ◌==◌, List, [], ◌∷◌, ◌++◌, Result, Ok, Err, if◌then◌else◌}
+use Rattle.std.specs.Int.{w32, to_be_bytes}
+use Rattle.byte_form.specs.Rest.{Rest}
+use Rattle.byte_form.specs.Fields.{◌>>=◌, text_form, ends_at}
+use Rattle.model_state.specs.declared.operation.Operation.{Operation}
+use Rattle.op_form.specs.declared.fault.FormFault.{FormFault}
+use Rattle.op_form.specs.declared.fault.FormFault.TheVariants.{NotForm}
+use Rattle.op_form.specs.declared.event.Event.{Event}
+use Rattle.op_form.specs.declared.event.Event.TheVariants.{Init, Checkout, Edit, Begin, End, Undo, Discard}
+use Rattle.op_form.specs.Reading.{Reading, made, ◌⊗◌, field, u8_at, u32_at, any_text_at}
+use Rattle.op_form.specs.Packages.{package_at, package_form}
+
+unfoldable pub init_at : Reading Event
+init_at r = made (λ t. Init t) (any_text_at r)
+
+unfoldable pub checkout_at : Reading Event
+checkout_at r = made (λ t. Checkout t.0 t.1) ((u32_at ⊗ u32_at) r)
+
+unfoldable pub edit_at : Reading Event
+edit_at r = made (λ t. Edit t.0 t.1) ((u32_at ⊗ package_at) r)
+
+unfoldable pub begin_at : Reading Event
+begin_at r = made (λ t. Begin t.0 t.1) ((u32_at ⊗ any_text_at) r)
+
+-- the kind's byte chooses
+abbrev pub event_of : ℕ → ℕ × Rest → Result (Event × Rest) FormFault
+event_of place kind =
+    if kind.0 == 1 then init_at kind.1
+    else if kind.0 == 2 then checkout_at kind.1
+    else if kind.0 == 3 then edit_at kind.1
+    else if kind.0 == 4 then begin_at kind.1
+    else if kind.0 == 5 then made (λ ws. End ws) (u32_at kind.1)
+    else if kind.0 == 6 then made (λ ws. Undo ws) (u32_at kind.1)
+    else if kind.0 == 7 then made (λ ws. Discard ws) (u32_at kind.1)
+    else Err (NotForm place)
+
+unfoldable pub event_at : Reading Event
+event_at r = u8_at r >>= event_of r.place
+
+-- the spelling of an event
+unfoldable pub event_form : Event → List ℕ
+event_form (Init text) = 1 ∷ text_form text
+event_form (Checkout version branch) = 2 ∷ (to_be_bytes w32 version ++ to_be_bytes w32 branch)
+event_form (Edit ws operations) = 3 ∷ (to_be_bytes w32 ws ++ package_form operations)
+event_form (Begin ws name) = 4 ∷ (to_be_bytes w32 ws ++ text_form name)
+event_form (End ws) = 5 ∷ to_be_bytes w32 ws
+event_form (Undo ws) = 6 ∷ to_be_bytes w32 ws
+event_form (Discard ws) = 7 ∷ to_be_bytes w32 ws
+
+-- all of some bytes, as one value
+unfoldable pub whole_of : {X : Type 0} → Reading X → List ℕ → Result X FormFault
+whole_of read bytes = read (record { bytes = bytes; place = 0 }) >>= λ x. field (ends_at x.1) >>= λ end. Ok x.0

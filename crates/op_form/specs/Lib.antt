@@ -1,0 +1,8 @@
+pub mod Reading
+pub mod Values
+pub mod Steps
+pub mod Packages
+pub mod Events
+pub mod Given
+pub mod Sizes
+pub mod Laws

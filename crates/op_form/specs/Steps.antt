@@ -1,0 +1,82 @@
+-- The bytes of steps: a kind's byte from 1 to 11, and the step's fields in their order.
+use Rattle.std.specs.Prelude.{◌≡◌, ℕ, ◌==◌, List, [], ◌∷◌, ◌++◌, Option, Some, None, Result, Ok, Err, if◌then◌else◌}
+use Rattle.std.specs.Int.{w32, w64, to_be_bytes}
+use Rattle.byte_form.specs.Rest.{Rest}
+use Rattle.byte_form.specs.Fields.{◌>>=◌, text_form}
+use Rattle.ecore_meta.specs.declared.meta.Value.{Value}
+use Rattle.model_state.specs.declared.step.Place.{Place}
+use Rattle.model_state.specs.declared.step.Step.{Step}
+use Rattle.model_state.specs.declared.step.Step.TheVariants.{Put, Ins, Del, Shift, Link, Unlink, RerankRow, New, Gone, Move, RerankPlace}
+use Rattle.op_form.specs.declared.fault.FormFault.{FormFault}
+use Rattle.op_form.specs.declared.fault.FormFault.TheVariants.{NotForm}
+use Rattle.op_form.specs.Reading.{Reading, made, ◌⊗◌, u8_at, u32_at, u64_at, option_at, option_form, list_at, list_form}
+use Rattle.op_form.specs.Values.{id_at, value_at, value_form, place_at, place_form}
+
+-- the fields of each kind
+unfoldable pub put_at : Reading Step
+put_at r = made (λ t. Put t.0 t.1.0 t.1.1.0 t.1.1.1) ((id_at ⊗ u32_at ⊗ option_at value_at ⊗ option_at value_at) r)
+
+unfoldable pub ins_at : Reading Step
+ins_at r = made (λ t. Ins t.0 t.1.0 t.1.1.0 t.1.1.1) ((id_at ⊗ u32_at ⊗ u32_at ⊗ value_at) r)
+
+unfoldable pub del_at : Reading Step
+del_at r = made (λ t. Del t.0 t.1.0 t.1.1.0 t.1.1.1) ((id_at ⊗ u32_at ⊗ u32_at ⊗ value_at) r)
+
+unfoldable pub shift_at : Reading Step
+shift_at r = made (λ t. Shift t.0 t.1.0 t.1.1.0 t.1.1.1) ((id_at ⊗ u32_at ⊗ u32_at ⊗ u32_at) r)
+
+unfoldable pub link_at : Reading Step
+link_at r = made (λ t. Link t.0 t.1.0 t.1.1.0 t.1.1.1.0 t.1.1.1.1) ((id_at ⊗ u32_at ⊗ u64_at ⊗ id_at ⊗ option_at u64_at) r)
+
+unfoldable pub unlink_at : Reading Step
+unlink_at r = made (λ t. Unlink t.0 t.1.0 t.1.1.0 t.1.1.1.0 t.1.1.1.1) ((id_at ⊗ u32_at ⊗ u64_at ⊗ id_at ⊗ option_at u64_at) r)
+
+unfoldable pub rerank_row_at : Reading Step
+rerank_row_at r = made (λ t. RerankRow t.0 t.1.0 t.1.1.0 t.1.1.1.0 t.1.1.1.1) ((id_at ⊗ u32_at ⊗ id_at ⊗ u64_at ⊗ u64_at) r)
+
+unfoldable pub new_at : Reading Step
+new_at r = made (λ t. New t.0 t.1.0 t.1.1.0 t.1.1.1) ((id_at ⊗ u32_at ⊗ place_at ⊗ u64_at) r)
+
+unfoldable pub gone_at : Reading Step
+gone_at r = made (λ t. Gone t.0 t.1.0 t.1.1.0 t.1.1.1) ((id_at ⊗ u32_at ⊗ place_at ⊗ u64_at) r)
+
+unfoldable pub move_at : Reading Step
+move_at r = made (λ t. Move t.0 t.1.0 t.1.1.0 t.1.1.1.0 t.1.1.1.1.0 t.1.1.1.1.1.0 t.1.1.1.1.1.1)
+    ((id_at ⊗ place_at ⊗ u64_at ⊗ place_at ⊗ u64_at ⊗ list_at id_at ⊗ list_at id_at) r)
+
+unfoldable pub rerank_place_at : Reading Step
+rerank_place_at r = made (λ t. RerankPlace t.0 t.1.0 t.1.1) ((id_at ⊗ u64_at ⊗ u64_at) r)
+
+-- the kind's byte chooses
+abbrev pub step_of : ℕ → ℕ × Rest → Result (Step × Rest) FormFault
+step_of place kind =
+    if kind.0 == 1 then put_at kind.1
+    else if kind.0 == 2 then ins_at kind.1
+    else if kind.0 == 3 then del_at kind.1
+    else if kind.0 == 4 then shift_at kind.1
+    else if kind.0 == 5 then link_at kind.1
+    else if kind.0 == 6 then unlink_at kind.1
+    else if kind.0 == 7 then rerank_row_at kind.1
+    else if kind.0 == 8 then new_at kind.1
+    else if kind.0 == 9 then gone_at kind.1
+    else if kind.0 == 10 then move_at kind.1
+    else if kind.0 == 11 then rerank_place_at kind.1
+    else Err (NotForm place)
+
+unfoldable pub step_at : Reading Step
+step_at r = u8_at r >>= step_of r.place
+
+-- the spelling of a step
+unfoldable pub step_form : Step → List ℕ
+step_form (Put e f old new) = 1 ∷ (text_form e ++ (to_be_bytes w32 f ++ (option_form value_form old ++ option_form value_form new)))
+step_form (Ins e f at v) = 2 ∷ (text_form e ++ (to_be_bytes w32 f ++ (to_be_bytes w32 at ++ value_form v)))
+step_form (Del e f at v) = 3 ∷ (text_form e ++ (to_be_bytes w32 f ++ (to_be_bytes w32 at ++ value_form v)))
+step_form (Shift e f from to) = 4 ∷ (text_form e ++ (to_be_bytes w32 f ++ (to_be_bytes w32 from ++ to_be_bytes w32 to)))
+step_form (Link a f ra b rb) = 5 ∷ (text_form a ++ (to_be_bytes w32 f ++ (to_be_bytes w64 ra ++ (text_form b ++ option_form (to_be_bytes w64) rb))))
+step_form (Unlink a f ra b rb) = 6 ∷ (text_form a ++ (to_be_bytes w32 f ++ (to_be_bytes w64 ra ++ (text_form b ++ option_form (to_be_bytes w64) rb))))
+step_form (RerankRow a f b old new) = 7 ∷ (text_form a ++ (to_be_bytes w32 f ++ (text_form b ++ (to_be_bytes w64 old ++ to_be_bytes w64 new))))
+step_form (New e class place rank) = 8 ∷ (text_form e ++ (to_be_bytes w32 class ++ (place_form place ++ to_be_bytes w64 rank)))
+step_form (Gone e class place rank) = 9 ∷ (text_form e ++ (to_be_bytes w32 class ++ (place_form place ++ to_be_bytes w64 rank)))
+step_form (Move e from from_rank to to_rank above_from above_to) =
+    10 ∷ (text_form e ++ (place_form from ++ (to_be_bytes w64 from_rank ++ (place_form to ++ (to_be_bytes w64 to_rank ++ (list_form text_form above_from ++ list_form text_form above_to))))))
+step_form (RerankPlace e old new) = 11 ∷ (text_form e ++ (to_be_bytes w64 old ++ to_be_bytes w64 new))

@@ -1,0 +1,64 @@
+-- The bytes of ids, values and places.
+use Rattle.std.specs.Prelude.{◌≡◌, ℕ, ◌==◌, List, [], ◌∷◌, ◌++◌, Bool, true, false, Option, Some, None, Result, Ok, Err, if◌then◌else◌}
+use Rattle.std.specs.Int.{w32, w64, to_be_bytes, cast_signed, cast_unsigned}
+use Rattle.byte_form.specs.Rest.{Rest}
+use Rattle.byte_form.specs.Fields.{◌>>=◌, text_form}
+use Rattle.ecore_meta.specs.declared.meta.Value.{Value}
+use Rattle.ecore_meta.specs.declared.meta.Value.TheVariants.{Text, Flag, Whole, Literal}
+use Rattle.model_state.specs.Ident.{is_id}
+use Rattle.model_state.specs.declared.step.Place.{Place}
+use Rattle.model_state.specs.declared.step.Place.TheVariants.{Root, Inside}
+use Rattle.op_form.specs.declared.fault.FormFault.{FormFault}
+use Rattle.op_form.specs.declared.fault.FormFault.TheVariants.{NotForm}
+use Rattle.op_form.specs.Reading.{Reading, made, ◌⊗◌, u8_at, u32_at, u64_at, any_text_at}
+
+-- a text that passes a test; where it fails, the text can't be read
+abbrev pub told_text : (List ℕ → Bool) → ℕ → List ℕ × Rest → Result (List ℕ × Rest) FormFault
+told_text test place text = if test text.0 then Ok text else Err (NotForm place)
+
+-- an id is a text of its form
+unfoldable pub id_at : Reading (List ℕ)
+id_at r = any_text_at r >>= told_text is_id r.place
+
+-- a byte 0 or 1
+abbrev pub flag_of : ℕ → ℕ × Rest → Result (Value × Rest) FormFault
+flag_of place byte = if byte.0 == 0 then Ok (Flag false, byte.1) else if byte.0 == 1 then Ok (Flag true, byte.1) else Err (NotForm place)
+
+unfoldable pub flag_at : Reading Value
+flag_at r = u8_at r >>= flag_of r.place
+
+-- a value: its kind's byte, and a text, a flag, a number in two's complement or a literal's number
+abbrev pub value_of : ℕ → ℕ × Rest → Result (Value × Rest) FormFault
+value_of place kind =
+    if kind.0 == 1 then made (λ t. Text t) (any_text_at kind.1)
+    else if kind.0 == 2 then flag_at kind.1
+    else if kind.0 == 3 then made (λ n. Whole (cast_signed w64 n)) (u64_at kind.1)
+    else if kind.0 == 4 then made (λ n. Literal n) (u32_at kind.1)
+    else Err (NotForm place)
+
+unfoldable pub value_at : Reading Value
+value_at r = u8_at r >>= value_of r.place
+
+abbrev pub flag_form : Bool → List ℕ
+flag_form true = 1 ∷ []
+flag_form false = 0 ∷ []
+
+unfoldable pub value_form : Value → List ℕ
+value_form (Text t) = 1 ∷ text_form t
+value_form (Flag b) = 2 ∷ flag_form b
+value_form (Whole z) = 3 ∷ to_be_bytes w64 (cast_unsigned w64 z)
+value_form (Literal n) = 4 ∷ to_be_bytes w32 n
+
+-- a place: a byte 0, or a byte 1, the parent's id and the feature's number
+abbrev pub place_of : ℕ → ℕ × Rest → Result (Place × Rest) FormFault
+place_of place kind =
+    if kind.0 == 0 then Ok (Root, kind.1)
+    else if kind.0 == 1 then made (λ t. Inside t.0 t.1) ((id_at ⊗ u32_at) kind.1)
+    else Err (NotForm place)
+
+unfoldable pub place_at : Reading Place
+place_at r = u8_at r >>= place_of r.place
+
+unfoldable pub place_form : Place → List ℕ
+place_form Root = 0 ∷ []
+place_form (Inside parent feature) = 1 ∷ (text_form parent ++ to_be_bytes w32 feature)

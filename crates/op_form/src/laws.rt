@@ -1,0 +1,11 @@
+ghost use Rattle.op_form.specs.Laws.{PackagesAreReadAgain, PackagesAreSpelledSo, NoPackageBeginsAnother, EventsAreReadAgain, EventsAreSpelledSo, NoEventBeginsAnother};
+
+/// The laws of the forms: what is spelled is read again, what is read was spelled so, and no spelling begins another.
+pub fn law_of_forms()
+    ensures packages_again { PackagesAreReadAgain }
+    ensures packages_spelled { PackagesAreSpelledSo }
+    ensures packages_apart { NoPackageBeginsAnother }
+    ensures events_again { EventsAreReadAgain }
+    ensures events_spelled { EventsAreSpelledSo }
+    ensures events_apart { NoEventBeginsAnother }
+{}

@@ -1,0 +1,143 @@
+// Packages and events, as bytes.
+ghost use Rattle.std.specs.Prelude.{◌≡◌, ◌++◌, ◌∷◌, IfOk, OnOk, All};
+ghost use Rattle.std.specs.Int.{w32, to_be_bytes};
+ghost use Rattle.op_form.specs.Reading.{items_form, list_form};
+ghost use Rattle.op_form.specs.Steps.{step_form};
+ghost use Rattle.op_form.specs.Packages.{kind_form, operation_form, package_form};
+ghost use Rattle.op_form.specs.Events.{event_form};
+ghost use Rattle.op_form.specs.Sizes.{FitsStep, FitsSteps, FitsOperation, FitsPackage, FitsEvent};
+
+use crate::Event;
+use crate::write_step::put_step;
+use byte_form::Form;
+use ecore_meta::List;
+use model_state::{OpKind, Operation, Package, Step};
+use std::alloc::{AllocError, Global};
+
+/// The spelling of a package.
+pub fn encode(alloc: Global, package: &Package) -> Result<Vec<u8>, AllocError>
+    requires fits { FitsPackage «package».now }
+    ensures form { IfOk result (λ bytes. bytes.items ≡ package_form «package».now) }
+{
+    let mut form = Form::new(alloc);
+    put_package(&mut form, package)?;
+    Ok(form.into_bytes())
+}
+
+/// The spelling of an event.
+pub fn encode_event(alloc: Global, event: &Event) -> Result<Vec<u8>, AllocError>
+    requires fits { FitsEvent event.now }
+    ensures form { IfOk result (λ bytes. bytes.items ≡ event_form event.now) }
+{
+    let mut form = Form::new(alloc);
+    put_event(&mut form, event)?;
+    Ok(form.into_bytes())
+}
+
+fn put_kind(form: &mut Form, kind: OpKind) -> Result<(), AllocError>
+    ensures { OnOk result (form.new ≡ form.old ++ kind_form kind) }
+{
+    form.put_u8(match kind {
+        OpKind::Create => 1,
+        OpKind::Delete => 2,
+        OpKind::Attribute => 3,
+        OpKind::ManyAttribute => 4,
+        OpKind::Reference => 5,
+        OpKind::Move => 6,
+    })
+}
+
+fn put_step_items(form: &mut Form, steps: &[Step]) -> Result<(), AllocError>
+    requires { All FitsStep steps.now }
+    ensures { OnOk result (form.new ≡ form.old ++ items_form step_form steps.now) }
+{
+    for step in steps {
+        put_step(form, step)?;
+    }
+    Ok(())
+}
+
+fn put_steps(form: &mut Form, steps: &List<Step>) -> Result<(), AllocError>
+    requires { FitsSteps steps.now }
+    ensures { OnOk result (form.new ≡ form.old ++ list_form step_form steps.now) }
+{
+    form.put_u32(steps.len() as u32)?;
+    put_step_items(form, steps.as_slice())
+}
+
+#[tactic(auto, unfolding(crate::specs::Packages::operation_form))]
+fn put_operation(form: &mut Form, operation: &Operation) -> Result<(), AllocError>
+    requires { FitsOperation operation.now }
+    ensures { OnOk result (form.new ≡ form.old ++ operation_form operation.now) }
+{
+    match operation {
+        Operation::Simple { kind, steps } => {
+            form.put_u8(1)?;
+            put_kind(form, *kind)?;
+            put_steps(form, steps)
+        }
+        Operation::Composite { name, steps } => {
+            form.put_u8(2)?;
+            form.put_text(name.as_str())?;
+            put_steps(form, steps)
+        }
+    }
+}
+
+fn put_operation_items(form: &mut Form, operations: &[Operation]) -> Result<(), AllocError>
+    requires { All FitsOperation operations.now }
+    ensures { OnOk result (form.new ≡ form.old ++ items_form operation_form operations.now) }
+{
+    for operation in operations {
+        put_operation(form, operation)?;
+    }
+    Ok(())
+}
+
+#[tactic(auto, unfolding(crate::specs::Packages::package_form))]
+fn put_package(form: &mut Form, package: &Package) -> Result<(), AllocError>
+    requires { FitsPackage «package».now }
+    ensures { OnOk result (form.new ≡ form.old ++ package_form «package».now) }
+{
+    form.put_u32(package.len() as u32)?;
+    put_operation_items(form, package.as_slice())
+}
+
+#[tactic(auto, unfolding(crate::specs::Events::event_form))]
+fn put_event(form: &mut Form, event: &Event) -> Result<(), AllocError>
+    requires { FitsEvent event.now }
+    ensures { OnOk result (form.new ≡ form.old ++ event_form event.now) }
+{
+    match event {
+        Event::Init { text } => {
+            form.put_u8(1)?;
+            form.put_text(text.as_str())
+        }
+        Event::Checkout { version, branch } => {
+            form.put_u8(2)?;
+            form.put_u32(*version)?;
+            form.put_u32(*branch)
+        }
+        Event::Edit { ws, package } => {
+            form.put_u8(3)?;
+            form.put_u32(*ws)?;
+            put_package(form, package)
+        }
+        Event::Begin { ws, name } => {
+            form.put_u8(4)?;
+            form.put_u32(*ws)?;
+            form.put_text(name.as_str())
+        }
+        Event::End { ws } => put_of_workspace(form, 5, *ws),
+        Event::Undo { ws } => put_of_workspace(form, 6, *ws),
+        Event::Discard { ws } => put_of_workspace(form, 7, *ws),
+    }
+}
+
+/// An event that is its kind's byte and a workspace's number.
+fn put_of_workspace(form: &mut Form, kind: u8, ws: u32) -> Result<(), AllocError>
+    ensures { OnOk result (form.new ≡ form.old ++ kind ∷ to_be_bytes w32 ws) }
+{
+    form.put_u8(kind)?;
+    form.put_u32(ws)
+}

@@ -1,0 +1,241 @@
+// Steps, written behind what stands: ids, values, places, and each kind's fields.
+ghost use Rattle.std.specs.Prelude.{◌≡◌, ◌++◌, ◌∷◌, [], length, ◌<◌, ◌^◌, OnOk};
+ghost use Rattle.std.specs.Int.{w32, w64, to_be_bytes};
+ghost use Rattle.byte_form.specs.Fields.{text_form};
+ghost use Rattle.op_form.specs.Reading.{option_form, items_form, list_form};
+ghost use Rattle.op_form.specs.Values.{value_form, place_form, flag_form};
+ghost use Rattle.op_form.specs.Steps.{step_form};
+ghost use Rattle.op_form.specs.Sizes.{FitsValue, FitsIfAny, FitsStep, IsShort};
+
+use byte_form::Form;
+use ecore_meta::{List, Value};
+use model_state::{Id, Place, Step};
+use std::alloc::AllocError;
+
+pub(crate) fn put_id(form: &mut Form, id: &Id) -> Result<(), AllocError>
+    ensures { OnOk result (form.new ≡ form.old ++ text_form id.now) }
+{
+    form.put_text(id.as_str())
+}
+
+fn put_flag(form: &mut Form, flag: bool) -> Result<(), AllocError>
+    ensures { OnOk result (form.new ≡ form.old ++ flag_form flag) }
+{
+    form.put_u8(if flag { 1 } else { 0 })
+}
+
+#[tactic(auto, unfolding(crate::specs::Values::value_form))]
+pub(crate) fn put_value(form: &mut Form, value: &Value) -> Result<(), AllocError>
+    requires { FitsValue value.now }
+    ensures { OnOk result (form.new ≡ form.old ++ value_form value.now) }
+{
+    match value {
+        Value::Text(text) => {
+            form.put_u8(1)?;
+            form.put_text(text.as_str())
+        }
+        Value::Flag(flag) => {
+            form.put_u8(2)?;
+            put_flag(form, *flag)
+        }
+        Value::Whole(number) => {
+            form.put_u8(3)?;
+            form.put_u64(number.cast_unsigned())
+        }
+        Value::Literal(number) => {
+            form.put_u8(4)?;
+            form.put_u32(*number)
+        }
+    }
+}
+
+fn put_value_if_any(form: &mut Form, value: &Option<Value>) -> Result<(), AllocError>
+    requires { FitsIfAny value.now }
+    ensures { OnOk result (form.new ≡ form.old ++ option_form value_form value.now) }
+{
+    match value {
+        None => form.put_u8(0),
+        Some(value) => {
+            form.put_u8(1)?;
+            put_value(form, value)
+        }
+    }
+}
+
+fn put_rank_if_any(form: &mut Form, rank: Option<u64>) -> Result<(), AllocError>
+    ensures { OnOk result (form.new ≡ form.old ++ option_form (to_be_bytes w64) rank) }
+{
+    match rank {
+        None => form.put_u8(0),
+        Some(rank) => {
+            form.put_u8(1)?;
+            form.put_u64(rank)
+        }
+    }
+}
+
+#[tactic(auto, unfolding(crate::specs::Values::place_form))]
+pub(crate) fn put_place(form: &mut Form, place: &Place) -> Result<(), AllocError>
+    ensures { OnOk result (form.new ≡ form.old ++ place_form place.now) }
+{
+    match place {
+        Place::Root => form.put_u8(0),
+        Place::Inside { parent, feature } => {
+            form.put_u8(1)?;
+            put_id(form, parent)?;
+            form.put_u32(*feature)
+        }
+    }
+}
+
+fn put_id_items(form: &mut Form, ids: &[Id]) -> Result<(), AllocError>
+    ensures { OnOk result (form.new ≡ form.old ++ items_form text_form ids.now) }
+{
+    for id in ids {
+        put_id(form, id)?;
+    }
+    Ok(())
+}
+
+fn put_ids(form: &mut Form, ids: &List<Id>) -> Result<(), AllocError>
+    requires { IsShort ids.now }
+    ensures { OnOk result (form.new ≡ form.old ++ list_form text_form ids.now) }
+{
+    form.put_u32(ids.len() as u32)?;
+    put_id_items(form, ids.as_slice())
+}
+
+/// A step: its kind's byte, and its fields.
+#[tactic(auto, unfolding(crate::specs::Steps::step_form))]
+pub(crate) fn put_step(form: &mut Form, step: &Step) -> Result<(), AllocError>
+    requires { FitsStep step.now }
+    ensures { OnOk result (form.new ≡ form.old ++ step_form step.now) }
+{
+    match step {
+        Step::Put { e, f, old, new } => {
+            form.put_u8(1)?;
+            put_id(form, e)?;
+            form.put_u32(*f)?;
+            put_value_if_any(form, old)?;
+            put_value_if_any(form, new)
+        }
+        Step::Ins { e, f, at, v } => put_at_index(form, 2, e, *f, *at, v),
+        Step::Del { e, f, at, v } => put_at_index(form, 3, e, *f, *at, v),
+        Step::Shift { e, f, from, to } => {
+            form.put_u8(4)?;
+            put_id(form, e)?;
+            form.put_u32(*f)?;
+            form.put_u32(*from)?;
+            form.put_u32(*to)
+        }
+        Step::Link { a, f, ra, b, rb } => put_row(form, 5, a, *f, *ra, b, *rb),
+        Step::Unlink { a, f, ra, b, rb } => put_row(form, 6, a, *f, *ra, b, *rb),
+        Step::RerankRow { a, f, b, old, new } => {
+            form.put_u8(7)?;
+            put_id(form, a)?;
+            form.put_u32(*f)?;
+            put_id(form, b)?;
+            put_ranks(form, *old, *new)
+        }
+        Step::New {
+            e,
+            class,
+            place,
+            rank,
+        } => put_birth(form, 8, e, *class, place, *rank),
+        Step::Gone {
+            e,
+            class,
+            place,
+            rank,
+        } => put_birth(form, 9, e, *class, place, *rank),
+        Step::Move {
+            e,
+            from,
+            from_rank,
+            to,
+            to_rank,
+            above_from,
+            above_to,
+        } => {
+            form.put_u8(10)?;
+            put_id(form, e)?;
+            put_spot(form, from, *from_rank)?;
+            put_spot(form, to, *to_rank)?;
+            put_ids(form, above_from)?;
+            put_ids(form, above_to)
+        }
+        Step::RerankPlace { e, old, new } => {
+            form.put_u8(11)?;
+            put_id(form, e)?;
+            put_ranks(form, *old, *new)
+        }
+    }
+}
+
+fn put_at_index(
+    form: &mut Form,
+    kind: u8,
+    e: &Id,
+    f: u32,
+    at: u32,
+    v: &Value,
+) -> Result<(), AllocError>
+    requires { FitsValue v.now }
+    ensures { OnOk result (form.new ≡ form.old ++ kind ∷ (text_form e.now ++ (to_be_bytes w32 f ++ (to_be_bytes w32 at ++ value_form v.now)))) }
+{
+    form.put_u8(kind)?;
+    put_id(form, e)?;
+    form.put_u32(f)?;
+    form.put_u32(at)?;
+    put_value(form, v)
+}
+
+fn put_row(
+    form: &mut Form,
+    kind: u8,
+    a: &Id,
+    f: u32,
+    ra: u64,
+    b: &Id,
+    rb: Option<u64>,
+) -> Result<(), AllocError>
+    ensures { OnOk result (form.new ≡ form.old ++ kind ∷ (text_form a.now ++ (to_be_bytes w32 f ++ (to_be_bytes w64 ra ++ (text_form b.now ++ option_form (to_be_bytes w64) rb))))) }
+{
+    form.put_u8(kind)?;
+    put_id(form, a)?;
+    form.put_u32(f)?;
+    form.put_u64(ra)?;
+    put_id(form, b)?;
+    put_rank_if_any(form, rb)
+}
+
+fn put_birth(
+    form: &mut Form,
+    kind: u8,
+    e: &Id,
+    class: u32,
+    place: &Place,
+    rank: u64,
+) -> Result<(), AllocError>
+    ensures { OnOk result (form.new ≡ form.old ++ kind ∷ (text_form e.now ++ (to_be_bytes w32 class ++ (place_form place.now ++ to_be_bytes w64 rank)))) }
+{
+    form.put_u8(kind)?;
+    put_id(form, e)?;
+    form.put_u32(class)?;
+    put_spot(form, place, rank)
+}
+
+fn put_spot(form: &mut Form, place: &Place, rank: u64) -> Result<(), AllocError>
+    ensures { OnOk result (form.new ≡ form.old ++ (place_form place.now ++ to_be_bytes w64 rank)) }
+{
+    put_place(form, place)?;
+    form.put_u64(rank)
+}
+
+fn put_ranks(form: &mut Form, old: u64, new: u64) -> Result<(), AllocError>
+    ensures { OnOk result (form.new ≡ form.old ++ (to_be_bytes w64 old ++ to_be_bytes w64 new)) }
+{
+    form.put_u64(old)?;
+    form.put_u64(new)
+}
