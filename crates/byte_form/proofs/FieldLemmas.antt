@@ -8,7 +8,7 @@ use Rattle.std.proofs.lemmas.Nat.{from_be_bytes-to_be_bytes_4, from_be_bytes-to_
 use Rattle.std.proofs.lemmas.Str.{is_utf8-from_IsUtf8, IsUtf8-from_is_utf8}
 use Rattle.byte_form.specs.declared.reader.ReadFault.TheVariants.{Short, BadText}
 use Rattle.byte_form.specs.Rest.{Rest}
-use Rattle.byte_form.specs.Fields.{◌>>=◌, number_at, text_at, byte_at, byte_from, past, text_form}
+use Rattle.byte_form.specs.Fields.{◌>>=◌, number_at, text_at, byte_at, byte_from, past, u32_form, u64_form, text_form}
 use Rattle.byte_form.specs.Laws.{at, IsReadAgain, IsSpelledSo, NoneBeginsAnother, StoodThere, AreBytes, IsBelow, IsShortText, byte_form}
 
 -- a reading that went through both its parts
@@ -104,8 +104,24 @@ module _ (w : Width) (limit : ℕ) (wide : IsWide w limit) where
         place = ap (λ k. before.place + k) (sym (ap length again ∙ len));
       })
 
+pub u32_again : IsReadAgain (IsBelow (2 ^ 32)) u32_form (number_at w32)
+unfolding u32_form
+u32_again = number_again w32 (2 ^ 32) wide32
+
+pub u32_spelled : IsSpelledSo (IsBelow (2 ^ 32)) u32_form (number_at w32)
+unfolding u32_form
+u32_spelled = number_spelled w32 (2 ^ 32) wide32
+
+pub u64_again : IsReadAgain (IsBelow (2 ^ 64)) u64_form (number_at w64)
+unfolding u64_form
+u64_again = number_again w64 (2 ^ 64) wide64
+
+pub u64_spelled : IsSpelledSo (IsBelow (2 ^ 64)) u64_form (number_at w64)
+unfolding u64_form
+u64_spelled = number_spelled w64 (2 ^ 64) wide64
+
 pub text_again : IsReadAgain IsShortText text_form text_at
-unfolding text_at
+unfolding text_at text_form u32_form
 text_again text is rest place =
     let long : nat_lt (length (text ++ rest)) (length text) ≡ false = le-ltb _ _ (omega (arith, length-append text rest)) in
     let utf8 : is_utf8 text ≡ true = is_utf8-from_IsUtf8 text is.1 in
@@ -113,7 +129,7 @@ text_again text is rest place =
     (ap (λ k. Ok (text, at rest k)) (omega arith))
 
 pub text_spelled : IsSpelledSo IsShortText text_form text_at
-unfolding text_at
+unfolding text_at text_form u32_form
 text_spelled before bytes text after e =
     let k = reached (number_at w32 before)
     (λ n. cond (nat_lt (length n.1.bytes) n.0) (Err (Short before.place))

@@ -1,6 +1,6 @@
 -- Fields: how each is spelled, and how it is read from the front, with the fault of one that can't be read.
 use Rattle.std.specs.Prelude.{◌≡◌, ℕ, ◌+◌, List, [], ◌∷◌, ◌++◌, length, take, drop, Result, Ok, Err, nat_lt, if◌then◌else◌}
-use Rattle.std.specs.Int.{Width, w32, byte_len, from_be_bytes, to_be_bytes}
+use Rattle.std.specs.Int.{Width, w32, w64, byte_len, from_be_bytes, to_be_bytes}
 use Rattle.std.specs.Str.{is_utf8}
 use Rattle.byte_form.specs.declared.reader.ReadFault.{ReadFault}
 use Rattle.byte_form.specs.declared.reader.ReadFault.TheVariants.{Short, BadText, Spare, Memory}
@@ -12,9 +12,16 @@ abbrev pub ◌>>=◌ : {A B E : Type 0} → Result A E → (A → Result B E) �
 (Ok x) >>= f = f x
 (Err e) >>= f = Err e
 
--- a text's spelling: the count of its bytes in four bytes, and the bytes
-abbrev pub text_form : List ℕ → List ℕ
-text_form text = to_be_bytes w32 (length text) ++ text
+-- the spelling of a number in four bytes, and of one in eight, the most significant first
+unfoldable pub u32_form : ℕ → List ℕ
+u32_form n = to_be_bytes w32 n
+
+unfoldable pub u64_form : ℕ → List ℕ
+u64_form n = to_be_bytes w64 n
+
+-- the spelling of a text: the count of its bytes in four bytes, and the bytes
+unfoldable pub text_form : List ℕ → List ℕ
+text_form text = u32_form (length text) ++ text
 
 -- what is left behind so many bytes
 abbrev pub past : Rest → ℕ → Rest

@@ -1,16 +1,16 @@
 ghost use Rattle.std.specs.Prelude.{◌^◌};
-ghost use Rattle.std.specs.Int.{w32, w64, to_be_bytes};
-ghost use Rattle.byte_form.specs.Fields.{byte_at, number_at, text_at, text_form};
+ghost use Rattle.std.specs.Int.{w32, w64};
+ghost use Rattle.byte_form.specs.Fields.{byte_at, number_at, text_at, u32_form, u64_form, text_form};
 ghost use Rattle.byte_form.specs.Laws.{IsReadAgain, IsSpelledSo, NoneBeginsAnother, IsBelow, IsShortText, byte_form};
 
 /// The laws of the fields: what is spelled is read again, whatever follows it; what is read was spelled so; no spelling begins another.
 pub fn law_of_fields()
     ensures bytes_again { IsReadAgain (IsBelow 256) byte_form byte_at }
     ensures bytes_spelled { IsSpelledSo (IsBelow 256) byte_form byte_at }
-    ensures short_numbers_again { IsReadAgain (IsBelow (2 ^ 32)) (to_be_bytes w32) (number_at w32) }
-    ensures short_numbers_spelled { IsSpelledSo (IsBelow (2 ^ 32)) (to_be_bytes w32) (number_at w32) }
-    ensures long_numbers_again { IsReadAgain (IsBelow (2 ^ 64)) (to_be_bytes w64) (number_at w64) }
-    ensures long_numbers_spelled { IsSpelledSo (IsBelow (2 ^ 64)) (to_be_bytes w64) (number_at w64) }
+    ensures short_numbers_again { IsReadAgain (IsBelow (2 ^ 32)) u32_form (number_at w32) }
+    ensures short_numbers_spelled { IsSpelledSo (IsBelow (2 ^ 32)) u32_form (number_at w32) }
+    ensures long_numbers_again { IsReadAgain (IsBelow (2 ^ 64)) u64_form (number_at w64) }
+    ensures long_numbers_spelled { IsSpelledSo (IsBelow (2 ^ 64)) u64_form (number_at w64) }
     ensures texts_again { IsReadAgain IsShortText text_form text_at }
     ensures texts_spelled { IsSpelledSo IsShortText text_form text_at }
     ensures texts_apart { NoneBeginsAnother IsShortText text_form }

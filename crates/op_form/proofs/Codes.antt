@@ -1,15 +1,15 @@
 -- Readings that undo spellings, put together from those of their fields.
 use Rattle.std.proofs.Common.{◌≡◌, ◌⊎◌, inl, inr, ℕ, zero, suc, ◌+◌, ◌<◌, ◌≤◌, ◌^◌, List, [], ◌∷◌, ◌++◌, All, length, get_or, Bool, true, false, cond, nat_eq, nat_lt, Option, Some, None, Result, Ok, Err, refl, sym, ap, subst, ◌∙◌, append_assoc, append-nil, length-append, arith}
-use Rattle.std.specs.Int.{w32, w64, to_be_bytes}
+use Rattle.std.specs.Int.{w32, w64}
 use Rattle.std.proofs.lemmas.Bool.{eqb-true, le-leb}
 use Rattle.std.proofs.lemmas.List.{get_or-append-add}
 use Rattle.std.proofs.lemmas.List.Elements.{All-cons}
 use Rattle.byte_form.specs.declared.reader.ReadFault.{ReadFault}
 use Rattle.byte_form.specs.declared.reader.ReadFault.TheVariants.{Spare}
 use Rattle.byte_form.specs.Rest.{Rest}
-use Rattle.byte_form.specs.Fields.{◌>>=◌, byte_at, number_at, text_at, text_form, ends_at}
+use Rattle.byte_form.specs.Fields.{◌>>=◌, byte_at, number_at, text_at, text_form, ends_at, u32_form, u64_form}
 use Rattle.byte_form.specs.Laws.{at, IsReadAgain, IsSpelledSo, NoneBeginsAnother, StoodThere, AreBytes, IsBelow, IsShortText, byte_form}
-use Rattle.byte_form.proofs.FieldLemmas.{reached, ok_is, stands, apart, byte_again, byte_spelled, number_again, number_spelled, wide32, wide64, text_again, text_spelled}
+use Rattle.byte_form.proofs.FieldLemmas.{reached, ok_is, stands, apart, byte_again, byte_spelled, u32_again, u32_spelled, u64_again, u64_spelled, text_again, text_spelled}
 use Rattle.op_form.specs.declared.fault.FormFault.{FormFault}
 use Rattle.op_form.specs.declared.fault.FormFault.TheVariants.{NotForm}
 use Rattle.op_form.specs.Reading.{Reading, field, made, ◌⊗◌, u8_at, u32_at, u64_at, any_text_at, option_at, option_of, option_form, items_at, items_form, list_at, some_at, list_form}
@@ -51,11 +51,11 @@ of_field {read} again spelled = record {
 pub u8_codes : Codes (IsBelow 256) byte_form u8_at
 u8_codes = of_field byte_again byte_spelled
 
-pub u32_codes : Codes IsU32 (to_be_bytes w32) u32_at
-u32_codes = of_field (number_again w32 (2 ^ 32) wide32) (number_spelled w32 (2 ^ 32) wide32)
+pub u32_codes : Codes IsU32 u32_form u32_at
+u32_codes = of_field u32_again u32_spelled
 
-pub u64_codes : Codes IsU64 (to_be_bytes w64) u64_at
-u64_codes = of_field (number_again w64 (2 ^ 64) wide64) (number_spelled w64 (2 ^ 64) wide64)
+pub u64_codes : Codes IsU64 u64_form u64_at
+u64_codes = of_field u64_again u64_spelled
 
 pub text_codes : Codes IsShortText text_form any_text_at
 text_codes = of_field text_again text_spelled
@@ -182,20 +182,21 @@ module _ {X : Type 0} {Is : X → Type 0} {form : X → List ℕ} {read : Readin
 
   -- a list's count and its items, as both lists and lists that aren't empty have them
   counted_again : (xs : List X) → IsList Is xs → (rest : List ℕ) (place : ℕ)
-      → (u32_at (at (list_form form xs ++ rest) place) ≡ Ok (length xs, at (items_form form xs ++ rest) (place + 4)))
-      × (items_at read (length xs) (at (items_form form xs ++ rest) (place + 4)) ≡ Ok (xs, at rest (place + length (list_form form xs))))
+      → (u32_at (at (list_form form xs ++ rest) place) ≡ Ok (length xs, at (items_form form xs ++ rest) (place + length (u32_form (length xs)))))
+      × (items_at read (length xs) (at (items_form form xs ++ rest) (place + length (u32_form (length xs)))) ≡ Ok (xs, at rest (place + length (list_form form xs))))
   counted_again xs is rest place =
-      (u32_codes.again (length xs) is.0 (items_form form xs ++ rest) place, items_again xs is.1 rest (place + 4) ∙ ap (λ k. Ok (xs, at rest k)) (omega arith))
+      (ap (λ bytes. u32_at (at bytes place)) (append_assoc (u32_form (length xs)) (items_form form xs) rest) ∙ u32_codes.again (length xs) is.0 (items_form form xs ++ rest) place, items_again xs is.1 rest (place + length (u32_form (length xs))) ∙ ap (λ k. Ok (xs, at rest k)) (omega (arith, length-append (u32_form (length xs)) (items_form form xs))))
 
   counted_spelled : (before mid after : Rest) (n : ℕ) (xs : List X) → AreBytes before.bytes → u32_at before ≡ Ok (n, mid) → items_at read n mid ≡ Ok (xs, after)
       → StoodThere (IsList Is) (list_form form) before after xs × (length xs ≡ n)
   counted_spelled before mid after n xs bytes c e =
       let s = u32_codes.spelled before bytes n mid c in
-      let t = items_spelled n mid (are_bytes_behind (to_be_bytes w32 n) mid.bytes (subst AreBytes s.bytes bytes)) xs after e in (
+      let t = items_spelled n mid (are_bytes_behind (u32_form n) mid.bytes (subst AreBytes s.bytes bytes)) xs after e in (
         record {
           is = (omega (arith, t.count, s.is), t.all);
-          bytes = s.bytes ∙ ap (λ more. to_be_bytes w32 n ++ more) t.bytes ∙ ap (λ m. to_be_bytes w32 m ++ (items_form form xs ++ after.bytes)) (sym t.count);
-          place = omega (arith, s.place, t.place);
+          bytes = s.bytes ∙ ap (λ more. u32_form n ++ more) t.bytes ∙ ap (λ m. u32_form m ++ (items_form form xs ++ after.bytes)) (sym t.count)
+              ∙ sym (append_assoc (u32_form (length xs)) (items_form form xs) after.bytes);
+          place = omega (arith, s.place, t.place, length-append (u32_form (length xs)) (items_form form xs), ap (λ m. length (u32_form m)) t.count);
         },
         t.count,
       )
@@ -226,7 +227,7 @@ module _ {X : Type 0} {Is : X → Type 0} {form : X → List ℕ} {read : Readin
   some_again xs is rest place =
       let k = counted_again xs (is.1, is.2) rest place in
       ap (λ r. r >>= λ count. cond (nat_eq count.0 0) (Err (NotForm place)) (items_at read count.0 count.1)) k.0
-      ∙ ap (λ b. cond b (Err (NotForm place)) (items_at read (length xs) (at (items_form form xs ++ rest) (place + 4)))) (some_count (length xs) is.0)
+      ∙ ap (λ b. cond b (Err (NotForm place)) (items_at read (length xs) (at (items_form form xs ++ rest) (place + length (u32_form (length xs)))))) (some_count (length xs) is.0)
       ∙ k.1
 
   some_spelled : IsSpelledSo (IsSomeList Is) (list_form form) (some_at read)

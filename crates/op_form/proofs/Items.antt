@@ -1,5 +1,5 @@
 -- Items read one behind another, as far as a loop has come.
-use Rattle.std.proofs.Common.{◌≡◌, ℕ, zero, suc, List, [], ◌∷◌, ◌++◌, refl, sym, ap, ◌∙◌, Result, Ok, Err, append_assoc, append-nil}
+use Rattle.std.proofs.Common.{◌≡◌, ℕ, zero, suc, ◌+◌, ◌-◌, ◌<◌, arith, List, [], ◌∷◌, ◌++◌, refl, sym, ap, ◌∙◌, Result, Ok, Err, append_assoc, append-nil}
 use Rattle.byte_form.specs.Rest.{Rest}
 use Rattle.byte_form.specs.Fields.{◌>>=◌}
 use Rattle.op_form.specs.declared.fault.FormFault.{FormFault}
@@ -30,3 +30,13 @@ behind_fault read xs n before e is = ap (λ r. behind xs (r >>= λ y. made (λ y
 pub nothing_behind : {X : Type 0} (read : Result (List X × Rest) FormFault) → behind [] read ≡ read
 nothing_behind (Ok ys) = refl
 nothing_behind (Err e) = refl
+
+-- one turn of a loop that reads so many items
+pub behind_turn : {X : Type 0} (read : Reading X) (xs ys : List X) (count index : ℕ) (before : Rest) (x : X) (after : Rest) (whole : Result (List X × Rest) FormFault) → index < count
+    → read before ≡ Ok (x, after) → ys ≡ xs ++ x ∷ [] → behind xs (items_at read (count - index) before) ≡ whole → behind ys (items_at read (count - (index + 1)) after) ≡ whole
+behind_turn read xs ys count index before x after whole low is more so_far =
+    let left : count - index ≡ suc (count - (index + 1)) = omega (arith, low) in
+    ap (λ zs. behind zs (items_at read (count - (index + 1)) after)) more
+    ∙ sym (behind_more read xs (count - (index + 1)) before x after is)
+    ∙ ap (λ n. behind xs (items_at read n before)) (sym left)
+    ∙ so_far

@@ -1,6 +1,5 @@
 -- Steps: read again, and spelled so. One line a kind.
 use Rattle.std.proofs.Common.{◌≡◌, ◌⊎◌, inl, inr, ℕ, ◌+◌, List, [], ◌∷◌, ◌++◌, length, true, false, cond, nat_eq, Option, Result, Ok, Err, refl, ap, ◌∙◌}
-use Rattle.std.specs.Int.{w32, w64, to_be_bytes}
 use Rattle.byte_form.specs.Rest.{Rest}
 use Rattle.byte_form.specs.Fields.{◌>>=◌, byte_at, text_form}
 use Rattle.byte_form.specs.Laws.{at, IsReadAgain, IsSpelledSo, StoodThere, AreBytes}

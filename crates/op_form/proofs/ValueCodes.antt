@@ -1,12 +1,12 @@
 -- Ids, values and places: read again, and spelled so.
 use Rattle.std.proofs.Common.{◌≡◌, ◌⊎◌, inl, inr, ℕ, zero, suc, ◌+◌, ◌-◌, ◌<◌, ◌≤◌, ◌^◌, ℤ, pos, negsuc, FitsSigned, List, [], ◌∷◌, ◌++◌, length, Bool, ◌&&◌, true, false, cond, nat_eq, nat_lt, nat_le, Option, Result, Ok, Err, refl, sym, ap, subst, ◌∙◌, arith, IsUtf8, IsAscii}
-use Rattle.std.specs.Int.{w32, w64, to_be_bytes, cast_signed, cast_unsigned}
+use Rattle.std.specs.Int.{w64, cast_signed, cast_unsigned}
 use Rattle.std.proofs.lemmas.Int.{to_z-of_z, of_z-to_z}
 use Rattle.std.proofs.lemmas.Bool.{leb-true}
 use Rattle.std.proofs.lemmas.Str.{IsUtf8-from_ascii}
 use Rattle.std.specs.List.{list_all}
 use Rattle.byte_form.specs.Rest.{Rest}
-use Rattle.byte_form.specs.Fields.{◌>>=◌, byte_at, text_form}
+use Rattle.byte_form.specs.Fields.{◌>>=◌, byte_at, text_form, u64_form}
 use Rattle.byte_form.specs.Laws.{at, IsReadAgain, IsSpelledSo, StoodThere, AreBytes, IsShortText, IsBelow, byte_form}
 use Rattle.byte_form.proofs.FieldLemmas.{reached, ok_is, stands, not_less}
 use Rattle.ecore_meta.specs.declared.meta.Value.{Value}
@@ -116,7 +116,7 @@ value_again (Flag b) is rest place = flag_again b rest (place + 1) ∙ ap (λ k.
     flag_length false place = omega arith
 value_again (Whole z) is rest place =
     made_again u64_codes (λ n. Whole (cast_signed w64 n)) 3 (cast_unsigned w64 z) (unsigned_below z is) rest place
-    ∙ ap (λ y. Ok (Whole y, at rest (place + length (3 ∷ to_be_bytes w64 (cast_unsigned w64 z))))) (to_z-of_z w64 z is)
+    ∙ ap (λ y. Ok (Whole y, at rest (place + length (3 ∷ u64_form (cast_unsigned w64 z))))) (to_z-of_z w64 z is)
 value_again (Literal n) is rest place = made_again u32_codes (λ n. Literal n) 4 n is rest place
 
 value_spelled : IsSpelledSo IsValue value_form value_at
@@ -134,7 +134,7 @@ value_spelled before bytes v after e =
             (record { is = tt; bytes = s.bytes ∙ ap (λ more. 2 ∷ more) f.2.bytes; place = omega (arith, s.place, f.2.place) })
         | inr i ↦ elim (either (nat_eq k.0.0 3) (made (λ n. Whole (cast_signed w64 n)) (u64_at k.0.1)) _ (Ok (v, after)) i.1) [
           | inl j ↦ made_spelled u64_codes (λ n. Whole (cast_signed w64 n)) 3 IsValue value_form (λ n is. signed_fits n is)
-              (λ n is. ap (λ m. 3 ∷ to_be_bytes w64 m) (of_z-to_z w64 n is)) before k.0.1 after v bytes (stood 3 j.0) j.1
+              (λ n is. ap (λ m. 3 ∷ u64_form m) (of_z-to_z w64 n is)) before k.0.1 after v bytes (stood 3 j.0) j.1
           | inr j ↦ elim (either (nat_eq k.0.0 4) (made (λ n. Literal n) (u32_at k.0.1)) (Err (NotForm before.place)) (Ok (v, after)) j.1) [
             | inl l ↦ made_spelled u32_codes (λ n. Literal n) 4 IsValue value_form (λ n is. is) (λ n is. refl) before k.0.1 after v bytes (stood 4 l.0) l.1
             | inr l ↦ cc

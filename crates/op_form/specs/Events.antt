@@ -1,8 +1,7 @@
 -- The bytes of events: a byte for the kind, and the fields in their order.
 use Rattle.std.specs.Prelude.{◌≡◌, ℕ, ◌==◌, List, [], ◌∷◌, ◌++◌, Result, Ok, Err, if◌then◌else◌}
-use Rattle.std.specs.Int.{w32, to_be_bytes}
 use Rattle.byte_form.specs.Rest.{Rest}
-use Rattle.byte_form.specs.Fields.{◌>>=◌, text_form, ends_at}
+use Rattle.byte_form.specs.Fields.{◌>>=◌, text_form, ends_at, u32_form}
 use Rattle.model_state.specs.declared.operation.Operation.{Operation}
 use Rattle.op_form.specs.declared.fault.FormFault.{FormFault}
 use Rattle.op_form.specs.declared.fault.FormFault.TheVariants.{NotForm}
@@ -41,12 +40,12 @@ event_at r = u8_at r >>= event_of r.place
 -- the spelling of an event
 unfoldable pub event_form : Event → List ℕ
 event_form (Init text) = 1 ∷ text_form text
-event_form (Checkout version branch) = 2 ∷ (to_be_bytes w32 version ++ to_be_bytes w32 branch)
-event_form (Edit ws operations) = 3 ∷ (to_be_bytes w32 ws ++ package_form operations)
-event_form (Begin ws name) = 4 ∷ (to_be_bytes w32 ws ++ text_form name)
-event_form (End ws) = 5 ∷ to_be_bytes w32 ws
-event_form (Undo ws) = 6 ∷ to_be_bytes w32 ws
-event_form (Discard ws) = 7 ∷ to_be_bytes w32 ws
+event_form (Checkout version branch) = 2 ∷ (u32_form version ++ u32_form branch)
+event_form (Edit ws operations) = 3 ∷ (u32_form ws ++ package_form operations)
+event_form (Begin ws name) = 4 ∷ (u32_form ws ++ text_form name)
+event_form (End ws) = 5 ∷ u32_form ws
+event_form (Undo ws) = 6 ∷ u32_form ws
+event_form (Discard ws) = 7 ∷ u32_form ws
 
 -- all of some bytes, as one value
 unfoldable pub whole_of : {X : Type 0} → Reading X → List ℕ → Result X FormFault

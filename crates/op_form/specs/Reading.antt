@@ -1,10 +1,10 @@
 -- Readings of fields one behind another, and the spellings of options and lists.
 use Rattle.std.specs.Prelude.{◌≡◌, ℕ, zero, suc, ◌==◌, List, [], ◌∷◌, ◌++◌, length, Option, Some, None, Result, Ok, Err, if◌then◌else◌}
-use Rattle.std.specs.Int.{w32, w64, to_be_bytes}
+use Rattle.std.specs.Int.{w32, w64}
 use Rattle.byte_form.specs.declared.reader.ReadFault.{ReadFault}
 use Rattle.byte_form.specs.declared.reader.ReadFault.TheVariants as read
 use Rattle.byte_form.specs.Rest.{Rest}
-use Rattle.byte_form.specs.Fields.{◌>>=◌, byte_at, number_at, text_at}
+use Rattle.byte_form.specs.Fields.{◌>>=◌, byte_at, number_at, text_at, u32_form}
 use Rattle.op_form.specs.declared.fault.FormFault.{FormFault}
 use Rattle.op_form.specs.declared.fault.FormFault.TheVariants.{NotForm, Memory}
 
@@ -78,4 +78,4 @@ unfoldable pub some_at : {X : Type 0} → Reading X → Reading (List X)
 some_at read r = u32_at r >>= λ count. if count.0 == 0 then Err (NotForm r.place) else items_at read count.0 count.1
 
 abbrev pub list_form : {X : Type 0} → (X → List ℕ) → List X → List ℕ
-list_form form xs = to_be_bytes w32 (length xs) ++ items_form form xs
+list_form form xs = u32_form (length xs) ++ items_form form xs

@@ -1,8 +1,7 @@
 -- The bytes of steps: a kind's byte from 1 to 11, and the step's fields in their order.
 use Rattle.std.specs.Prelude.{◌≡◌, ℕ, ◌==◌, List, [], ◌∷◌, ◌++◌, Option, Some, None, Result, Ok, Err, if◌then◌else◌}
-use Rattle.std.specs.Int.{w32, w64, to_be_bytes}
 use Rattle.byte_form.specs.Rest.{Rest}
-use Rattle.byte_form.specs.Fields.{◌>>=◌, text_form}
+use Rattle.byte_form.specs.Fields.{◌>>=◌, text_form, u32_form, u64_form}
 use Rattle.ecore_meta.specs.declared.meta.Value.{Value}
 use Rattle.model_state.specs.declared.step.Place.{Place}
 use Rattle.model_state.specs.declared.step.Step.{Step}
@@ -68,15 +67,15 @@ step_at r = u8_at r >>= step_of r.place
 
 -- the spelling of a step
 unfoldable pub step_form : Step → List ℕ
-step_form (Put e f old new) = 1 ∷ (text_form e ++ (to_be_bytes w32 f ++ (option_form value_form old ++ option_form value_form new)))
-step_form (Ins e f at v) = 2 ∷ (text_form e ++ (to_be_bytes w32 f ++ (to_be_bytes w32 at ++ value_form v)))
-step_form (Del e f at v) = 3 ∷ (text_form e ++ (to_be_bytes w32 f ++ (to_be_bytes w32 at ++ value_form v)))
-step_form (Shift e f from to) = 4 ∷ (text_form e ++ (to_be_bytes w32 f ++ (to_be_bytes w32 from ++ to_be_bytes w32 to)))
-step_form (Link a f ra b rb) = 5 ∷ (text_form a ++ (to_be_bytes w32 f ++ (to_be_bytes w64 ra ++ (text_form b ++ option_form (to_be_bytes w64) rb))))
-step_form (Unlink a f ra b rb) = 6 ∷ (text_form a ++ (to_be_bytes w32 f ++ (to_be_bytes w64 ra ++ (text_form b ++ option_form (to_be_bytes w64) rb))))
-step_form (RerankRow a f b old new) = 7 ∷ (text_form a ++ (to_be_bytes w32 f ++ (text_form b ++ (to_be_bytes w64 old ++ to_be_bytes w64 new))))
-step_form (New e class place rank) = 8 ∷ (text_form e ++ (to_be_bytes w32 class ++ (place_form place ++ to_be_bytes w64 rank)))
-step_form (Gone e class place rank) = 9 ∷ (text_form e ++ (to_be_bytes w32 class ++ (place_form place ++ to_be_bytes w64 rank)))
+step_form (Put e f old new) = 1 ∷ (text_form e ++ (u32_form f ++ (option_form value_form old ++ option_form value_form new)))
+step_form (Ins e f at v) = 2 ∷ (text_form e ++ (u32_form f ++ (u32_form at ++ value_form v)))
+step_form (Del e f at v) = 3 ∷ (text_form e ++ (u32_form f ++ (u32_form at ++ value_form v)))
+step_form (Shift e f from to) = 4 ∷ (text_form e ++ (u32_form f ++ (u32_form from ++ u32_form to)))
+step_form (Link a f ra b rb) = 5 ∷ (text_form a ++ (u32_form f ++ (u64_form ra ++ (text_form b ++ option_form u64_form rb))))
+step_form (Unlink a f ra b rb) = 6 ∷ (text_form a ++ (u32_form f ++ (u64_form ra ++ (text_form b ++ option_form u64_form rb))))
+step_form (RerankRow a f b old new) = 7 ∷ (text_form a ++ (u32_form f ++ (text_form b ++ (u64_form old ++ u64_form new))))
+step_form (New e class place rank) = 8 ∷ (text_form e ++ (u32_form class ++ (place_form place ++ u64_form rank)))
+step_form (Gone e class place rank) = 9 ∷ (text_form e ++ (u32_form class ++ (place_form place ++ u64_form rank)))
 step_form (Move e from from_rank to to_rank above_from above_to) =
-    10 ∷ (text_form e ++ (place_form from ++ (to_be_bytes w64 from_rank ++ (place_form to ++ (to_be_bytes w64 to_rank ++ (list_form text_form above_from ++ list_form text_form above_to))))))
-step_form (RerankPlace e old new) = 11 ∷ (text_form e ++ (to_be_bytes w64 old ++ to_be_bytes w64 new))
+    10 ∷ (text_form e ++ (place_form from ++ (u64_form from_rank ++ (place_form to ++ (u64_form to_rank ++ (list_form text_form above_from ++ list_form text_form above_to))))))
+step_form (RerankPlace e old new) = 11 ∷ (text_form e ++ (u64_form old ++ u64_form new))

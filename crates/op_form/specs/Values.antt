@@ -1,8 +1,8 @@
 -- The bytes of ids, values and places.
 use Rattle.std.specs.Prelude.{◌≡◌, ℕ, ◌==◌, List, [], ◌∷◌, ◌++◌, Bool, true, false, Option, Some, None, Result, Ok, Err, if◌then◌else◌}
-use Rattle.std.specs.Int.{w32, w64, to_be_bytes, cast_signed, cast_unsigned}
+use Rattle.std.specs.Int.{w64, cast_signed, cast_unsigned}
 use Rattle.byte_form.specs.Rest.{Rest}
-use Rattle.byte_form.specs.Fields.{◌>>=◌, text_form}
+use Rattle.byte_form.specs.Fields.{◌>>=◌, text_form, u32_form, u64_form}
 use Rattle.ecore_meta.specs.declared.meta.Value.{Value}
 use Rattle.ecore_meta.specs.declared.meta.Value.TheVariants.{Text, Flag, Whole, Literal}
 use Rattle.model_state.specs.Ident.{is_id}
@@ -46,8 +46,8 @@ flag_form false = 0 ∷ []
 unfoldable pub value_form : Value → List ℕ
 value_form (Text t) = 1 ∷ text_form t
 value_form (Flag b) = 2 ∷ flag_form b
-value_form (Whole z) = 3 ∷ to_be_bytes w64 (cast_unsigned w64 z)
-value_form (Literal n) = 4 ∷ to_be_bytes w32 n
+value_form (Whole z) = 3 ∷ u64_form (cast_unsigned w64 z)
+value_form (Literal n) = 4 ∷ u32_form n
 
 -- a place: a byte 0, or a byte 1, the parent's id and the feature's number
 abbrev pub place_of : ℕ → ℕ × Rest → Result (Place × Rest) FormFault
@@ -61,4 +61,4 @@ place_at r = u8_at r >>= place_of r.place
 
 unfoldable pub place_form : Place → List ℕ
 place_form Root = 0 ∷ []
-place_form (Inside parent feature) = 1 ∷ (text_form parent ++ to_be_bytes w32 feature)
+place_form (Inside parent feature) = 1 ∷ (text_form parent ++ u32_form feature)

@@ -1,6 +1,6 @@
 // Packages and events, as bytes.
+ghost use Rattle.byte_form.specs.Fields.{u32_form};
 ghost use Rattle.std.specs.Prelude.{◌≡◌, ◌++◌, ◌∷◌, IfOk, OnOk, All};
-ghost use Rattle.std.specs.Int.{w32, to_be_bytes};
 ghost use Rattle.op_form.specs.Reading.{items_form, list_form};
 ghost use Rattle.op_form.specs.Steps.{step_form};
 ghost use Rattle.op_form.specs.Packages.{kind_form, operation_form, package_form};
@@ -136,7 +136,7 @@ fn put_event(form: &mut Form, event: &Event) -> Result<(), AllocError>
 
 /// An event that is its kind's byte and a workspace's number.
 fn put_of_workspace(form: &mut Form, kind: u8, ws: u32) -> Result<(), AllocError>
-    ensures { OnOk result (form.new ≡ form.old ++ kind ∷ to_be_bytes w32 ws) }
+    ensures { OnOk result (form.new ≡ form.old ++ kind ∷ u32_form ws) }
 {
     form.put_u8(kind)?;
     form.put_u32(ws)

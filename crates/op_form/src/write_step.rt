@@ -1,7 +1,6 @@
 // Steps, written behind what stands: ids, values, places, and each kind's fields.
 ghost use Rattle.std.specs.Prelude.{◌≡◌, ◌++◌, ◌∷◌, [], length, ◌<◌, ◌^◌, OnOk};
-ghost use Rattle.std.specs.Int.{w32, w64, to_be_bytes};
-ghost use Rattle.byte_form.specs.Fields.{text_form};
+ghost use Rattle.byte_form.specs.Fields.{text_form, u32_form, u64_form};
 ghost use Rattle.op_form.specs.Reading.{option_form, items_form, list_form};
 ghost use Rattle.op_form.specs.Values.{value_form, place_form, flag_form};
 ghost use Rattle.op_form.specs.Steps.{step_form};
@@ -63,7 +62,7 @@ fn put_value_if_any(form: &mut Form, value: &Option<Value>) -> Result<(), AllocE
 }
 
 fn put_rank_if_any(form: &mut Form, rank: Option<u64>) -> Result<(), AllocError>
-    ensures { OnOk result (form.new ≡ form.old ++ option_form (to_be_bytes w64) rank) }
+    ensures { OnOk result (form.new ≡ form.old ++ option_form u64_form rank) }
 {
     match rank {
         None => form.put_u8(0),
@@ -182,7 +181,7 @@ fn put_at_index(
     v: &Value,
 ) -> Result<(), AllocError>
     requires { FitsValue v.now }
-    ensures { OnOk result (form.new ≡ form.old ++ kind ∷ (text_form e.now ++ (to_be_bytes w32 f ++ (to_be_bytes w32 at ++ value_form v.now)))) }
+    ensures { OnOk result (form.new ≡ form.old ++ kind ∷ (text_form e.now ++ (u32_form f ++ (u32_form at ++ value_form v.now)))) }
 {
     form.put_u8(kind)?;
     put_id(form, e)?;
@@ -200,7 +199,7 @@ fn put_row(
     b: &Id,
     rb: Option<u64>,
 ) -> Result<(), AllocError>
-    ensures { OnOk result (form.new ≡ form.old ++ kind ∷ (text_form a.now ++ (to_be_bytes w32 f ++ (to_be_bytes w64 ra ++ (text_form b.now ++ option_form (to_be_bytes w64) rb))))) }
+    ensures { OnOk result (form.new ≡ form.old ++ kind ∷ (text_form a.now ++ (u32_form f ++ (u64_form ra ++ (text_form b.now ++ option_form u64_form rb))))) }
 {
     form.put_u8(kind)?;
     put_id(form, a)?;
@@ -218,7 +217,7 @@ fn put_birth(
     place: &Place,
     rank: u64,
 ) -> Result<(), AllocError>
-    ensures { OnOk result (form.new ≡ form.old ++ kind ∷ (text_form e.now ++ (to_be_bytes w32 class ++ (place_form place.now ++ to_be_bytes w64 rank)))) }
+    ensures { OnOk result (form.new ≡ form.old ++ kind ∷ (text_form e.now ++ (u32_form class ++ (place_form place.now ++ u64_form rank)))) }
 {
     form.put_u8(kind)?;
     put_id(form, e)?;
@@ -227,14 +226,14 @@ fn put_birth(
 }
 
 fn put_spot(form: &mut Form, place: &Place, rank: u64) -> Result<(), AllocError>
-    ensures { OnOk result (form.new ≡ form.old ++ (place_form place.now ++ to_be_bytes w64 rank)) }
+    ensures { OnOk result (form.new ≡ form.old ++ (place_form place.now ++ u64_form rank)) }
 {
     put_place(form, place)?;
     form.put_u64(rank)
 }
 
 fn put_ranks(form: &mut Form, old: u64, new: u64) -> Result<(), AllocError>
-    ensures { OnOk result (form.new ≡ form.old ++ (to_be_bytes w64 old ++ to_be_bytes w64 new)) }
+    ensures { OnOk result (form.new ≡ form.old ++ (u64_form old ++ u64_form new)) }
 {
     form.put_u64(old)?;
     form.put_u64(new)
