@@ -1,4 +1,7 @@
 // Packages and events by hand, byte for byte as the format's tables have them.
+ghost use Rattle.std.specs.Prelude.{IfOk};
+ghost use Rattle.op_form.specs.Sizes.{FitsStep, FitsPackage};
+
 use super::*;
 use ecore_meta::{List, Text, Value};
 use model_state::{Id, OpKind, Operation, Package, Place, Step};
@@ -34,7 +37,10 @@ fn field_of(fields: &[usize], place: usize) -> usize {
     found
 }
 
-fn one_step(alloc: Global, kind: OpKind, step: Step) -> Result<Package, Fail> {
+fn one_step(alloc: Global, kind: OpKind, step: Step) -> Result<Package, Fail>
+    requires step { FitsStep step }
+    ensures fits { IfOk result FitsPackage }
+{
     let mut steps = List::new(alloc);
     steps.push(step)?;
     let mut package = List::new(alloc);
@@ -62,9 +68,6 @@ fn packages_are_spelled(rt: HostRuntime) -> Result<(), Fail> {
         new: Some(Value::Text(Text::new(alloc, "Emma")?)),
     };
     let set = one_step(alloc, OpKind::Attribute, step)?;
-    if set.len() > 1000 {
-        return Ok(());
-    }
     assert_eq!(&rt; encode(alloc, &set)?.as_slice(), SET);
     Ok(())
 }
@@ -122,9 +125,6 @@ fn other_bytes_are_no_form(rt: HostRuntime) -> Result<(), Fail> {
 fn events_are_spelled_and_read(rt: HostRuntime) -> Result<(), Fail> {
     let alloc = rt.alloc();
     let package = creation(alloc)?;
-    if package.len() > 1000 {
-        return Ok(());
-    }
     let bytes =
         b"\x03\0\0\0\x01\0\0\0\x01\x01\x01\0\0\0\x01\x08\0\0\0\x01a\0\0\0\0\0\0\0\0\x01\0\0\0\0".as_slice();
     match decode_event(alloc, bytes)? {
