@@ -1,14 +1,14 @@
 -- What the parts of a document are, by number.
-use Rattle.std.proofs.Common.{◌≡◌, ℕ, zero, suc, ◌+◌, ◌<◌, ◌≤◌, Bool, true, false, List, [], ◌∷◌, ◌++◌, ◌||◌, refl, sym, ap, subst, ◌∙◌, arith, length, length-append, map, take, nat_eq}
+use Rattle.std.proofs.Common.{◌≡◌, ℕ, zero, suc, ◌+◌, ◌<◌, ◌≤◌, Bool, true, false, List, [], ◌∷◌, refl, sym, ap, subst, ◌∙◌, arith, length, length-append, map, take, nat_eq}
 use Rattle.std.specs.Prelude.{Option, None, Some, slice_get}
 use Rattle.std.specs.List.{list_any, cons_option, filter, filter_map, flat_map, range_with_len}
 use Rattle.std.specs.Option.{option_and_then}
 use Rattle.std.specs.BTreeSet.{BTreeSet}
 use Rattle.std.proofs.lemmas.List.{length-map}
 use Rattle.ecore_meta.specs.Names.{Name, number_of}
-use Rattle.ecore_meta.specs.Document.{Rows, classifier_name, classifier_named, class_in, class_number, numbered, supers_in, feature_total, features_in}
+use Rattle.ecore_meta.specs.Document.{Rows, classifier_name, classifier_named, class_in, class_number, numbered, supers_in, feature_total}
 use Rattle.ecore_meta.specs.Drafts.{draft, drafts, drafts_from}
-use Rattle.ecore_meta.specs.Faults.{own_of, inherited, all_inherited, literal, literals_in, Few}
+use Rattle.ecore_meta.specs.Faults.{own_of, inherited, all_inherited, literal, literals_in}
 use Rattle.ecore_meta.specs.Faults.{first_true}
 use Rattle.ecore_meta.specs.declared.fault.MetaFault.{MetaFault}
 use Rattle.ecore_meta.specs.declared.fault.MetaFault.TheVariants.{SelfOpposite, BadOpposite, BadBound, BadDefault}
@@ -18,7 +18,6 @@ use Rattle.ecore_meta.specs.Tables.{all_above}
 use Rattle.ecore_meta.specs.Values.{AreShort}
 use Rattle.ecore_meta.specs.declared.classifiers.Classifier.{Classifier}
 use Rattle.ecore_meta.specs.declared.classifiers.Classifier.TheVariants.{Class as OfClass, Enum as OfEnum, Plain as OfPlain}
-use Rattle.ecore_meta.specs.declared.rows.ClassifierRow.{ClassifierRow}
 use Rattle.ecore_meta.specs.declared.rows.ClassifierRow.TheVariants.{Class, Enum, Plain}
 use Rattle.ecore_meta.proofs.SuperLaws.{nat_same, or_split}
 

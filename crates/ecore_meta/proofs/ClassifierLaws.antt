@@ -1,5 +1,5 @@
 -- What an index of the classifiers answers.
-use Rattle.std.proofs.Common.{◌≡◌, ℕ, ◌+◌, ◌≤◌, ◌<◌, List, [], ◌∷◌, refl, sym, ap, subst, zero, suc, ◌∙◌, arith, length, map, true, false}
+use Rattle.std.proofs.Common.{◌≡◌, ℕ, ◌+◌, ◌≤◌, ◌<◌, List, [], ◌∷◌, ap, subst, zero, suc, ◌∙◌, arith, length, map}
 use Rattle.std.specs.Prelude.{String, Option, None, Some, slice_get}
 use Rattle.std.specs.BTreeMap.{BTreeMap, get_by_text}
 use Rattle.std.specs.Option.{option_and_then}

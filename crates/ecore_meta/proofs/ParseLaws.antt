@@ -1,5 +1,5 @@
 -- What std's parse of a signed number of 64 bits says, in the words of the values.
-use Rattle.std.proofs.Common.{◌≡◌, ◌≢◌, ℕ, ℤ, zero, suc, ◌+◌, ◌-◌, ◌*◌, ◌<◌, ◌≤◌, ◌^◌, Bool, true, false, List, [], ◌∷◌, cond, refl, sym, ap, subst, ◌∙◌, arith, length, drop, get_or, nat_eq, map, rules}
+use Rattle.std.proofs.Common.{◌≡◌, ◌≢◌, ℕ, ℤ, zero, suc, ◌<◌, ◌≤◌, ◌^◌, Bool, true, false, List, [], ◌∷◌, cond, refl, sym, ap, subst, ◌∙◌, arith, length, drop, get_or, nat_eq, map, rules}
 use Rattle.std.specs.Prelude.{pos, negsuc, neg_ℤ, Option, None, Some, Result, Ok, Err, nat_lt, FitsSigned, if◌then◌else◌, slice_index, slice_get}
 use Rattle.std.specs.Str.{all_ascii_digits}
 use mir.Syntax.{w64}
@@ -8,9 +8,9 @@ use Rattle.std.proofs.lemmas.Int.{to_z-of_z}
 use Rattle.std.proofs.lemmas.Bool.Decides.{nat_tests}
 use Rattle.std.specs.Str.Parse.{ParsesSigned}
 use Rattle.std.specs.Result.{OkIff}
-use Rattle.std.proofs.lemmas.Str.Parse.{IsNumeralModel, numerals_by_fold, parse_signed_plain, parse_signed_minus, parse_signed_plus}
+use Rattle.std.proofs.lemmas.Str.Parse.{IsNumeralModel, numerals_by_fold, parse_signed_plain, parse_signed_minus}
 use Rattle.ecore_meta.specs.Typing.{in_width}
-use Rattle.ecore_meta.specs.Values.{digits_from, is_numeral, is_negative, narrow, whole_of, wide}
+use Rattle.ecore_meta.specs.Values.{digits_from, is_numeral, narrow, whole_of, wide}
 use Rattle.std.specs.Option.{option_and_then, option_map_or}
 use Rattle.ecore_meta.specs.Values.{AreShort, literals_at}
 use Rattle.ecore_meta.specs.declared.meta.EnumLiteral.{EnumLiteral}

@@ -1,8 +1,7 @@
 -- Paths of supertypes, and the bounded search that tells them.
 use Rattle.std.proofs.Common.{◌≡◌, ℕ, zero, suc, ◌+◌, ◌<◌, ◌≤◌, Bool, true, false, List, [], ◌∷◌, ◌++◌, ◌||◌, ◌&&◌, cond, refl, sym, ap, subst, ◌∙◌, arith, length, length-append, take, take-take, map, get_or, ◌⊎◌, inl, inr, nat_eq, rules}
-use Rattle.std.specs.Prelude.{slice_get, Option, None, Some, is_some}
+use Rattle.std.specs.Prelude.{slice_get, is_some}
 use Rattle.std.specs.List.{list_any, IsDistinct, AllByRecursion}
-use Rattle.std.specs.Option.{option_map_or}
 use Rattle.std.specs.Cmp.{nat_eq_equiv}
 use Rattle.std.specs.List.Sorted.{IsStrictlySortedBy}
 use Rattle.std.specs.Ordering.{nat_cmp}

@@ -1,16 +1,16 @@
 -- The tables of a metamodel, one class more.
-use Rattle.std.proofs.Common.{◌≡◌, ℕ, zero, suc, ◌+◌, ◌<◌, ◌≤◌, Bool, true, false, List, [], ◌∷◌, ◌++◌, ◌||◌, ◌⊎◌, inl, inr, refl, sym, ap, subst, ◌∙◌, arith, length, map, get_or, nat_eq}
-use Rattle.std.specs.Prelude.{Option, None, Some, slice_get}
-use Rattle.std.specs.List.{list_any, filter, range_with_len}
+use Rattle.std.proofs.Common.{◌≡◌, ℕ, zero, suc, ◌+◌, ◌<◌, ◌≤◌, Bool, true, false, List, [], ◌∷◌, ◌++◌, ◌||◌, ◌⊎◌, inl, inr, refl, sym, ap, ◌∙◌, arith, length, map, get_or}
+use Rattle.std.specs.Prelude.{None, Some, slice_get}
+use Rattle.std.specs.List.{list_any, range_with_len}
 use Rattle.std.specs.Ordering.{nat_cmp}
 use Rattle.std.specs.BTreeSet.{BTreeSet, contains}
 use Rattle.std.specs.Option.{option_map_or}
-use Rattle.std.proofs.lemmas.List.{map-append, length-map}
+use Rattle.std.proofs.lemmas.List.{map-append}
 use Rattle.std.proofs.lemmas.List.Folds.{list_any-append}
 use Rattle.ecore_meta.specs.Faults.{is_cyclic, super_cycle}
-use Rattle.ecore_meta.specs.Supers.{is_above, supers_of}
+use Rattle.ecore_meta.specs.Supers.{is_above}
 use Rattle.ecore_meta.specs.Tables.{Agrees}
-use Rattle.ecore_meta.proofs.SuperLaws.{any_at, below_or_at, or_left, supers_at}
+use Rattle.ecore_meta.proofs.SuperLaws.{any_at, below_or_at, supers_at}
 use Rattle.ecore_meta.proofs.RisingLaws.{in_range}
 
 range_suc : (a n : ℕ) → range_with_len a (suc n) ≡ range_with_len a n ++ (a + n) ∷ []

@@ -1,5 +1,5 @@
 -- The metamodel that a document without a fault stands for.
-use Rattle.std.specs.Prelude.{◌≡◌, ℕ, ℤ, pos, negsuc, min, suc, ◌<◌, Bool, true, false, List, [], ◌∷◌, Option, None, Some, map, length, cond}
+use Rattle.std.specs.Prelude.{ℕ, ℤ, pos, negsuc, min, suc, ◌<◌, List, [], ◌∷◌, Option, None, Some, map, length, cond}
 use Rattle.std.specs.Ordering.{int_eq}
 use Rattle.ecore_meta.specs.Document.{Rows, supers_in, feature_total}
 use Rattle.ecore_meta.specs.Drafts.{drafts}
@@ -19,7 +19,6 @@ use Rattle.ecore_meta.specs.declared.meta.Kind.TheVariants.{Attr, AttrMany, Boun
 use Rattle.ecore_meta.specs.declared.meta.Scalar.{Scalar}
 use Rattle.ecore_meta.specs.declared.meta.Value.{Value}
 use Rattle.ecore_meta.specs.declared.rows.MetaRows.{MetaRows}
-use Rattle.ecore_meta.specs.declared.rows.ClassRow.{ClassRow}
 use Rattle.ecore_meta.specs.declared.rows.ClassifierRow.TheVariants.{Class as ClassOf, Enum, Plain}
 
 -- a bound as a natural number, the greatest that a feature holds where it is greater

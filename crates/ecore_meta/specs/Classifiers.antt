@@ -4,9 +4,9 @@ use Rattle.std.specs.BTreeMap.{BTreeMap, get_by_text}
 use Rattle.ecore_meta.specs.Names.{Name, has_repeat, number_of}
 use Rattle.ecore_meta.specs.Document.{Rows, classifier_name, numbered, feature_total}
 use Rattle.ecore_meta.specs.declared.classifiers.Classifier.{Classifier}
-use Rattle.ecore_meta.specs.declared.classifiers.Classifier.TheVariants.{Class as OfClass, Enum as OfEnum, Plain as OfPlain}
+use Rattle.ecore_meta.specs.declared.classifiers.Classifier.TheVariants.{Class as OfClass}
 use Rattle.ecore_meta.specs.declared.rows.ClassifierRow.{ClassifierRow}
-use Rattle.ecore_meta.specs.declared.rows.ClassifierRow.TheVariants.{Class, Enum, Plain}
+use Rattle.ecore_meta.specs.declared.rows.ClassifierRow.TheVariants.{Class}
 
 -- the place of each name, and what stands at each place
 pub record Tells {Y : Type 0} (rows : Rows) (index : BTreeMap (String Y) ℕ) (numbers : List Classifier) : Type 0 where

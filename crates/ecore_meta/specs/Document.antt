@@ -1,13 +1,10 @@
 -- The classifiers of a document, and what a name stands for among them.
-use Rattle.std.specs.Prelude.{◌≡◌, ℕ, suc, ◌+◌, Bool, true, false, List, [], ◌∷◌, ◌++◌, Option, None, Some, slice_get, map, length, codes, cond, not, is_some, ◌||◌, ◌&&◌}
-use Rattle.std.specs.List.{list_any, filter_map}
-use Rattle.std.specs.Option.{option_map, option_map_or, option_and_then}
-use Rattle.std.specs.Str.{bytes_eq}
+use Rattle.std.specs.Prelude.{ℕ, suc, ◌+◌, Bool, true, false, List, [], ◌∷◌, Option, None, Some, slice_get, map, length}
+use Rattle.std.specs.List.{filter_map}
+use Rattle.std.specs.Option.{option_map, option_and_then}
 use Rattle.ecore_meta.specs.Names.{Name, number_of}
 use Rattle.ecore_meta.specs.declared.rows.ClassifierRow.{ClassifierRow}
 use Rattle.ecore_meta.specs.declared.rows.ClassifierRow.TheVariants.{Class, Enum, Plain}
-use Rattle.ecore_meta.specs.declared.rows.ClassRow.{ClassRow}
-use Rattle.ecore_meta.specs.declared.rows.EnumRow.{EnumRow}
 use Rattle.ecore_meta.specs.declared.rows.LiteralRow.{LiteralRow}
 use Rattle.ecore_meta.specs.declared.rows.FeatureRow.{FeatureRow}
 use Rattle.ecore_meta.specs.declared.classifiers.Classifier.{Classifier}

@@ -1,10 +1,8 @@
 -- The features of a document, with the names in them resolved.
-use Rattle.std.specs.Prelude.{◌≡◌, ℕ, ℤ, suc, Bool, true, false, List, [], ◌∷◌, ◌++◌, Option, None, Some, map, codes, cond, if◌then◌else◌}
-use Rattle.std.specs.Option.{option_map_or}
+use Rattle.std.specs.Prelude.{ℕ, suc, List, [], ◌∷◌, ◌++◌, Option, None, Some, map, codes, cond, if◌then◌else◌}
 use Rattle.std.specs.Str.{bytes_eq}
 use Rattle.ecore_meta.specs.Names.{Name}
 use Rattle.ecore_meta.specs.Document.{Rows, classifier_named, feature_number}
-use Rattle.ecore_meta.specs.declared.rows.ClassifierRow.{ClassifierRow}
 use Rattle.ecore_meta.specs.declared.rows.ClassifierRow.TheVariants.{Class, Enum, Plain}
 use Rattle.ecore_meta.specs.declared.rows.FeatureRow.{FeatureRow}
 use Rattle.ecore_meta.specs.declared.rows.OppositeRow.{OppositeRow}
@@ -17,7 +15,6 @@ use Rattle.ecore_meta.specs.declared.drafts.Target.{Target}
 use Rattle.ecore_meta.specs.declared.drafts.Target.TheVariants.{Skipped, Unsupported, Missing, Elements, Values}
 use Rattle.ecore_meta.specs.declared.drafts.End.{End}
 use Rattle.ecore_meta.specs.declared.drafts.End.TheVariants.{Open, Nowhere, At}
-use Rattle.ecore_meta.specs.declared.meta.Scalar.{Scalar}
 use Rattle.ecore_meta.specs.declared.meta.Scalar.TheVariants.{Text, Flag, Byte, Short, Int, Long, Literal}
 
 -- the types of Ecore that an attribute may have

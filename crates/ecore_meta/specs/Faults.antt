@@ -1,11 +1,11 @@
 -- The faults of a document, each over the whole of it, in the order in which they are looked for.
-use Rattle.std.specs.Prelude.{◌≡◌, ℕ, ℤ, pos, negsuc, ◌+◌, ◌<◌, suc, Bool, true, false, List, [], ◌∷◌, ◌++◌, Option, None, Some, slice_get, map, length, cond, not, is_some, nat_eq, int_lt, int_le, ◌&&◌, ◌||◌}
+use Rattle.std.specs.Prelude.{◌≡◌, ℕ, pos, negsuc, ◌+◌, ◌<◌, suc, Bool, true, false, List, [], ◌∷◌, Option, None, Some, slice_get, map, length, cond, not, is_some, nat_eq, int_lt, ◌&&◌, ◌||◌}
 use Rattle.std.specs.Ordering.{int_eq}
 use Rattle.std.specs.List.{list_any, filter, flat_map, range_with_len}
-use Rattle.std.specs.Option.{option_map_or, option_and_then}
+use Rattle.std.specs.Option.{option_map_or}
 use Rattle.ecore_meta.specs.Names.{Name, has_repeat}
 use Rattle.ecore_meta.specs.Supers.{is_above, supers_of}
-use Rattle.ecore_meta.specs.Document.{Rows, classifier_name, feature_names, class_number, supers_in, numbered, features_in}
+use Rattle.ecore_meta.specs.Document.{Rows, classifier_name, feature_names, class_number, supers_in}
 use Rattle.ecore_meta.specs.Drafts.{drafts}
 use Rattle.ecore_meta.specs.Values.{value_of}
 use Rattle.ecore_meta.specs.declared.fault.MetaFault.{MetaFault}
@@ -13,7 +13,6 @@ use Rattle.ecore_meta.specs.declared.fault.MetaFault.TheVariants.{DupName, Unsup
 use Rattle.ecore_meta.specs.declared.meta.EnumLiteral.{EnumLiteral}
 use Rattle.ecore_meta.specs.declared.rows.ClassifierRow.{ClassifierRow}
 use Rattle.ecore_meta.specs.declared.rows.ClassifierRow.TheVariants.{Class, Enum, Plain}
-use Rattle.ecore_meta.specs.declared.rows.EnumRow.{EnumRow}
 use Rattle.ecore_meta.specs.declared.rows.LiteralRow.{LiteralRow}
 use Rattle.ecore_meta.specs.declared.drafts.Draft.{Draft}
 use Rattle.ecore_meta.specs.declared.drafts.Target.{Target}

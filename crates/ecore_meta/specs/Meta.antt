@@ -1,10 +1,12 @@
 -- What contracts see of a metamodel.
-use Rattle.std.specs.Prelude.{ℕ, Bool, false, List, slice_get, nat_eq}
+use Rattle.std.specs.Prelude.{ℕ, Bool, false, List, [], ◌∷◌, Option, None, Some, cond, map, slice_get, nat_eq}
 use Rattle.std.specs.List.{list_any}
+use Rattle.std.specs.Str.{bytes_eq}
 use Rattle.std.specs.Option.{option_map_or}
 use Rattle.ecore_meta.specs.declared.meta.Class.{Class}
 use Rattle.ecore_meta.specs.declared.meta.Feature.{Feature}
 use Rattle.ecore_meta.specs.declared.meta.EnumLiteral.{EnumLiteral}
+use Rattle.ecore_meta.specs.Names.{Name, number_of}
 use Rattle.ecore_meta.specs.Supers.{is_above}
 
 -- classes and features by number, for each class its direct supertypes, and for each enum its literals
@@ -22,3 +24,20 @@ is_a meta c d = is_above meta.supers c d
 -- whether a class has a feature, its own or inherited
 abbrev pub has_feature : Meta → ℕ → ℕ → Bool
 has_feature meta c f = option_map_or (λ class. list_any (nat_eq f) class.features) (slice_get meta.classes c) false
+
+-- the class of that name
+abbrev pub class_named : Meta → Name → Option ℕ
+class_named meta q = number_of q (map (λ c. c.name) meta.classes)
+
+-- the name of the feature of that number
+abbrev pub name_at : List Feature → ℕ → Name
+name_at features n = option_map_or (λ f. f.name) (slice_get features n) []
+
+-- the first of the features that has the name
+abbrev pub first_named : List Feature → List ℕ → Name → Option ℕ
+first_named features [] q = None
+first_named features (n ∷ ns) q = cond (bytes_eq (name_at features n) q) (Some n) (first_named features ns q)
+
+-- the feature of that name that the class has, its own or inherited
+abbrev pub feature_named : Meta → ℕ → Name → Option ℕ
+feature_named meta c q = first_named meta.features (option_map_or (λ class. class.features) (slice_get meta.classes c) []) q

@@ -1,5 +1,5 @@
 -- Names, and where they stand in a list.
-use Rattle.std.specs.Prelude.{String, ◌≡◌, ℕ, suc, Bool, true, false, List, [], ◌∷◌, Option, None, Some, ◌||◌, cond, length}
+use Rattle.std.specs.Prelude.{String, ◌≡◌, ℕ, suc, Bool, true, false, List, [], ◌∷◌, Option, None, Some, ◌||◌, cond}
 use Rattle.std.specs.List.{list_any}
 use Rattle.std.specs.Option.{option_map}
 use Rattle.std.specs.Str.{bytes_eq}

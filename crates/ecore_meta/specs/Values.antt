@@ -1,9 +1,11 @@
 -- The value that a text stands for.
-use Rattle.std.specs.Prelude.{◌≡◌, ℕ, ℤ, pos, negsuc, neg_ℤ, ◌+◌, ◌-◌, ◌*◌, Bool, true, false, List, [], ◌∷◌, Option, None, Some, slice_get, map, drop, length, codes, cond, not, nat_eq, nat_lt, ◌<◌, ◌&&◌, ◌||◌, if◌then◌else◌, slice_index}
+use Rattle.std.specs.Prelude.{◌≡◌, ℕ, ℤ, pos, neg_ℤ, ◌+◌, ◌-◌, ◌*◌, Bool, true, false, List, [], ◌∷◌, Option, None, Some, slice_get, map, drop, length, codes, cond, nat_eq, ◌<◌, if◌then◌else◌}
 use Rattle.std.specs.Option.{option_map, option_map_or, option_and_then}
 use Rattle.std.specs.Str.{bytes_eq, all_ascii_digits}
-use Rattle.ecore_meta.specs.Names.{Name, number_of}
+use Rattle.ecore_meta.specs.Names.{number_of}
 use Rattle.ecore_meta.specs.Typing.{in_width}
+use Rattle.ecore_meta.specs.declared.fault.ValueFault.{ValueFault}
+use Rattle.ecore_meta.specs.declared.fault.ValueFault.TheVariants.{Bad, Memory}
 use Rattle.ecore_meta.specs.declared.meta.EnumLiteral.{EnumLiteral}
 use Rattle.ecore_meta.specs.declared.meta.Scalar.{Scalar}
 use Rattle.ecore_meta.specs.declared.meta.Scalar.TheVariants.{Text as TextType, Flag as FlagType, Byte, Short, Int, Long, Literal as LiteralType}
@@ -83,3 +85,8 @@ default_of (LiteralType e) = Some (Literal 0)
 abbrev pub AreShort : List (List EnumLiteral) → Type 0
 AreShort [] = Unit {0}
 AreShort (ls ∷ literals) = (length ls < 4294967296) × AreShort literals
+
+-- why a text was not read: it stands for no value, or memory was wanting
+abbrev pub IsBad : Option Value → ValueFault → Type 0
+IsBad value Bad = value ≡ None
+IsBad value Memory = Unit {0}

@@ -1,5 +1,6 @@
 ghost use Rattle.std.specs.Prelude.{◌≡◌};
 ghost use Rattle.ecore_meta.specs.declared.fault.MetaFault.TheVariants.{Memory};
+ghost use Rattle.ecore_meta.specs.declared.fault.ValueFault.TheVariants.{Memory as MemoryFault};
 
 use std::alloc::AllocError;
 use thiserror::Error;
@@ -46,5 +47,22 @@ impl From<AllocError> for MetaFault {
 
     fn from(_: AllocError) -> MetaFault {
         MetaFault::Memory
+    }
+}
+
+/// Why a text gives no value.
+#[derive(Debug, Drop, Error)]
+pub enum ValueFault {
+    #[error("the text is no value of the type")]
+    Bad,
+    #[error("out of memory")]
+    Memory,
+}
+
+impl From<AllocError> for ValueFault {
+    ghost from_gives = { λ _ e. e ≡ MemoryFault };
+
+    fn from(_: AllocError) -> ValueFault {
+        ValueFault::Memory
     }
 }

@@ -20,7 +20,7 @@ mod text;
 mod values;
 
 pub use building::build;
-pub use fault::MetaFault;
+pub use fault::{MetaFault, ValueFault};
 pub use list::List;
 pub use meta::{Class, EnumLiteral, Feature, Kind, Scalar, Value};
 pub use metamodel::Metamodel;

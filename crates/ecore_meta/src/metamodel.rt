@@ -1,13 +1,17 @@
-ghost use Rattle.std.specs.Prelude.{◌≡◌, ◌<◌, length, map, slice_get, Some, nat_eq};
+ghost use Rattle.std.specs.Prelude.{◌≡◌, ◌<◌, IfErr, IfOk, IfSome, length, map, slice_get, Some, nat_eq};
 ghost use Rattle.std.specs.List.{list_any};
-ghost use Rattle.std.specs.Option.{option_map_or};
-ghost use Rattle.ecore_meta.specs.Meta.{has_feature, is_a};
-ghost use Rattle.ecore_meta.specs.Typing.{literal_count};
-ghost use Rattle.ecore_meta.specs.Values.{AreShort};
+ghost use Rattle.std.specs.Option.{option_copied, option_map_or};
+ghost use Rattle.ecore_meta.specs.Meta.{class_named, feature_named, first_named, has_feature, is_a, name_at};
+ghost use Rattle.ecore_meta.specs.Typing.{literal_count, literals_of};
+ghost use Rattle.ecore_meta.specs.Names.{number_of};
+ghost use Rattle.ecore_meta.specs.Values.{AreShort, IsBad, literal_in, literals_at, value_of};
 
-use crate::meta::{Class, EnumLiteral, Feature};
-use crate::values::at;
+use crate::fault::ValueFault;
+use crate::literals::literal_in;
+use crate::meta::{Class, EnumLiteral, Feature, Scalar, Value};
+use crate::values::{at, value_of};
 use crate::{Text, tables};
+use std::alloc::Global;
 use std::collections::BTreeSet;
 use std::marker::Model;
 
@@ -118,5 +122,103 @@ impl Metamodel {
         ensures { slice_get self.now.features n ≡ Some result.now }
     {
         &self.features[n as usize]
+    }
+}
+
+/// The place of the first class of that name.
+fn class_place(classes: &[Class], name: &str) -> Option<usize>
+    ensures place { result ≡ number_of name.now (map (λ c. c.name) classes.now) }
+    ensures within { IfSome result (λ n. n < length classes.now) }
+{
+    for (n, class) in classes.iter().enumerate() {
+        if class.name.as_str() == name {
+            return Some(n);
+        }
+    }
+    None
+}
+
+impl Metamodel {
+    /// The class of that name.
+    pub fn class_named(&self, name: &str) -> Option<u32>
+        ensures { result ≡ class_named self.now name.now }
+    {
+        match class_place(self.classes.as_slice(), name) {
+            None => None,
+            Some(n) => Some(n as u32),
+        }
+    }
+
+    /// The literal of an enum that has this text, or else the one that has this name.
+    pub fn literal_named(&self, e: u32, text: &str) -> Option<u32>
+        ensures { result ≡ literal_in (literals_of self.now e) text.now }
+    {
+        literal_number(self.literals.as_slice(), e, text)
+    }
+
+    /// The value of the type that a default text stands for.
+    pub fn parse_value(
+        &self,
+        alloc: Global,
+        scalar: &Scalar,
+        text: &str,
+    ) -> Result<Value, ValueFault>
+        ensures value { IfOk result (λ v. value_of self.now.literals scalar.now text.now ≡ Some v) }
+        ensures bad { IfErr result (IsBad (value_of self.now.literals scalar.now text.now)) }
+    {
+        match value_of(alloc, self.literals.as_slice(), scalar, text)? {
+            None => Err(ValueFault::Bad),
+            Some(value) => Ok(value),
+        }
+    }
+}
+
+fn literal_number(literals: &[Vec<EnumLiteral>], e: u32, text: &str) -> Option<u32>
+    requires { AreShort (map (λ ls. ls.items) literals.now) }
+    ensures { result ≡ literal_in (literals_at (map (λ ls. ls.items) literals.now) e) text.now }
+{
+    match at(literals, e) {
+        Some(literals) => literal_in(literals.as_slice(), text),
+        None => None,
+    }
+}
+
+fn name_at(features: &[Feature], n: u32) -> &str
+    ensures { result.now ≡ name_at features.now n }
+{
+    match feature_at(features, n) {
+        None => "",
+        Some(feature) => feature.name.as_str(),
+    }
+}
+
+fn feature_at(features: &[Feature], n: u32) -> Option<&Feature>
+    ensures { option_copied result ≡ slice_get features.now n }
+{
+    features.get(n as usize)
+}
+
+fn with_name(features: &[Feature], numbers: &[u32], name: &str) -> Option<u32>
+    ensures { result ≡ first_named features.now numbers.now name.now }
+{
+    for n in numbers {
+        if name_at(features, *n) == name {
+            return Some(*n);
+        }
+    }
+    None
+}
+
+impl Metamodel {
+    /// The feature of that name that the class has, its own or inherited.
+    pub fn feature_named(&self, class: u32, name: &str) -> Option<u32>
+        requires { class < length self.now.classes }
+        ensures { result ≡ feature_named self.now class name.now }
+    {
+        with_name(
+            self.features.as_slice(),
+            self.classes[class as usize].features.as_slice(),
+            name,
+        )
     }
 }

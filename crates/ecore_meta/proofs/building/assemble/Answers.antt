@@ -1,4 +1,4 @@
-use Rattle.std.proofs.Common.{◌≡◌, ◌∙◌, List, ap, subst, sym, arith, map, length}
+use Rattle.std.proofs.Common.{◌∙◌, List, ap, subst, sym, arith, map, length}
 use Rattle.std.proofs.lemmas.List.{length-map}
 use Rattle.ecore_meta.specs.Values.{AreShort}
 use Rattle.ecore_meta.specs.declared.meta.EnumLiteral.{EnumLiteral}

@@ -1,5 +1,4 @@
-use Rattle.std.proofs.Common.{◌≡◌, ◌∙◌, Bool, true, false, List, ap, subst, sym, arith, map, length}
-use Rattle.std.specs.Prelude.{None, Some}
+use Rattle.std.proofs.Common.{◌∙◌, List, ap, subst, sym, arith, map, length}
 use Rattle.std.specs.List.{list_any}
 use Rattle.ecore_meta.specs.Document.{Rows, feature_total}
 use Rattle.ecore_meta.specs.Faults.{IsFault, any_from, bad_bound, bad_default, fault, is_self, is_unanswered, literals_in}

@@ -1,4 +1,4 @@
-use Rattle.std.proofs.Common.{◌≡◌, ◌∙◌, ap, subst, sym, arith, map, length}
+use Rattle.std.proofs.Common.{◌∙◌, ap, subst, arith, map, length}
 use Rattle.std.proofs.lemmas.List.{length-map}
 use Rattle.ecore_meta.specs.Classifiers.{MayHave}
 use Rattle.ecore_meta.specs.Document.{supers_in}

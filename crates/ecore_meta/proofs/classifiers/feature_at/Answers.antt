@@ -1,5 +1,5 @@
-use Rattle.std.proofs.Common.{◌≡◌, ◌∙◌, ap, sym}
-use Rattle.std.specs.Prelude.{slice_get, Some}
+use Rattle.std.proofs.Common.{◌∙◌, ap, sym}
+use Rattle.std.specs.Prelude.{slice_get}
 use Rattle.ecore_meta.specs.Document.{number_in, numbered}
 use Rattle.ecore_meta.proofs.ClassifierLaws.{fits_at}
 use Rattle.ecore_meta.proofs.classifiers.feature_at.Goals as goal

@@ -1,4 +1,4 @@
-use Rattle.std.proofs.Common.{◌≡◌, ◌+◌, ◌≤◌, ◌++◌, drop, length}
+use Rattle.std.proofs.Common.{◌≡◌, ◌+◌, ◌≤◌, ◌++◌, drop}
 use Rattle.ecore_meta.specs.Document.{numbered, feature_total}
 use Rattle.ecore_meta.proofs.classifiers.number.Given as goal
 

@@ -1,5 +1,5 @@
 use Rattle.std.proofs.Common.{◌≡◌, drop}
-use Rattle.ecore_meta.specs.Faults.{any_from, is_self, is_unanswered}
+use Rattle.ecore_meta.specs.Faults.{any_from, is_unanswered}
 use Rattle.ecore_meta.proofs.faults.any_unanswered.Given as goal
 
 abbrev pub invariant-loop-n : goal.invariant-loop-n

@@ -1,4 +1,4 @@
-use Rattle.std.proofs.Common.{◌≡◌, ◌∙◌, map, arith}
+use Rattle.std.proofs.Common.{map, arith}
 use Rattle.ecore_meta.proofs.BuildLaws.{features_is}
 use Rattle.ecore_meta.proofs.features.all_features.Goals as goal
 

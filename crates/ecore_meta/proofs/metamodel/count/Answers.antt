@@ -1,4 +1,4 @@
-use Rattle.std.proofs.Common.{◌≡◌, ◌<◌, ◌∙◌, ap, arith, length}
+use Rattle.std.proofs.Common.{arith}
 use Rattle.std.specs.Prelude.{None, Some}
 use Rattle.ecore_meta.proofs.ParseLaws.{count_is, short_at}
 use Rattle.ecore_meta.proofs.metamodel.count.Goals as goal

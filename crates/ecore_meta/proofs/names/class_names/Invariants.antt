@@ -1,5 +1,4 @@
 use Rattle.std.proofs.Common.{◌≡◌, map, take}
-use Rattle.ecore_meta.specs.Document.{classifier_name}
 use Rattle.ecore_meta.proofs.names.class_names.Given as goal
 
 abbrev pub invariant-loop-class : goal.invariant-loop-class

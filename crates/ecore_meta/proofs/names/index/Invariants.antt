@@ -1,4 +1,4 @@
-use Rattle.std.proofs.Common.{◌≡◌, ℕ, List, take, map, false}
+use Rattle.std.proofs.Common.{◌≡◌, take, map, false}
 use Rattle.std.specs.BTreeMap.{get_by_text}
 use Rattle.ecore_meta.specs.Names.{Name, has_repeat, number_of}
 use Rattle.ecore_meta.proofs.names.index.Given as goal

@@ -1,9 +1,9 @@
-use Rattle.std.proofs.Common.{◌≡◌, ◌∙◌, ℕ, List, [], ◌∷◌, ◌++◌, ◌<◌, ◌≤◌, length, map, sym, ap, subst, arith}
+use Rattle.std.proofs.Common.{◌∙◌, ℕ, List, [], ◌∷◌, ◌++◌, ◌<◌, length, map, sym, ap, subst, arith}
 use Rattle.std.proofs.lemmas.List.{length-map}
 use Rattle.std.specs.List.{list_any}
 use Rattle.std.specs.Ordering.{nat_cmp}
 use Rattle.std.specs.BTreeMap.{is_at}
-use Rattle.ecore_meta.specs.Supers.{Reached, Grown, is_above, supers_of}
+use Rattle.ecore_meta.specs.Supers.{Grown, is_above, supers_of}
 use Rattle.ecore_meta.proofs.RisingLaws.{keys_are}
 use Rattle.ecore_meta.proofs.SuperLaws.{Walked, walk_first, walk_more, walk_ends, walk_small, walk_at, supers_at, reached_first, same_default}
 use Rattle.ecore_meta.proofs.supers.above.Goals as goal

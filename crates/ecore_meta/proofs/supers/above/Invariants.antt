@@ -1,4 +1,4 @@
-use Rattle.std.proofs.Common.{ℕ, ◌-◌, length, map}
+use Rattle.std.proofs.Common.{◌-◌, length, map}
 use Rattle.ecore_meta.proofs.SuperLaws.{Walked}
 use Rattle.ecore_meta.proofs.supers.above.Given as goal
 

@@ -1,7 +1,6 @@
-use Rattle.std.proofs.Common.{◌≡◌, ◌∙◌, sym, ap, subst, List, ℕ, [], ◌∷◌, true}
-use Rattle.std.specs.List.{list_any}
+use Rattle.std.proofs.Common.{sym, subst, List, ℕ, [], ◌∷◌}
 use Rattle.ecore_meta.specs.Supers.{Reached, Grown}
-use Rattle.ecore_meta.proofs.SuperLaws.{grown_there, grown_one, reached_more}
+use Rattle.ecore_meta.proofs.SuperLaws.{grown_one, reached_more}
 use Rattle.ecore_meta.proofs.supers.reach.Goals as goal
 
 pub returns-clause-kept : goal.returns-clause-kept

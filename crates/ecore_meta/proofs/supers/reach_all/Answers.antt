@@ -1,6 +1,6 @@
-use Rattle.std.proofs.Common.{◌≡◌, ◌∙◌, ℕ, List, [], ◌∷◌, ◌++◌, sym, ap, subst, arith}
+use Rattle.std.proofs.Common.{ℕ, List, sym, subst, arith}
 use Rattle.std.proofs.lemmas.List.{take_more}
-use Rattle.ecore_meta.specs.Supers.{Reached, Grown}
+use Rattle.ecore_meta.specs.Supers.{Grown}
 use Rattle.ecore_meta.proofs.SuperLaws.{grown_none, grown_twice, grown_all}
 use Rattle.ecore_meta.proofs.supers.reach_all.Goals as goal
 

@@ -1,9 +1,9 @@
-use Rattle.std.proofs.Common.{◌≡◌, ◌++◌, ◌∷◌, [], ◌∙◌, List, ℕ, sym, ap, subst, arith, map, length, length-append, ◌+◌}
-use Rattle.std.proofs.lemmas.List.{length-map, map-append}
+use Rattle.std.proofs.Common.{◌∷◌, [], ◌∙◌, List, ℕ, sym, ap, subst, arith, map, length, length-append, ◌+◌}
+use Rattle.std.proofs.lemmas.List.{length-map}
 use Rattle.std.specs.List.{filter, range_with_len}
 use Rattle.std.specs.BTreeSet.{BTreeSet}
 use Rattle.ecore_meta.specs.Supers.{is_above}
-use Rattle.ecore_meta.proofs.TableLaws.{has_more, has_all, map_more, rising_more, HasBelow}
+use Rattle.ecore_meta.proofs.TableLaws.{has_more, has_all, rising_more, HasBelow}
 use Rattle.ecore_meta.proofs.tables.all_above.Goals as goal
 
 pub loop-class-preserved : goal.loop-class-preserved

@@ -1,4 +1,4 @@
-use Rattle.std.proofs.Common.{◌≡◌, ◌++◌, ◌∷◌, [], ◌∙◌, ◌+◌, sym, ap}
+use Rattle.std.proofs.Common.{◌++◌, ◌∷◌, [], ◌∙◌, ◌+◌, sym, ap}
 use Rattle.ecore_meta.proofs.TableLaws.{range_more}
 use Rattle.ecore_meta.proofs.tables.numbers.Goals as goal
 

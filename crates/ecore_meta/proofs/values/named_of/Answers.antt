@@ -1,4 +1,4 @@
-use Rattle.std.proofs.Common.{◌≡◌, ◌<◌, ◌∙◌, List, ap, sym, subst, length}
+use Rattle.std.proofs.Common.{◌<◌, ◌∙◌, List, ap, sym, subst, length}
 use Rattle.std.specs.Prelude.{Some, None}
 use Rattle.std.specs.Option.{option_map}
 use Rattle.ecore_meta.specs.Values.{literal_in}

@@ -1,4 +1,4 @@
-use Rattle.std.proofs.Common.{◌≡◌, ◌∙◌, ap, sym, subst, ℤ, FitsSigned}
+use Rattle.std.proofs.Common.{◌∙◌, ap, sym, subst, ℤ, FitsSigned}
 use Rattle.std.specs.Prelude.{nat_eq, slice_index, Some}
 use mir.Syntax.{w64}
 use Rattle.ecore_meta.proofs.ParseLaws.{fits_64, parsed, plus_none, read_fits, ok_of}
