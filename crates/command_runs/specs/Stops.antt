@@ -1,0 +1,28 @@
+-- What a stop may leave while commands run. 'stands x events' says that the bytes x of a file stand for these events.
+use Rattle.std.specs.Prelude.{◌≡◌, ◌⊎◌, ℕ, ◌-◌, ◌≤◌, List, ◌++◌, Option, length, take}
+use Rattle.host_port.specs.Host.{Disk, MayLeave}
+use Rattle.command_runs.specs.Runs.{listed}
+
+-- whatever a stop leaves has P
+abbrev pub StopLeaves : (List ℕ → Type 0) → Disk → Type 0
+StopLeaves P disk = (x : List ℕ) → MayLeave disk x → P x
+
+-- the file stands for the first events and some of those that were made since: at least so many, and none in part
+pub record IsAmong {E : Type 0} (stands : List ℕ → List E → Type 0) (first made : List E) (least : ℕ) (x : List ℕ) : Type 0 where
+  pub count : ℕ
+  pub least_is : least ≤ count
+  pub most_is : count ≤ length made
+  pub stands_for : stands x (first ++ take count made)
+
+-- At a moment of a run, where before is what was said before it: whatever a stop leaves stands for the first events and
+-- some of those made, with all that are answered by then. How many these are at least is a function of how much was said.
+abbrev pub IsRunning : {E : Type 0} → (List ℕ → List E → Type 0) → List E → List E → (ℕ → ℕ) → List ℕ → Disk → List ℕ → Type 0
+IsRunning stands first made least before disk said = StopLeaves (IsAmong stands first made (least (length said - length before))) disk
+
+-- the same from the end of the first sync on: until then the disk is that of the entry
+abbrev pub IsOpenedRunning : {E : Type 0} → Disk → (List ℕ → List E → Type 0) → List E → List E → (ℕ → ℕ) → List ℕ → Disk → List ℕ → Type 0
+IsOpenedRunning entry stands first made least before disk said = (disk ≡ entry) ⊎ IsRunning stands first made least before disk said
+
+-- at a moment of one command: nothing of its reply is said yet, or whatever a stop leaves has its event
+abbrev pub IsStepping : {E : Type 0} → (List ℕ → List E → Type 0) → List E → Option E → List ℕ → Disk → List ℕ → Type 0
+IsStepping stands first event before disk said = StopLeaves (λ x. (stands x first × (said ≡ before)) ⊎ stands x (first ++ listed event)) disk
