@@ -41,7 +41,7 @@ module _ {S E : Type 0} (decide : S → Item → Answer E) (play : S → E → S
       → stands x (first ++ events decide play start done) → IsAmong stands first (events decide play start items) (answered decide play start items n) x
   among start first items done left x n is within stood =
       let split : events decide play start items ≡ events decide play start done ++ events decide play (played play start (events decide play start done)) left
-          = ap (events decide play start) is ∙ events-append decide play start done left in
+      = ap (events decide play start) is ∙ events-append decide play start done left in
       record {
         count = length (events decide play start done);
         least_is = subst (λ (l : List Item). answered decide play start l n ≤ length (events decide play start done)) (sym is) (answered-within decide play start done left n within);
@@ -89,6 +89,7 @@ module _ {S E : Type 0} (decide : S → Item → Answer E) (play : S → E → S
           quiet_part : GoesOn a b → KeepsSaid a b → Throughout entry b (λ disk said. AddsPart (said_now entry) (replies decide play start whole.items) said)
           quiet_part on said = carry_on entry a b (λ disk said. AddsPart (said_now entry) (replies decide play start whole.items) said) course on going.part
               (λ told t low high. let p = going.part (subst IsTrue course.tells told) a.clock course.clock (omega arith) in (p.0, said told t low high ∙ p.1))
+
           quiet_moments : GoesOn a b → KeepsDisk a b → KeepsSaid a b → ((events : List E) → rests events → StopLeaves (λ x. stands x events) (disk_now a))
               → Throughout entry b (IsRunning stands first (events decide play start whole.items) (answered decide play start whole.items) (said_now entry))
           quiet_moments on disk said leaves = carry_on entry a b (IsRunning stands first (events decide play start whole.items) (answered decide play start whole.items) (said_now entry)) course on going.moments
@@ -101,7 +102,7 @@ module _ {S E : Type 0} (decide : S → Item → Answer E) (play : S → E → S
         answer_is : decide state item ≡ decide (played play start (events decide play start going.done)) item
         answer_is = ap (λ (s : S). decide s item) going.state_is
 
-        items_more : whole.items ≡ (going.done ++ item ∷ []) ++ next.items
+        pub items_more : whole.items ≡ (going.done ++ item ∷ []) ++ next.items
         items_more = going.items ∙ ap (λ (l : Script). going.done ++ l.items) left_is ∙ sym (append_assoc going.done (item ∷ []) next.items)
 
         replies_done : replies decide play start (going.done ++ item ∷ []) ≡ replies decide play start going.done ++ (decide state item).reply
@@ -126,7 +127,7 @@ module _ {S E : Type 0} (decide : S → Item → Answer E) (play : S → E → S
             ∙ ap (λ (l : List ℕ). replies decide play start going.done ++ l) (take-append-le k (decide state item).reply _ (omega arith) ∙ take_min p.0 (decide state item).reply) in (
               length (replies decide play start going.done) + k,
               p.1 ∙ ap (λ (l : List ℕ). l ++ take p.0 (decide state item).reply) going.said ∙ append_assoc (said_now entry) (replies decide play start going.done) (take p.0 (decide state item).reply)
-              ∙ ap (λ (l : List ℕ). said_now entry ++ l) (sym cut),
+                  ∙ ap (λ (l : List ℕ). said_now entry ++ l) (sym cut),
             )
 
         moments_here : Throughout a b (IsRunning stands first (events decide play start whole.items) (answered decide play start whole.items) (said_now entry))
@@ -136,8 +137,16 @@ module _ {S E : Type 0} (decide : S → Item → Answer E) (play : S → E → S
             (λ (old, same). among start first whole.items going.done left.items x (length (b.said t) - length (said_now entry)) going.items
             (omega (arith, ap length same, ap length going.said, length-append (said_now entry) (replies decide play start going.done))) old)
             (λ new. among start first whole.items (going.done ++ item ∷ []) next.items x (length (b.said t) - length (said_now entry)) items_more
-            (omega (arith, ap length p.1, ap length going.said, length-append (said_now entry) (replies decide play start going.done), length-append (said_now a) (take p.0 (decide state item).reply),
-            length-take p.0 (decide state item).reply, ap length replies_done, length-append (replies decide play start going.done) (decide state item).reply))
+            (omega (
+              arith,
+              ap length p.1,
+              ap length going.said,
+              length-append (said_now entry) (replies decide play start going.done),
+              length-append (said_now a) (take p.0 (decide state item).reply),
+              length-take p.0 (decide state item).reply,
+              ap length replies_done,
+              length-append (replies decide play start going.done) (decide state item).reply,
+            ))
             (subst (λ (l : List E). stands x l) (append_assoc first (events decide play start going.done) (listed (decide state item).event) ∙ ap (λ (l : List E). first ++ l) (sym events_done)) new))
             (steps.moments (first ++ events decide play start going.done) going.rest told t low high x left_there)
 

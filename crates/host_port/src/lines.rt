@@ -1,5 +1,5 @@
 //! Lines, and blocks of lines, read from a host in pieces.
-ghost use Rattle.std.specs.Prelude.{◌≡◌, ◌<◌, ◌≤◌, ◌++◌, ◌↔◌, false, ℕ, [], List, Bool, IsTrue, IsErr, IfOk, OnOk, IfErr, IsErrOf, Ok};
+ghost use Rattle.std.specs.Prelude.{◌≡◌, ◌^◌, ◌<◌, ◌≤◌, ◌++◌, ◌↔◌, false, ℕ, [], List, Bool, IsTrue, IsErr, IfOk, OnOk, IfErr, IsErrOf, Ok};
 ghost use Rattle.std.specs.List.{slice_split};
 ghost use Rattle.host_port.specs.Host.{GoesOn, KeepsDisk, KeepsSaid, RaisesTakesAlone, Rose};
 ghost use Rattle.host_port.specs.Cut.{cut_block, script_from, is_lf, next_line_of};
@@ -116,6 +116,7 @@ impl Lines {
             (self.old.pending ++ (H.told host.old).left) (self.new.pending ++ (H.told host.new).left) self.old.place self.new.place) }
         ensures end { IsTrue (H.told host.old).tells → IfOk result (λ got. got ≡ Got.End → (H.told host.new).left ≡ []) }
         ensures advances { IfOk result (λ got. got ≡ Got.Line → self.old.place < self.new.place) }
+        ensures low { self.new.place ≤ 2 ^ 40 }
         ensures failed { IsTrue self.new.failed ↔ IsErr result }
         ensures course { GoesOn (H.told host.old) (H.told host.new) }
         ensures disk { KeepsDisk (H.told host.old) (H.told host.new) }
@@ -137,6 +138,7 @@ impl Lines {
             (script_from takes self.new.place (self.new.pending ++ (H.told host.new).left)) }
         ensures failed { IsTrue self.new.failed ↔ IsErr result }
         ensures later { self.old.place ≤ self.new.place }
+        ensures low { self.new.place ≤ 2 ^ 40 }
         ensures course { GoesOn (H.told host.old) (H.told host.new) }
         ensures disk { KeepsDisk (H.told host.old) (H.told host.new) }
         ensures said { KeepsSaid (H.told host.old) (H.told host.new) }

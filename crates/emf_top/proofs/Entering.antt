@@ -1,0 +1,82 @@
+-- How an event enters the store, at each moment and at the end.
+use Rattle.std.proofs.Common.{◌≡◌, ◌⊎◌, inl, inr, ⊎_elim, ℕ, ◌+◌, ◌≤◌, ◌^◌, Bool, true, false, ◌&&◌, List, [], ◌∷◌, ◌++◌, length, take, Option, Some, None, refl, sym, ◌∙◌, ap, subst, arith}
+use Rattle.std.specs.Prelude.{IsTrue, map}
+use Rattle.std.proofs.lemmas.List.{append-nil}
+use Rattle.host_port.specs.Host.{Told, Disk, MayLeave, GoesOn, Throughout, KeepsDisk, KeepsSaid, AddsPart, disk_now, said_now}
+use Rattle.host_port.proofs.Course.{carry_on, told_next, still_disk, still_said}
+use Rattle.commit_journal.specs.Journal.{StandsFor, IsAtRest, IsBeforeOrAfter}
+use Rattle.commit_journal.specs.Journal as journal
+use Rattle.commit_journal.proofs.Torn.{left_settled}
+use Rattle.commit_journal.proofs.Ends.{stands}
+use Rattle.command_runs.specs.Runs.{listed, played, after}
+use Rattle.command_runs.specs.Stops.{StopLeaves, IsStepping}
+use Rattle.command_runs.proofs.RunLaws.{played-append}
+use Rattle.plain_repository.specs.declared.Event.{Event}
+use Rattle.plain_repository.specs.Repository.{State, empty, form, play, playable, are_playable}
+use Rattle.plain_repository.specs.Store.{Stands, Rests}
+use Rattle.plain_repository.proofs.Forms.{and_left, and_right}
+use Rattle.emf_top.specs.Session.{Holds, IsEntering}
+
+pub map-more : (events : List Event) (event : Event) → map form (events ++ event ∷ []) ≡ map form events ++ form event ∷ []
+map-more [] event = refl
+map-more (e ∷ events) event = ap (λ (l : List (List ℕ)). form e ∷ l) (map-more events event)
+
+pub playable-more : (s : State) (events : List Event) (event : Event) → IsTrue (are_playable s events) → IsTrue (playable (played play s events) event) → IsTrue (are_playable s (events ++ event ∷ []))
+playable-more s [] event could can = subst (λ (b : Bool). IsTrue (b && true)) (sym can) refl
+playable-more s (e ∷ events) event could can = subst (λ (b : Bool). IsTrue (b && are_playable (play s e) (events ++ event ∷ []))) (sym (and_left _ _ could)) (playable-more (play s e) events event (and_right _ _ could) can)
+
+pub rest_leaves : (disk : Disk) (state : State) (end : ℕ) (made : List Event) → Holds disk state end made → StopLeaves (λ x. Stands x made) disk
+rest_leaves disk state end made holds x left = record {
+  forms = subst (λ (l : List ℕ). StandsFor l (map form made)) (sym (left_settled disk x holds.rests.journal.settled left)) (stands disk.now (map form made) end holds.rests.journal.ends);
+  playable = holds.rests.playable;
+}
+
+pub holds_stands : (disk : Disk) (state : State) (end : ℕ) (made : List Event) → Holds disk state end made → Stands disk.now made
+holds_stands disk state end made holds = record { forms = stands disk.now (map form made) end holds.rests.journal.ends; playable = holds.rests.playable }
+
+-- no event
+pub none_added : (disk : Disk) (state : State) (end : ℕ) (made : List Event) → Holds disk state end made → Holds disk state end (made ++ [])
+none_added disk state end made holds = subst (λ (l : List Event). Holds disk state end l) (sym (append-nil made)) holds
+
+pub none_entering : (a : Told) (state : State) (end : ℕ) (made : List Event) → Holds (disk_now a) state end made → Throughout a a (λ disk said. IsEntering made None disk)
+none_entering a state end made holds told t low high x left = inl (rest_leaves (disk_now a) state end made holds x (subst (λ d. MayLeave d x) (still_disk a told t low high) left))
+
+module _ (a b : Told) (state : State) (end : ℕ) (made : List Event) (event : Event) (can : IsTrue (playable state event)) (holds : Holds (disk_now a) state end made) where
+  could : IsTrue (are_playable empty (made ++ event ∷ []))
+  could = playable-more empty made event holds.rests.playable (subst (λ (s : State). IsTrue (playable s event)) holds.state_is can)
+
+  pub event_added : (disk : Disk) (next : State) (end_next : ℕ) (bytes : List ℕ) → bytes ≡ form event → next ≡ play state event → IsAtRest disk (map form made ++ bytes ∷ []) end_next → Holds disk next end_next (made ++ event ∷ [])
+  event_added disk next end_next bytes bytes_is next_is rest = record {
+    rests = record {
+      journal = subst (λ (l : List (List ℕ)). IsAtRest disk l end_next) (ap (λ (l : List ℕ). map form made ++ l ∷ []) bytes_is ∙ sym (map-more made event)) rest;
+      playable = could;
+    };
+    state_is = next_is ∙ ap (λ (s : State). play s event) holds.state_is ∙ sym (played-append play empty made (event ∷ []));
+  }
+
+  pub event_entering : (bytes : List ℕ) → bytes ≡ form event → Throughout a b (λ disk said. journal.StopLeaves (IsBeforeOrAfter (map form made) bytes) disk) → Throughout a b (λ disk said. IsEntering made (Some event) disk)
+  event_entering bytes bytes_is moments told t low high x left =
+      ⊎_elim
+      (λ old. inl (record { forms = old; playable = holds.rests.playable }))
+      (λ new. inr (record { forms = subst (λ (l : List (List ℕ)). StandsFor x l) (ap (λ (l : List ℕ). map form made ++ l ∷ []) bytes_is ∙ sym (map-more made event)) new; playable = could }))
+      (moments told t low high x left)
+
+-- the moments of a command
+module _ (a b : Told) (state : State) (end : ℕ) (made : List Event) (event : Option Event) where
+  -- nothing is written or said
+  pub quiet_step : Holds (disk_now a) state end made → KeepsDisk a b → KeepsSaid a b → Throughout a b (IsStepping Stands made event (said_now a))
+  quiet_step holds disk said told t low high x left = inl (rest_leaves (disk_now a) state end made holds x (subst (λ d. MayLeave d x) (disk told t low high) left), said told t low high)
+
+  -- the event is written
+  pub entering_step : Throughout a b (λ disk said. IsEntering made event disk) → KeepsSaid a b → Throughout a b (IsStepping Stands made event (said_now a))
+  entering_step moments said told t low high x left = ⊎_elim (λ old. inl (old, said told t low high)) (λ new. inr new) (moments told t low high x left)
+
+  -- the reply is said
+  pub say_step : (before : List ℕ) → Holds (disk_now a) state end (made ++ listed event) → KeepsDisk a b → Throughout a b (IsStepping Stands made event before)
+  say_step before holds disk told t low high x left = inr (rest_leaves (disk_now a) state end (made ++ listed event) holds x (subst (λ d. MayLeave d x) (disk told t low high) left))
+
+-- the bytes said after calls that said none
+pub say_part : (a b : Told) (before bytes reply : List ℕ) → bytes ≡ reply → (IsTrue a.tells → said_now a ≡ before) → Throughout a b (λ disk said. AddsPart (said_now a) bytes said) → Throughout a b (λ disk said. AddsPart before reply said)
+say_part a b before bytes reply is same part told t low high =
+    let p = part told t low high in
+    (p.0, p.1 ∙ ap (λ (l : List ℕ). l ++ take p.0 bytes) (same told) ∙ ap (λ (l : List ℕ). before ++ take p.0 l) is)

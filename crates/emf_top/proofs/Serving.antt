@@ -1,0 +1,227 @@
+-- The loop over the lines of the input.
+use Rattle.std.proofs.Common.{◌≡◌, ◌≢◌, ◌⊎◌, inl, inr, ℕ, ◌+◌, ◌<◌, ◌≤◌, ◌^◌, List, [], ◌∷◌, ◌++◌, Bool, true, false, ◌||◌, length, take, Option, Some, None, Result, Ok, Err, OnOk, append_assoc, refl, sym, ◌∙◌, ap, subst, arith}
+use Rattle.std.specs.Prelude.{IsTrue}
+use Rattle.std.specs.List.{after_first}
+use Rattle.std.proofs.lemmas.List.{append-nil}
+use Rattle.host_port.specs.Host.{Told, Disk, GoesOn, Throughout, KeepsDisk, KeepsSaid, KeepsInput, AddsPart, disk_now, said_now}
+use Rattle.host_port.specs.Cut.{Item, Script, is_lf, script_from, with_item, ends_by, next_line_of}
+use Rattle.host_port.specs.Reads.{GotLine, PastLine}
+use Rattle.host_port.specs.declared.lines.LineFault.{LineFault}
+use Rattle.host_port.specs.declared.lines.LineFault.TheVariants as faults
+use Rattle.host_port.proofs.Course.{course_on, course_still, told_next, kept_now}
+use Rattle.host_port.proofs.ScriptItems.{script_line, script_end, script_fault}
+use Rattle.command_runs.specs.Runs.{Answer, listed, played, after, replies, events, refuses, answered}
+use Rattle.command_runs.specs.Stops.{StopLeaves, IsRunning, IsStepping}
+use Rattle.command_runs.proofs.Going.{Going, Steps, quietly, begins, one_more, stepped_part, stepped_moments, events_done, items_more}
+use Rattle.plain_repository.specs.declared.Event.{Event}
+use Rattle.plain_repository.specs.Commands.{takes_block}
+use Rattle.plain_repository.specs.Repository.{State, decide, play}
+use Rattle.plain_repository.specs.Store.{Stands}
+use Rattle.emf_top.specs.declared.session.Answered.{Answered}
+use Rattle.emf_top.specs.declared.session.Answered.TheVariants.{Accepted, Refused}
+use Rattle.emf_top.specs.declared.session.SessionFault.{SessionFault}
+use Rattle.emf_top.specs.declared.session.SessionFault.TheVariants as session
+use Rattle.emf_top.specs.declared.top.Status.TheVariants.{ReadFault}
+use Rattle.emf_top.specs.Session.{Holds, IfMade, answered_as}
+use Rattle.emf_top.specs.Headline.{IsServed, IsUnsaid, Ends, input_status, session_status, end_of, outcome, said_by, made_by, refused_in, least_of}
+use Rattle.emf_top.proofs.Entering.{rest_leaves, holds_stands}
+use Rattle.emf_top.proofs.Answering.{line_item}
+
+-- a run between two commands, where the store rests
+abbrev pub Between : Told → Told → List Event → State → Script → Script → State → ℕ → Bool → Type 0
+Between entry now made s0 whole left state end refused = Going decide play Stands entry now made s0 whole left state refused (λ events. Holds (disk_now now) state end events)
+
+-- where the loop stands: the reader's place and its bytes at hand, the repository's state and the journal's end
+pub record Serving (entry now : Told) (s0 : State) (e0 : ℕ) (whole : Script) (failed : Bool) (place : ℕ) (pending : List ℕ) (refused : Bool) (state : State) (end : ℕ) (broken : Bool) : Type 0 where
+  pub fresh : failed ≡ false
+  pub unbroken : broken ≡ false
+  pub end_is : state.end ≡ end
+  pub course : GoesOn entry now
+  pub holds : IsTrue entry.tells → (made : List Event) × Holds (disk_now now) state end made
+  pub going : IsTrue entry.tells → (made : List Event) → Holds (disk_now entry) s0 e0 made → Between entry now made s0 whole (script_from takes_block place (pending ++ now.left)) state end refused
+
+pub serving_starts : (entry : Told) (s0 : State) (e0 : ℕ) (failed : Bool) (place : ℕ) (pending : List ℕ) (broken : Bool) → failed ≡ false → broken ≡ false → s0.end ≡ e0
+    → (IsTrue entry.tells → (made : List Event) × Holds (disk_now entry) s0 e0 made) → Serving entry entry s0 e0 (script_from takes_block place (pending ++ entry.left)) failed place pending false s0 e0 broken
+serving_starts entry s0 e0 failed place pending broken fresh unbroken end_is holds = record {
+  fresh = fresh;
+  unbroken = unbroken;
+  end_is = end_is;
+  course = course_still entry;
+  holds = holds;
+  going = λ told made rest. begins decide play Stands entry made s0 (script_from takes_block place (pending ++ entry.left)) (λ events. Holds (disk_now entry) s0 e0 events)
+      (λ holds_made. rest_leaves (disk_now entry) s0 e0 made holds_made) rest;
+}
+
+no_block : (line : List ℕ) → takes_block line ≡ false
+unfolding takes_block
+no_block line = refl
+
+-- the input was looked at
+module _ (entry a b : Told) (made : List Event) (s0 : State) (whole left : Script) (state : State) (end : ℕ) (refused : Bool) (going : Between entry a made s0 whole left state end refused)
+    (course : GoesOn entry a) (on : GoesOn a b) (disk : KeepsDisk a b) (said : KeepsSaid a b) (told : IsTrue entry.tells) where
+  pub looked : (next : Script) → left ≡ next → Between entry b made s0 whole next state end refused
+  looked next is = quietly decide play Stands entry made s0 whole a b left state refused (λ events. Holds (disk_now a) state end events) going course on disk said
+      (λ events holds. rest_leaves (disk_now a) state end events holds) told next (λ events. Holds (disk_now b) state end events) is
+      (λ events holds. subst (λ d. Holds d state end events) (sym (kept_now a b on disk (told_next entry a course told))) holds)
+
+-- the script ends there
+module _ (entry b : Told) (made : List Event) (s0 : State) (whole : Script) (state : State) (end : ℕ) (refused : Bool) (fault : Option LineFault) (going : Between entry b made s0 whole (ends_by fault) state end refused) where
+  all_done : whole.items ≡ going.done
+  all_done = going.items ∙ append-nil going.done
+
+  pub served : IsServed s0 whole made entry b
+  served = record {
+    said = going.said ∙ ap (λ (l : List Item). said_now entry ++ replies decide play s0 l) (sym all_done);
+    stands = subst (λ (l : List Item). Stands (disk_now b).now (made ++ events decide play s0 l)) (sym all_done) (holds_stands (disk_now b) state end (made ++ events decide play s0 going.done) going.rest);
+  }
+
+  pub outcome_is : outcome s0 whole ≡ end_of fault refused
+  outcome_is = ap (λ (f : Option LineFault). end_of f (refused_in s0 whole)) (sym going.fault) ∙ ap (λ (b : Bool). end_of fault b) (ap (λ (l : List Item). refuses decide play s0 l) all_done ∙ sym going.refused_is)
+
+-- a fault of the input
+module _ (entry a b : Told) (made : List Event) (s0 : State) (whole : Script) (place : ℕ) (unread text : List ℕ) (state : State) (end : ℕ) (refused : Bool)
+    (going : Between entry a made s0 whole (script_from takes_block place unread) state end refused)
+    (course : GoesOn entry a) (on : GoesOn a b) (disk : KeepsDisk a b) (said : KeepsSaid a b) (told : IsTrue entry.tells) where
+  at_fault : (fault : LineFault) → next_line_of place unread ≡ Err fault → IsServed s0 whole made entry b × (outcome s0 whole ≡ input_status fault)
+  at_fault fault is =
+      let there = looked entry a b made s0 whole (script_from takes_block place unread) state end refused going course on disk said told (ends_by (Some fault)) (script_fault takes_block place unread fault is) in
+      (served entry b made s0 whole state end refused (Some fault) there, outcome_is entry b made s0 whole state end refused (Some fault) there)
+
+  pub fault_ends : (fault : LineFault) → GotLine (Err fault) text (next_line_of place unread) → Ends s0 whole made entry b (input_status fault)
+  fault_ends (faults.LineTooLong at) is = at_fault (faults.LineTooLong at) is
+  fault_ends (faults.BlockTooLong at) is = at_fault (faults.BlockTooLong at) is
+  fault_ends (faults.NotText at) is = at_fault (faults.NotText at) is
+  fault_ends (faults.UnendedBlock at) is = at_fault (faults.UnendedBlock at) is
+  fault_ends (faults.InputTooLong at) is = at_fault (faults.InputTooLong at) is
+  fault_ends faults.Failed is = tt
+  fault_ends faults.Memory is = tt
+
+  pub end_ends : next_line_of place unread ≡ Ok None → IsServed s0 whole made entry b × (outcome s0 whole ≡ end_of None refused)
+  end_ends is =
+      let there = looked entry a b made s0 whole (script_from takes_block place unread) state end refused going course on disk said told (ends_by None) (script_end takes_block place unread is) in
+      (served entry b made s0 whole state end refused None there, outcome_is entry b made s0 whole state end refused None there)
+
+  pub looked_part : Throughout entry b (λ disk said. AddsPart (said_now entry) (said_by s0 whole) said)
+  looked_part = (looked entry a b made s0 whole (script_from takes_block place unread) state end refused going course on disk said told (script_from takes_block place unread) refl).part
+
+  pub looked_moments : Throughout entry b (IsRunning Stands made (made_by s0 whole) (least_of s0 whole) (said_now entry))
+  looked_moments = (looked entry a b made s0 whole (script_from takes_block place unread) state end refused going course on disk said told (script_from takes_block place unread) refl).moments
+
+  -- a line was read
+  pub at_line : (place_next : ℕ) (unread_next : List ℕ) → next_line_of place unread ≡ Ok (Some text) → PastLine unread unread_next place place_next
+      → Between entry b made s0 whole (with_item text None (script_from takes_block place_next unread_next)) state end refused
+  at_line place_next unread_next is past =
+      looked entry a b made s0 whole (script_from takes_block place unread) state end refused going course on disk said told (with_item text None (script_from takes_block place_next unread_next))
+      (script_line takes_block place place_next unread text is (no_block text) (ap (λ (l : List ℕ). place_next + length l) (sym past.unread) ∙ past.place)
+      ∙ ap (λ (l : List ℕ). with_item text None (script_from takes_block place_next l)) (sym past.unread))
+
+-- a line was answered
+module _ (entry b d : Told) (made : List Event) (s0 : State) (whole next : Script) (text : List ℕ) (state : State) (end : ℕ) (refused : Bool)
+    (going : Between entry b made s0 whole (with_item text None next) state end refused) (course : GoesOn entry b) (on : GoesOn b d)
+    (part : Throughout b d (λ disk said. AddsPart (said_now b) (decide state (line_item text)).reply said))
+    (moments : (events : List Event) → Holds (disk_now b) state end events → Throughout b d (IsStepping Stands events (decide state (line_item text)).event (said_now b))) where
+  steps : Steps Stands b d (decide state (line_item text)) (λ events. Holds (disk_now b) state end events)
+  steps = record { course = on; part = part; moments = moments }
+
+  pub answered_part : Throughout entry d (λ disk said. AddsPart (said_now entry) (said_by s0 whole) said)
+  answered_part = stepped_part decide play Stands entry made s0 whole b d (with_item text None next) state refused (λ events. Holds (disk_now b) state end events) going course (line_item text) next refl steps
+
+  pub answered_moments : Throughout entry d (IsRunning Stands made (made_by s0 whole) (least_of s0 whole) (said_now entry))
+  answered_moments = stepped_moments decide play Stands entry made s0 whole b d (with_item text None next) state refused (λ events. Holds (disk_now b) state end events) going course (line_item text) next refl steps
+
+  module _ (now : State) (end_next : ℕ) (added : (events : List Event) → Holds (disk_now b) state end events → Holds (disk_now d) now end_next (events ++ listed (decide state (line_item text)).event)) where
+    -- the reply was not said
+    pub unsaid : IsUnsaid s0 whole made entry d
+    unsaid = record {
+      done = going.done;
+      item = line_item text;
+      left = next.items;
+      items = items_more decide play Stands entry made s0 whole b d (with_item text None next) state refused (λ events. Holds (disk_now b) state end events) going course (line_item text) next refl steps;
+      stands = subst (λ (l : List Event). Stands (disk_now d).now l)
+          (append_assoc made (events decide play s0 going.done) (listed (decide state (line_item text)).event)
+          ∙ ap (λ (l : List Event). made ++ l) (sym (events_done decide play Stands entry made s0 whole b d (with_item text None next) state refused (λ events. Holds (disk_now b) state end events) going course (line_item text) next refl steps)))
+          (holds_stands (disk_now d) now end_next ((made ++ events decide play s0 going.done) ++ listed (decide state (line_item text)).event) (added (made ++ events decide play s0 going.done) going.rest));
+    }
+
+    -- the reply was said
+    pub answered_one : now ≡ after play state (decide state (line_item text)).event → said_now d ≡ said_now b ++ (decide state (line_item text)).reply
+        → Between entry d made s0 whole next now end_next (refused || (decide state (line_item text)).refused)
+    answered_one now_is said = subst (λ (s : State). Going decide play Stands entry d made s0 whole next s (refused || (decide state (line_item text)).refused) (λ events. Holds (disk_now d) now end_next events)) (sym now_is)
+        (one_more decide play Stands entry made s0 whole b d (with_item text None next) state refused (λ events. Holds (disk_now b) state end events) going course (line_item text) next refl steps
+        (λ events. Holds (disk_now d) now end_next events) said added)
+
+pub accepted_not : (refused r : Bool) → Accepted ≡ answered_as r → (refused || r) ≡ refused
+accepted_not true true is = refl
+accepted_not false true is = absurd cc
+accepted_not true false is = refl
+accepted_not false false is = refl
+
+pub refused_so : (refused r : Bool) → Refused ≡ answered_as r → (refused || r) ≡ true
+refused_so true true is = refl
+refused_so false true is = refl
+refused_so refused false is = absurd cc
+
+pub not_true : (b : Bool) → (IsTrue b → false ≡ true) → b ≡ false
+not_true true no_ = sym (no_ refl)
+not_true false no_ = refl
+
+pub status_failed : (fault : LineFault) → input_status fault ≡ ReadFault → fault ≡ faults.Failed
+status_failed (faults.LineTooLong at) is = absurd cc
+status_failed (faults.BlockTooLong at) is = absurd cc
+status_failed (faults.NotText at) is = absurd cc
+status_failed (faults.UnendedBlock at) is = absurd cc
+status_failed (faults.InputTooLong at) is = absurd cc
+status_failed faults.Failed is = refl
+status_failed faults.Memory is = absurd cc
+
+-- the loop at a line
+module _ (entry a b d : Told) (s0 : State) (e0 : ℕ) (whole : Script) (failed : Bool) (place : ℕ) (pending : List ℕ) (refused : Bool) (state : State) (end : ℕ) (broken : Bool)
+    (serving : Serving entry a s0 e0 whole failed place pending refused state end broken) (on : GoesOn a b) (disk : KeepsDisk a b) (said : KeepsSaid a b)
+    (text : List ℕ) (place_b : ℕ) (pending_b : List ℕ) (line : IsTrue a.tells → next_line_of place (pending ++ a.left) ≡ Ok (Some text))
+    (past : IsTrue a.tells → PastLine (pending ++ a.left) (pending_b ++ b.left) place place_b)
+    (step_on : GoesOn b d) (part : Throughout b d (λ disk said. AddsPart (said_now b) (decide state (line_item text)).reply said))
+    (moments : (events : List Event) → Holds (disk_now b) state end events → Throughout b d (IsStepping Stands events (decide state (line_item text)).event (said_now b))) where
+  course_b : GoesOn entry b
+  course_b = course_on entry a b serving.course on
+
+  line_between : IsTrue entry.tells → (made : List Event) → Holds (disk_now entry) s0 e0 made → Between entry b made s0 whole (with_item text None (script_from takes_block place_b (pending_b ++ b.left))) state end refused
+  line_between told made holds = at_line entry a b made s0 whole place (pending ++ a.left) text state end refused (serving.going told made holds) serving.course on disk said told place_b (pending_b ++ b.left)
+      (line (told_next entry a serving.course told)) (past (told_next entry a serving.course told))
+
+  pub line_part : (made : List Event) → Holds (disk_now entry) s0 e0 made → Throughout entry d (λ disk said. AddsPart (said_now entry) (said_by s0 whole) said)
+  line_part made holds told = answered_part entry b d made s0 whole (script_from takes_block place_b (pending_b ++ b.left)) text state end refused (line_between told made holds) course_b step_on part moments told
+
+  pub line_moments : (made : List Event) → Holds (disk_now entry) s0 e0 made → Throughout entry d (IsRunning Stands made (made_by s0 whole) (least_of s0 whole) (said_now entry))
+  line_moments made holds told = answered_moments entry b d made s0 whole (script_from takes_block place_b (pending_b ++ b.left)) text state end refused (line_between told made holds) course_b step_on part moments told
+
+  pub step_fault_ends : (fault : SessionFault) (now : State) (end_next : ℕ)
+      → IfMade (Err fault) (IsTrue b.tells → (events : List Event) → Holds (disk_now b) state end events → Holds (disk_now d) now end_next (events ++ listed (decide state (line_item text)).event))
+      → ((at : ℕ) → fault ≡ session.Damaged at → ⊥) → IsTrue entry.tells → (made : List Event) → Holds (disk_now entry) s0 e0 made → Ends s0 whole made entry d (session_status fault)
+  step_fault_ends session.DiskFault now end_next added never told made holds = tt
+  step_fault_ends session.SayFault now end_next added never told made holds =
+      unsaid entry b d made s0 whole (script_from takes_block place_b (pending_b ++ b.left)) text state end refused (line_between told made holds) course_b step_on part moments now end_next (added (told_next entry b course_b told))
+  step_fault_ends (session.Damaged at) now end_next added never told made holds = absurd (never at refl)
+  step_fault_ends session.Memory now end_next added never told made holds = tt
+
+  pub serving_on : (failed_b : Bool) (now : State) (end_next : ℕ) (broken_d refused_d : Bool) → (IsTrue failed_b → false ≡ true) → broken_d ≡ false → now.end ≡ end_next → KeepsInput b d
+      → (refused || (decide state (line_item text)).refused) ≡ refused_d → now ≡ after play state (decide state (line_item text)).event
+      → (IsTrue b.tells → said_now d ≡ said_now b ++ (decide state (line_item text)).reply)
+      → (IsTrue b.tells → (events : List Event) → Holds (disk_now b) state end events → Holds (disk_now d) now end_next (events ++ listed (decide state (line_item text)).event))
+      → Serving entry d s0 e0 whole failed_b place_b pending_b refused_d now end_next broken_d
+  serving_on failed_b now end_next broken_d refused_d fresh unbroken end_is input refused_is now_is replied added = record {
+    fresh = not_true failed_b fresh;
+    unbroken = unbroken;
+    end_is = end_is;
+    course = course_on entry b d course_b step_on;
+    holds = λ told.
+        let had = serving.holds told in
+        let told_b = told_next entry b course_b told in (
+          had.0 ++ listed (decide state (line_item text)).event,
+          added told_b had.0 (subst (λ x. Holds x state end had.0) (sym (kept_now a b on disk (told_next entry a serving.course told))) had.1),
+        );
+    going = λ told made holds.
+        subst (λ (l : List ℕ). Between entry d made s0 whole (script_from takes_block place_b (pending_b ++ l)) now end_next refused_d) (sym input.left)
+        (subst (λ (r : Bool). Between entry d made s0 whole (script_from takes_block place_b (pending_b ++ b.left)) now end_next r) refused_is
+        (answered_one entry b d made s0 whole (script_from takes_block place_b (pending_b ++ b.left)) text state end refused (line_between told made holds) course_b step_on part moments now end_next
+        (added (told_next entry b course_b told)) now_is (replied (told_next entry b course_b told))));
+  }

@@ -1,0 +1,108 @@
+-- What a run says and makes, and how it ends.
+use Rattle.std.specs.Prelude.{◌≡◌, ℕ, ◌+◌, List, [], ◌∷◌, ◌++◌, Bool, true, false, length, take, Option, Some, None, IsTrue}
+use Rattle.host_port.specs.Host.{Told, disk_now, said_now, Rose, KeepsSaid}
+use Rattle.host_port.specs.Cut.{Item, Script, script_of}
+use Rattle.host_port.specs.declared.lines.LineFault.{LineFault}
+use Rattle.host_port.specs.declared.lines.LineFault.TheVariants as faults
+use Rattle.command_runs.specs.Runs.{replies, events, refuses, answered}
+use Rattle.plain_repository.specs.declared.Event.{Event}
+use Rattle.plain_repository.specs.Commands.{takes_block}
+use Rattle.plain_repository.specs.Repository.{State, decide, play}
+use Rattle.plain_repository.specs.Store.{Stands, StandsForNoEvents, IsDamaged}
+use Rattle.emf_top.specs.declared.top.Status.{Status}
+use Rattle.emf_top.specs.declared.top.Status.TheVariants.{Accepted, Refused, BadWords, ReadFault, WriteFault, DiskFault, Damaged, Memory, Input}
+use Rattle.emf_top.specs.declared.session.SessionFault.{SessionFault}
+use Rattle.emf_top.specs.declared.session.SessionFault.TheVariants as session
+
+-- the script that an input is
+abbrev pub script : List ℕ → Script
+script input = script_of takes_block input
+
+-- what is said in reply to a script, which events it makes, and whether a reply is a refusal
+abbrev pub said_by : State → Script → List ℕ
+said_by s commands = replies decide play s commands.items
+
+abbrev pub made_by : State → Script → List Event
+made_by s commands = events decide play s commands.items
+
+abbrev pub refused_in : State → Script → Bool
+refused_in s commands = refuses decide play s commands.items
+
+-- how many events are answered once so many bytes were said
+abbrev pub least_of : State → Script → ℕ → ℕ
+least_of s commands = answered decide play s commands.items
+
+-- the answer to a fault of the input
+abbrev pub input_status : LineFault → Status
+input_status (faults.LineTooLong at) = Input 1 at
+input_status (faults.BlockTooLong at) = Input 2 at
+input_status (faults.NotText at) = Input 3 at
+input_status (faults.UnendedBlock at) = Input 4 at
+input_status (faults.InputTooLong at) = Input 5 at
+input_status faults.Failed = ReadFault
+input_status faults.Memory = Memory
+
+-- the answer to a script that is served to its end
+abbrev pub end_of : Option LineFault → Bool → Status
+end_of (Some fault) refused = input_status fault
+end_of None true = Refused
+end_of None false = Accepted
+
+abbrev pub outcome : State → Script → Status
+outcome s commands = end_of commands.fault (refused_in s commands)
+
+-- all of the replies were said, and the file stands for all of the events
+pub record IsServed (s : State) (commands : Script) (first : List Event) (before now : Told) : Type 0 where
+  pub said : said_now now ≡ said_now before ++ said_by s commands
+  pub stands : Stands (disk_now now).now (first ++ made_by s commands)
+
+-- the command whose reply was not said is kept, and so is each before it
+pub record IsUnsaid (s : State) (commands : Script) (first : List Event) (before now : Told) : Type 0 where
+  pub done : List Item
+  pub item : Item
+  pub left : List Item
+  pub items : commands.items ≡ (done ++ item ∷ []) ++ left
+  pub stands : Stands (disk_now now).now (first ++ events decide play s (done ++ item ∷ []))
+
+-- A run ends so, where the file stood for the first events. Of the answers with nothing here, what was said and what a
+-- stop leaves at each moment are told for all answers.
+abbrev pub Ends : State → Script → List Event → Told → Told → Status → Type 0
+Ends s commands first before now Accepted = IsServed s commands first before now × (outcome s commands ≡ Accepted) × (now.left ≡ [])
+Ends s commands first before now Refused = IsServed s commands first before now × (outcome s commands ≡ Refused) × (now.left ≡ [])
+Ends s commands first before now (Input fault at) = IsServed s commands first before now × (outcome s commands ≡ Input fault at)
+Ends s commands first before now WriteFault = IsUnsaid s commands first before now
+Ends s commands first before now (Damaged at) = ⊥
+Ends s commands first before now BadWords = ⊥
+Ends s commands first before now ReadFault = Unit {0}
+Ends s commands first before now DiskFault = Unit {0}
+Ends s commands first before now Memory = Unit {0}
+
+abbrev pub session_status : SessionFault → Status
+session_status session.DiskFault = DiskFault
+session_status session.SayFault = WriteFault
+session_status (session.Damaged at) = Damaged at
+session_status session.Memory = Memory
+
+abbrev pub code_of : Status → ℕ
+code_of Accepted = 0
+code_of Refused = 1
+code_of BadWords = 2
+code_of ReadFault = 3
+code_of WriteFault = 4
+code_of DiskFault = 5
+code_of (Damaged at) = 6
+code_of Memory = 7
+code_of (Input fault at) = 8
+
+-- no count of faults rose
+pub record NothingRose (before now : Told) : Type 0 where
+  pub take_faults : Rose before.take_faults now.take_faults → ⊥
+  pub say_faults : Rose before.say_faults now.say_faults → ⊥
+  pub disk_faults : Rose before.disk_faults now.disk_faults → ⊥
+
+-- a host that tells has a file that is damaged at a place and stands for no list of events; it stays so, and nothing is said
+pub record IsFoundDamaged (before now : Told) (at : ℕ) : Type 0 where
+  pub place : IsTrue before.tells → IsDamaged (disk_now before).now at
+  pub no_events : IsTrue before.tells → StandsForNoEvents (disk_now before).now
+  pub file : IsTrue before.tells → (disk_now now).now ≡ (disk_now before).now
+  pub said : KeepsSaid before now

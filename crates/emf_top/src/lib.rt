@@ -1,0 +1,11 @@
+//! All that the program does, as one call over a host.
+#![tactic(auto)]
+
+mod command;
+mod event;
+mod reply;
+mod repo;
+mod session;
+mod top;
+
+pub use top::{Status, run};

@@ -1,0 +1,228 @@
+//! One command after another: decided, written, made, and answered.
+ghost use Rattle.std.specs.Prelude.{◌≡◌, ◌≢◌, ◌⊎◌, ◌≤◌, ◌++◌, ℕ, List, None, IsTrue, IfOk, OnOk, IfErr, IsErrOf, string_bytes, false};
+ghost use Rattle.host_port.specs.Host.{disk_now, said_now, Rose, GoesOn, Throughout, KeepsDisk, KeepsSaid, KeepsInput, AddsPart};
+ghost use Rattle.command_runs.specs.Runs.{listed, after};
+ghost use Rattle.command_runs.specs.Stops.{IsStepping, StopLeaves};
+ghost use Rattle.plain_repository.specs.declared.Event.{Event};
+ghost use Rattle.plain_repository.specs.Replies.{is_refusal};
+ghost use Rattle.plain_repository.specs.Repository.{decide, decide_line, play};
+ghost use Rattle.plain_repository.specs.Store.{Stands, IsDamaged, StandsForNoEvents};
+ghost use Rattle.commit_journal.specs.Journal.{StandsForSame};
+ghost use Rattle.emf_top.specs.Session.{Holds, IsEntering, IsPlan, IsReady, IfMade, IfDamaged, answered_as, event_of_ready, fault_of};
+ghost use Rattle.emf_top.specs.declared.session.SessionFault.TheVariants.{DiskFault};
+
+use crate::command::is_skipped;
+use crate::reply::print_reply;
+use crate::repo::{Decision, Made, ReplayFault, Repo};
+use commit_journal::{Journal, JournalFault, Prepared, Walk};
+use host_port::Host;
+use plain_repository::Reply;
+use std::alloc::{AllocError, Global};
+use thiserror::Error;
+
+/// How a command was answered.
+#[derive(Clone, Copy, Debug, PartialEq, Eq)]
+pub enum Answered {
+    Accepted,
+    Refused,
+}
+
+/// Why a command was not answered, or the store not opened.
+#[derive(Clone, Copy, Debug, PartialEq, Eq, Error)]
+pub enum SessionFault {
+    #[error("the store failed")]
+    DiskFault,
+    #[error("the reply was not said")]
+    SayFault,
+    /// The file stands for no list of events; `at` is the place.
+    #[error("damaged at {at}")]
+    Damaged { at: u64 },
+    #[error("out of memory")]
+    Memory,
+}
+
+/// A store that is open, and its repository.
+#[derive(Drop)]
+pub struct Session {
+    pub repo: Repo,
+    pub journal: Journal,
+}
+
+/// An event, and its record.
+#[derive(Drop)]
+pub struct Ready {
+    pub made: Made,
+    pub prepared: Prepared,
+}
+
+/// All that answering a command takes: no memory is wanted any more.
+#[derive(Drop)]
+pub struct Plan {
+    pub reply: String,
+    pub answered: Answered,
+    pub ready: Option<Ready>,
+}
+
+fn kind_of(reply: &Reply) -> Answered
+    ensures { result ≡ answered_as (is_refusal reply.now) }
+{
+    match reply {
+        Reply::Ok { .. } => Answered::Accepted,
+        Reply::No { .. } => Answered::Refused,
+    }
+}
+
+fn session_fault(fault: JournalFault) -> SessionFault
+    ensures { result ≡ fault_of fault }
+{
+    match fault {
+        JournalFault::Damaged { at } => SessionFault::Damaged { at },
+        JournalFault::DiskFault => SessionFault::DiskFault,
+        JournalFault::Memory => SessionFault::Memory,
+    }
+}
+
+impl Session {
+    /// Opens the store: its records are read, and their events played.
+    pub fn mount<H: Host>(alloc: Global, host: &mut H) -> Result<Session, SessionFault>
+        ensures whole { IfOk result (λ s. s.journal.broken ≡ false) }
+        ensures end { IfOk result (λ s. s.repo.state.end ≡ s.journal.end) }
+        ensures holds { IfOk result (λ s. IsTrue (H.told host.old).tells → ((made : List Event) × Holds (disk_now (H.told host.new)) s.repo.state s.journal.end made × Stands (disk_now (H.told host.old)).now made)) }
+        ensures moments { Throughout (H.told host.old) (H.told host.new) (λ disk _. (disk ≡ disk_now (H.told host.old)) ⊎ StopLeaves (StandsForSame (disk_now (H.told host.old)).now) disk) }
+        ensures damaged { IfErr result (λ e. IfDamaged e (λ at. IsTrue (H.told host.old).tells → IsDamaged (disk_now (H.told host.old)).now at × StandsForNoEvents (disk_now (H.told host.old)).now × ((disk_now (H.told host.new)).now ≡ (disk_now (H.told host.old)).now))) }
+        ensures never { IfErr result (λ e. e ≢ SessionFault.SayFault) }
+        ensures cause { IsErrOf result SessionFault.DiskFault → Rose (H.told host.old).disk_faults (H.told host.new).disk_faults }
+        ensures course { GoesOn (H.told host.old) (H.told host.new) }
+        ensures said { KeepsSaid (H.told host.old) (H.told host.new) }
+        ensures input { KeepsInput (H.told host.old) (H.told host.new) }
+    {
+        let mut walk = match Walk::mount(host) {
+            Ok(walk) => walk,
+            Err(fault) => return Err(session_fault(fault)),
+        };
+        let mut repo = Repo::new(alloc);
+        'records: loop {
+            match walk.next_bytes(alloc, host) {
+                Err(fault) => return Err(session_fault(fault)),
+                Ok(None) => {
+                    return Ok(Session {
+                        repo,
+                        journal: walk.finish(),
+                    });
+                }
+                Ok(Some(bytes)) => match repo.replay(alloc, &bytes) {
+                    Ok(()) => {}
+                    Err(ReplayFault::NotPlayable) => {
+                        return Err(SessionFault::Damaged { at: walk.place() });
+                    }
+                    Err(ReplayFault::Memory) => return Err(SessionFault::Memory),
+                },
+            }
+        }
+    }
+
+    fn plan(&mut self, alloc: Global, line: &str) -> Result<Plan, AllocError>
+        requires end { self.old.repo.state.end ≡ self.old.journal.end }
+        ensures plan { IfOk result (IsPlan self.old.repo.state (decide_line self.old.repo.state line.now)) }
+        ensures state { self.new.repo.state ≡ self.old.repo.state }
+        ensures journal { self.new.journal ≡ self.old.journal }
+        ensures spare { OnOk result (1 ≤ self.new.repo.spare) }
+    {
+        let Decision { reply, made } = self.repo.decide(alloc, line)?;
+        let answered = kind_of(&reply);
+        let reply = print_reply(alloc, &reply)?;
+        let Some(made) = made else {
+            return Ok(Plan {
+                reply,
+                answered,
+                ready: None,
+            });
+        };
+        let prepared = self.journal.prepare(alloc, &made.form)?;
+        let ready = Some(Ready { made, prepared });
+        Ok(Plan {
+            reply,
+            answered,
+            ready,
+        })
+    }
+
+    /// Writes an event's record, if there is one, and makes the event.
+    fn enter<H: Host>(&mut self, host: &mut H, ready: Option<Ready>) -> Result<(), SessionFault>
+        requires whole { self.old.journal.broken ≡ false }
+        requires end { self.old.repo.state.end ≡ self.old.journal.end }
+        requires holds { IsTrue (H.told host.old).tells → ((made : List Event) × Holds (disk_now (H.told host.old)) self.old.repo.state self.old.journal.end made) }
+        requires ready { IsReady self.old.repo.state ready }
+        requires spare { 1 ≤ self.old.repo.spare }
+        ensures whole { OnOk result (self.new.journal.broken ≡ false) }
+        ensures end { OnOk result (self.new.repo.state.end ≡ self.new.journal.end) }
+        ensures state { OnOk result (self.new.repo.state ≡ after play self.old.repo.state (event_of_ready ready)) }
+        ensures added { OnOk result (IsTrue (H.told host.old).tells → (made : List Event) → Holds (disk_now (H.told host.old)) self.old.repo.state self.old.journal.end made
+            → Holds (disk_now (H.told host.new)) self.new.repo.state self.new.journal.end (made ++ listed (event_of_ready ready))) }
+        ensures entering { (made : List Event) → Holds (disk_now (H.told host.old)) self.old.repo.state self.old.journal.end made
+            → Throughout (H.told host.old) (H.told host.new) (λ disk _. IsEntering made (event_of_ready ready) disk) }
+        ensures fault { IfErr result (λ e. e ≡ DiskFault) }
+        ensures cause { IsErrOf result SessionFault.DiskFault → Rose (H.told host.old).disk_faults (H.told host.new).disk_faults }
+        ensures course { GoesOn (H.told host.old) (H.told host.new) }
+        ensures said { KeepsSaid (H.told host.old) (H.told host.new) }
+        ensures input { KeepsInput (H.told host.old) (H.told host.new) }
+    {
+        let Some(Ready { made, prepared }) = ready else {
+            return Ok(());
+        };
+        match self.journal.append(host, prepared) {
+            Ok(()) => {
+                self.repo.install(made);
+                Ok(())
+            }
+            Err(_) => Err(SessionFault::DiskFault),
+        }
+    }
+
+    /// Answers a line: its event is in the file before its reply is said.
+    pub fn step<H: Host>(
+        &mut self,
+        alloc: Global,
+        host: &mut H,
+        line: &str,
+    ) -> Result<Answered, SessionFault>
+        requires whole { self.old.journal.broken ≡ false }
+        requires end { self.old.repo.state.end ≡ self.old.journal.end }
+        requires holds { IsTrue (H.told host.old).tells → ((made : List Event) × Holds (disk_now (H.told host.old)) self.old.repo.state self.old.journal.end made) }
+        // The answer is the plain repository's.
+        ensures refused { IfOk result (λ a. a ≡ answered_as (decide self.old.repo.state (record { line = line.now; block = None })).refused) }
+        ensures replied { OnOk result (IsTrue (H.told host.old).tells → said_now (H.told host.new) ≡ said_now (H.told host.old) ++ (decide self.old.repo.state (record { line = line.now; block = None })).reply) }
+        ensures state { IfMade result (self.new.repo.state ≡ after play self.old.repo.state (decide self.old.repo.state (record { line = line.now; block = None })).event) }
+        ensures added { IfMade result (IsTrue (H.told host.old).tells → (made : List Event) → Holds (disk_now (H.told host.old)) self.old.repo.state self.old.journal.end made
+            → Holds (disk_now (H.told host.new)) self.new.repo.state self.new.journal.end (made ++ listed (decide self.old.repo.state (record { line = line.now; block = None })).event)) }
+        ensures whole { OnOk result (self.new.journal.broken ≡ false) }
+        ensures end { OnOk result (self.new.repo.state.end ≡ self.new.journal.end) }
+        // At each moment a front of the reply is said, and none of it before a stop leaves the event.
+        ensures part { Throughout (H.told host.old) (H.told host.new) (λ _ said. AddsPart (said_now (H.told host.old)) (decide self.old.repo.state (record { line = line.now; block = None })).reply said) }
+        ensures moments { (made : List Event) → Holds (disk_now (H.told host.old)) self.old.repo.state self.old.journal.end made
+            → Throughout (H.told host.old) (H.told host.new) (IsStepping Stands made (decide self.old.repo.state (record { line = line.now; block = None })).event (said_now (H.told host.old))) }
+        ensures course { GoesOn (H.told host.old) (H.told host.new) }
+        ensures input { KeepsInput (H.told host.old) (H.told host.new) }
+        ensures disk_cause { IsErrOf result SessionFault.DiskFault → Rose (H.told host.old).disk_faults (H.told host.new).disk_faults }
+        ensures say_cause { IsErrOf result SessionFault.SayFault → Rose (H.told host.old).say_faults (H.told host.new).say_faults }
+        ensures memory { IsErrOf result SessionFault.Memory → KeepsDisk (H.told host.old) (H.told host.new) × KeepsSaid (H.told host.old) (H.told host.new) }
+        ensures never { IfErr result (λ e. (at : ℕ) → e ≡ SessionFault.Damaged at → ⊥) }
+    {
+        if is_skipped(line) {
+            return Ok(Answered::Accepted);
+        }
+        let Ok(plan) = self.plan(alloc, line) else {
+            return Err(SessionFault::Memory);
+        };
+        let Plan {
+            reply,
+            answered,
+            ready,
+        } = plan;
+        self.enter(host, ready)?;
+        match host.say(reply.as_bytes()) {
+            Ok(()) => Ok(answered),
+            Err(_) => Err(SessionFault::SayFault),
+        }
+    }
+}

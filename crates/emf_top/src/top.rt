@@ -1,0 +1,184 @@
+//! The top call.
+ghost use Rattle.std.specs.Prelude.{◌≡◌, ◌≢◌, ◌⊎◌, ◌+◌, ◌≤◌, ◌↔◌, ◌++◌, false, ℕ, List, [], ◌∷◌, IsTrue, length, None};
+ghost use Rattle.host_port.specs.Host.{disk_now, said_now, Rose, GoesOn, Throughout, AddsPart};
+ghost use Rattle.host_port.specs.Cut.{script_from};
+ghost use Rattle.command_runs.specs.Runs.{played};
+ghost use Rattle.command_runs.specs.Stops.{IsRunning, IsOpenedRunning};
+ghost use Rattle.plain_repository.specs.declared.Event.{Event};
+ghost use Rattle.plain_repository.specs.Commands.{takes_block};
+ghost use Rattle.plain_repository.specs.Repository.{State, empty, play};
+ghost use Rattle.plain_repository.specs.Store.{Stands, StandsForNoEvents, IsDamaged};
+ghost use Rattle.emf_top.specs.Session.{Holds};
+ghost use Rattle.emf_top.specs.Headline.{script, said_by, made_by, least_of, outcome, code_of, Ends, input_status, session_status, NothingRose, IsFoundDamaged};
+
+use crate::session::{Answered, Session, SessionFault};
+use host_port::{Got, Host, LineFault, Lines};
+use std::alloc::Global;
+
+/// How a run ended.
+#[derive(Clone, Copy, Debug, PartialEq, Eq)]
+pub enum Status {
+    /// The input was read to its end, and no reply is a refusal.
+    Accepted,
+    /// The input was read to its end, and some reply is a refusal.
+    Refused,
+    /// The words are of no form.
+    BadWords,
+    /// The host failed to hand over input.
+    ReadFault,
+    /// The host failed to say a reply.
+    WriteFault,
+    /// A disk call of the host failed.
+    DiskFault,
+    /// The file stands for no list of events; `at` is the place, in bytes from 0.
+    Damaged { at: u64 },
+    /// No memory was left.
+    Memory,
+    /// The input is no script: the number of the fault, 1 to 5, and its place, in bytes from 0.
+    Input { fault: u32, at: u64 },
+}
+
+impl Status {
+    /// The program's exit status.
+    pub fn code(&self) -> u8
+        ensures code { result ≡ code_of self.now }
+    {
+        match self {
+            Status::Accepted => 0,
+            Status::Refused => 1,
+            Status::BadWords => 2,
+            Status::ReadFault => 3,
+            Status::WriteFault => 4,
+            Status::DiskFault => 5,
+            Status::Damaged { .. } => 6,
+            Status::Memory => 7,
+            Status::Input { .. } => 8,
+        }
+    }
+}
+
+fn status_of(fault: SessionFault) -> Status
+    ensures { result ≡ session_status fault }
+{
+    match fault {
+        SessionFault::DiskFault => Status::DiskFault,
+        SessionFault::SayFault => Status::WriteFault,
+        SessionFault::Damaged { at } => Status::Damaged { at },
+        SessionFault::Memory => Status::Memory,
+    }
+}
+
+fn status_of_input(fault: LineFault) -> Status
+    ensures { result ≡ input_status fault }
+{
+    match fault {
+        LineFault::LineTooLong { at } => Status::Input { fault: 1, at },
+        LineFault::BlockTooLong { at } => Status::Input { fault: 2, at },
+        LineFault::NotText { at } => Status::Input { fault: 3, at },
+        LineFault::UnendedBlock { at } => Status::Input { fault: 4, at },
+        LineFault::InputTooLong { at } => Status::Input { fault: 5, at },
+        LineFault::Failed => Status::ReadFault,
+        LineFault::Memory => Status::Memory,
+    }
+}
+
+/// All that the program does: it opens the store and answers the lines of the input, one after the other.
+pub fn run<H: Host>(alloc: Global, words: &[String], host: &mut H) -> Status
+    // What is said and kept, where the file stands for a list of events: with Accepted, Refused and Input all of the plain
+    // repository's replies to the input, and all of its events; with WriteFault the event whose reply failed.
+    ensures ends { IsTrue (H.told host.old).tells → length words.now ≡ 0 → (first : List Event) → Stands (disk_now (H.told host.old)).now first
+        → Ends (played play empty first) (script (H.told host.old).left) first (H.told host.old) (H.told host.new) result }
+    // At each moment a front of the replies is said.
+    ensures part { length words.now ≡ 0 → (first : List Event) → Stands (disk_now (H.told host.old)).now first
+        → Throughout (H.told host.old) (H.told host.new) (λ _ said. AddsPart (said_now (H.told host.old)) (said_by (played play empty first) (script (H.told host.old).left)) said) }
+    // At each moment whatever a stop leaves stands for the first events and some of the new ones, none in part, with all
+    // whose reply is begun; until the first sync has succeeded the disk is that of the entry.
+    ensures moments { length words.now ≡ 0 → (first : List Event) → Stands (disk_now (H.told host.old)).now first
+        → Throughout (H.told host.old) (H.told host.new) (IsOpenedRunning (disk_now (H.told host.old)) Stands first (made_by (played play empty first) (script (H.told host.old).left))
+        (least_of (played play empty first) (script (H.told host.old).left)) (said_now (H.told host.old))) }
+    // Where no count rises, it answers what the script comes to, or memory ran out.
+    ensures complete { IsTrue (H.told host.old).tells → length words.now ≡ 0 → (first : List Event) → Stands (disk_now (H.told host.old)).now first
+        → NothingRose (H.told host.old) (H.told host.new) → (result ≡ outcome (played play empty first) (script (H.told host.old).left)) ⊎ (result ≡ Status.Memory) }
+    ensures words { result ≡ Status.BadWords ↔ (length words.now ≢ 0) }
+    ensures untouched { result ≡ Status.BadWords → H.told host.new ≡ H.told host.old }
+    ensures read { result ≡ Status.ReadFault → Rose (H.told host.old).take_faults (H.told host.new).take_faults }
+    ensures write { result ≡ Status.WriteFault → Rose (H.told host.old).say_faults (H.told host.new).say_faults }
+    ensures disk { result ≡ Status.DiskFault → Rose (H.told host.old).disk_faults (H.told host.new).disk_faults }
+    // Damaged comes where the file stands for no list of events, with the exact place, and leaves all as it was.
+    ensures damaged { (at : ℕ) → result ≡ Status.Damaged at → IsFoundDamaged (H.told host.old) (H.told host.new) at }
+    ensures damages { IsTrue (H.told host.old).tells → length words.now ≡ 0 → StandsForNoEvents (disk_now (H.told host.old)).now
+        → ((at : ℕ) × (result ≡ Status.Damaged at)) ⊎ (result ≡ Status.DiskFault) ⊎ (result ≡ Status.Memory) }
+    ensures course { GoesOn (H.told host.old) (H.told host.new) }
+{
+    if !words.is_empty() {
+        return Status::BadWords;
+    }
+    run_store(alloc, host)
+}
+
+/// The run, once its words are read.
+fn run_store<H: Host>(alloc: Global, host: &mut H) -> Status
+    ensures ends { IsTrue (H.told host.old).tells → (first : List Event) → Stands (disk_now (H.told host.old)).now first
+        → Ends (played play empty first) (script (H.told host.old).left) first (H.told host.old) (H.told host.new) result }
+    ensures part { (first : List Event) → Stands (disk_now (H.told host.old)).now first
+        → Throughout (H.told host.old) (H.told host.new) (λ _ said. AddsPart (said_now (H.told host.old)) (said_by (played play empty first) (script (H.told host.old).left)) said) }
+    ensures moments { (first : List Event) → Stands (disk_now (H.told host.old)).now first
+        → Throughout (H.told host.old) (H.told host.new) (IsOpenedRunning (disk_now (H.told host.old)) Stands first (made_by (played play empty first) (script (H.told host.old).left))
+        (least_of (played play empty first) (script (H.told host.old).left)) (said_now (H.told host.old))) }
+    ensures words { result ≢ Status.BadWords }
+    ensures read { result ≡ Status.ReadFault → Rose (H.told host.old).take_faults (H.told host.new).take_faults }
+    ensures write { result ≡ Status.WriteFault → Rose (H.told host.old).say_faults (H.told host.new).say_faults }
+    ensures disk { result ≡ Status.DiskFault → Rose (H.told host.old).disk_faults (H.told host.new).disk_faults }
+    ensures damaged { (at : ℕ) → result ≡ Status.Damaged at → IsFoundDamaged (H.told host.old) (H.told host.new) at }
+    ensures damages { IsTrue (H.told host.old).tells → StandsForNoEvents (disk_now (H.told host.old)).now
+        → ((at : ℕ) × (result ≡ Status.Damaged at)) ⊎ (result ≡ Status.DiskFault) ⊎ (result ≡ Status.Memory) }
+    ensures course { GoesOn (H.told host.old) (H.told host.new) }
+{
+    let mut session = match Session::mount(alloc, host) {
+        Ok(session) => session,
+        Err(fault) => return status_of(fault),
+    };
+    let Ok(mut lines) = Lines::new(alloc) else {
+        return Status::Memory;
+    };
+    serve(alloc, host, &mut session, &mut lines)
+}
+
+/// Answers the lines that are left.
+fn serve<H: Host>(alloc: Global, host: &mut H, session: &mut Session, lines: &mut Lines) -> Status
+    requires fresh { lines.old.failed ≡ false }
+    requires whole { session.old.journal.broken ≡ false }
+    requires end { session.old.repo.state.end ≡ session.old.journal.end }
+    requires holds { IsTrue (H.told host.old).tells → ((made : List Event) × Holds (disk_now (H.told host.old)) session.old.repo.state session.old.journal.end made) }
+    ensures ends { IsTrue (H.told host.old).tells → (made : List Event) → Holds (disk_now (H.told host.old)) session.old.repo.state session.old.journal.end made
+        → Ends session.old.repo.state (script_from takes_block lines.old.place (lines.old.pending ++ (H.told host.old).left)) made (H.told host.old) (H.told host.new) result }
+    ensures part { (made : List Event) → Holds (disk_now (H.told host.old)) session.old.repo.state session.old.journal.end made
+        → Throughout (H.told host.old) (H.told host.new) (λ _ said. AddsPart (said_now (H.told host.old)) (said_by session.old.repo.state (script_from takes_block lines.old.place (lines.old.pending ++ (H.told host.old).left))) said) }
+    ensures moments { (made : List Event) → Holds (disk_now (H.told host.old)) session.old.repo.state session.old.journal.end made
+        → Throughout (H.told host.old) (H.told host.new) (IsRunning Stands made (made_by session.old.repo.state (script_from takes_block lines.old.place (lines.old.pending ++ (H.told host.old).left)))
+        (least_of session.old.repo.state (script_from takes_block lines.old.place (lines.old.pending ++ (H.told host.old).left))) (said_now (H.told host.old))) }
+    ensures words { result ≢ Status.BadWords }
+    ensures read { result ≡ Status.ReadFault → Rose (H.told host.old).take_faults (H.told host.new).take_faults }
+    ensures write { result ≡ Status.WriteFault → Rose (H.told host.old).say_faults (H.told host.new).say_faults }
+    ensures disk { result ≡ Status.DiskFault → Rose (H.told host.old).disk_faults (H.told host.new).disk_faults }
+    ensures damaged { (at : ℕ) → result ≢ Status.Damaged at }
+    ensures course { GoesOn (H.told host.old) (H.told host.new) }
+{
+    let mut refused = false;
+    'commands: loop {
+        match lines.next_line(host) {
+            Err(fault) => return status_of_input(fault),
+            Ok(Got::End) => {
+                if refused {
+                    return Status::Refused;
+                }
+                return Status::Accepted;
+            }
+            Ok(Got::Line) => match session.step(alloc, host, lines.text()) {
+                Ok(Answered::Accepted) => {}
+                Ok(Answered::Refused) => refused = true,
+                Err(fault) => return status_of(fault),
+            },
+        }
+    }
+}

@@ -1,0 +1,4 @@
+pub mod Commands
+pub mod Replies
+pub mod Repository
+pub mod Store
