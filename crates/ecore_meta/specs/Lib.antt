@@ -5,6 +5,7 @@ pub mod Drafts
 pub mod Faults
 pub mod Meta
 pub mod Names
+pub mod Sound
 pub mod Supers
 pub mod Tables
 pub mod Typing
