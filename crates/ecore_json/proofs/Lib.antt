@@ -1,0 +1,6 @@
+pub mod Prefixes
+pub mod Values
+pub mod Walking
+pub mod Sizes
+pub mod Counts
+pub mod Gives

@@ -1,0 +1,7 @@
+use Rattle.std.proofs.Common.{◌≡◌, ◌++◌, map, drop}
+use Rattle.serde_json.specs.View.{view}
+use Rattle.ecore_json.specs.Rows.{feature_row}
+use Rattle.ecore_json.proofs.rows.feature_rows.Given as goal
+
+abbrev pub invariant-loop-value : goal.invariant-loop-value
+invariant-loop-value l = l.rows ++ map (feature_row l.own) (map view (drop l.value-index l.values)) ≡ map (feature_row l.own) (map view l.values)

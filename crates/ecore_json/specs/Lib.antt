@@ -1,0 +1,5 @@
+pub mod Table
+pub mod References
+pub mod Walk
+pub mod Rows
+pub mod Metamodel

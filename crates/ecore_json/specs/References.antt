@@ -1,0 +1,73 @@
+-- Names, and the references that name a classifier, a type of Ecore or a feature.
+use Rattle.std.specs.Prelude.{ℕ, ◌==◌, ◌&&◌, ◌||◌, not, nat_le, Bool, false, List, [], ◌∷◌, length, codes, cond, Option, None, Some, is_some}
+use Rattle.std.specs.Char.{is_ascii_alphabetic, is_ascii_alphanumeric}
+use Rattle.std.specs.List.{list_all, before_first, after_first}
+use Rattle.std.specs.Str.{bytes_eq}
+
+abbrev pub Name : Type 0
+Name = List ℕ
+
+-- `_` and `$`
+abbrev pub is_mark : ℕ → Bool
+is_mark b = (b == 95) || (b == 36)
+
+abbrev pub is_name_byte : ℕ → Bool
+is_name_byte b = is_ascii_alphanumeric b || is_mark b
+
+-- a letter, `_` or `$`, and letters, digits, `_` and `$` behind it, at most 128 bytes
+abbrev pub is_name : Name → Bool
+is_name [] = false
+is_name (b ∷ bs) = (is_ascii_alphabetic b || is_mark b) && (nat_le (length bs) 127 && list_all is_name_byte bs)
+
+-- a name, and none of the keys that a model text keeps for itself
+abbrev pub is_feature_name : Name → Bool
+is_feature_name t = is_name t && not (bytes_eq t (codes "eClass") || bytes_eq t (codes "_id") || bytes_eq t (codes "$ref"))
+
+-- what stands behind the prefix
+abbrev pub behind : Name → Name → Option Name
+behind [] t = Some t
+behind (p ∷ ps) [] = None
+behind (p ∷ ps) (b ∷ bs) = cond (p == b) (behind ps bs) None
+
+abbrev pub if_name : Option Name → Option Name
+if_name None = None
+if_name (Some t) = cond (is_name t) (Some t) None
+
+-- the name behind the prefix
+unfoldable pub name_behind : Name → Name → Option Name
+name_behind prefix t = if_name (behind prefix t)
+
+abbrev pub or_else : {A : Type 0} → Option A → Option A → Option A
+or_else None next = next
+or_else (Some a) next = Some a
+
+-- the classifier that a reference names, behind `//`, `#//` or the package's own prefix
+unfoldable pub own_name : Name → Name → Option Name
+own_name own t = or_else (name_behind (codes "//") t) (or_else (name_behind (codes "#//") t) (name_behind own t))
+
+-- the type of Ecore that a reference names
+unfoldable pub ecore_name : Name → Option Name
+ecore_name t = name_behind (codes "http://www.eclipse.org/emf/2002/Ecore#//") t
+
+-- a reference names a type
+abbrev pub is_type_reference : Name → Name → Bool
+is_type_reference own t = is_some (ecore_name t) || is_some (own_name own t)
+
+abbrev pub is_slash : ℕ → Bool
+is_slash b = b == 47
+
+-- the names before and behind the first slash
+abbrev pub two_names : Name → Option (Name × Name)
+two_names t = cond (is_name (before_first is_slash t) && is_name (after_first is_slash t)) (Some (before_first is_slash t, after_first is_slash t)) None
+
+abbrev pub if_two : Option Name → Option (Name × Name)
+if_two None = None
+if_two (Some t) = two_names t
+
+-- a class and a feature behind the prefix
+unfoldable pub pair_behind : Name → Name → Option (Name × Name)
+pair_behind prefix t = if_two (behind prefix t)
+
+-- the class and the feature that a reference names
+unfoldable pub own_feature : Name → Name → Option (Name × Name)
+own_feature own t = or_else (pair_behind (codes "//") t) (or_else (pair_behind (codes "#//") t) (pair_behind own t))

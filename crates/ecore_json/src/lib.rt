@@ -1,0 +1,12 @@
+//! Ecore documents in JSON: a text is read as the metamodel that it says, or refused with its first fault.
+#![tactic(auto)]
+
+mod fault;
+mod read;
+mod reference;
+mod rows;
+mod table;
+mod walk;
+
+pub use fault::EcoreFault;
+pub use read::read_metamodel;
