@@ -1,15 +1,14 @@
 -- Readings that undo spellings, put together from those of their fields.
-use Rattle.std.proofs.Common.{◌≡◌, ◌⊎◌, inl, inr, ℕ, zero, suc, ◌+◌, ◌<◌, ◌≤◌, ◌^◌, List, [], ◌∷◌, ◌++◌, All, length, get_or, Bool, true, false, cond, nat_eq, nat_lt, Option, Some, None, Result, Ok, Err, refl, sym, ap, subst, ◌∙◌, append_assoc, append-nil, length-append, arith}
-use Rattle.std.specs.Int.{w32, w64}
+use Rattle.std.proofs.Common.{◌≡◌, ◌⊎◌, inl, inr, ℕ, zero, suc, ◌+◌, ◌<◌, ◌≤◌, List, [], ◌∷◌, ◌++◌, All, length, Bool, true, false, cond, nat_eq, nat_lt, Some, None, Result, Ok, Err, refl, sym, ap, subst, ◌∙◌, append_assoc, append-nil, length-append, arith}
 use Rattle.std.proofs.lemmas.Bool.{eqb-true, le-leb}
 use Rattle.std.proofs.lemmas.List.{get_or-append-add}
 use Rattle.std.proofs.lemmas.List.Elements.{All-cons}
 use Rattle.byte_form.specs.declared.reader.ReadFault.{ReadFault}
 use Rattle.byte_form.specs.declared.reader.ReadFault.TheVariants.{Spare}
 use Rattle.byte_form.specs.Rest.{Rest}
-use Rattle.byte_form.specs.Fields.{◌>>=◌, byte_at, number_at, text_at, text_form, ends_at, u32_form, u64_form}
-use Rattle.byte_form.specs.Laws.{at, IsReadAgain, IsSpelledSo, NoneBeginsAnother, StoodThere, AreBytes, IsBelow, IsShortText, byte_form}
-use Rattle.byte_form.proofs.FieldLemmas.{reached, ok_is, stands, apart, byte_again, byte_spelled, u32_again, u32_spelled, u64_again, u64_spelled, text_again, text_spelled}
+use Rattle.byte_form.specs.Fields.{◌>>=◌, byte_at, text_form, ends_at, u32_form, u64_form}
+use Rattle.byte_form.specs.Laws.{at, IsReadAgain, IsSpelledSo, StoodThere, AreBytes, IsBelow, IsShortText, byte_form}
+use Rattle.byte_form.proofs.FieldLemmas.{reached, ok_is, stands, byte_again, byte_spelled, u32_again, u32_spelled, u64_again, u64_spelled, text_again, text_spelled}
 use Rattle.op_form.specs.declared.fault.FormFault.{FormFault}
 use Rattle.op_form.specs.declared.fault.FormFault.TheVariants.{NotForm}
 use Rattle.op_form.specs.Reading.{Reading, field, made, ◌⊗◌, u8_at, u32_at, u64_at, any_text_at, option_at, option_of, option_form, items_at, items_form, list_at, some_at, list_form}

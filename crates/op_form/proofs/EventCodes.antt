@@ -1,13 +1,11 @@
 -- Events: read again, and spelled so.
-use Rattle.std.proofs.Common.{◌≡◌, ◌⊎◌, inl, inr, ℕ, ◌+◌, List, [], ◌∷◌, ◌++◌, length, true, false, cond, nat_eq, Result, Ok, Err, refl}
-use Rattle.byte_form.specs.Rest.{Rest}
-use Rattle.byte_form.specs.Fields.{◌>>=◌, byte_at}
+use Rattle.std.proofs.Common.{inl, inr, nat_eq, Ok, Err, refl}
+use Rattle.byte_form.specs.Fields.{byte_at}
 use Rattle.byte_form.specs.Laws.{IsReadAgain, IsSpelledSo}
 use Rattle.byte_form.proofs.FieldLemmas.{reached}
 use Rattle.op_form.specs.declared.fault.FormFault.TheVariants.{NotForm}
-use Rattle.op_form.specs.declared.event.Event.{Event}
 use Rattle.op_form.specs.declared.event.Event.TheVariants.{Init, Checkout, Edit, Begin, End, Undo, Discard}
-use Rattle.op_form.specs.Reading.{made, ◌⊗◌, u8_at, u32_at, any_text_at}
+use Rattle.op_form.specs.Reading.{made, u8_at, u32_at}
 use Rattle.op_form.specs.Events.{init_at, checkout_at, edit_at, begin_at, event_of, event_at, event_form}
 use Rattle.op_form.specs.Laws.{IsEvent}
 use Rattle.op_form.proofs.Codes.{Codes, both, either, u32_codes, text_codes, made_again, made_spelled, byte_stood}

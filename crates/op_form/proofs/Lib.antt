@@ -5,3 +5,4 @@ pub mod ValueCodes
 pub mod StepCodes
 pub mod PackageCodes
 pub mod EventCodes
+pub mod Reversals

@@ -1,24 +1,22 @@
 -- Operations and packages: read again, and spelled so.
-use Rattle.std.proofs.Common.{◌≡◌, ◌⊎◌, inl, inr, ℕ, suc, zero, ◌+◌, ◌<◌, ◌≤◌, List, [], ◌∷◌, ◌++◌, length, Bool, ◌&&◌, true, false, cond, nat_eq, nat_le, Option, Some, None, Result, Ok, Err, refl, sym, ap, subst, ◌∙◌, arith, IsAscii}
+use Rattle.std.proofs.Common.{◌≡◌, inl, inr, ℕ, suc, zero, ◌<◌, List, [], ◌∷◌, length, ◌&&◌, true, nat_eq, nat_le, Option, Some, None, Ok, Err, refl, ap, subst, arith, IsAscii}
 use Rattle.std.specs.List.{list_all}
 use Rattle.std.specs.Char.{is_ascii_alphabetic}
 use Rattle.std.proofs.lemmas.Bool.{leb-true}
 use Rattle.std.proofs.lemmas.Str.{IsUtf8-from_ascii}
 use Rattle.byte_form.specs.Rest.{Rest}
-use Rattle.byte_form.specs.Fields.{◌>>=◌, byte_at, text_form}
-use Rattle.byte_form.specs.Laws.{at, IsReadAgain, IsSpelledSo, StoodThere, AreBytes, IsShortText, IsBelow, byte_form}
-use Rattle.byte_form.proofs.FieldLemmas.{reached, ok_is, stands}
+use Rattle.byte_form.specs.Fields.{byte_at, text_form}
+use Rattle.byte_form.specs.Laws.{IsReadAgain, IsSpelledSo, StoodThere, IsShortText, IsBelow, byte_form}
+use Rattle.byte_form.proofs.FieldLemmas.{reached, ok_is}
 use Rattle.model_state.specs.Names.{is_name, is_name_byte}
 use Rattle.model_state.specs.declared.operation.OpKind.{OpKind}
 use Rattle.model_state.specs.declared.operation.OpKind.TheVariants as kinds
-use Rattle.model_state.specs.declared.operation.Operation.{Operation}
 use Rattle.model_state.specs.declared.operation.Operation.TheVariants.{Simple, Composite}
 use Rattle.op_form.specs.declared.fault.FormFault.TheVariants.{NotForm}
-use Rattle.op_form.specs.Reading.{Reading, made, ◌⊗◌, u8_at, list_form}
-use Rattle.op_form.specs.Steps.{step_form}
+use Rattle.op_form.specs.Reading.{u8_at}
 use Rattle.op_form.specs.Packages.{kind_of, kind_from, kind_at, kind_byte, kind_form, name_at, simple_at, composite_at, operation_of, operation_at, operation_form, package_at, package_form}
 use Rattle.op_form.specs.Laws.{IsNameText, IsOperation, IsPackage}
-use Rattle.op_form.proofs.Codes.{Codes, both, either, u8_codes, some_codes, list_codes, made_again, made_spelled, byte_stood}
+use Rattle.op_form.proofs.Codes.{Codes, both, either, some_codes, list_codes, made_again, made_spelled, byte_stood}
 use Rattle.op_form.proofs.ValueCodes.{and_both, told_again, told_spelled}
 use Rattle.op_form.proofs.StepCodes.{step_codes}
 

@@ -1,17 +1,13 @@
 -- Steps: read again, and spelled so. One line a kind.
-use Rattle.std.proofs.Common.{◌≡◌, ◌⊎◌, inl, inr, ℕ, ◌+◌, List, [], ◌∷◌, ◌++◌, length, true, false, cond, nat_eq, Option, Result, Ok, Err, refl, ap, ◌∙◌}
-use Rattle.byte_form.specs.Rest.{Rest}
-use Rattle.byte_form.specs.Fields.{◌>>=◌, byte_at, text_form}
-use Rattle.byte_form.specs.Laws.{at, IsReadAgain, IsSpelledSo, StoodThere, AreBytes}
+use Rattle.std.proofs.Common.{inl, inr, nat_eq, Ok, refl}
+use Rattle.byte_form.specs.Fields.{byte_at}
+use Rattle.byte_form.specs.Laws.{IsReadAgain, IsSpelledSo}
 use Rattle.byte_form.proofs.FieldLemmas.{reached}
-use Rattle.model_state.specs.declared.step.Step.{Step}
 use Rattle.model_state.specs.declared.step.Step.TheVariants.{Put, Ins, Del, Shift, Link, Unlink, RerankRow, New, Gone, Move, RerankPlace}
-use Rattle.op_form.specs.declared.fault.FormFault.TheVariants.{NotForm}
-use Rattle.op_form.specs.Reading.{Reading, made, ◌⊗◌, u8_at, u32_at, u64_at, option_at, option_form, list_at, list_form}
-use Rattle.op_form.specs.Values.{id_at, value_at, value_form, place_at, place_form}
+use Rattle.op_form.specs.Reading.{u8_at}
 use Rattle.op_form.specs.Steps.{put_at, ins_at, del_at, shift_at, link_at, unlink_at, rerank_row_at, new_at, gone_at, move_at, rerank_place_at, step_of, step_at, step_form}
 use Rattle.op_form.specs.Laws.{IsStep}
-use Rattle.op_form.proofs.Codes.{Codes, both, either, u8_codes, u32_codes, u64_codes, option_codes, list_codes, made_again, made_spelled, byte_stood}
+use Rattle.op_form.proofs.Codes.{Codes, both, either, u32_codes, u64_codes, option_codes, list_codes, made_again, made_spelled, byte_stood}
 use Rattle.op_form.proofs.ValueCodes.{id_codes, value_codes, place_codes}
 
 step_again : IsReadAgain IsStep step_form step_at

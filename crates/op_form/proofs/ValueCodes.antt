@@ -1,5 +1,5 @@
 -- Ids, values and places: read again, and spelled so.
-use Rattle.std.proofs.Common.{◌≡◌, ◌⊎◌, inl, inr, ℕ, zero, suc, ◌+◌, ◌-◌, ◌<◌, ◌≤◌, ◌^◌, ℤ, pos, negsuc, FitsSigned, List, [], ◌∷◌, ◌++◌, length, Bool, ◌&&◌, true, false, cond, nat_eq, nat_lt, nat_le, Option, Result, Ok, Err, refl, sym, ap, subst, ◌∙◌, arith, IsUtf8, IsAscii}
+use Rattle.std.proofs.Common.{◌≡◌, inl, inr, ℕ, zero, suc, ◌+◌, ◌<◌, ◌≤◌, ◌^◌, ℤ, pos, negsuc, FitsSigned, List, [], ◌∷◌, ◌++◌, length, Bool, ◌&&◌, true, false, cond, nat_eq, nat_lt, nat_le, Ok, Err, refl, ap, subst, ◌∙◌, arith, IsAscii}
 use Rattle.std.specs.Int.{w64, cast_signed, cast_unsigned}
 use Rattle.std.proofs.lemmas.Int.{to_z-of_z, of_z-to_z}
 use Rattle.std.proofs.lemmas.Bool.{leb-true}
@@ -7,19 +7,17 @@ use Rattle.std.proofs.lemmas.Str.{IsUtf8-from_ascii}
 use Rattle.std.specs.List.{list_all}
 use Rattle.byte_form.specs.Rest.{Rest}
 use Rattle.byte_form.specs.Fields.{◌>>=◌, byte_at, text_form, u64_form}
-use Rattle.byte_form.specs.Laws.{at, IsReadAgain, IsSpelledSo, StoodThere, AreBytes, IsShortText, IsBelow, byte_form}
+use Rattle.byte_form.specs.Laws.{at, IsReadAgain, IsSpelledSo, StoodThere, AreBytes, IsShortText}
 use Rattle.byte_form.proofs.FieldLemmas.{reached, ok_is, stands, not_less}
 use Rattle.ecore_meta.specs.declared.meta.Value.{Value}
 use Rattle.ecore_meta.specs.declared.meta.Value.TheVariants.{Text, Flag, Whole, Literal}
 use Rattle.model_state.specs.Ident.{is_id, is_id_byte, begins_as_id}
-use Rattle.model_state.specs.declared.step.Place.{Place}
 use Rattle.model_state.specs.declared.step.Place.TheVariants.{Root, Inside}
-use Rattle.op_form.specs.declared.fault.FormFault.{FormFault}
 use Rattle.op_form.specs.declared.fault.FormFault.TheVariants.{NotForm}
 use Rattle.op_form.specs.Reading.{Reading, made, ◌⊗◌, u8_at, u32_at, u64_at, any_text_at}
 use Rattle.op_form.specs.Values.{told_text, id_at, flag_of, flag_at, flag_form, value_of, value_at, value_form, place_of, place_at, place_form}
-use Rattle.op_form.specs.Laws.{IsIdText, IsU32, IsU64, IsValue, IsPlace}
-use Rattle.op_form.proofs.Codes.{Codes, both, either, u8_codes, u32_codes, u64_codes, text_codes, made_again, made_spelled, made_back, lone_spelled, byte_stood, are_bytes_behind}
+use Rattle.op_form.specs.Laws.{IsIdText, IsValue, IsPlace}
+use Rattle.op_form.proofs.Codes.{Codes, both, either, u32_codes, u64_codes, text_codes, made_again, made_spelled, lone_spelled, byte_stood, are_bytes_behind}
 
 -- texts that pass a test, where these are short texts
 module _ (test : List ℕ → Bool) (short : (text : List ℕ) → test text ≡ true → IsShortText text) (read : Reading (List ℕ)) where

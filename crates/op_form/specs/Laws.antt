@@ -1,7 +1,6 @@
 -- Which values have a spelling, and the laws of packages and events.
-use Rattle.std.specs.Prelude.{◌≡◌, ◌≢◌, ℕ, ◌<◌, ◌≤◌, ◌^◌, List, [], ◌∷◌, Option, Some, None, Result, Ok, Err, All, FitsSigned, length, true}
+use Rattle.std.specs.Prelude.{◌≡◌, ℕ, ◌<◌, ◌≤◌, ◌^◌, List, Option, Some, None, Result, Ok, All, FitsSigned, length, true}
 use Rattle.std.specs.Int.{w64}
-use Rattle.std.specs.Str.{IsUtf8}
 use Rattle.byte_form.specs.Laws.{IsShortText, AreBytes, NoneBeginsAnother}
 use Rattle.ecore_meta.specs.declared.meta.Value.{Value}
 use Rattle.ecore_meta.specs.declared.meta.Value.TheVariants.{Text, Flag, Whole, Literal}

@@ -5,4 +5,5 @@ pub mod Packages
 pub mod Events
 pub mod Given
 pub mod Sizes
+pub mod Reversals
 pub mod Laws

@@ -1,9 +1,8 @@
 -- The bytes of operations and packages.
-use Rattle.std.specs.Prelude.{◌≡◌, ℕ, ◌==◌, List, [], ◌∷◌, ◌++◌, Option, Some, None, Result, Ok, Err, if◌then◌else◌}
+use Rattle.std.specs.Prelude.{ℕ, ◌==◌, List, [], ◌∷◌, ◌++◌, Option, Some, None, Result, Ok, Err, if◌then◌else◌}
 use Rattle.byte_form.specs.Rest.{Rest}
 use Rattle.byte_form.specs.Fields.{◌>>=◌, text_form}
 use Rattle.model_state.specs.Names.{is_name}
-use Rattle.model_state.specs.declared.step.Step.{Step}
 use Rattle.model_state.specs.declared.operation.OpKind.{OpKind}
 use Rattle.model_state.specs.declared.operation.OpKind.TheVariants as kinds
 use Rattle.model_state.specs.declared.operation.Operation.{Operation}

@@ -1,5 +1,5 @@
 -- Readings of fields one behind another, and the spellings of options and lists.
-use Rattle.std.specs.Prelude.{◌≡◌, ℕ, zero, suc, ◌==◌, List, [], ◌∷◌, ◌++◌, length, Option, Some, None, Result, Ok, Err, if◌then◌else◌}
+use Rattle.std.specs.Prelude.{ℕ, zero, suc, ◌==◌, List, [], ◌∷◌, ◌++◌, length, Option, Some, None, Result, Ok, Err, if◌then◌else◌}
 use Rattle.std.specs.Int.{w32, w64}
 use Rattle.byte_form.specs.declared.reader.ReadFault.{ReadFault}
 use Rattle.byte_form.specs.declared.reader.ReadFault.TheVariants as read

@@ -1,9 +1,7 @@
 -- The bytes of steps: a kind's byte from 1 to 11, and the step's fields in their order.
-use Rattle.std.specs.Prelude.{◌≡◌, ℕ, ◌==◌, List, [], ◌∷◌, ◌++◌, Option, Some, None, Result, Ok, Err, if◌then◌else◌}
+use Rattle.std.specs.Prelude.{ℕ, ◌==◌, List, ◌∷◌, ◌++◌, Result, Err, if◌then◌else◌}
 use Rattle.byte_form.specs.Rest.{Rest}
 use Rattle.byte_form.specs.Fields.{◌>>=◌, text_form, u32_form, u64_form}
-use Rattle.ecore_meta.specs.declared.meta.Value.{Value}
-use Rattle.model_state.specs.declared.step.Place.{Place}
 use Rattle.model_state.specs.declared.step.Step.{Step}
 use Rattle.model_state.specs.declared.step.Step.TheVariants.{Put, Ins, Del, Shift, Link, Unlink, RerankRow, New, Gone, Move, RerankPlace}
 use Rattle.op_form.specs.declared.fault.FormFault.{FormFault}

@@ -1,3 +1,4 @@
+ghost use Rattle.op_form.specs.Reversals.{PackageReversalUndoes, PackagesKeepGood, TwiceReversedIsSame, OperationTwiceReversedIsSame};
 ghost use Rattle.op_form.specs.Laws.{PackagesAreReadAgain, PackagesAreSpelledSo, NoPackageBeginsAnother, EventsAreReadAgain, EventsAreSpelledSo, NoEventBeginsAnother};
 
 /// The laws of the forms: what is spelled is read again, what is read was spelled so, and no spelling begins another.
@@ -8,4 +9,12 @@ pub fn law_of_forms()
     ensures events_again { EventsAreReadAgain }
     ensures events_spelled { EventsAreSpelledSo }
     ensures events_apart { NoEventBeginsAnother }
+{}
+
+/// The laws of reversal: what a package did, its reversal undoes; packages keep the invariant; what is reversed twice is as it was.
+pub fn law_of_reversals()
+    ensures undoes { PackageReversalUndoes }
+    ensures keeps { PackagesKeepGood }
+    ensures packages_twice { TwiceReversedIsSame }
+    ensures operations_twice { OperationTwiceReversedIsSame }
 {}

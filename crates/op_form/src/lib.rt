@@ -15,7 +15,7 @@ mod write_step;
 
 pub use event::Event;
 pub use fault::FormFault;
-pub use laws::law_of_forms;
+pub use laws::{law_of_forms, law_of_reversals};
 pub use read_event::{decode, decode_event};
 pub use reversal::{reverse, reverse_op};
 pub use write_event::{encode, encode_event};
