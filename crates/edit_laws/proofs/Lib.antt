@@ -1,0 +1,10 @@
+pub mod Lists
+pub mod Pairs
+pub mod Clears
+pub mod Joins
+pub mod Sets
+pub mod LinkEdits
+pub mod Creates
+pub mod AttributeEdits
+pub mod MoveEdits
+pub mod Idle

@@ -1,0 +1,29 @@
+ghost use Rattle.edit_laws.specs.Laws.{SetRefIdle, CreateMeets, MoveWithinMeets, MoveToMeets, SetAttrMeets, UnsetAttrMeets, SetRefMeets, LinkMeets, UnlinkMeets, UnsetMeets, ReorderMeets};
+
+/// The steps of an edit of a plain reference lead to the rows that the edit is to leave, with the mirrors of
+/// opposites and what they displace. Setting a reference takes no step exactly where it changes nothing.
+pub fn law_of_reference_edits()
+    ensures set_ref { SetRefMeets }
+    ensures link { LinkMeets }
+    ensures unlink { UnlinkMeets }
+    ensures unset { UnsetMeets }
+    ensures reorder { ReorderMeets }
+    ensures idle { SetRefIdle }
+{}
+
+/// The steps that create an element lead to a model in which it is live, last in its place.
+pub fn law_of_creation()
+    ensures { CreateMeets }
+{}
+
+/// The steps that set or unset a single attribute lead to a model in which it has that value, or none.
+pub fn law_of_attribute_edits()
+    ensures set_attr { SetAttrMeets }
+    ensures unset_attr { UnsetAttrMeets }
+{}
+
+/// The steps that move an element lead to a model in which it stands at that index of that place.
+pub fn law_of_moves()
+    ensures within { MoveWithinMeets }
+    ensures to_another { MoveToMeets }
+{}

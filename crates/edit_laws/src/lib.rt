@@ -1,0 +1,7 @@
+//! Edits of a model: what each leaves, said without steps, the steps that are made for it, and the laws that the steps
+//! lead there. A law is the contract of a function that does nothing.
+#![tactic(auto)]
+
+mod laws;
+
+pub use laws::{law_of_attribute_edits, law_of_creation, law_of_moves, law_of_reference_edits};
