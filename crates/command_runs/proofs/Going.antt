@@ -1,10 +1,9 @@
 -- A loop over the items of a script: what holds between two of them, and how one more is added.
-use Rattle.std.proofs.Common.{◌≡◌, ◌⊎◌, inl, inr, ⊎_elim, ℕ, zero, suc, ◌+◌, ◌-◌, ◌≤◌, min, List, [], ◌∷◌, ◌++◌, Bool, false, ◌||◌, Option, length, take, refl, sym, ◌∙◌, ap, subst, append_assoc, length-append, arith}
+use Rattle.std.proofs.Common.{◌≡◌, ⊎_elim, ℕ, zero, suc, ◌+◌, ◌-◌, ◌≤◌, min, List, [], ◌∷◌, ◌++◌, Bool, false, ◌||◌, length, take, refl, sym, ◌∙◌, ap, subst, append_assoc, length-append, arith}
 use Rattle.std.specs.Prelude.{IsTrue}
 use Rattle.std.proofs.lemmas.List.{append-nil, take_at, length-take, take-append-le, take_min}
-use Rattle.host_port.specs.Host.{Told, Disk, MayLeave, GoesOn, Throughout, KeepsDisk, KeepsSaid, AddsPart, disk_now, said_now}
+use Rattle.host_port.specs.Host.{Told, MayLeave, GoesOn, Throughout, KeepsDisk, KeepsSaid, AddsPart, disk_now, said_now}
 use Rattle.host_port.specs.Cut.{Item, Script}
-use Rattle.host_port.specs.declared.lines.LineFault.{LineFault}
 use Rattle.host_port.proofs.Course.{carry_on, told_next, still_disk, still_said, adds_none, said_kept_now}
 use Rattle.command_runs.specs.Runs.{Answer, listed, played, after, replies, events, refuses, answered}
 use Rattle.command_runs.specs.Stops.{StopLeaves, IsAmong, IsRunning, IsStepping}

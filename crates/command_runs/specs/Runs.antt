@@ -1,5 +1,5 @@
 -- Runs of a machine over the items of a script, each decided on the state that the events before it leave.
-use Rattle.std.specs.Prelude.{◌≡◌, ℕ, ◌-◌, ◌==◌, ◌+◌, List, [], ◌∷◌, ◌++◌, Bool, false, ◌||◌, Option, Some, None, length, if◌then◌else◌}
+use Rattle.std.specs.Prelude.{ℕ, ◌-◌, ◌==◌, ◌+◌, List, [], ◌∷◌, ◌++◌, Bool, false, ◌||◌, Option, Some, None, length, if◌then◌else◌}
 use Rattle.host_port.specs.Cut.{Item}
 
 -- what an item is answered with: the bytes of the reply, whether it is a refusal, and the event, if it makes one

@@ -19,9 +19,9 @@ pub record IsAmong {E : Type 0} (stands : List ℕ → List E → Type 0) (first
 abbrev pub IsRunning : {E : Type 0} → (List ℕ → List E → Type 0) → List E → List E → (ℕ → ℕ) → List ℕ → Disk → List ℕ → Type 0
 IsRunning stands first made least before disk said = StopLeaves (IsAmong stands first made (least (length said - length before))) disk
 
--- the same from the end of the first sync on: until then the disk is that of the entry
+-- the same from the end of the first sync on: until then the disk is that of the entry, and nothing is said
 abbrev pub IsOpenedRunning : {E : Type 0} → Disk → (List ℕ → List E → Type 0) → List E → List E → (ℕ → ℕ) → List ℕ → Disk → List ℕ → Type 0
-IsOpenedRunning entry stands first made least before disk said = (disk ≡ entry) ⊎ IsRunning stands first made least before disk said
+IsOpenedRunning entry stands first made least before disk said = ((disk ≡ entry) × (said ≡ before)) ⊎ IsRunning stands first made least before disk said
 
 -- at a moment of one command: nothing of its reply is said yet, or whatever a stop leaves has its event
 abbrev pub IsStepping : {E : Type 0} → (List ℕ → List E → Type 0) → List E → Option E → List ℕ → Disk → List ℕ → Type 0

@@ -1,18 +1,17 @@
 -- How a command is answered, at each moment and at the end.
-use Rattle.std.proofs.Common.{◌≡◌, ◌⊎◌, inl, inr, ℕ, ◌+◌, ◌≤◌, Bool, true, false, List, [], ◌∷◌, ◌++◌, length, take, Option, Some, None, refl, sym, ◌∙◌, ap, subst, arith}
+use Rattle.std.proofs.Common.{◌≡◌, ℕ, true, false, List, [], ◌++◌, Option, None, refl, sym, ◌∙◌, ap, subst}
 use Rattle.std.specs.Prelude.{IsTrue}
-use Rattle.std.proofs.lemmas.List.{append-nil}
 use Rattle.host_port.specs.Host.{Told, Disk, GoesOn, Throughout, KeepsDisk, KeepsSaid, AddsPart, disk_now, said_now}
 use Rattle.host_port.specs.Cut.{Item}
-use Rattle.host_port.proofs.Course.{carry_on, told_next, still_disk, still_said, adds_none, said_kept_now, kept_now}
-use Rattle.command_runs.specs.Runs.{Answer, listed, played, after}
+use Rattle.host_port.proofs.Course.{carry_on, told_next, adds_none, said_kept_now, kept_now}
+use Rattle.command_runs.specs.Runs.{Answer, listed}
 use Rattle.command_runs.specs.Stops.{IsStepping}
 use Rattle.plain_repository.specs.declared.Event.{Event}
 use Rattle.plain_repository.specs.Commands.{is_skipped}
-use Rattle.plain_repository.specs.Repository.{State, play, decide, decide_line, answer_of}
+use Rattle.plain_repository.specs.Repository.{State, decide, decide_line, answer_of}
 use Rattle.plain_repository.specs.Store.{Stands}
 use Rattle.emf_top.specs.Session.{Holds, IsEntering}
-use Rattle.emf_top.proofs.Entering.{quiet_step, entering_step, say_step, say_part}
+use Rattle.emf_top.proofs.Entering.{entering_step, say_step, say_part}
 
 abbrev pub line_item : List ℕ → Item
 line_item line = record { line = line; block = None }

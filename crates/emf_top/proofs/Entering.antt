@@ -1,19 +1,19 @@
 -- How an event enters the store, at each moment and at the end.
-use Rattle.std.proofs.Common.{◌≡◌, ◌⊎◌, inl, inr, ⊎_elim, ℕ, ◌+◌, ◌≤◌, ◌^◌, Bool, true, false, ◌&&◌, List, [], ◌∷◌, ◌++◌, length, take, Option, Some, None, refl, sym, ◌∙◌, ap, subst, arith}
+use Rattle.std.proofs.Common.{◌≡◌, inl, inr, ⊎_elim, ℕ, Bool, true, ◌&&◌, List, [], ◌∷◌, ◌++◌, take, Option, Some, None, refl, sym, ◌∙◌, ap, subst}
 use Rattle.std.specs.Prelude.{IsTrue, map}
 use Rattle.std.proofs.lemmas.List.{append-nil}
-use Rattle.host_port.specs.Host.{Told, Disk, MayLeave, GoesOn, Throughout, KeepsDisk, KeepsSaid, AddsPart, disk_now, said_now}
-use Rattle.host_port.proofs.Course.{carry_on, told_next, still_disk, still_said}
+use Rattle.host_port.specs.Host.{Told, Disk, MayLeave, Throughout, KeepsDisk, KeepsSaid, AddsPart, disk_now, said_now}
+use Rattle.host_port.proofs.Course.{still_disk}
 use Rattle.commit_journal.specs.Journal.{StandsFor, IsAtRest, IsBeforeOrAfter}
 use Rattle.commit_journal.specs.Journal as journal
 use Rattle.commit_journal.proofs.Torn.{left_settled}
 use Rattle.commit_journal.proofs.Ends.{stands}
-use Rattle.command_runs.specs.Runs.{listed, played, after}
+use Rattle.command_runs.specs.Runs.{listed, played}
 use Rattle.command_runs.specs.Stops.{StopLeaves, IsStepping}
 use Rattle.command_runs.proofs.RunLaws.{played-append}
 use Rattle.plain_repository.specs.declared.Event.{Event}
 use Rattle.plain_repository.specs.Repository.{State, empty, form, play, playable, are_playable}
-use Rattle.plain_repository.specs.Store.{Stands, Rests}
+use Rattle.plain_repository.specs.Store.{Stands}
 use Rattle.plain_repository.proofs.Forms.{and_left, and_right}
 use Rattle.emf_top.specs.Session.{Holds, IsEntering}
 

@@ -1,17 +1,17 @@
 -- A whole run: the opening, and then the lines.
-use Rattle.std.proofs.Common.{◌≡◌, ◌≢◌, ◌⊎◌, inl, inr, ⊎_elim, ℕ, ◌+◌, ◌-◌, ◌≤◌, List, [], ◌∷◌, ◌++◌, Bool, true, false, length, Option, Some, None, refl, sym, ◌∙◌, ap, subst, arith}
+use Rattle.std.proofs.Common.{◌≡◌, ◌⊎◌, inl, inr, ⊎_elim, ℕ, ◌-◌, ◌≤◌, List, [], ◌++◌, length, refl, sym, ◌∙◌, ap, subst, arith}
 use Rattle.std.specs.Prelude.{IsTrue, map}
 use Rattle.std.proofs.lemmas.List.{append-nil}
-use Rattle.host_port.specs.Host.{Told, Disk, MayLeave, GoesOn, Throughout, KeepsDisk, KeepsSaid, KeepsInput, AddsPart, Rose, disk_now, said_now}
+use Rattle.host_port.specs.Host.{Told, MayLeave, GoesOn, Throughout, KeepsSaid, KeepsInput, AddsPart, Rose, disk_now, said_now}
 use Rattle.host_port.specs.Cut.{Script, script_from}
-use Rattle.host_port.proofs.Course.{carry_on, told_next, course_on, adds_none, said_kept_now}
+use Rattle.host_port.proofs.Course.{at_last, carry_on, told_next, adds_none, said_kept_now}
 use Rattle.commit_journal.proofs.Unique.{one_meaning}
-use Rattle.command_runs.specs.Runs.{played}
+use Rattle.command_runs.specs.Runs.{played, replies, events}
 use Rattle.command_runs.specs.Stops.{IsRunning, IsOpenedRunning}
 use Rattle.command_runs.proofs.Going.{among}
 use Rattle.plain_repository.specs.declared.Event.{Event}
 use Rattle.plain_repository.specs.Commands.{takes_block}
-use Rattle.plain_repository.specs.Repository.{State, empty, form, play, decide, are_playable}
+use Rattle.plain_repository.specs.Repository.{State, empty, form, play, decide}
 use Rattle.plain_repository.specs.Store.{Stands, StandsForNoEvents, IsDamaged}
 use Rattle.plain_repository.proofs.Forms.{forms_are}
 use Rattle.emf_top.specs.declared.top.Status.{Status}
@@ -19,7 +19,7 @@ use Rattle.emf_top.specs.declared.top.Status.TheVariants.{Accepted, Refused, Bad
 use Rattle.emf_top.specs.declared.session.SessionFault.{SessionFault}
 use Rattle.emf_top.specs.declared.session.SessionFault.TheVariants as session
 use Rattle.emf_top.specs.Session.{Holds, IfDamaged}
-use Rattle.emf_top.specs.Headline.{script, said_by, made_by, least_of, outcome, Ends, NothingRose, IsFoundDamaged, IsServed, IsUnsaid, session_status}
+use Rattle.emf_top.specs.Headline.{script, said_by, made_by, least_of, outcome, Ends, NothingRose, IsFoundDamaged, IsKept, session_status}
 use Rattle.emf_top.proofs.Opening.{IsMounting}
 
 pub same_events : (file : List ℕ) (first made : List Event) → Stands file first → Stands file made → first ≡ made
@@ -32,7 +32,14 @@ ends_from : (s : State) (c : Script) (first : List Event) (entry a b : Told) →
 ends_from s c first entry a b same Accepted e = (record { said = e.0.said ∙ ap (λ (l : List ℕ). l ++ said_by s c) same; stands = e.0.stands }, e.1, e.2)
 ends_from s c first entry a b same Refused e = (record { said = e.0.said ∙ ap (λ (l : List ℕ). l ++ said_by s c) same; stands = e.0.stands }, e.1, e.2)
 ends_from s c first entry a b same (Input fault at) e = (record { said = e.0.said ∙ ap (λ (l : List ℕ). l ++ said_by s c) same; stands = e.0.stands }, e.1)
-ends_from s c first entry a b same WriteFault e = record { done = e.done; item = e.item; left = e.left; items = e.items; stands = e.stands }
+ends_from s c first entry a b same WriteFault e = record {
+  done = e.done;
+  item = e.item;
+  left = e.left;
+  items = e.items;
+  said = subst (λ (l : List ℕ). AddsPart (l ++ replies decide play s e.done) (decide (played play s (events decide play s e.done)) e.item).reply (said_now b)) same e.said;
+  stands = e.stands;
+}
 ends_from s c first entry a b same (Damaged at) e = e
 ends_from s c first entry a b same BadWords e = e
 ends_from s c first entry a b same ReadFault e = tt
@@ -48,7 +55,7 @@ module _ (entry a : Told) (course : GoesOn entry a) (said : KeepsSaid entry a) (
   opening_moments told t low high =
       let none : length (a.said t) - length (said_now entry) ≤ 0 = omega (arith, ap length (said told t low high)) in
       ⊎_elim
-      (λ before. inl before)
+      (λ before. inl (before, said told t low high))
       (λ same. inr (λ x left. among decide play Stands s first c.items [] c.items x (length (a.said t) - length (said_now entry)) refl none
       (subst (λ (l : List Event). Stands x l) (sym (append-nil first)) (record { forms = same x left (map form first) stood.forms; playable = stood.playable }))))
       (mounting told t low high)
@@ -91,6 +98,15 @@ module _ (entry a : Told) (course : GoesOn entry a) (said : KeepsSaid entry a) (
         subst (λ (l : List ℕ). Throughout a b (IsRunning Stands first (made_by s c) (least_of s c) l)) (said_is told)
         (subst (λ (t : State). Throughout a b (IsRunning Stands first (made_by t c) (least_of t c) (said_now a))) (now_is told)
         (subst (λ (k : Script). Throughout a b (IsRunning Stands first (made_by now k) (least_of now k) (said_now a))) script_is (moments first (holds_first told)))) told_a t low high)) told
+
+-- what stands in the file at the end of a run
+pub stopped : (entry b : Told) (first : List Event) (s : State) (c : Script) → GoesOn entry b → Throughout entry b (IsOpenedRunning (disk_now entry) Stands first (made_by s c) (least_of s c) (said_now entry))
+    → Stands (disk_now entry).now first → MayLeave (disk_now b) (disk_now b).now → IsTrue entry.tells → IsKept s c first entry b
+stopped entry b first s c course moments stood left told = ⊎_elim
+    (λ before. among decide play Stands s first c.items [] c.items (disk_now b).now (length (said_now b) - length (said_now entry)) refl (omega (arith, ap length before.1))
+    (subst (λ (l : List Event). Stands (disk_now b).now l) (sym (append-nil first)) (subst (λ d. Stands d.now first) (sym before.0) stood)))
+    (λ running. running (disk_now b).now left)
+    (at_last entry b (IsOpenedRunning (disk_now entry) Stands first (made_by s c) (least_of s c) (said_now entry)) course moments told)
 
 -- where nothing rose, the run comes to what its script comes to
 pub complete : (s : State) (c : Script) (first : List Event) (entry b : Told) (status : Status) → Ends s c first entry b status → NothingRose entry b

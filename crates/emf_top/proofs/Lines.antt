@@ -1,11 +1,8 @@
 -- The command of a line, by what follows the command's words.
-use Rattle.std.proofs.Common.{◌≡◌, ℕ, List, [], ◌∷◌, ◌++◌, Bool, true, false, nat_eq, length, take, drop, refl, sym, ◌∙◌, ap, codes, Result, Ok, Err, if◌then◌else◌, arith}
+use Rattle.std.proofs.Common.{◌≡◌, ℕ, List, ◌++◌, Bool, true, false, nat_eq, length, drop, refl, ◌∙◌, ap, Ok, Err}
 use Rattle.std.specs.List.{starts_with}
-use Rattle.std.specs.Cmp.Lexicographic.{pointwise}
 use Rattle.std.proofs.lemmas.Bool.Decides.{Decides-eqb}
 use Rattle.std.proofs.lemmas.Slice.Eq.{starts_is}
-use Rattle.std.proofs.lemmas.Grind.{common_steps}
-use Rattle.plain_repository.specs.declared.Command.{Command}
 use Rattle.plain_repository.specs.declared.Command.TheVariants.{Create}
 use Rattle.plain_repository.specs.Commands.{command_of, create_of, create_words, is_word}
 

@@ -1,23 +1,21 @@
 -- The loop over the lines of the input.
-use Rattle.std.proofs.Common.{◌≡◌, ◌≢◌, ◌⊎◌, inl, inr, ℕ, ◌+◌, ◌<◌, ◌≤◌, ◌^◌, List, [], ◌∷◌, ◌++◌, Bool, true, false, ◌||◌, length, take, Option, Some, None, Result, Ok, Err, OnOk, append_assoc, refl, sym, ◌∙◌, ap, subst, arith}
+use Rattle.std.proofs.Common.{◌≡◌, ℕ, ◌+◌, List, ◌++◌, Bool, true, false, ◌||◌, length, Option, Some, None, Ok, Err, append_assoc, refl, sym, ◌∙◌, ap, subst}
 use Rattle.std.specs.Prelude.{IsTrue}
-use Rattle.std.specs.List.{after_first}
 use Rattle.std.proofs.lemmas.List.{append-nil}
-use Rattle.host_port.specs.Host.{Told, Disk, GoesOn, Throughout, KeepsDisk, KeepsSaid, KeepsInput, AddsPart, disk_now, said_now}
-use Rattle.host_port.specs.Cut.{Item, Script, is_lf, script_from, with_item, ends_by, next_line_of}
+use Rattle.host_port.specs.Host.{Told, GoesOn, Throughout, KeepsDisk, KeepsSaid, KeepsInput, AddsPart, disk_now, said_now}
+use Rattle.host_port.specs.Cut.{Item, Script, script_from, with_item, ends_by, next_line_of}
 use Rattle.host_port.specs.Reads.{GotLine, PastLine}
 use Rattle.host_port.specs.declared.lines.LineFault.{LineFault}
 use Rattle.host_port.specs.declared.lines.LineFault.TheVariants as faults
-use Rattle.host_port.proofs.Course.{course_on, course_still, told_next, kept_now}
+use Rattle.host_port.proofs.Course.{at_last, course_on, course_still, told_next, kept_now}
 use Rattle.host_port.proofs.ScriptItems.{script_line, script_end, script_fault}
-use Rattle.command_runs.specs.Runs.{Answer, listed, played, after, replies, events, refuses, answered}
-use Rattle.command_runs.specs.Stops.{StopLeaves, IsRunning, IsStepping}
+use Rattle.command_runs.specs.Runs.{listed, played, after, replies, events, refuses}
+use Rattle.command_runs.specs.Stops.{IsRunning, IsStepping}
 use Rattle.command_runs.proofs.Going.{Going, Steps, quietly, begins, one_more, stepped_part, stepped_moments, events_done, items_more}
 use Rattle.plain_repository.specs.declared.Event.{Event}
 use Rattle.plain_repository.specs.Commands.{takes_block}
 use Rattle.plain_repository.specs.Repository.{State, decide, play}
 use Rattle.plain_repository.specs.Store.{Stands}
-use Rattle.emf_top.specs.declared.session.Answered.{Answered}
 use Rattle.emf_top.specs.declared.session.Answered.TheVariants.{Accepted, Refused}
 use Rattle.emf_top.specs.declared.session.SessionFault.{SessionFault}
 use Rattle.emf_top.specs.declared.session.SessionFault.TheVariants as session
@@ -131,12 +129,14 @@ module _ (entry b d : Told) (made : List Event) (s0 : State) (whole next : Scrip
 
   module _ (now : State) (end_next : ℕ) (added : (events : List Event) → Holds (disk_now b) state end events → Holds (disk_now d) now end_next (events ++ listed (decide state (line_item text)).event)) where
     -- the reply was not said
-    pub unsaid : IsUnsaid s0 whole made entry d
-    unsaid = record {
+    pub unsaid : IsTrue b.tells → IsUnsaid s0 whole made entry d
+    unsaid told_b = record {
       done = going.done;
       item = line_item text;
       left = next.items;
       items = items_more decide play Stands entry made s0 whole b d (with_item text None next) state refused (λ events. Holds (disk_now b) state end events) going course (line_item text) next refl steps;
+      said = subst (λ (l : List ℕ). AddsPart l (decide (played play s0 (events decide play s0 going.done)) (line_item text)).reply (said_now d)) going.said
+          (subst (λ (t : State). AddsPart (said_now b) (decide t (line_item text)).reply (said_now d)) going.state_is (at_last b d (λ disk said. AddsPart (said_now b) (decide state (line_item text)).reply said) on part told_b));
       stands = subst (λ (l : List Event). Stands (disk_now d).now l)
           (append_assoc made (events decide play s0 going.done) (listed (decide state (line_item text)).event)
           ∙ ap (λ (l : List Event). made ++ l) (sym (events_done decide play Stands entry made s0 whole b d (with_item text None next) state refused (λ events. Holds (disk_now b) state end events) going course (line_item text) next refl steps)))
@@ -199,7 +199,7 @@ module _ (entry a b d : Told) (s0 : State) (e0 : ℕ) (whole : Script) (failed :
       → ((at : ℕ) → fault ≡ session.Damaged at → ⊥) → IsTrue entry.tells → (made : List Event) → Holds (disk_now entry) s0 e0 made → Ends s0 whole made entry d (session_status fault)
   step_fault_ends session.DiskFault now end_next added never told made holds = tt
   step_fault_ends session.SayFault now end_next added never told made holds =
-      unsaid entry b d made s0 whole (script_from takes_block place_b (pending_b ++ b.left)) text state end refused (line_between told made holds) course_b step_on part moments now end_next (added (told_next entry b course_b told))
+      unsaid entry b d made s0 whole (script_from takes_block place_b (pending_b ++ b.left)) text state end refused (line_between told made holds) course_b step_on part moments now end_next (added (told_next entry b course_b told)) (told_next entry b course_b told)
   step_fault_ends (session.Damaged at) now end_next added never told made holds = absurd (never at refl)
   step_fault_ends session.Memory now end_next added never told made holds = tt
 

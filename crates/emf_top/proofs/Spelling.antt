@@ -1,17 +1,16 @@
 -- The bytes of an event, made and taken apart.
-use Rattle.std.proofs.Common.{◌≡◌, ℕ, ◌+◌, ◌-◌, ◌<◌, ◌≤◌, List, [], ◌∷◌, ◌++◌, Bool, true, false, nat_eq, length, take, drop, refl, sym, ◌∙◌, ap, subst, arith, length-append, append_assoc, Option, Some, None, MatchOption, take-append-drop, ◌⊎◌, inl, inr, zero, suc}
+use Rattle.std.proofs.Common.{◌≡◌, ℕ, ◌+◌, ◌<◌, ◌≤◌, List, [], ◌∷◌, ◌++◌, Bool, true, false, length, take, drop, sym, ◌∙◌, ap, arith, length-append, append_assoc, Option, Some, None, MatchOption, take-append-drop, ◌⊎◌, inl, inr, zero, suc}
 use denote.Ref.{Bor}
 use Rattle.std.specs.Int.{to_be_bytes, w32, w64}
 use Rattle.std.specs.List.{list_all}
 use Rattle.std.specs.Str.{IsAscii, IsUtf8}
 use Rattle.std.proofs.lemmas.Str.{IsUtf8-from_ascii}
 use Rattle.std.proofs.lemmas.List.{append_cancel_left, append_cancel_right}
-use Rattle.std.proofs.lemmas.Bool.Decides.{Decides-eqb, nat_tests}
+use Rattle.std.proofs.lemmas.Bool.Decides.{nat_tests}
 use Rattle.model_state.specs.declared.id.IdFault.{IdFault}
 use Rattle.model_state.specs.declared.id.IdFault.TheVariants.{Bad}
 use Rattle.model_state.specs.Faults.{IsIdFault}
 use Rattle.model_state.specs.Ident.{is_id, is_id_byte}
-use Rattle.plain_repository.specs.declared.Event.{Event}
 use Rattle.plain_repository.specs.declared.Event.TheVariants.{Edit}
 use Rattle.plain_repository.specs.Repository.{form, edit_head, at_root, sized}
 use Rattle.plain_repository.proofs.Forms.{form_id, and_left, and_right}

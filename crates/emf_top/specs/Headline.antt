@@ -1,10 +1,11 @@
 -- What a run says and makes, and how it ends.
-use Rattle.std.specs.Prelude.{◌≡◌, ℕ, ◌+◌, List, [], ◌∷◌, ◌++◌, Bool, true, false, length, take, Option, Some, None, IsTrue}
-use Rattle.host_port.specs.Host.{Told, disk_now, said_now, Rose, KeepsSaid}
+use Rattle.std.specs.Prelude.{◌≡◌, ℕ, ◌-◌, List, [], ◌∷◌, ◌++◌, Bool, true, false, length, Option, Some, None, IsTrue}
+use Rattle.host_port.specs.Host.{Told, disk_now, said_now, Rose, KeepsSaid, AddsPart}
 use Rattle.host_port.specs.Cut.{Item, Script, script_of}
 use Rattle.host_port.specs.declared.lines.LineFault.{LineFault}
 use Rattle.host_port.specs.declared.lines.LineFault.TheVariants as faults
-use Rattle.command_runs.specs.Runs.{replies, events, refuses, answered}
+use Rattle.command_runs.specs.Runs.{played, replies, events, refuses, answered}
+use Rattle.command_runs.specs.Stops.{IsAmong}
 use Rattle.plain_repository.specs.declared.Event.{Event}
 use Rattle.plain_repository.specs.Commands.{takes_block}
 use Rattle.plain_repository.specs.Repository.{State, decide, play}
@@ -56,13 +57,18 @@ pub record IsServed (s : State) (commands : Script) (first : List Event) (before
   pub said : said_now now ≡ said_now before ++ said_by s commands
   pub stands : Stands (disk_now now).now (first ++ made_by s commands)
 
--- the command whose reply was not said is kept, and so is each before it
+-- the command whose reply was not said whole is kept, and so is each before it, whose replies were
 pub record IsUnsaid (s : State) (commands : Script) (first : List Event) (before now : Told) : Type 0 where
   pub done : List Item
   pub item : Item
   pub left : List Item
   pub items : commands.items ≡ (done ++ item ∷ []) ++ left
+  pub said : AddsPart (said_now before ++ replies decide play s done) (decide (played play s (events decide play s done)) item).reply (said_now now)
   pub stands : Stands (disk_now now).now (first ++ events decide play s (done ++ item ∷ []))
+
+-- the file stands for the first events and some of those of the script, none in part, with all whose reply was begun
+abbrev pub IsKept : State → Script → List Event → Told → Told → Type 0
+IsKept s commands first before now = IsAmong Stands first (made_by s commands) (least_of s commands (length (said_now now) - length (said_now before))) (disk_now now).now
 
 -- A run ends so, where the file stood for the first events. Of the answers with nothing here, what was said and what a
 -- stop leaves at each moment are told for all answers.

@@ -6,6 +6,8 @@ mod event;
 mod reply;
 mod repo;
 mod session;
+#[cfg(test)]
+mod tests;
 mod top;
 
 pub use top::{Status, run};

@@ -9,7 +9,7 @@ ghost use Rattle.plain_repository.specs.Commands.{takes_block};
 ghost use Rattle.plain_repository.specs.Repository.{State, empty, play};
 ghost use Rattle.plain_repository.specs.Store.{Stands, StandsForNoEvents, IsDamaged};
 ghost use Rattle.emf_top.specs.Session.{Holds};
-ghost use Rattle.emf_top.specs.Headline.{script, said_by, made_by, least_of, outcome, code_of, Ends, input_status, session_status, NothingRose, IsFoundDamaged};
+ghost use Rattle.emf_top.specs.Headline.{script, said_by, made_by, least_of, outcome, code_of, Ends, input_status, session_status, NothingRose, IsKept, IsFoundDamaged};
 
 use crate::session::{Answered, Session, SessionFault};
 use host_port::{Got, Host, LineFault, Lines};
@@ -92,10 +92,14 @@ pub fn run<H: Host>(alloc: Global, words: &[String], host: &mut H) -> Status
     ensures part { length words.now ≡ 0 → (first : List Event) → Stands (disk_now (H.told host.old)).now first
         → Throughout (H.told host.old) (H.told host.new) (λ _ said. AddsPart (said_now (H.told host.old)) (said_by (played play empty first) (script (H.told host.old).left)) said) }
     // At each moment whatever a stop leaves stands for the first events and some of the new ones, none in part, with all
-    // whose reply is begun; until the first sync has succeeded the disk is that of the entry.
+    // whose reply is begun; until the first sync has succeeded the disk is that of the entry, and nothing is said.
     ensures moments { length words.now ≡ 0 → (first : List Event) → Stands (disk_now (H.told host.old)).now first
         → Throughout (H.told host.old) (H.told host.new) (IsOpenedRunning (disk_now (H.told host.old)) Stands first (made_by (played play empty first) (script (H.told host.old).left))
         (least_of (played play empty first) (script (H.told host.old).left)) (said_now (H.told host.old))) }
+    // However it ends, the file stands for the first events and some of the new ones, none in part, with all whose reply is
+    // begun: the command that was being written at a disk fault is kept whole or not at all.
+    ensures stopped { IsTrue (H.told host.old).tells → length words.now ≡ 0 → (first : List Event) → Stands (disk_now (H.told host.old)).now first
+        → IsKept (played play empty first) (script (H.told host.old).left) first (H.told host.old) (H.told host.new) }
     // Where no count rises, it answers what the script comes to, or memory ran out.
     ensures complete { IsTrue (H.told host.old).tells → length words.now ≡ 0 → (first : List Event) → Stands (disk_now (H.told host.old)).now first
         → NothingRose (H.told host.old) (H.told host.new) → (result ≡ outcome (played play empty first) (script (H.told host.old).left)) ⊎ (result ≡ Status.Memory) }

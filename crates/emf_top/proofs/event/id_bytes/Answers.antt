@@ -1,4 +1,4 @@
-use Rattle.std.proofs.Common.{List, ℕ, refl}
+use Rattle.std.proofs.Common.{refl}
 use Rattle.std.specs.Int.{to_be_bytes, w64}
 use Rattle.plain_repository.specs.Repository.{edit_head}
 use Rattle.emf_top.proofs.Spelling.{no_head, no_back, no_root, gives}

@@ -1,4 +1,4 @@
-use Rattle.std.proofs.Common.{List, ℕ, inl, inr, sym, ◌∙◌, ap, subst, ◌≡◌, true, ⊎_elim}
+use Rattle.std.proofs.Common.{sym, ◌∙◌, ap, subst}
 use Rattle.std.specs.Str.{IsUtf8}
 use Rattle.model_state.specs.Ident.{is_id}
 use Rattle.emf_top.proofs.Spelling.{id_utf8, one_id, false_no, bad_id}

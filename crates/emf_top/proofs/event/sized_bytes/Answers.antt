@@ -1,6 +1,5 @@
-use Rattle.std.proofs.Common.{List, ℕ, inl, inr, refl, sym, ◌∙◌, ap, length}
+use Rattle.std.proofs.Common.{List, ℕ, inl, inr, sym, ◌∙◌, ap, length}
 use Rattle.std.specs.Int.{to_be_bytes, w32}
-use Rattle.std.specs.Prelude.{IsTrue}
 use Rattle.plain_repository.specs.Repository.{sized}
 use Rattle.emf_top.proofs.Spelling.{not_sized, other_size, is_sized, false_no}
 use Rattle.emf_top.proofs.event.sized_bytes.Goals as goal

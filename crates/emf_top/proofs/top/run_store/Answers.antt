@@ -1,4 +1,4 @@
-use Rattle.std.proofs.Common.{◌≡◌, inl, inr, refl, sym, ◌∙◌, ap}
+use Rattle.std.proofs.Common.{inr, refl, sym, ◌∙◌}
 use Rattle.host_port.proofs.Course.{rose_second}
 use Rattle.command_runs.specs.Runs.{played}
 use Rattle.plain_repository.specs.Repository.{play, empty}

@@ -1,11 +1,9 @@
-use Rattle.std.proofs.Common.{◌≡◌, ℕ, List, Bool, ◌++◌, Ok, Some, None, refl, sym, ◌∙◌, ap, subst}
+use Rattle.std.proofs.Common.{ℕ, List, Bool, ◌++◌, Ok, Some, None, refl, sym, ◌∙◌, ap}
 use Rattle.host_port.specs.Cut.{script_from}
-use Rattle.host_port.specs.declared.lines.LineFault.TheVariants.{Failed}
 use Rattle.host_port.proofs.Course.{told_next, rose_second}
 use Rattle.plain_repository.specs.Commands.{takes_block}
 use Rattle.plain_repository.specs.Repository.{decide}
 use Rattle.emf_top.specs.Headline.{end_of}
-use Rattle.emf_top.specs.Session.{answered_as}
 use Rattle.emf_top.proofs.Answering.{line_item}
 use Rattle.emf_top.proofs.Serving.{serving_starts, fault_ends, end_ends, looked_part, looked_moments, status_failed, line_part, line_moments, step_fault_ends, serving_on, accepted_not, refused_so}
 use Rattle.emf_top.proofs.top.serve.Goals as goal

@@ -1,4 +1,4 @@
-use Rattle.std.proofs.Common.{ℕ, ◌-◌, ◌^◌, ◌++◌}
+use Rattle.std.proofs.Common.{◌-◌, ◌^◌, ◌++◌}
 use Rattle.host_port.specs.Cut.{script_from}
 use Rattle.plain_repository.specs.Commands.{takes_block}
 use Rattle.emf_top.proofs.Serving.{Serving}

@@ -1,6 +1,5 @@
-use Rattle.std.proofs.Common.{◌≡◌, List, ℕ, [], ◌∷◌, ◌++◌, ◌+◌, length, sym, ◌∙◌, ap, arith, rules}
+use Rattle.std.proofs.Common.{◌≡◌, List, ℕ, [], ◌∷◌, ◌++◌, ◌+◌, length, sym, ◌∙◌, ap, arith}
 use Rattle.plain_repository.specs.declared.Event.TheVariants.{Edit}
-use Rattle.plain_repository.specs.Repository.{State}
 use Rattle.emf_top.specs.Held.{Held}
 use Rattle.emf_top.proofs.Playing.{no_event, no_new_event, can_play, played_is}
 use Rattle.emf_top.proofs.repo.Repo.replay.Goals as goal

@@ -1,4 +1,4 @@
-use Rattle.std.proofs.Common.{◌≡◌, ℕ, ◌+◌, List, length, sym, ◌∙◌, ap, arith}
+use Rattle.std.proofs.Common.{◌≡◌, ℕ, ◌+◌, length, sym, ◌∙◌, ap, arith}
 use Rattle.std.specs.Prelude.{map}
 use Rattle.host_port.specs.Host.{disk_now}
 use Rattle.commit_journal.specs.Journal.{JournalState}

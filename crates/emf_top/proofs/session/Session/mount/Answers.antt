@@ -1,11 +1,10 @@
-use Rattle.std.proofs.Common.{◌≡◌, ◌≢◌, ℕ, ◌+◌, List, ◌++◌, length, inl, refl, sym, ◌∙◌, ap, subst}
+use Rattle.std.proofs.Common.{◌≡◌, ℕ, List, inl, refl, sym, ◌∙◌, ap, subst}
 use Rattle.std.specs.Prelude.{IsTrue}
 use Rattle.host_port.specs.Host.{disk_now, Throughout}
-use Rattle.commit_journal.specs.Journal.{WalkState, JournalState, IsNoHeader, IsStuck, StandsForNone, IsAtRest, IsWalked}
-use Rattle.plain_repository.specs.Repository.{State}
+use Rattle.commit_journal.specs.Journal.{WalkState, JournalState, IsNoHeader, IsStuck, StandsForNone}
 use Rattle.plain_repository.specs.Store.{IsDamaged, Stands, StandsForNoEvents}
 use Rattle.plain_repository.specs.declared.Event.{Event}
-use Rattle.emf_top.specs.Session.{Holds, IfDamaged}
+use Rattle.emf_top.specs.Session.{Holds}
 use Rattle.emf_top.proofs.Opening.{damage_of, none_stands, bytes_kept, stuck_is_damage, event_is_damage, keeps_moments, opened, replays_on}
 use Rattle.emf_top.proofs.session.Session.mount.Goals as goal
 

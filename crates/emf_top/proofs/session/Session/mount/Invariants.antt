@@ -1,4 +1,4 @@
-use Rattle.std.proofs.Common.{ℕ, ◌-◌, ◌^◌}
+use Rattle.std.proofs.Common.{◌-◌, ◌^◌}
 use Rattle.emf_top.proofs.Opening.{Replays}
 use Rattle.emf_top.proofs.session.Session.mount.Given as goal
 

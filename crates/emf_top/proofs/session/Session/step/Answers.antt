@@ -1,15 +1,14 @@
-use Rattle.std.proofs.Common.{◌≡◌, ℕ, List, ◌++◌, sym, ◌∙◌, ap, subst}
+use Rattle.std.proofs.Common.{ℕ, ◌++◌, sym, ◌∙◌, ap, subst}
 use Rattle.std.proofs.lemmas.List.{append-nil}
-use Rattle.std.specs.Prelude.{string_bytes}
 use Rattle.host_port.specs.Host.{disk_now, said_now}
 use Rattle.host_port.proofs.Course.{still_disk, still_said}
 use Rattle.commit_journal.specs.Journal.{JournalState}
 use Rattle.command_runs.specs.Runs.{Answer, listed, after}
 use Rattle.plain_repository.specs.declared.Event.{Event}
-use Rattle.plain_repository.specs.Repository.{State, play, decide, decide_line, answer_of}
+use Rattle.plain_repository.specs.Repository.{State, play, decide}
 use Rattle.emf_top.specs.Session.{Holds, answered_as, event_of_ready}
 use Rattle.emf_top.proofs.Entering.{quiet_step, none_added}
-use Rattle.emf_top.proofs.Answering.{line_item, silent, decide_skipped, decide_read, entered_moments, said_added, said_moments, said_part, said_whole}
+use Rattle.emf_top.proofs.Answering.{line_item, decide_skipped, decide_read, entered_moments, said_added, said_moments, said_part, said_whole}
 use Rattle.emf_top.proofs.session.Session.step.Goals as goal
 
 abbrev end_of : JournalState → ℕ
