@@ -1,0 +1,38 @@
+use model_state::IdFault;
+use op_form::FormFault;
+use std::alloc::AllocError;
+use thiserror::Error;
+
+/// Why nothing was measured.
+#[derive(Debug, Drop, Error)]
+pub enum MeasureFault {
+    /// A word is none of the program's, or a number is missing or too great.
+    #[error("usage: measure [forms STEPS | timed]..")]
+    Usage,
+    /// The bytes of the package were not read again.
+    #[error("no package: {0}")]
+    Form(FormFault),
+    /// An id that was made has not the form of one.
+    #[error("no id: {0}")]
+    Id(IdFault),
+    #[error("out of memory")]
+    Memory,
+}
+
+impl From<AllocError> for MeasureFault {
+    fn from(_: AllocError) -> MeasureFault {
+        MeasureFault::Memory
+    }
+}
+
+impl From<IdFault> for MeasureFault {
+    fn from(fault: IdFault) -> MeasureFault {
+        MeasureFault::Id(fault)
+    }
+}
+
+impl From<FormFault> for MeasureFault {
+    fn from(fault: FormFault) -> MeasureFault {
+        MeasureFault::Form(fault)
+    }
+}

@@ -1,0 +1,53 @@
+//! Measures calls of the libraries on inputs that it makes: a package spelled and read again.
+#![tactic(auto)]
+
+mod fault;
+mod forms;
+mod plan;
+
+use anyhow::Result;
+use forms::{package_of, read_again};
+use op_form::encode;
+use plan::{Task, read_plan};
+use std::env;
+use std::time::{Duration, Instant};
+
+fn print_time(rt: &HostRuntime, is_timed: bool, call: &str, taken: Duration) -> Result<()> {
+    if is_timed {
+        let taken = taken.as_micros();
+        println!(rt; "{call} {taken} us")?;
+    }
+    Ok(())
+}
+
+fn measure_forms(rt: &HostRuntime, is_timed: bool, steps: u32) -> Result<()> {
+    let alloc = rt.alloc();
+    let package = package_of(alloc, steps)?;
+    let start = Instant::now(rt)?;
+    let bytes = encode(alloc, &package)?;
+    let encoding = start.elapsed(rt)?;
+    let start = Instant::now(rt)?;
+    let read = read_again(alloc, &package, bytes.as_slice())?;
+    let decoding = start.elapsed(rt)?;
+    let again = encode(alloc, &read)?;
+    let is_same = again == bytes;
+    println!(rt;
+        "forms {steps}: {} operations in {} bytes, read again as the same bytes: {is_same}",
+        read.len(),
+        bytes.len()
+    )?;
+    print_time(rt, is_timed, "encode", encoding)?;
+    print_time(rt, is_timed, "decode", decoding)
+}
+
+fn main(rt: HostRuntime) -> Result<()> {
+    let alloc = rt.alloc();
+    let words: Vec<String> = env::args(&rt)?.skip(1).collect(alloc)?;
+    let plan = read_plan(alloc, words.as_slice())?;
+    for task in plan.tasks.as_slice() {
+        match *task {
+            Task::Forms { steps } => measure_forms(&rt, plan.is_timed, steps)?,
+        }
+    }
+    Ok(())
+}

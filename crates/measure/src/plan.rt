@@ -1,0 +1,45 @@
+//! The words of the command line.
+
+use crate::fault::MeasureFault;
+use ecore_meta::List;
+use std::alloc::Global;
+
+/// What is measured.
+#[derive(Clone, Copy, Debug, PartialEq, Drop)]
+pub enum Task {
+    /// A package of so many steps.
+    Forms { steps: u32 },
+}
+
+/// What the words ask for, in their order, and whether times are printed.
+#[derive(Debug, Drop)]
+pub struct Plan {
+    pub tasks: List<Task>,
+    pub is_timed: bool,
+}
+
+fn number(word: &String) -> Result<u32, MeasureFault> {
+    word.as_str()
+        .parse::<u32>()
+        .map_err(|_| MeasureFault::Usage)
+}
+
+/// Reads the words behind the program's name.
+pub fn read_plan(alloc: Global, words: &[String]) -> Result<Plan, MeasureFault> {
+    let mut tasks = List::new(alloc);
+    let mut is_timed = false;
+    let mut rest = words;
+    while let [word, more @ ..] = rest {
+        rest = more;
+        match (word.as_str(), more) {
+            ("timed", _) => is_timed = true,
+            ("forms", [steps, more @ ..]) => {
+                let steps = number(steps)?;
+                tasks.push(Task::Forms { steps })?;
+                rest = more;
+            }
+            _ => return Err(MeasureFault::Usage),
+        }
+    }
+    Ok(Plan { tasks, is_timed })
+}
