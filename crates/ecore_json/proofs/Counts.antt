@@ -11,6 +11,7 @@ use Rattle.ecore_meta.specs.Document.{feature_total, features_in}
 use Rattle.ecore_meta.specs.Faults.{Few}
 use Rattle.ecore_meta.specs.declared.rows.ClassifierRow.{ClassifierRow}
 use Rattle.ecore_meta.specs.declared.rows.ClassifierRow.TheVariants.{Class, Enum, Plain}
+use Rattle.ecore_json.specs.Classes.{ecore_class, ecore_enum, ecore_package}
 use Rattle.ecore_json.specs.References.{Name}
 use Rattle.ecore_json.specs.Walk.{is_a}
 use Rattle.ecore_json.specs.Rows.{text_at, list_of, elements, class_row, enum_row, feature_row, literal_row, classifier_row, own_prefix, rows_of}
@@ -93,12 +94,12 @@ few_by own d false false h = tt
 features_within : (own : Name) (ds : List Data) → feature_total (map (classifier_row own) ds) ≤ total ds
 features_within own [] = omega arith
 features_within own (d ∷ ds) =
-    let a = features_by own d (is_a (codes "http://www.eclipse.org/emf/2002/Ecore#//EClass") d) (is_a (codes "http://www.eclipse.org/emf/2002/Ecore#//EEnum") d) in
+    let a = features_by own d (is_a ecore_class d) (is_a ecore_enum d) in
     let b = features_within own ds in omega arith
 
 all_few : (own : Name) (ds : List Data) → total ds ≤ 4294967295 → AreFew (map (classifier_row own) ds)
 all_few own [] h = tt
-all_few own (d ∷ ds) h = (few_by own d (is_a (codes "http://www.eclipse.org/emf/2002/Ecore#//EClass") d) (is_a (codes "http://www.eclipse.org/emf/2002/Ecore#//EEnum") d) (omega arith), all_few own ds (omega arith))
+all_few own (d ∷ ds) h = (few_by own d (is_a ecore_class d) (is_a ecore_enum d) (omega arith), all_few own ds (omega arith))
 
 numbered : (d : Data) → weight d ≤ 4294967295 → Numbered (rows_of d).classifiers
 unfolding rows_of
@@ -130,7 +131,7 @@ kept false d = omega arith
 
 package_kept : (o : Option Data) → heavy (if_package o) ≤ heavy o
 package_kept None = omega arith
-package_kept (Some d) = kept (is_a (codes "http://www.eclipse.org/emf/2002/Ecore#//EPackage") d) d
+package_kept (Some d) = kept (is_a ecore_package d) d
 
 pub package_numbered : (text : Name) (d p : Data) → length text < 4294967295 → read text ≡ Some d → Some p ≡ package_of d → Numbered (rows_of p).classifiers
 package_numbered text d p short is package_is =

@@ -1,3 +1,4 @@
+pub mod Classes
 pub mod Table
 pub mod References
 pub mod Walk

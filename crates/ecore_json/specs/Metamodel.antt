@@ -1,5 +1,5 @@
 -- The metamodel that a text stands for, or its first fault.
-use Rattle.std.specs.Prelude.{◌≡◌, ℕ, List, codes, cond, Option, None, Some, Result, Ok, Err}
+use Rattle.std.specs.Prelude.{◌≡◌, ℕ, List, cond, Option, None, Some, Result, Ok, Err}
 use Rattle.serde_json.specs.Data.{Data, Items, no_items, item}
 use Rattle.serde_json.specs.Find.{as_array}
 use Rattle.serde_json.specs.Read.{read}
@@ -9,6 +9,7 @@ use Rattle.ecore_meta.specs.Meta.{Meta}
 use Rattle.ecore_meta.specs.declared.fault.MetaFault.{MetaFault}
 use Rattle.ecore_meta.specs.declared.fault.MetaFault.TheVariants as meta
 use Rattle.ecore_meta.specs.declared.rows.MetaRows.{MetaRows}
+use Rattle.ecore_json.specs.Classes.{ecore_package}
 use Rattle.ecore_json.specs.declared.fault.EcoreFault.{EcoreFault}
 use Rattle.ecore_json.specs.declared.fault.EcoreFault.TheVariants.{NotJson, NotPackage, BadKey, LeftOut, Meta as OfMeta, Memory}
 use Rattle.ecore_json.specs.declared.fault.WalkFault.{WalkFault}
@@ -29,7 +30,7 @@ root_of d (Some ds) = sole ds
 
 abbrev pub if_package : Option Data → Option Data
 if_package None = None
-if_package (Some d) = cond (is_a (codes "http://www.eclipse.org/emf/2002/Ecore#//EPackage") d) (Some d) None
+if_package (Some d) = cond (is_a ecore_package d) (Some d) None
 
 -- the package that a document is
 abbrev pub package_of : Data → Option Data

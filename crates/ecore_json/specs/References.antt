@@ -3,6 +3,7 @@ use Rattle.std.specs.Prelude.{ℕ, ◌==◌, ◌&&◌, ◌||◌, not, nat_le, Bo
 use Rattle.std.specs.Char.{is_ascii_alphabetic, is_ascii_alphanumeric}
 use Rattle.std.specs.List.{list_all, before_first, after_first}
 use Rattle.std.specs.Str.{bytes_eq}
+use Rattle.ecore_json.specs.Classes.{ecore_types}
 
 abbrev pub Name : Type 0
 Name = List ℕ
@@ -47,7 +48,7 @@ own_name own t = or_else (name_behind (codes "//") t) (or_else (name_behind (cod
 
 -- the type of Ecore that a reference names
 unfoldable pub ecore_name : Name → Option Name
-ecore_name t = name_behind (codes "http://www.eclipse.org/emf/2002/Ecore#//") t
+ecore_name t = name_behind ecore_types t
 
 -- a reference names a type
 abbrev pub is_type_reference : Name → Name → Bool

@@ -13,6 +13,7 @@ use Rattle.ecore_meta.specs.declared.rows.FeatureRow.{FeatureRow}
 use Rattle.ecore_meta.specs.declared.rows.OppositeRow.{OppositeRow}
 use Rattle.ecore_meta.specs.declared.rows.TypeName.{TypeName}
 use Rattle.ecore_meta.specs.declared.rows.TypeName.TheVariants.{Own, Ecore}
+use Rattle.ecore_json.specs.Classes.{ecore_class, ecore_enum, ecore_reference}
 use Rattle.ecore_json.specs.References.{Name, ecore_name, own_name, own_feature}
 use Rattle.ecore_json.specs.Walk.{text_in, is_a, flag_at, whole_in, is_skipped}
 
@@ -66,12 +67,12 @@ opposite_at own d = opposite_from (own_feature own (link_at (codes "eOpposite") 
 
 -- the default text of an attribute; that of a reference is not read
 abbrev pub default_at : Data → Option Name
-default_at d = cond (is_a (codes "http://www.eclipse.org/emf/2002/Ecore#//EReference") d) None (text_in (codes "defaultValueLiteral") d)
+default_at d = cond (is_a ecore_reference d) None (text_in (codes "defaultValueLiteral") d)
 
 abbrev pub feature_row : Name → Data → FeatureRow
 feature_row own d = record {
   name = text_at (codes "name") d;
-  is_reference = is_a (codes "http://www.eclipse.org/emf/2002/Ecore#//EReference") d;
+  is_reference = is_a ecore_reference d;
   target = type_name own (link_at (codes "eType") d);
   lower = whole_at (codes "lowerBound") (pos 0) d;
   upper = whole_at (codes "upperBound") (pos 1) d;
@@ -106,8 +107,8 @@ enum_row d = record {
 
 abbrev pub classifier_row : Name → Data → ClassifierRow
 classifier_row own d =
-    cond (is_a (codes "http://www.eclipse.org/emf/2002/Ecore#//EClass") d) (Class (class_row own d))
-    (cond (is_a (codes "http://www.eclipse.org/emf/2002/Ecore#//EEnum") d) (Enum (enum_row d)) (Plain (text_at (codes "name") d)))
+    cond (is_a ecore_class d) (Class (class_row own d))
+    (cond (is_a ecore_enum d) (Enum (enum_row d)) (Plain (text_at (codes "name") d)))
 
 -- what the package's own references begin with, beside `//` and `#//`
 abbrev pub own_prefix : Data → Name

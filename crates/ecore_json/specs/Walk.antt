@@ -7,6 +7,7 @@ use Rattle.std.specs.Cmp.Lexicographic.{slice_cmp}
 use Rattle.std.specs.Str.{bytes_eq}
 use Rattle.serde_json.specs.Data.{Data, null, boolean, number, string, array, object, Items, no_items, item, Members, no_members, member}
 use Rattle.serde_json.specs.Find.{get, as_bool, as_str, as_array, as_number, as_i64}
+use Rattle.ecore_json.specs.Classes.{ecore_attribute, ecore_class, ecore_data_type, ecore_enum, ecore_reference}
 use Rattle.ecore_json.specs.declared.fault.WalkFault.{WalkFault}
 use Rattle.ecore_json.specs.declared.fault.WalkFault.TheVariants.{BadKey, LeftOut}
 use Rattle.ecore_json.specs.declared.table.Shape.{Shape}
@@ -44,14 +45,14 @@ is_a class d = is_text (text_in (codes "eClass") d) class
 
 abbrev pub classifier_shape : Data → Option Shape
 classifier_shape d =
-    cond (is_a (codes "http://www.eclipse.org/emf/2002/Ecore#//EClass") d) (Some Class)
-    (cond (is_a (codes "http://www.eclipse.org/emf/2002/Ecore#//EEnum") d) (Some Enum)
-    (cond (is_a (codes "http://www.eclipse.org/emf/2002/Ecore#//EDataType") d) (Some DataType) None))
+    cond (is_a ecore_class d) (Some Class)
+    (cond (is_a ecore_enum d) (Some Enum)
+    (cond (is_a ecore_data_type d) (Some DataType) None))
 
 abbrev pub feature_shape : Data → Option Shape
 feature_shape d =
-    cond (is_a (codes "http://www.eclipse.org/emf/2002/Ecore#//EAttribute") d) (Some Attribute)
-    (cond (is_a (codes "http://www.eclipse.org/emf/2002/Ecore#//EReference") d) (Some Reference) None)
+    cond (is_a ecore_attribute d) (Some Attribute)
+    (cond (is_a ecore_reference d) (Some Reference) None)
 
 -- what the object of a place is, if it may stand there
 abbrev pub shape_at : Place → Data → Option Shape

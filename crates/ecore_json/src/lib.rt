@@ -1,11 +1,14 @@
 //! Ecore documents in JSON: a text is read as the metamodel that it says, or refused with its first fault.
 #![tactic(auto)]
 
+mod ecore;
 mod fault;
 mod read;
 mod reference;
 mod rows;
 mod table;
+#[cfg(test)]
+mod tests;
 mod walk;
 
 pub use fault::EcoreFault;

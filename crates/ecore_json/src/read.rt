@@ -6,6 +6,7 @@ ghost use Rattle.ecore_meta.specs.Faults.{fault};
 ghost use Rattle.ecore_json.specs.Metamodel.{root_of, package_of, built, of_package, metamodel_of, GivesMetamodel};
 ghost use Rattle.ecore_json.specs.Rows.{rows_of};
 
+use crate::ecore;
 use crate::fault::{EcoreFault, WalkFault, of_meta};
 use crate::rows::{own_prefix, rows_of};
 use crate::table::Place;
@@ -34,7 +35,7 @@ fn package_of(document: &Value) -> Option<&Value>
     match root_of(document) {
         None => None,
         Some(root) => {
-            if is_a("http://www.eclipse.org/emf/2002/Ecore#//EPackage", root) {
+            if is_a(ecore::PACKAGE, root) {
                 Some(root)
             } else {
                 None

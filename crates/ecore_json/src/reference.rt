@@ -2,6 +2,8 @@ ghost use Rattle.std.specs.Prelude.{◌≡◌, option_copied, option_map};
 ghost use Rattle.std.specs.List.{list_all};
 ghost use Rattle.ecore_json.specs.References.{is_name, is_name_byte, is_feature_name, is_type_reference, behind, name_behind, own_name, ecore_name, pair_behind, own_feature, two_names};
 
+use crate::ecore;
+
 /// Whether a text is a name: a letter, `_` or `$`, and letters, digits, `_` or `$` behind it, all ASCII, at most
 /// 128 bytes.
 pub(crate) fn is_name(text: &str) -> bool
@@ -65,7 +67,7 @@ pub(crate) fn own_name<'a>(own: &str, text: &'a str) -> Option<&'a str>
 pub(crate) fn ecore_name(text: &str) -> Option<&str>
     ensures { option_copied result ≡ ecore_name text.now }
 {
-    name_behind("http://www.eclipse.org/emf/2002/Ecore#//", text)
+    name_behind(ecore::TYPES, text)
 }
 
 /// Whether a text names a type.

@@ -4,6 +4,7 @@ ghost use Rattle.serde_json.specs.Find.{get};
 ghost use Rattle.ecore_json.specs.Walk.{text_in};
 ghost use Rattle.ecore_json.specs.Rows.{text_at, whole_at, elements, link_at, type_name, super_name, super_of, opposite_at, default_at, feature_row, literal_row, class_row, enum_row, classifier_row, own_prefix, rows_of};
 
+use crate::ecore;
 use crate::reference::{ecore_name, own_feature, own_name};
 use crate::walk::{flag_at, is_a, is_skipped};
 use ecore_meta::{
@@ -104,7 +105,7 @@ fn opposite_at(alloc: Global, own: &str, value: &Value) -> Result<Option<Opposit
 fn default_at(alloc: Global, value: &Value) -> Result<Option<Text>, AllocError>
     ensures { IfOk result (λ o. o ≡ default_at (view value.now)) }
 {
-    if is_a("http://www.eclipse.org/emf/2002/Ecore#//EReference", value) {
+    if is_a(ecore::REFERENCE, value) {
         return Ok(None);
     }
     match text_in("defaultValueLiteral", value) {
@@ -118,7 +119,7 @@ fn feature_row(alloc: Global, own: &str, value: &Value) -> Result<FeatureRow, Al
 {
     Ok(FeatureRow {
         name: Text::new(alloc, text_at("name", value))?,
-        is_reference: is_a("http://www.eclipse.org/emf/2002/Ecore#//EReference", value),
+        is_reference: is_a(ecore::REFERENCE, value),
         target: type_name(alloc, own, link_at("eType", value))?,
         lower: whole_at("lowerBound", 0, value),
         upper: whole_at("upperBound", 1, value),
@@ -203,9 +204,9 @@ fn enum_row(alloc: Global, value: &Value) -> Result<EnumRow, AllocError>
 fn classifier_row(alloc: Global, own: &str, value: &Value) -> Result<ClassifierRow, AllocError>
     ensures { IfOk result (λ r. r ≡ classifier_row own.now (view value.now)) }
 {
-    if is_a("http://www.eclipse.org/emf/2002/Ecore#//EClass", value) {
+    if is_a(ecore::CLASS, value) {
         Ok(ClassifierRow::Class(class_row(alloc, own, value)?))
-    } else if is_a("http://www.eclipse.org/emf/2002/Ecore#//EEnum", value) {
+    } else if is_a(ecore::ENUM, value) {
         Ok(ClassifierRow::Enum(enum_row(alloc, value)?))
     } else {
         Ok(ClassifierRow::Plain(Text::new(alloc, text_at("name", value))?))

@@ -4,6 +4,7 @@ ghost use Rattle.serde_json.specs.Find.{get};
 ghost use Rattle.ecore_json.specs.Walk.{is_a, classifier_shape, feature_shape, shape_at, has, is_empty_list, is_filled, flag_at, is_skipped, is_single, is_bag, is_generic, left_out, first_lacking, is_before, fits, whole_in, is_of, value_fault, object_fault, array_fault, objects_fault, items_fault, keys_fault};
 ghost use Rattle.ecore_json.specs.Table.{required};
 
+use crate::ecore;
 use crate::fault::WalkFault;
 use crate::reference::{is_feature_name, is_name, is_type_reference, own_feature};
 use crate::table::{Kind, Place, Shape, Wanted, required, wants};
@@ -25,11 +26,11 @@ pub(crate) fn is_a(class: &str, value: &Value) -> bool
 fn classifier_shape(value: &Value) -> Option<Shape>
     ensures { result ≡ classifier_shape (view value.now) }
 {
-    if is_a("http://www.eclipse.org/emf/2002/Ecore#//EClass", value) {
+    if is_a(ecore::CLASS, value) {
         Some(Shape::Class)
-    } else if is_a("http://www.eclipse.org/emf/2002/Ecore#//EEnum", value) {
+    } else if is_a(ecore::ENUM, value) {
         Some(Shape::Enum)
-    } else if is_a("http://www.eclipse.org/emf/2002/Ecore#//EDataType", value) {
+    } else if is_a(ecore::DATA_TYPE, value) {
         Some(Shape::DataType)
     } else {
         None
@@ -39,9 +40,9 @@ fn classifier_shape(value: &Value) -> Option<Shape>
 fn feature_shape(value: &Value) -> Option<Shape>
     ensures { result ≡ feature_shape (view value.now) }
 {
-    if is_a("http://www.eclipse.org/emf/2002/Ecore#//EAttribute", value) {
+    if is_a(ecore::ATTRIBUTE, value) {
         Some(Shape::Attribute)
-    } else if is_a("http://www.eclipse.org/emf/2002/Ecore#//EReference", value) {
+    } else if is_a(ecore::REFERENCE, value) {
         Some(Shape::Reference)
     } else {
         None
