@@ -112,6 +112,12 @@ classes_count n fs (Class c ∷ rows) = let more = classes_count (suc n) fs rows
 classes_count n fs (Enum e ∷ rows) = let more = classes_count n fs rows in omega (arith, more)
 classes_count n fs (Plain t ∷ rows) = let more = classes_count n fs rows in omega (arith, more)
 
+pub classes_supers : (all : Rows) (n : ℕ) (fs : List (List ℕ)) (rows : Rows) → length (supers_in all rows) ≡ length (classes_from n fs rows)
+classes_supers all n fs [] = refl
+classes_supers all n fs (Class c ∷ rows) = ap (λ k. suc k) (classes_supers all (suc n) fs rows)
+classes_supers all n fs (Enum e ∷ rows) = classes_supers all n fs rows
+classes_supers all n fs (Plain t ∷ rows) = classes_supers all n fs rows
+
 pub literals_count : (rows : Rows) → length (literals_in rows) ≤ length rows
 literals_count [] = omega arith
 literals_count (Class c ∷ rows) = let more = literals_count rows in omega (arith, more)

@@ -5,3 +5,6 @@ mod ParseLaws
 mod RisingLaws
 mod TableLaws
 mod BuildLaws
+mod OwnerLaws
+mod SoundLaws
+mod NumberedLaws

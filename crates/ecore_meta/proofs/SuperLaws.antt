@@ -1,5 +1,5 @@
 -- Paths of supertypes, and the bounded search that tells them.
-use Rattle.std.proofs.Common.{◌≡◌, ℕ, zero, suc, ◌+◌, ◌<◌, ◌≤◌, Bool, true, false, List, [], ◌∷◌, ◌++◌, ◌||◌, ◌&&◌, cond, refl, sym, ap, subst, ◌∙◌, arith, length, length-append, take, take-take, map, get_or, ◌⊎◌, inl, inr, nat_eq, rules}
+use Rattle.std.proofs.Common.{◌≡◌, ◌↔◌, IsTrue, ℕ, zero, suc, ◌+◌, ◌<◌, ◌≤◌, Bool, true, false, List, [], ◌∷◌, ◌++◌, ◌||◌, ◌&&◌, cond, refl, sym, ap, subst, ◌∙◌, arith, length, length-append, take, take-take, map, get_or, ◌⊎◌, inl, inr, nat_eq, rules}
 use Rattle.std.specs.Prelude.{slice_get, is_some}
 use Rattle.std.specs.List.{list_any, IsDistinct, AllByRecursion}
 use Rattle.std.specs.Cmp.{nat_eq_equiv}
@@ -133,6 +133,9 @@ leads_above supers all c d below led =
     both : (a b : Bool) → a ≡ true → b ≡ true → a && b ≡ true
     both true b h k = k
     both false b h k = cc
+
+pub chain_is : (supers : List (List ℕ)) → Inside supers → (c d : ℕ) → c < length supers → (b : Bool) → b ≡ is_above supers c d → IsTrue b ↔ Leads supers c d
+chain_is supers all c d below b is = ((λ h. above_leads supers c d (sym is ∙ h)), (λ led. is ∙ leads_above supers all c d below led))
 
 -- one step more at the end
 pub leads_on : (supers : List (List ℕ)) (d b : ℕ) → list_any (nat_eq b) (supers_of supers d) ≡ true → (c : ℕ) (path : List ℕ) → IsPath supers c path d → Leads supers c b

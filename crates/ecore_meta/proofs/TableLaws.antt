@@ -65,7 +65,7 @@ none_past [] i h = refl
 none_past (x ∷ xs) zero h = absurd (omega arith)
 none_past (x ∷ xs) (suc i) h = none_past xs i (omega arith)
 
-above_none : (supers : List (List ℕ)) (c d : ℕ) → length supers ≤ c → is_above supers c d ≡ false
+pub above_none : (supers : List (List ℕ)) (c d : ℕ) → length supers ≤ c → is_above supers c d ≡ false
 unfolding is_above
 above_none supers c d h = rw (none_past supers c h) refl
 

@@ -1,9 +1,10 @@
 -- The metamodel that a document without a fault stands for.
-use Rattle.std.specs.Prelude.{ℕ, ℤ, pos, negsuc, min, suc, ◌<◌, List, [], ◌∷◌, Option, None, Some, map, length, cond}
+use Rattle.std.specs.Prelude.{ℕ, ℤ, pos, negsuc, min, suc, ◌<◌, List, [], ◌∷◌, Option, None, Some, map, length, cond, Bool, nat_lt, not, ◌&&◌}
+use Rattle.std.specs.List.{list_any}
 use Rattle.std.specs.Ordering.{int_eq}
 use Rattle.ecore_meta.specs.Document.{Rows, supers_in, feature_total}
 use Rattle.ecore_meta.specs.Drafts.{drafts}
-use Rattle.ecore_meta.specs.Faults.{contains_back, is_skipped, own_of, features_of, literals_in, Few}
+use Rattle.ecore_meta.specs.Faults.{contains_back, is_skipped, own_of, features_of, literals_in, is_many, Few}
 use Rattle.ecore_meta.specs.Meta.{Meta}
 use Rattle.ecore_meta.specs.Values.{value_of, default_of}
 use Rattle.ecore_meta.specs.declared.drafts.Draft.{Draft}
@@ -94,3 +95,7 @@ pub record Numbered (rows : Rows) : Type 0 where
   pub classifiers : length rows < 4294967295
   pub features : feature_total rows < 4294967295
   pub parts : AreFew rows
+
+-- the same as a test
+abbrev pub is_numbered : Rows → Bool
+is_numbered rows = nat_lt (length rows) 4294967295 && (nat_lt (feature_total rows) 4294967295 && not (list_any is_many rows))

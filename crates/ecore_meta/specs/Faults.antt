@@ -1,5 +1,5 @@
 -- The faults of a document, each over the whole of it, in the order in which they are looked for.
-use Rattle.std.specs.Prelude.{◌≡◌, ℕ, pos, negsuc, ◌+◌, ◌<◌, suc, Bool, true, false, List, [], ◌∷◌, Option, None, Some, slice_get, map, length, cond, not, is_some, nat_eq, int_lt, ◌&&◌, ◌||◌}
+use Rattle.std.specs.Prelude.{◌≡◌, ℕ, pos, negsuc, ◌+◌, ◌<◌, suc, Bool, true, false, List, [], ◌∷◌, Option, None, Some, slice_get, map, length, cond, not, is_some, nat_eq, nat_lt, int_lt, ◌&&◌, ◌||◌}
 use Rattle.std.specs.Ordering.{int_eq}
 use Rattle.std.specs.List.{list_any, filter, flat_map, range_with_len}
 use Rattle.std.specs.Option.{option_map_or}
@@ -218,3 +218,9 @@ abbrev pub Few : ClassifierRow → Type 0
 Few (Class c) = length c.features < 4294967295
 Few (Enum e) = length e.literals < 4294967295
 Few (Plain t) = Unit {0}
+
+-- too many features or literals of a classifier to be numbered
+abbrev pub is_many : ClassifierRow → Bool
+is_many (Class c) = not (nat_lt (length c.features) 4294967295)
+is_many (Enum e) = not (nat_lt (length e.literals) 4294967295)
+is_many (Plain t) = false

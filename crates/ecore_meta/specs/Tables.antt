@@ -4,11 +4,10 @@ use Rattle.std.specs.List.{filter, range_with_len}
 use Rattle.std.specs.Ordering.{nat_cmp}
 use Rattle.std.specs.BTreeSet.{BTreeSet, contains}
 use Rattle.std.specs.Option.{option_map_or}
-use Rattle.ecore_meta.specs.Supers.{is_above}
+use Rattle.ecore_meta.specs.Meta.{Meta}
+use Rattle.ecore_meta.specs.Sound.{Sound}
+use Rattle.ecore_meta.specs.Supers.{Inside, is_above}
 use Rattle.ecore_meta.specs.Values.{AreShort}
-use Rattle.ecore_meta.specs.declared.meta.Class.{Class}
-use Rattle.ecore_meta.specs.declared.meta.Feature.{Feature}
-use Rattle.ecore_meta.specs.declared.meta.EnumLiteral.{EnumLiteral}
 
 -- the table has d in the set of c exactly where d is c or above it
 abbrev pub Agrees : List (List ℕ) → List (BTreeSet ℕ) → Type 0
@@ -18,10 +17,13 @@ Agrees supers above = (c d : ℕ) → option_map_or (λ s. contains nat_cmp s d)
 abbrev pub all_above : List (List ℕ) → List (List ℕ)
 all_above supers = map (λ c. filter (is_above supers c) (range_with_len 0 (length supers))) (range_with_len 0 (length supers))
 
--- what holds of the tables of a metamodel
-pub record Holds (classes : List Class) (features : List Feature) (supers : List (List ℕ)) (above : List (BTreeSet ℕ)) (literals : List (List EnumLiteral)) : Type 0 where
-  pub agrees : Agrees supers above
-  pub few_classes : length classes < 4294967296
-  pub few_features : length features < 4294967296
-  pub few_enums : length literals < 4294967296
-  pub short : AreShort literals
+-- what holds of a metamodel, and of its table of the classes above each class
+pub record Holds (meta : Meta) (above : List (BTreeSet ℕ)) : Type 0 where
+  pub agrees : Agrees meta.supers above
+  pub inside : Inside meta.supers
+  pub as_many : length meta.supers ≡ length meta.classes
+  pub few_classes : length meta.classes < 4294967296
+  pub few_features : length meta.features < 4294967296
+  pub few_enums : length meta.literals < 4294967296
+  pub short : AreShort meta.literals
+  pub sound : Sound meta

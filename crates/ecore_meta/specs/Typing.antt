@@ -23,6 +23,10 @@ literals_of meta e = option_map_or (λ ls. ls) (slice_get meta.literals e) []
 abbrev pub literal_count : Meta → ℕ → ℕ
 literal_count meta e = option_map_or length (slice_get meta.literals e) 0
 
+-- the text of a literal of an enum, empty for numbers that are none
+abbrev pub literal_text : Meta → ℕ → ℕ → List ℕ
+literal_text meta e n = option_map_or (λ l. l.text) (slice_get (literals_of meta e) n) []
+
 -- the value is of the type
 abbrev pub fits : Meta → Scalar → Value → Bool
 fits meta TextType (Text a) = true

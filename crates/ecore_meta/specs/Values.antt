@@ -49,6 +49,10 @@ flag_of text = if bytes_eq text (codes "true") then Some (Flag true) else if byt
 abbrev pub literals_at : List (List EnumLiteral) → ℕ → List EnumLiteral
 literals_at literals e = option_map_or (λ ls. ls) (slice_get literals e) []
 
+-- the text of the literal of that number, empty for a number that is none
+abbrev pub text_in : List EnumLiteral → ℕ → List ℕ
+text_in literals n = option_map_or (λ l. l.text) (slice_get literals n) []
+
 abbrev pub or_else : Option ℕ → Option ℕ → Option ℕ
 or_else None o = o
 or_else (Some n) o = Some n

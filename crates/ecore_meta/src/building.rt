@@ -102,6 +102,7 @@ pub fn build(alloc: Global, rows: &MetaRows) -> Result<Metamodel, MetaFault>
 
 fn assemble(alloc: Global, rows: &MetaRows, parts: Parts) -> Result<Metamodel, AllocError>
     requires few { Numbered rows.now.classifiers }
+    requires none { fault rows.now.classifiers ≡ None }
     requires drafts { parts.drafts.items ≡ drafts rows.now.classifiers }
     requires supers { map (λ ups. ups.items) parts.supers.items ≡ supers_in rows.now.classifiers rows.now.classifiers }
     requires above { Agrees (map (λ ups. ups.items) parts.supers.items) parts.above.items }

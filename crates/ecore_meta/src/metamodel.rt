@@ -1,10 +1,12 @@
-ghost use Rattle.std.specs.Prelude.{◌≡◌, ◌<◌, IfErr, IfOk, IfSome, length, map, slice_get, Some, nat_eq};
+ghost use Rattle.std.specs.Prelude.{◌≡◌, ◌<◌, ◌↔◌, IfErr, IfOk, IsTrue, IfSome, length, map, slice_get, Some, nat_eq};
 ghost use Rattle.std.specs.List.{list_any};
 ghost use Rattle.std.specs.Option.{option_copied, option_map_or};
 ghost use Rattle.ecore_meta.specs.Meta.{class_named, feature_named, first_named, has_feature, is_a, name_at};
-ghost use Rattle.ecore_meta.specs.Typing.{literal_count, literals_of};
+ghost use Rattle.ecore_meta.specs.Sound.{Sound};
+ghost use Rattle.ecore_meta.specs.Supers.{Leads};
+ghost use Rattle.ecore_meta.specs.Typing.{literal_count, literal_text, literals_of};
 ghost use Rattle.ecore_meta.specs.Names.{number_of};
-ghost use Rattle.ecore_meta.specs.Values.{AreShort, IsBad, literal_in, literals_at, value_of};
+ghost use Rattle.ecore_meta.specs.Values.{AreShort, IsBad, literal_in, literals_at, text_in, value_of};
 
 use crate::fault::ValueFault;
 use crate::literals::literal_in;
@@ -45,6 +47,30 @@ fn count(literals: &[Vec<EnumLiteral>], e: u32) -> u32
     }
 }
 
+fn text_at(literals: &[Vec<EnumLiteral>], e: u32, n: u32) -> &str
+    ensures { result.now ≡ text_in (literals_at (map (λ ls. ls.items) literals.now) e) n }
+{
+    match at(literals, e) {
+        None => "",
+        Some(literals) => text_in(literals.as_slice(), n),
+    }
+}
+
+fn text_in(literals: &[EnumLiteral], n: u32) -> &str
+    ensures { result.now ≡ text_in literals.now n }
+{
+    match literal_at(literals, n) {
+        None => "",
+        Some(literal) => literal.text.as_str(),
+    }
+}
+
+fn literal_at(literals: &[EnumLiteral], n: u32) -> Option<&EnumLiteral>
+    ensures { option_copied result ≡ slice_get literals.now n }
+{
+    literals.get(n as usize)
+}
+
 impl Model for Metamodel {
     ghost use Rattle.std.specs.Prelude.{map};
     ghost use Rattle.ecore_meta.specs.Meta.{Meta};
@@ -54,7 +80,7 @@ impl Model for Metamodel {
 
     ghost view = { λ a. record { uri = a.uri; classes = a.classes.items; features = a.features.items; supers = map (λ v. v.items) a.supers.items; literals = map (λ v. v.items) a.literals.items } };
 
-    ghost invariant = { λ a. Holds a.classes.items a.features.items (map (λ v. v.items) a.supers.items) a.above.items (map (λ v. v.items) a.literals.items) };
+    ghost invariant = { λ a. Holds (record { uri = a.uri; classes = a.classes.items; features = a.features.items; supers = map (λ v. v.items) a.supers.items; literals = map (λ v. v.items) a.literals.items }) a.above.items };
 }
 
 impl Metamodel {
@@ -91,9 +117,27 @@ impl Metamodel {
         count(self.literals.as_slice(), e)
     }
 
-    /// Whether the class c is d, or d is above it.
+    /// The text that stands for a literal of an enum in a model.
+    pub fn literal_text(&self, e: u32, n: u32) -> &str
+        requires there { e < length self.now.literals }
+        requires literal { n < literal_count self.now e }
+        ensures { result.now ≡ literal_text self.now e n }
+    {
+        text_at(self.literals.as_slice(), e, n)
+    }
+
+    /// The law of opposites: each names the other back, none is its own, and what one side may link the other may
+    /// link back. A holder of any metamodel has it by this call, which does nothing.
+    pub fn sound(&self)
+        ensures { Sound self.now }
+    {
+        let _uri = &self.uri;
+    }
+
+    /// Whether the class c is d, or d is above it: a chain of supertypes leads from c to d.
     pub fn is_a(&self, c: u32, d: u32) -> bool
-        ensures { result ≡ is_a self.now c d }
+        ensures found { result ≡ is_a self.now c d }
+        ensures chain { c < length self.now.classes → (IsTrue result ↔ Leads self.now.supers c d) }
     {
         tables::is_a(self.above.as_slice(), c, d)
     }

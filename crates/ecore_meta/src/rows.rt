@@ -1,5 +1,8 @@
-ghost use Rattle.std.specs.Prelude.{◌≡◌};
-ghost use Rattle.ecore_meta.specs.Document.{classifier_name};
+ghost use Rattle.std.specs.Prelude.{◌≡◌, ◌↔◌, IsTrue, length, nat_lt};
+ghost use Rattle.std.specs.List.{list_any};
+ghost use Rattle.ecore_meta.specs.Build.{Numbered, is_numbered};
+ghost use Rattle.ecore_meta.specs.Document.{classifier_name, feature_total, features_in};
+ghost use Rattle.ecore_meta.specs.Faults.{is_many};
 
 use crate::{List, Text};
 
@@ -86,5 +89,61 @@ impl ClassifierRow {
             ClassifierRow::Enum(row) => row.name.as_str(),
             ClassifierRow::Plain(name) => name.as_str(),
         }
+    }
+
+    fn feature_count(&self) -> usize
+        ensures { result ≡ length (features_in self.now) }
+    {
+        match self {
+            ClassifierRow::Class(row) => row.features.len(),
+            ClassifierRow::Enum(_) => 0,
+            ClassifierRow::Plain(_) => 0,
+        }
+    }
+
+    fn is_many(&self) -> bool
+        ensures { result ≡ is_many self.now }
+    {
+        match self {
+            ClassifierRow::Class(row) => row.features.len() >= 4294967295,
+            ClassifierRow::Enum(row) => row.literals.len() >= 4294967295,
+            ClassifierRow::Plain(_) => false,
+        }
+    }
+}
+
+fn features_are_few(rows: &[ClassifierRow]) -> bool
+    ensures { result ≡ nat_lt (feature_total rows.now) 4294967295 }
+{
+    let mut left: u32 = 4294967294;
+    for row in rows {
+        let count = row.feature_count();
+        if count > left as usize {
+            return false;
+        }
+        left -= count as u32;
+    }
+    true
+}
+
+fn any_is_many(rows: &[ClassifierRow]) -> bool
+    ensures { result ≡ list_any is_many rows.now }
+{
+    rows.iter().any(|row| row.is_many())
+}
+
+fn is_numbered(rows: &[ClassifierRow]) -> bool
+    ensures { result ≡ is_numbered rows.now }
+{
+    rows.len() < 4294967295 && features_are_few(rows) && !any_is_many(rows)
+}
+
+impl MetaRows {
+    /// Whether the classifiers, all their features and the literals of each enum can be numbered, which `build` asks
+    /// for: fewer than 2^32 - 1 of each.
+    pub fn is_numbered(&self) -> bool
+        ensures { IsTrue result ↔ Numbered self.now.classifiers }
+    {
+        is_numbered(self.classifiers.as_slice())
     }
 }

@@ -1,0 +1,210 @@
+-- A class has a feature exactly where the class that declares it is that class or above it.
+use Rattle.std.proofs.Common.{◌≡◌, ℕ, zero, suc, ◌+◌, ◌-◌, ◌<◌, ◌≤◌, Bool, true, false, List, [], ◌∷◌, ◌++◌, ◌||◌, ◌&&◌, ◌⊎◌, inl, inr, refl, sym, ap, subst, ◌∙◌, arith, length, length-append, map, nat_eq}
+use Rattle.std.specs.Prelude.{Option, None, Some, slice_get}
+use Rattle.std.specs.List.{list_any, filter, flat_map, range_with_len}
+use Rattle.std.specs.Option.{option_map_or}
+use Rattle.std.proofs.lemmas.List.{length-map}
+use Rattle.std.proofs.lemmas.List.Folds.{list_any-append}
+use Rattle.std.proofs.lemmas.Map.Views.{any-filter_same}
+use Rattle.ecore_meta.specs.Build.{classes_from, meta_of}
+use Rattle.ecore_meta.specs.Document.{Rows, supers_in}
+use Rattle.ecore_meta.specs.Drafts.{draft, drafts, drafts_from}
+use Rattle.ecore_meta.specs.Faults.{features_of, inherited, own_features, own_of}
+use Rattle.ecore_meta.specs.Meta.{has_feature}
+use Rattle.ecore_meta.specs.Supers.{is_above}
+use Rattle.ecore_meta.specs.declared.drafts.Draft.{Draft}
+use Rattle.ecore_meta.specs.declared.meta.Class.{Class as Made}
+use Rattle.ecore_meta.specs.declared.rows.FeatureRow.{FeatureRow}
+use Rattle.ecore_meta.specs.declared.rows.MetaRows.{MetaRows}
+use Rattle.ecore_meta.specs.declared.rows.ClassifierRow.TheVariants.{Class, Enum, Plain}
+use Rattle.ecore_meta.proofs.RisingLaws.{in_range}
+use Rattle.ecore_meta.proofs.SuperLaws.{nat_itself, nat_same, or_left, or_right, or_split, same_bool}
+use Rattle.ecore_meta.proofs.TableLaws.{above_none}
+
+split : (k n : ℕ) → (k < n) ⊎ (n ≤ k)
+split k zero = inr (omega arith)
+split zero (suc n) = inl (omega arith)
+split (suc k) (suc n) = elim (split k n) [ inl h ↦ inl (omega arith) | inr h ↦ inr (omega arith) ]
+
+and_left : (a b : Bool) → a && b ≡ true → a ≡ true
+and_left true b h = refl
+and_left false b h = cc
+
+and_both : (a b : Bool) → a ≡ true → b ≡ true → a && b ≡ true
+and_both true b h k = k
+and_both false b h k = cc
+
+get_left : {X : Type 0} (xs ys : List X) (k : ℕ) → k < length xs → slice_get (xs ++ ys) k ≡ slice_get xs k
+get_left [] ys k h = absurd (omega arith)
+get_left (x ∷ xs) ys zero h = refl
+get_left (x ∷ xs) ys (suc k) h = get_left xs ys k (omega arith)
+
+get_right : {X : Type 0} (xs ys : List X) (k j : ℕ) → k ≡ length xs + j → slice_get (xs ++ ys) k ≡ slice_get ys j
+get_right [] ys k j h = ap (slice_get ys) (same k j h)
+  where
+    same : (k j : ℕ) → k ≡ 0 + j → k ≡ j
+    same k j h = omega (arith, h)
+get_right (x ∷ xs) ys zero j h = absurd (omega (arith, h))
+get_right (x ∷ xs) ys (suc k) j h = get_right xs ys k j (omega (arith, h))
+
+range_bounds : (a n x : ℕ) → list_any (nat_eq x) (range_with_len a n) ≡ true → (a ≤ x) × (x < a + n)
+range_bounds a zero x h = cc
+range_bounds a (suc n) x h = or_split (nat_eq x a) (list_any (nat_eq x) (range_with_len (a + 1) n)) h
+    (λ e. let same : x ≡ a = nat_same x a e in (omega (arith, same), omega (arith, same)))
+    (λ e. let more = range_bounds (a + 1) n x e in (omega (arith, more.0), omega (arith, more.1)))
+
+draft_owner : (all : Rows) (n : ℕ) (fs : List FeatureRow) (k : ℕ) (d : Draft) → slice_get (map (draft all n) fs) k ≡ Some d → d.owner ≡ n
+draft_owner all n [] k d h = cc
+draft_owner all n (f ∷ fs) zero d h = owner (draft all n f) d h refl
+  where
+    owner : (x d : Draft) → Some x ≡ Some d → x.owner ≡ n → d.owner ≡ n
+    owner x d h e = let same : x ≡ d = cc in subst (λ y. y.owner ≡ n) same e
+draft_owner all n (f ∷ fs) (suc k) d h = draft_owner all n fs k d h
+
+-- a number below the first is none of those that the classes declare
+own_from : (f : ℕ) (rows : Rows) (b x : ℕ) → list_any (nat_eq x) (own_of (own_features f rows) b) ≡ true → f ≤ x
+own_from f [] b x h = cc
+own_from f (Class c ∷ rows) zero x h = (range_bounds f (length c.features) x h).0
+own_from f (Class c ∷ rows) (suc b) x h = let more = own_from (f + length c.features) rows b x h in omega (arith, more)
+own_from f (Enum e ∷ rows) b x h = own_from f rows b x h
+own_from f (Plain t ∷ rows) b x h = own_from f rows b x h
+
+-- where a feature's number stands: the class that declares it, and no other
+abbrev pub Stands : ℕ → ℕ → Rows → ℕ → Draft → Type 0
+Stands n f rows x d = (b : ℕ) × (d.owner ≡ n + b) × (b < length (own_features f rows)) × (list_any (nat_eq x) (own_of (own_features f rows) b) ≡ true)
+
+owner_has : (all : Rows) (n : ℕ) (rows : Rows) (f k x : ℕ) (d : Draft) → x ≡ f + k → slice_get (drafts_from all n rows) k ≡ Some d → Stands n f rows x d
+owner_has all n [] f k x d e h = cc
+owner_has all n (Class c ∷ rows) f k x d e h = by_place (λ j. owner_has all (suc n) rows (f + length c.features) j x d) (split k (length c.features))
+  where
+    long : length (map (draft all n) c.features) ≡ length c.features
+    long = length-map c.features (draft all n)
+
+    by_place : ((j : ℕ) → x ≡ f + length c.features + j → slice_get (drafts_from all (suc n) rows) j ≡ Some d → Stands (suc n) (f + length c.features) rows x d) → (k < length c.features) ⊎ (length c.features ≤ k) → Stands n f (Class c ∷ rows) x d
+    by_place on (inl lt) =
+        let own : d.owner ≡ n = draft_owner all n c.features k d (sym (get_left (map (draft all n) c.features) (drafts_from all (suc n) rows) k (omega (arith, long))) ∙ h) in
+        (0, omega (arith, own), omega arith, in_range f (length c.features) x (omega (arith, e)) (omega (arith, e)))
+    by_place on (inr le) =
+        let more = on (k - length c.features) (omega (arith, e)) (sym (get_right (map (draft all n) c.features) (drafts_from all (suc n) rows) k (k - length c.features) (omega (arith, long))) ∙ h) in
+        (suc more.0, omega (arith, more.1), omega (arith, more.2), more.3)
+owner_has all n (Enum r ∷ rows) f k x d e h = owner_has all n rows f k x d e h
+owner_has all n (Plain t ∷ rows) f k x d e h = owner_has all n rows f k x d e h
+
+owner_one : (all : Rows) (n : ℕ) (rows : Rows) (f k x : ℕ) (d : Draft) (b : ℕ) → x ≡ f + k → slice_get (drafts_from all n rows) k ≡ Some d → list_any (nat_eq x) (own_of (own_features f rows) b) ≡ true → d.owner ≡ n + b
+owner_one all n [] f k x d b e h m = cc
+owner_one all n (Class c ∷ rows) f k x d b e h m = by_place b m (λ j a. owner_one all (suc n) rows (f + length c.features) j x d a) (split k (length c.features))
+  where
+    long : length (map (draft all n) c.features) ≡ length c.features
+    long = length-map c.features (draft all n)
+
+    by_place : (b : ℕ) → list_any (nat_eq x) (own_of (own_features f (Class c ∷ rows)) b) ≡ true → ((j a : ℕ) → x ≡ f + length c.features + j → slice_get (drafts_from all (suc n) rows) j ≡ Some d → list_any (nat_eq x) (own_of (own_features (f + length c.features) rows) a) ≡ true → d.owner ≡ suc n + a) → (k < length c.features) ⊎ (length c.features ≤ k) → d.owner ≡ n + b
+    by_place zero m on (inl lt) =
+        let own : d.owner ≡ n = draft_owner all n c.features k d (sym (get_left (map (draft all n) c.features) (drafts_from all (suc n) rows) k (omega (arith, long))) ∙ h) in omega (arith, own)
+    by_place zero m on (inr le) = let in_it = range_bounds f (length c.features) x m in absurd (omega (arith, in_it.1, e))
+    by_place (suc b) m on (inl lt) = let in_it = own_from (f + length c.features) rows b x m in absurd (omega (arith, in_it, e))
+    by_place (suc b) m on (inr le) =
+        let more = on (k - length c.features) b (omega (arith, e)) (sym (get_right (map (draft all n) c.features) (drafts_from all (suc n) rows) k (k - length c.features) (omega (arith, long))) ∙ h) m in
+        omega (arith, more)
+owner_one all n (Enum r ∷ rows) f k x d b e h m = owner_one all n rows f k x d b e h m
+owner_one all n (Plain t ∷ rows) f k x d b e h m = owner_one all n rows f k x d b e h m
+
+own_count : (all : Rows) (f : ℕ) (rows : Rows) → length (own_features f rows) ≡ length (supers_in all rows)
+own_count all f [] = refl
+own_count all f (Class c ∷ rows) = ap (λ k. suc k) (own_count all (f + length c.features) rows)
+own_count all f (Enum e ∷ rows) = own_count all f rows
+own_count all f (Plain t ∷ rows) = own_count all f rows
+
+-- the class of a number has the features of that number
+class_has : (all : Rows) (n : ℕ) (fs : List (List ℕ)) (rows : Rows) (c f : ℕ) → c < length (supers_in all rows) → option_map_or (λ (class : Made). list_any (nat_eq f) class.features) (slice_get (classes_from n fs rows) c) false ≡ list_any (nat_eq f) (own_of fs (n + c))
+class_has all n fs [] c f h = absurd (omega arith)
+class_has all n fs (Class r ∷ rows) zero f h = ap (λ k. list_any (nat_eq f) (own_of fs k)) (plus_none n)
+  where
+    plus_none : (n : ℕ) → n ≡ n + 0
+    plus_none n = omega arith
+class_has all n fs (Class r ∷ rows) (suc c) f h = class_has all (suc n) fs rows c f (omega arith) ∙ ap (λ k. list_any (nat_eq f) (own_of fs k)) (shift n c)
+  where
+    shift : (n c : ℕ) → suc n + c ≡ n + suc c
+    shift n c = omega arith
+class_has all n fs (Enum e ∷ rows) c f h = class_has all n fs rows c f h
+class_has all n fs (Plain t ∷ rows) c f h = class_has all n fs rows c f h
+
+class_none : (all : Rows) (n : ℕ) (fs : List (List ℕ)) (rows : Rows) (c f : ℕ) → length (supers_in all rows) ≤ c → option_map_or (λ (class : Made). list_any (nat_eq f) class.features) (slice_get (classes_from n fs rows) c) false ≡ false
+class_none all n fs [] c f h = refl
+class_none all n fs (Class r ∷ rows) zero f h = absurd (omega arith)
+class_none all n fs (Class r ∷ rows) (suc c) f h = class_none all (suc n) fs rows c f (omega arith)
+class_none all n fs (Enum e ∷ rows) c f h = class_none all n fs rows c f h
+class_none all n fs (Plain t ∷ rows) c f h = class_none all n fs rows c f h
+
+ranged : (g : ℕ → List ℕ) (a n c : ℕ) → c < n → own_of (map g (range_with_len a n)) c ≡ g (a + c)
+ranged g a zero c h = absurd (omega arith)
+ranged g a (suc n) zero h = ap g (plus_none a)
+  where
+    plus_none : (a : ℕ) → a ≡ a + 0
+    plus_none a = omega arith
+ranged g a (suc n) (suc c) h = ranged g (a + 1) n c (omega arith) ∙ ap g (shift a c)
+  where
+    shift : (a c : ℕ) → a + 1 + c ≡ a + suc c
+    shift a c = omega arith
+
+flat_has : (h : ℕ → List ℕ) (f b : ℕ) (xs : List ℕ) → list_any (nat_eq b) xs ≡ true → list_any (nat_eq f) (h b) ≡ true → list_any (nat_eq f) (flat_map h xs) ≡ true
+flat_has h f b [] m k = cc
+flat_has h f b (x ∷ xs) m k =
+    list_any-append (nat_eq f) (h x) (flat_map h xs)
+    ∙ or_split (nat_eq b x) (list_any (nat_eq b) xs) m
+    (λ e. or_left (list_any (nat_eq f) (h x)) _ (subst (λ y. list_any (nat_eq f) (h y) ≡ true) (nat_same b x e) k))
+    (λ e. or_right (list_any (nat_eq f) (h x)) _ (flat_has h f b xs e k))
+
+flat_from : (h : ℕ → List ℕ) (f : ℕ) (xs : List ℕ) → list_any (nat_eq f) (flat_map h xs) ≡ true → (b : ℕ) × (list_any (nat_eq b) xs ≡ true) × (list_any (nat_eq f) (h b) ≡ true)
+flat_from h f [] m = cc
+flat_from h f (x ∷ xs) m = or_split (list_any (nat_eq f) (h x)) (list_any (nat_eq f) (flat_map h xs)) (sym (list_any-append (nat_eq f) (h x) (flat_map h xs)) ∙ m)
+    (λ e. (x, or_left (nat_eq x x) _ (nat_itself x), e))
+    (λ e. let more = flat_from h f xs e in (more.0, or_right (nat_eq more.0 x) _ more.1, more.2))
+
+kept_is : (p : ℕ → Bool) (b : ℕ) (xs : List ℕ) → list_any (nat_eq b) (filter p xs) ≡ p b && list_any (nat_eq b) xs
+kept_is p b xs = any-filter_same (nat_eq b) p (p b) (λ k e. ap p (sym (nat_same b k e))) xs
+
+module _ (rows : MetaRows) (c f : ℕ) (d : Draft) (is : slice_get (drafts rows.classifiers) f ≡ Some d) where
+  abbrev pub all : Rows
+  all = rows.classifiers
+
+  abbrev pub supers : List (List ℕ)
+  supers = supers_in all all
+
+  abbrev pub own : List (List ℕ)
+  own = own_features 0 all
+
+  drafted : slice_get (drafts_from all 0 all) f ≡ Some d
+  unfolding drafts
+  drafted = is
+
+  none_less : (n : ℕ) → n ≡ 0 + n
+  none_less n = omega arith
+
+  inherits : list_any (nat_eq f) (inherited supers own c) ≡ is_above supers c d.owner
+  unfolding inherited
+  inherits = same_bool (list_any (nat_eq f) (inherited supers own c)) (is_above supers c d.owner) forth back
+    where
+      forth : list_any (nat_eq f) (inherited supers own c) ≡ true → is_above supers c d.owner ≡ true
+      forth m =
+          let at = flat_from (own_of own) f (filter (is_above supers c) (range_with_len 0 (length supers))) m in
+          let same : d.owner ≡ 0 + at.0 = owner_one all 0 all 0 f f d at.0 (none_less f) drafted at.2 in
+          subst (λ b. is_above supers c b ≡ true) (none_less at.0 ∙ sym same) (and_left _ _ (sym (kept_is (is_above supers c) at.0 (range_with_len 0 (length supers))) ∙ at.1))
+
+      back : is_above supers c d.owner ≡ true → list_any (nat_eq f) (inherited supers own c) ≡ true
+      back m =
+          let at = owner_has all 0 all 0 f f d (none_less f) drafted in
+          let same : d.owner ≡ at.0 = at.1 ∙ sym (none_less at.0) in
+          flat_has (own_of own) f at.0 (filter (is_above supers c) (range_with_len 0 (length supers)))
+          (kept_is (is_above supers c) at.0 (range_with_len 0 (length supers))
+          ∙ and_both _ _ (subst (λ b. is_above supers c b ≡ true) same m) (in_range 0 (length supers) at.0 (omega arith) (omega (arith, at.2, own_count all 0 all))))
+          at.3
+
+  pub has_is : has_feature (meta_of rows) c f ≡ is_above supers c d.owner
+  has_is = by_place (split c (length supers))
+    where
+      by_place : (c < length supers) ⊎ (length supers ≤ c) → has_feature (meta_of rows) c f ≡ is_above supers c d.owner
+      by_place (inl lt) =
+          class_has all 0 (features_of all) all c f lt ∙ ap (λ k. list_any (nat_eq f) (own_of (features_of all) k)) (sym (none_less c))
+          ∙ ap (λ fs. list_any (nat_eq f) fs) (ranged (inherited supers own) 0 (length supers) c lt)
+          ∙ ap (λ k. list_any (nat_eq f) (inherited supers own k)) (sym (none_less c)) ∙ inherits
+      by_place (inr le) = class_none all 0 (features_of all) all c f le ∙ sym (above_none supers c d.owner le)
