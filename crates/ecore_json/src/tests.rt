@@ -26,7 +26,7 @@ const LIBRARY: &str =
 {"eClass":"E#//EReference","name":"parts","upperBound":-1,"containment":true,"eType":{"$ref":"//Shelf"}}]}
 ]}"##;
 
-// What a text stands in: nothing, the classifiers of a package, the features of its class A, or those of A where it has a class B too.
+// What a text stands in: nothing, the classifiers of a package, or the features of a package's class A.
 #[derive(Clone, Copy)]
 enum Around {
     Nothing,
@@ -132,7 +132,12 @@ const DOCUMENTS: [(Around, &str, u32); 24] = [
     ),
 ];
 
-const CLASSIFIERS: [(Around, &str, u32); 36] = [
+const CLASSIFIERS: [(Around, &str, u32); 37] = [
+    (
+        Package,
+        r##"{"eClass":"E#//EClass","name":"A","eSuperTypes":[{"$ref":"//B"},{"$ref":"//C"}]},{"eClass":"E#//EClass","name":"B","eStructuralFeatures":{"eClass":"E#//EReference","name":"r","eType":{"$ref":"//A"}}},{"eClass":"E#//EClass","name":"C","eStructuralFeatures":{"eClass":"E#//EReference","name":"r","eType":{"$ref":"//A"}}}"##,
+        15,
+    ),
     (
         Package,
         r##"{"eClass":"E#//EClass","name":"A","abstract":true,"interface":5,"_id":{}}"##,
