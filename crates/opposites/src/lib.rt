@@ -1,0 +1,21 @@
+//! Edits of plain references as steps. A reference and its opposite change together, an entry that an opposite of upper
+//! bound 1 displaces goes first, and a list without room at the index is ranked anew.
+#![tactic(auto)]
+
+mod bounds;
+mod fault;
+mod laws;
+mod link;
+mod look_up;
+mod openings;
+mod reorder;
+mod set_ref;
+mod there;
+mod unlink;
+
+pub use fault::LinkFault;
+pub use laws::law_of_calls;
+pub use link::link_steps;
+pub use reorder::reorder_steps;
+pub use set_ref::set_ref_steps;
+pub use unlink::unlink_steps;

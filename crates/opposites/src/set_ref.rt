@@ -1,0 +1,76 @@
+ghost use Rattle.std.specs.Prelude.{◌≡◌, ◌<◌, true, ◌++◌, ◌∷◌, [], IfOk, OnOk, IfErr, None, is_some, not, length};
+ghost use Rattle.std.specs.FinMap.{get};
+ghost use Rattle.model_state.specs.Good.{Good, Sound};
+ghost use Rattle.model_state.specs.Typing.{opposite_of};
+ghost use Rattle.model_state.specs.Listing.{targets};
+ghost use Rattle.edit_laws.specs.Spot.{rank_for, ranks_of};
+ghost use Rattle.edit_laws.specs.Rows.{link_step, unlinks};
+ghost use Rattle.edit_laws.specs.References.{is_one, set_ref_made, displace};
+ghost use Rattle.opposites.specs.Refusals.{IsReference, IsRefusal, set_ref_refusal};
+ghost use Rattle.opposites.specs.Ends.{reranks_by};
+
+use crate::LinkFault;
+use crate::link::link_step;
+use crate::look_up::rank_of;
+use crate::openings::Opening;
+use crate::there::{displace, opening_there, rerank_there};
+use crate::unlink::unlinks;
+use ecore_meta::{List, Metamodel};
+use model_state::{Id, Look, Step, may_link, opposite_of};
+use std::alloc::{AllocError, Global};
+
+fn set_ref<L: Look>(
+    alloc: Global,
+    look: &L,
+    meta: &Metamodel,
+    a: &Id,
+    f: u32,
+    b: &Id,
+    there: &Opening,
+) -> Result<List<Step>, AllocError>
+    requires index { there.now.index ≡ length there.now.others }
+    requires reranks { there.now.reranks ≡ not (is_some (rank_for (ranks_of there.now.others) there.now.index)) }
+    requires small { there.now.reranks ≡ true → length there.now.others < 4294967295 }
+    ensures { IfOk result (λ s. s ≡ unlinks (L.state look.now).row (opposite_of meta.now f) a.now f (targets (L.state look.now).row a.now f) ++ (displace meta.now (L.state look.now).row (opposite_of meta.now f) f b.now ++ (reranks_by (opposite_of meta.now f) b.now there.now.others ++ link_step (opposite_of meta.now f) a.now f 4294967296 b.now there.now.rank ∷ []))) }
+{
+    let opposite = opposite_of(meta, f);
+    let mut steps = List::new(alloc);
+    let mine = look.targets(alloc, a, f)?;
+    unlinks(alloc, look, opposite, a, f, mine.as_slice(), &mut steps)?;
+    displace(alloc, look, meta, opposite, f, b, &mut steps)?;
+    rerank_there(alloc, opposite, b, there, &mut steps)?;
+    steps.push(link_step(alloc, opposite, a, f, 4294967296, b, there.rank)?)?;
+    Ok(steps)
+}
+
+/// The steps that set a reference of upper bound 1 to an element, none where it refers to it already.
+///
+/// The old target is unlinked; so is the source that an opposite of upper bound 1 displaces; an opposite of a greater one
+/// is ranked anew where there is no room at its end; then the two are linked, the target with the rank `2^32`. Refused
+/// with WrongType before Bound.
+pub fn set_ref_steps<L: Look>(
+    alloc: Global,
+    look: &L,
+    meta: &Metamodel,
+    a: &Id,
+    f: u32,
+    b: &Id,
+) -> Result<List<Step>, LinkFault>
+    requires sound { Sound meta.now }
+    requires good { Good meta.now (L.state look.now) }
+    requires reference { IsReference meta.now (L.state look.now) a.now f }
+    requires one { is_one meta.now f ≡ true }
+    requires target { is_some (get (L.state look.now).kind b.now) ≡ true }
+    ensures made { IfOk result (λ s. s ≡ set_ref_made meta.now (L.state look.now).row a.now f b.now) }
+    ensures taken { OnOk result (set_ref_refusal meta.now (L.state look.now) a.now f b.now ≡ None) }
+    ensures refused { IfErr result (λ e. IsRefusal (set_ref_refusal meta.now (L.state look.now) a.now f b.now) e) }
+{
+    if !may_link(meta, look.class(a), f, look.class(b)) {
+        return Err(LinkFault::WrongType);
+    }
+    if rank_of(alloc, look, a, f, b)?.is_some() {
+        return Ok(List::new(alloc));
+    }
+    let there = opening_there(alloc, look, meta, opposite_of(meta, f), b)?;
+    Ok(set_ref(alloc, look, meta, a, f, b, &there)?)
+}
