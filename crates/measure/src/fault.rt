@@ -1,3 +1,4 @@
+use ecore_meta::MetaFault;
 use model_state::IdFault;
 use op_form::FormFault;
 use std::alloc::AllocError;
@@ -7,8 +8,14 @@ use thiserror::Error;
 #[derive(Debug, Drop, Error)]
 pub enum MeasureFault {
     /// A word is none of the program's, or a number is missing or too great.
-    #[error("usage: measure [forms STEPS | timed]..")]
+    #[error("usage: measure [metamodel CLASSES FEATURES | forms STEPS | timed]..")]
     Usage,
+    /// There are more classes or features than a metamodel numbers.
+    #[error("too many classes or features")]
+    TooMany,
+    /// The rows are no metamodel.
+    #[error("no metamodel: {0}")]
+    Metamodel(MetaFault),
     /// The bytes of the package were not read again.
     #[error("no package: {0}")]
     Form(FormFault),
@@ -28,6 +35,12 @@ impl From<AllocError> for MeasureFault {
 impl From<IdFault> for MeasureFault {
     fn from(fault: IdFault) -> MeasureFault {
         MeasureFault::Id(fault)
+    }
+}
+
+impl From<MetaFault> for MeasureFault {
+    fn from(fault: MetaFault) -> MeasureFault {
+        MeasureFault::Metamodel(fault)
     }
 }
 

@@ -1,14 +1,18 @@
-//! Measures calls of the libraries on inputs that it makes: a package spelled and read again.
+//! Measures calls of the libraries on inputs that it makes: a metamodel built of its rows, and a package spelled and read again.
 #![tactic(auto)]
 
 mod fault;
 mod forms;
 mod plan;
+mod rows;
 
 use anyhow::Result;
+use ecore_meta::build;
+use fault::MeasureFault;
 use forms::{package_of, read_again};
 use op_form::encode;
 use plan::{Task, read_plan};
+use rows::rows_of;
 use std::env;
 use std::time::{Duration, Instant};
 
@@ -18,6 +22,23 @@ fn print_time(rt: &HostRuntime, is_timed: bool, call: &str, taken: Duration) -> 
         println!(rt; "{call} {taken} us")?;
     }
     Ok(())
+}
+
+fn measure_metamodel(rt: &HostRuntime, is_timed: bool, classes: u32, features: u32) -> Result<()> {
+    let alloc = rt.alloc();
+    let rows = rows_of(alloc, classes, features)?;
+    if !rows.is_numbered() {
+        return Err(MeasureFault::TooMany.into());
+    }
+    let start = Instant::now(rt)?;
+    let built = build(alloc, &rows)?;
+    let building = start.elapsed(rt)?;
+    println!(rt;
+        "metamodel {classes} {features}: {} classes, {} features",
+        built.class_count(),
+        built.feature_count()
+    )?;
+    print_time(rt, is_timed, "build", building)
 }
 
 fn measure_forms(rt: &HostRuntime, is_timed: bool, steps: u32) -> Result<()> {
@@ -46,6 +67,12 @@ fn main(rt: HostRuntime) -> Result<()> {
     let plan = read_plan(alloc, words.as_slice())?;
     for task in plan.tasks.as_slice() {
         match *task {
+            Task::Metamodel { classes, features } => measure_metamodel(
+                &rt,
+                plan.is_timed,
+                classes,
+                features,
+            )?,
             Task::Forms { steps } => measure_forms(&rt, plan.is_timed, steps)?,
         }
     }

@@ -7,6 +7,8 @@ use std::alloc::Global;
 /// What is measured.
 #[derive(Clone, Copy, Debug, PartialEq, Drop)]
 pub enum Task {
+    /// A metamodel of so many classes, each with so many features.
+    Metamodel { classes: u32, features: u32 },
     /// A package of so many steps.
     Forms { steps: u32 },
 }
@@ -33,6 +35,12 @@ pub fn read_plan(alloc: Global, words: &[String]) -> Result<Plan, MeasureFault> 
         rest = more;
         match (word.as_str(), more) {
             ("timed", _) => is_timed = true,
+            ("metamodel", [classes, features, more @ ..]) => {
+                let classes = number(classes)?;
+                let features = number(features)?;
+                tasks.push(Task::Metamodel { classes, features })?;
+                rest = more;
+            }
             ("forms", [steps, more @ ..]) => {
                 let steps = number(steps)?;
                 tasks.push(Task::Forms { steps })?;
