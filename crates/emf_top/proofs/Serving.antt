@@ -1,8 +1,8 @@
 -- The loop over the lines of the input.
-use Rattle.std.proofs.Common.{◌≡◌, ℕ, ◌+◌, List, ◌++◌, Bool, true, false, ◌||◌, length, Option, Some, None, Ok, Err, append_assoc, refl, sym, ◌∙◌, ap, subst}
+use Rattle.std.proofs.Common.{◌⊎◌, inr, inl, ⊎_elim, ◌≡◌, ℕ, ◌+◌, List, ◌++◌, Bool, true, false, ◌||◌, length, Option, Some, None, Ok, Err, append_assoc, refl, sym, ◌∙◌, ap, subst}
 use Rattle.std.specs.Prelude.{IsTrue}
 use Rattle.std.proofs.lemmas.List.{append-nil}
-use Rattle.host_port.specs.Host.{Told, GoesOn, Throughout, KeepsDisk, KeepsSaid, KeepsInput, AddsPart, disk_now, said_now}
+use Rattle.host_port.specs.Host.{MayLeave, Told, GoesOn, Throughout, KeepsDisk, KeepsSaid, KeepsInput, AddsPart, disk_now, said_now}
 use Rattle.host_port.specs.Cut.{Item, Script, script_from, with_item, ends_by, next_line_of}
 use Rattle.host_port.specs.Reads.{GotLine, PastLine}
 use Rattle.host_port.specs.declared.lines.LineFault.{LineFault}
@@ -21,7 +21,7 @@ use Rattle.emf_top.specs.declared.session.SessionFault.{SessionFault}
 use Rattle.emf_top.specs.declared.session.SessionFault.TheVariants as session
 use Rattle.emf_top.specs.declared.top.Status.TheVariants.{ReadFault}
 use Rattle.emf_top.specs.Session.{Holds, IfMade, answered_as}
-use Rattle.emf_top.specs.Headline.{IsServed, IsUnsaid, Ends, input_status, session_status, end_of, outcome, said_by, made_by, refused_in, least_of}
+use Rattle.emf_top.specs.Headline.{IsServed, IsUnsaid, IsHalted, Ends, input_status, session_status, end_of, outcome, said_by, made_by, refused_in, least_of}
 use Rattle.emf_top.proofs.Entering.{rest_leaves, holds_stands}
 use Rattle.emf_top.proofs.Answering.{line_item}
 
@@ -76,6 +76,16 @@ module _ (entry b : Told) (made : List Event) (s0 : State) (whole : Script) (sta
   pub outcome_is : outcome s0 whole ≡ end_of fault refused
   outcome_is = ap (λ (f : Option LineFault). end_of f (refused_in s0 whole)) (sym going.fault) ∙ ap (λ (b : Bool). end_of fault b) (ap (λ (l : List Item). refuses decide play s0 l) all_done ∙ sym going.refused_is)
 
+-- no more is said and kept
+pub halted : (entry b : Told) (made : List Event) (s0 : State) (whole left : Script) (state : State) (end : ℕ) (refused : Bool) → Between entry b made s0 whole left state end refused → IsHalted s0 whole made entry b
+halted entry b made s0 whole left state end refused going = record {
+  done = going.done;
+  left = left.items;
+  items = going.items;
+  said = going.said;
+  stands = holds_stands (disk_now b) state end (made ++ events decide play s0 going.done) going.rest;
+}
+
 -- a fault of the input
 module _ (entry a b : Told) (made : List Event) (s0 : State) (whole : Script) (place : ℕ) (unread text : List ℕ) (state : State) (end : ℕ) (refused : Bool)
     (going : Between entry a made s0 whole (script_from takes_block place unread) state end refused)
@@ -85,14 +95,18 @@ module _ (entry a b : Told) (made : List Event) (s0 : State) (whole : Script) (p
       let there = looked entry a b made s0 whole (script_from takes_block place unread) state end refused going course on disk said told (ends_by (Some fault)) (script_fault takes_block place unread fault is) in
       (served entry b made s0 whole state end refused (Some fault) there, outcome_is entry b made s0 whole state end refused (Some fault) there)
 
+  halted_here : IsHalted s0 whole made entry b
+  halted_here = halted entry b made s0 whole (script_from takes_block place unread) state end refused
+      (looked entry a b made s0 whole (script_from takes_block place unread) state end refused going course on disk said told (script_from takes_block place unread) refl)
+
   pub fault_ends : (fault : LineFault) → GotLine (Err fault) text (next_line_of place unread) → Ends s0 whole made entry b (input_status fault)
   fault_ends (faults.LineTooLong at) is = at_fault (faults.LineTooLong at) is
   fault_ends (faults.BlockTooLong at) is = at_fault (faults.BlockTooLong at) is
   fault_ends (faults.NotText at) is = at_fault (faults.NotText at) is
   fault_ends (faults.UnendedBlock at) is = at_fault (faults.UnendedBlock at) is
   fault_ends (faults.InputTooLong at) is = at_fault (faults.InputTooLong at) is
-  fault_ends faults.Failed is = tt
-  fault_ends faults.Memory is = tt
+  fault_ends faults.Failed is = halted_here
+  fault_ends faults.Memory is = halted_here
 
   pub end_ends : next_line_of place unread ≡ Ok None → IsServed s0 whole made entry b × (outcome s0 whole ≡ end_of None refused)
   end_ends is =
@@ -127,21 +141,32 @@ module _ (entry b d : Told) (made : List Event) (s0 : State) (whole next : Scrip
   pub answered_moments : Throughout entry d (IsRunning Stands made (made_by s0 whole) (least_of s0 whole) (said_now entry))
   answered_moments = stepped_moments decide play Stands entry made s0 whole b d (with_item text None next) state refused (λ events. Holds (disk_now b) state end events) going course (line_item text) next refl steps
 
+  -- its reply was not said whole, and it is kept
+  pub unsaid_kept : IsTrue b.tells → Stands (disk_now d).now ((made ++ events decide play s0 going.done) ++ listed (decide state (line_item text)).event) → IsUnsaid s0 whole made entry d
+  unsaid_kept told_b stood = record {
+    done = going.done;
+    item = line_item text;
+    left = next.items;
+    items = items_more decide play Stands entry made s0 whole b d (with_item text None next) state refused (λ events. Holds (disk_now b) state end events) going course (line_item text) next refl steps;
+    said = subst (λ (l : List ℕ). AddsPart l (decide (played play s0 (events decide play s0 going.done)) (line_item text)).reply (said_now d)) going.said
+        (subst (λ (t : State). AddsPart (said_now b) (decide t (line_item text)).reply (said_now d)) going.state_is (at_last b d (λ disk said. AddsPart (said_now b) (decide state (line_item text)).reply said) on part told_b));
+    stands = subst (λ (l : List Event). Stands (disk_now d).now l)
+        (append_assoc made (events decide play s0 going.done) (listed (decide state (line_item text)).event)
+        ∙ ap (λ (l : List Event). made ++ l) (sym (events_done decide play Stands entry made s0 whole b d (with_item text None next) state refused (λ events. Holds (disk_now b) state end events) going course (line_item text) next refl steps)))
+        stood;
+  }
+
+  -- it was being written, and is kept or not
+  pub written_or_not : IsTrue b.tells → MayLeave (disk_now d) (disk_now d).now → IsHalted s0 whole made entry d ⊎ IsUnsaid s0 whole made entry d
+  written_or_not told_b left = ⊎_elim
+      (λ (stood, same). inl (record { done = going.done; left = (with_item text None next).items; items = going.items; said = same ∙ going.said; stands = stood }))
+      (λ stood. inr (unsaid_kept told_b stood))
+      (at_last b d (IsStepping Stands (made ++ events decide play s0 going.done) (decide state (line_item text)).event (said_now b)) on (moments (made ++ events decide play s0 going.done) going.rest) told_b (disk_now d).now left)
+
   module _ (now : State) (end_next : ℕ) (added : (events : List Event) → Holds (disk_now b) state end events → Holds (disk_now d) now end_next (events ++ listed (decide state (line_item text)).event)) where
     -- the reply was not said
     pub unsaid : IsTrue b.tells → IsUnsaid s0 whole made entry d
-    unsaid told_b = record {
-      done = going.done;
-      item = line_item text;
-      left = next.items;
-      items = items_more decide play Stands entry made s0 whole b d (with_item text None next) state refused (λ events. Holds (disk_now b) state end events) going course (line_item text) next refl steps;
-      said = subst (λ (l : List ℕ). AddsPart l (decide (played play s0 (events decide play s0 going.done)) (line_item text)).reply (said_now d)) going.said
-          (subst (λ (t : State). AddsPart (said_now b) (decide t (line_item text)).reply (said_now d)) going.state_is (at_last b d (λ disk said. AddsPart (said_now b) (decide state (line_item text)).reply said) on part told_b));
-      stands = subst (λ (l : List Event). Stands (disk_now d).now l)
-          (append_assoc made (events decide play s0 going.done) (listed (decide state (line_item text)).event)
-          ∙ ap (λ (l : List Event). made ++ l) (sym (events_done decide play Stands entry made s0 whole b d (with_item text None next) state refused (λ events. Holds (disk_now b) state end events) going course (line_item text) next refl steps)))
-          (holds_stands (disk_now d) now end_next ((made ++ events decide play s0 going.done) ++ listed (decide state (line_item text)).event) (added (made ++ events decide play s0 going.done) going.rest));
-    }
+    unsaid told_b = unsaid_kept told_b (holds_stands (disk_now d) now end_next ((made ++ events decide play s0 going.done) ++ listed (decide state (line_item text)).event) (added (made ++ events decide play s0 going.done) going.rest))
 
     -- the reply was said
     pub answered_one : now ≡ after play state (decide state (line_item text)).event → said_now d ≡ said_now b ++ (decide state (line_item text)).reply
@@ -196,12 +221,18 @@ module _ (entry a b d : Told) (s0 : State) (e0 : ℕ) (whole : Script) (failed :
 
   pub step_fault_ends : (fault : SessionFault) (now : State) (end_next : ℕ)
       → IfMade (Err fault) (IsTrue b.tells → (events : List Event) → Holds (disk_now b) state end events → Holds (disk_now d) now end_next (events ++ listed (decide state (line_item text)).event))
-      → ((at : ℕ) → fault ≡ session.Damaged at → ⊥) → IsTrue entry.tells → (made : List Event) → Holds (disk_now entry) s0 e0 made → Ends s0 whole made entry d (session_status fault)
-  step_fault_ends session.DiskFault now end_next added never told made holds = tt
-  step_fault_ends session.SayFault now end_next added never told made holds =
+      → ((at : ℕ) → fault ≡ session.Damaged at → ⊥) → (fault ≡ session.Memory → KeepsDisk b d × KeepsSaid b d) → (IsTrue d.tells → MayLeave (disk_now d) (disk_now d).now)
+      → IsTrue entry.tells → (made : List Event) → Holds (disk_now entry) s0 e0 made → Ends s0 whole made entry d (session_status fault)
+  step_fault_ends session.DiskFault now end_next added never quiet left told made holds =
+      let told_b = told_next entry b course_b told in
+      written_or_not entry b d made s0 whole (script_from takes_block place_b (pending_b ++ b.left)) text state end refused (line_between told made holds) course_b step_on part moments told_b (left (told_next b d step_on told_b))
+  step_fault_ends session.SayFault now end_next added never quiet left told made holds =
       unsaid entry b d made s0 whole (script_from takes_block place_b (pending_b ++ b.left)) text state end refused (line_between told made holds) course_b step_on part moments now end_next (added (told_next entry b course_b told)) (told_next entry b course_b told)
-  step_fault_ends (session.Damaged at) now end_next added never told made holds = absurd (never at refl)
-  step_fault_ends session.Memory now end_next added never told made holds = tt
+  step_fault_ends (session.Damaged at) now end_next added never quiet left told made holds = absurd (never at refl)
+  step_fault_ends session.Memory now end_next added never quiet left told made holds =
+      let line_left = with_item text None (script_from takes_block place_b (pending_b ++ b.left)) in
+      let keeps = quiet refl in
+      halted entry d made s0 whole line_left state end refused (looked entry b d made s0 whole line_left state end refused (line_between told made holds) course_b step_on keeps.0 keeps.1 told line_left refl)
 
   pub serving_on : (failed_b : Bool) (now : State) (end_next : ℕ) (broken_d refused_d : Bool) → (IsTrue failed_b → false ≡ true) → broken_d ≡ false → now.end ≡ end_next → KeepsInput b d
       → (refused || (decide state (line_item text)).refused) ≡ refused_d → now ≡ after play state (decide state (line_item text)).event

@@ -1,5 +1,5 @@
 -- What a run says and makes, and how it ends.
-use Rattle.std.specs.Prelude.{◌≡◌, ℕ, ◌-◌, List, [], ◌∷◌, ◌++◌, Bool, true, false, length, Option, Some, None, IsTrue}
+use Rattle.std.specs.Prelude.{◌≡◌, ◌⊎◌, ℕ, ◌-◌, List, [], ◌∷◌, ◌++◌, Bool, true, false, length, Option, Some, None, IsTrue}
 use Rattle.host_port.specs.Host.{Told, disk_now, said_now, Rose, KeepsSaid, AddsPart}
 use Rattle.host_port.specs.Cut.{Item, Script, script_of}
 use Rattle.host_port.specs.declared.lines.LineFault.{LineFault}
@@ -66,12 +66,20 @@ pub record IsUnsaid (s : State) (commands : Script) (first : List Event) (before
   pub said : AddsPart (said_now before ++ replies decide play s done) (decide (played play s (events decide play s done)) item).reply (said_now now)
   pub stands : Stands (disk_now now).now (first ++ events decide play s (done ++ item ∷ []))
 
+-- the first commands are answered and their events kept, and of the others nothing is said and nothing kept
+pub record IsHalted (s : State) (commands : Script) (first : List Event) (before now : Told) : Type 0 where
+  pub done : List Item
+  pub left : List Item
+  pub items : commands.items ≡ done ++ left
+  pub said : said_now now ≡ said_now before ++ replies decide play s done
+  pub stands : Stands (disk_now now).now (first ++ events decide play s done)
+
 -- the file stands for the first events and some of those of the script, none in part, with all whose reply was begun
 abbrev pub IsKept : State → Script → List Event → Told → Told → Type 0
 IsKept s commands first before now = IsAmong Stands first (made_by s commands) (least_of s commands (length (said_now now) - length (said_now before))) (disk_now now).now
 
--- A run ends so, where the file stood for the first events. Of the answers with nothing here, what was said and what a
--- stop leaves at each moment are told for all answers.
+-- A run ends so, where the file stood for the first events. At a disk fault the command that was being written is not
+-- kept, or it is kept whole.
 abbrev pub Ends : State → Script → List Event → Told → Told → Status → Type 0
 Ends s commands first before now Accepted = IsServed s commands first before now × (outcome s commands ≡ Accepted) × (now.left ≡ [])
 Ends s commands first before now Refused = IsServed s commands first before now × (outcome s commands ≡ Refused) × (now.left ≡ [])
@@ -79,9 +87,9 @@ Ends s commands first before now (Input fault at) = IsServed s commands first be
 Ends s commands first before now WriteFault = IsUnsaid s commands first before now
 Ends s commands first before now (Damaged at) = ⊥
 Ends s commands first before now BadWords = ⊥
-Ends s commands first before now ReadFault = Unit {0}
-Ends s commands first before now DiskFault = Unit {0}
-Ends s commands first before now Memory = Unit {0}
+Ends s commands first before now ReadFault = IsHalted s commands first before now
+Ends s commands first before now DiskFault = IsHalted s commands first before now ⊎ IsUnsaid s commands first before now
+Ends s commands first before now Memory = IsHalted s commands first before now
 
 abbrev pub session_status : SessionFault → Status
 session_status session.DiskFault = DiskFault

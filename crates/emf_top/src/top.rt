@@ -85,7 +85,8 @@ fn status_of_input(fault: LineFault) -> Status
 /// All that the program does: it opens the store and answers the lines of the input, one after the other.
 pub fn run<H: Host>(alloc: Global, words: &[String], host: &mut H) -> Status
     // What is said and kept, where the file stands for a list of events: with Accepted, Refused and Input all of the plain
-    // repository's replies to the input, and all of its events; with WriteFault the event whose reply failed.
+    // repository's replies to the input, and all of its events; with WriteFault the event whose reply failed; with the other
+    // answers the replies to the first commands and their events, and at a disk fault the one event more or not.
     ensures ends { IsTrue (H.told host.old).tells → length words.now ≡ 0 → (first : List Event) → Stands (disk_now (H.told host.old)).now first
         → Ends (played play empty first) (script (H.told host.old).left) first (H.told host.old) (H.told host.new) result }
     // At each moment a front of the replies is said.

@@ -1,4 +1,4 @@
-use Rattle.std.proofs.Common.{ℕ, List, Bool, ◌++◌, Ok, Some, None, refl, sym, ◌∙◌, ap}
+use Rattle.std.proofs.Common.{arith, ℕ, List, Bool, ◌++◌, Ok, Some, None, refl, sym, ◌∙◌, ap}
 use Rattle.host_port.specs.Cut.{script_from}
 use Rattle.host_port.proofs.Course.{told_next, rose_second}
 use Rattle.plain_repository.specs.Commands.{takes_block}
@@ -44,7 +44,8 @@ returns-in-Ok-End-clause-part g c = λ made holds told. looked_part (g.H.Host.to
 pub returns-in-Err-step-clause-ends : goal.returns-in-Err-step-clause-ends
 returns-in-Err-step-clause-ends g c = λ told made holds. rw c.status_of.ensures (step_fault_ends (g.H.Host.told c.args.host.now) (g.H.Host.told c.commands.host) (g.H.Host.told c.next_line.new.host) (g.H.Host.told c.step.new.host) c.args.session.now.repo.state c.args.session.now.journal.end (script_from takes_block c.args.lines.now.place (c.args.lines.now.pending ++ (g.H.Host.told c.args.host.now).left)) c.commands.lines.failed c.commands.lines.place c.commands.lines.pending c.commands.refused c.commands.session.repo.state c.commands.session.journal.end c.commands.session.journal.broken c.commands.invariant c.next_line.ensures.course c.next_line.ensures.disk c.next_line.ensures.said
     c.text.result.now c.next_line.new.self.place c.next_line.new.self.pending (λ told_a. (rw c.in-Ok-Line.field-0-is at c.in-Ok-Line.ensures.line) told_a ∙ ap (λ (t : List ℕ). Ok (Some t)) (sym c.text.ensures.text)) c.in-Ok-Line.ensures.past
-    c.step.ensures.course c.step.ensures.part c.step.ensures.moments c.in-Err-step.fault c.step.new.self.repo.state c.step.new.self.journal.end c.in-Err-step.ensures.added c.in-Err-step.ensures.never told made holds)
+    c.step.ensures.course c.step.ensures.part c.step.ensures.moments c.in-Err-step.fault c.step.new.self.repo.state c.step.new.self.journal.end c.in-Err-step.ensures.added c.in-Err-step.ensures.never (λ is. c.in-Err-step.ensures.memory (rw is refl))
+    (λ told_d. g.met.H.Host.now_is_left c.step.new.host (g.H.Host.told c.step.new.host).clock told_d (omega arith)) told made holds)
 
 pub returns-in-Err-step-clause-part : goal.returns-in-Err-step-clause-part
 returns-in-Err-step-clause-part g c = line_part (g.H.Host.told c.args.host.now) (g.H.Host.told c.commands.host) (g.H.Host.told c.next_line.new.host) (g.H.Host.told c.step.new.host) c.args.session.now.repo.state c.args.session.now.journal.end (script_from takes_block c.args.lines.now.place (c.args.lines.now.pending ++ (g.H.Host.told c.args.host.now).left)) c.commands.lines.failed c.commands.lines.place c.commands.lines.pending c.commands.refused c.commands.session.repo.state c.commands.session.journal.end c.commands.session.journal.broken c.commands.invariant c.next_line.ensures.course c.next_line.ensures.disk c.next_line.ensures.said
