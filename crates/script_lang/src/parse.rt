@@ -101,13 +101,7 @@ fn tag_name(word: &str) -> Option<&str>
     ensures some { IfSome result (λ name. tag_of word.now ≡ Some (Tag name.now)) }
 {
     match word.strip_prefix('@') {
-        Some(name) => {
-            if is_name(name) {
-                Some(name)
-            } else {
-                None
-            }
-        }
+        Some(name) => { if is_name(name) { Some(name) } else { None } }
         None => None,
     }
 }
