@@ -60,6 +60,7 @@ fn shown(alloc: Global, command: &Command) -> Result<String, Fail> {
 fn lines_are_read(rt: HostRuntime) -> Result<(), Fail> {
     let alloc = rt.alloc();
     for (line, wanted) in LINES {
+        assert!(&rt; line.len() < 100);
         match (parse_line(alloc, line), wanted) {
             (Ok(command), Ok(text)) => {
                 assert_eq!(&rt; shown(alloc, &command)?.as_str(), text, "{line}");
