@@ -6,3 +6,4 @@ pub mod ScriptBlocks
 pub mod ScriptCuts
 pub mod ScriptEnds
 pub mod ScriptItems
+pub mod ScriptHeads

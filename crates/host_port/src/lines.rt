@@ -1,5 +1,5 @@
 //! Lines, and blocks of lines, read from a host in pieces.
-ghost use Rattle.std.specs.Prelude.{◌≡◌, ◌^◌, ◌<◌, ◌≤◌, ◌++◌, ◌↔◌, false, ℕ, [], List, Bool, IsTrue, IsErr, IfOk, OnOk, IfErr, IsErrOf, Ok};
+ghost use Rattle.std.specs.Prelude.{◌≡◌, ◌^◌, ◌<◌, ◌≤◌, ◌++◌, ◌↔◌, false, ◌+◌, ℕ, [], List, Bool, length, IsTrue, IsErr, IfOk, OnOk, IfErr, IsErrOf, Ok};
 ghost use Rattle.std.specs.List.{slice_split};
 ghost use Rattle.host_port.specs.Host.{GoesOn, KeepsDisk, KeepsSaid, RaisesTakesAlone, Rose};
 ghost use Rattle.host_port.specs.Cut.{cut_block, script_from, is_lf, next_line_of};
@@ -115,6 +115,7 @@ impl Lines {
         ensures past { IsTrue (H.told host.old).tells → OnOk result (PastLine
             (self.old.pending ++ (H.told host.old).left) (self.new.pending ++ (H.told host.new).left) self.old.place self.new.place) }
         ensures end { IsTrue (H.told host.old).tells → IfOk result (λ got. got ≡ Got.End → (H.told host.new).left ≡ []) }
+        ensures short { IfOk result (λ got. got ≡ Got.Line → length self.new.text ≤ LINE_LIMIT) }
         ensures advances { IfOk result (λ got. got ≡ Got.Line → self.old.place < self.new.place) }
         ensures low { self.new.place ≤ 2 ^ 40 }
         ensures failed { IsTrue self.new.failed ↔ IsErr result }
@@ -136,6 +137,7 @@ impl Lines {
         ensures block { IsTrue (H.told host.old).tells → (takes : List ℕ → Bool) (line : List ℕ) → GotBlock result self.new.text line
             (cut_block takes line self.old.place self.old.place (Ok []) (slice_split is_lf (self.old.pending ++ (H.told host.old).left)))
             (script_from takes self.new.place (self.new.pending ++ (H.told host.new).left)) }
+        ensures short { OnOk result (length self.new.text ≤ BLOCK_LIMIT + 1) }
         ensures failed { IsTrue self.new.failed ↔ IsErr result }
         ensures later { self.old.place ≤ self.new.place }
         ensures low { self.new.place ≤ 2 ^ 40 }

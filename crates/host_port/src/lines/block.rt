@@ -41,7 +41,8 @@ impl Block {
     }
 
     fn clear(&mut self)
-        ensures { read_so_far self.new ≡ Ok [] }
+        ensures empty { read_so_far self.new ≡ Ok [] }
+        ensures short { string_bytes self.new.text ≡ [] }
     {
         self.text.clear();
         self.not_text = None;
@@ -52,6 +53,7 @@ impl Block {
     fn add(&mut self, place: u64, line: &[u8]) -> Result<(), AllocError>
         requires { place + length line.now < 2 ^ 64 }
         ensures added { OnOk result (read_so_far self.new ≡ text_with place (read_so_far self.old) line.now) }
+        ensures short { OnOk result (length (string_bytes self.new.text) ≤ length (string_bytes self.old.text) + length line.now + 1) }
     {
         if self.not_text.is_some() {
             return Ok(());
@@ -84,6 +86,9 @@ impl Block {
         ensures line { BlockLine stop start unread.old.place (read_so_far self.old) (read_so_far self.new) (take len unread.old.pending.items) result }
         ensures pending { OnOk result (unread.new.pending.items ≡ drop (if is_feed stop then len + 1 else len) unread.old.pending.items) }
         ensures place { OnOk result (unread.new.place ≡ unread.old.place + (if is_feed stop then len + 1 else len)) }
+        ensures short { OnOk result (length (string_bytes self.old.text) + start ≤ unread.old.place → length (string_bytes self.new.text) + start ≤ unread.new.place) }
+        ensures near { IfOk result (λ end. end ≡ false → unread.new.place ≤ start + BLOCK_LIMIT + 1) }
+        ensures same { IfOk result (λ end. IsTrue end → string_bytes self.new.text ≡ string_bytes self.old.text) }
         ensures not_failed { IfErr result (λ e. e ≢ LineFault.Failed) }
         ensures later { unread.old.place ≤ unread.new.place }
     {
@@ -125,6 +130,9 @@ impl Block {
             (cut_block takes line start unread.old.place (read_so_far self.old) (slice_split is_lf (unread.old.pending.items ++ (H.told host.old).left)))
             (cut_block takes line start unread.new.place (read_so_far self.new) (slice_split is_lf (unread.new.pending.items ++ (H.told host.new).left)))
             (after_block line (read_so_far self.new) (script_from takes unread.new.place (unread.new.pending.items ++ (H.told host.new).left))) }
+        ensures short { OnOk result (length (string_bytes self.old.text) + start ≤ unread.old.place → length (string_bytes self.new.text) + start ≤ unread.new.place) }
+        ensures near { IfOk result (λ end. end ≡ false → unread.new.place ≤ start + BLOCK_LIMIT + 1) }
+        ensures same { IfOk result (λ end. IsTrue end → string_bytes self.new.text ≡ string_bytes self.old.text) }
         ensures later { unread.old.place ≤ unread.new.place }
         ensures advances { IfOk result (λ end. end ≡ false → unread.old.place < unread.new.place) }
         ensures course { GoesOn (H.told host.old) (H.told host.new) }
@@ -148,6 +156,7 @@ impl Block {
         ensures block { IsTrue (H.told host.old).tells → (takes : List ℕ → Bool) (line : List ℕ) → GotBlock result (string_bytes self.new.text) line
             (cut_block takes line unread.old.place unread.old.place (Ok []) (slice_split is_lf (unread.old.pending.items ++ (H.told host.old).left)))
             (script_from takes unread.new.place (unread.new.pending.items ++ (H.told host.new).left)) }
+        ensures short { OnOk result (length (string_bytes self.new.text) ≤ BLOCK_LIMIT + 1) }
         ensures later { unread.old.place ≤ unread.new.place }
         ensures course { GoesOn (H.told host.old) (H.told host.new) }
         ensures disk { KeepsDisk (H.told host.old) (H.told host.new) }

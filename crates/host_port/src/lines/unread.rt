@@ -126,6 +126,7 @@ impl Unread {
         ensures past { IsTrue (H.told host.old).tells → OnOk result (PastLine
             (self.old.pending.items ++ (H.told host.old).left) (self.new.pending.items ++ (H.told host.new).left) self.old.place self.new.place) }
         ensures end { IsTrue (H.told host.old).tells → IfOk result (λ got. got ≡ Got.End → (H.told host.new).left ≡ []) }
+        ensures short { IfOk result (λ got. got ≡ Got.Line → length (string_bytes text.new) ≤ LINE_LIMIT) }
         ensures advances { IfOk result (λ got. got ≡ Got.Line → self.old.place < self.new.place) }
         ensures course { GoesOn (H.told host.old) (H.told host.new) }
         ensures disk { KeepsDisk (H.told host.old) (H.told host.new) }
@@ -194,6 +195,7 @@ impl Unread {
         requires ended { IsTrue ended → len < length self.old.pending.items }
         requires whole { ended ≡ false → len ≡ length self.old.pending.items }
         ensures line { GotLine result (string_bytes text.new) (line_or_end self.old.place (take len self.old.pending.items) ended) }
+        ensures short { IfOk result (λ got. got ≡ Got.Line → length (string_bytes text.new) ≤ len) }
         ensures pending { OnOk result (self.new.pending.items ≡ drop (if ended then len + 1 else len) self.old.pending.items) }
         ensures place { OnOk result (self.new.place ≡ self.old.place + (if ended then len + 1 else len)) }
         ensures advances { IfOk result (λ got. got ≡ Got.Line → self.old.place < self.new.place) }
@@ -214,6 +216,7 @@ impl Unread {
         requires len { len ≤ past }
         requires past { past ≤ length self.old.pending.items }
         ensures text { OnOk result (text_at self.old.place (without_cr (take len self.old.pending.items)) ≡ Ok (string_bytes text.new)) }
+        ensures short { OnOk result (length (string_bytes text.new) ≤ len) }
         ensures pending { OnOk result (self.new.pending.items ≡ drop past self.old.pending.items) }
         ensures place { OnOk result (self.new.place ≡ self.old.place + past) }
         ensures fault { IfErr result (λ e. IsTextFault e (text_at self.old.place (without_cr (take len self.old.pending.items)))) }
@@ -238,6 +241,7 @@ impl Unread {
 /// The line without a carriage return at its end.
 pub fn cut_cr(raw: &[u8]) -> &[u8]
     ensures line { result.now ≡ without_cr raw.now }
+    ensures short { length result.now ≤ length raw.now }
 {
     let len = raw.len();
     if len > 0 && raw[len - 1] == b'\r' {
@@ -250,6 +254,7 @@ pub fn cut_cr(raw: &[u8]) -> &[u8]
 fn set_text(text: &mut String, place: u64, bytes: &[u8]) -> Result<(), LineFault>
     requires { place + length bytes.now < 2 ^ 64 }
     ensures text { OnOk result (text_at place bytes.now ≡ Ok (string_bytes text.new)) }
+    ensures short { OnOk result (length (string_bytes text.new) ≤ length bytes.now) }
     ensures fault { IfErr result (λ e. IsTextFault e (text_at place bytes.now)) }
     ensures not_failed { IfErr result (λ e. e ≢ LineFault.Failed) }
 {
