@@ -1,0 +1,11 @@
+-- The laws of values and their texts.
+use Rattle.std.specs.Prelude.{◌≡◌, ℕ, true, List, Some}
+use Rattle.ecore_meta.specs.Meta.{Meta}
+use Rattle.ecore_meta.specs.Typing.{fits}
+use Rattle.ecore_meta.specs.declared.meta.Scalar.{Scalar}
+use Rattle.ecore_meta.specs.declared.meta.Value.{Value}
+use Rattle.emfjson_io.specs.Values.{value_of}
+
+-- a value that is read is of the type
+abbrev pub ReadValuesFit : Type 0
+ReadValuesFit = (meta : Meta) (s : Scalar) (text : List ℕ) (v : Value) → value_of meta s text ≡ Some v → fits meta s v ≡ true
