@@ -16,6 +16,8 @@ mod names;
 mod rows;
 mod supers;
 mod tables;
+#[cfg(test)]
+mod tests;
 mod text;
 mod values;
 
