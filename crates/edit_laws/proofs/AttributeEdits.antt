@@ -58,7 +58,7 @@ not_default_is : (meta : Meta) (f : ℕ) (o : Option Value) → differs_by (kind
 not_default_is meta f None h = refl
 not_default_is meta f (Some v) h = h
 
-put_meets : (meta : Meta) (m : State) → Good meta m → (e : Name) (f : ℕ) (new : Option Value) → IsAttribute meta m e f → value_fits meta f new ≡ true → not_default meta f new ≡ true
+pub put_meets : (meta : Meta) (m : State) → Good meta m → (e : Name) (f : ℕ) (new : Option Value) → IsAttribute meta m e f → value_fits meta f new ≡ true → not_default meta f new ≡ true
     → fold meta m (put_made m e f new) ≡ Some (put_after m e f new)
 put_meets meta m good e f new is fits differs =
     let o = get m.attr (e, f) in
@@ -96,10 +96,10 @@ put_meets meta m good e f new is fits differs =
           fold_more meta m (Put e f (held o) new) [] can
     ] refl
 
-taken_fits : (meta : Meta) (f : ℕ) (v : Value) → attr_fits meta (kind_of meta f) v ≡ true → value_fits meta f (taken meta f v) ≡ true
+pub taken_fits : (meta : Meta) (f : ℕ) (v : Value) → attr_fits meta (kind_of meta f) v ≡ true → value_fits meta f (taken meta f v) ≡ true
 taken_fits meta f v fits = elim (is_default (kind_of meta f) v) as (λ t. value_fits meta f (cond t None (Some v)) ≡ true) [ true ↦ refl | false ↦ fits ]
 
-taken_differs : (meta : Meta) (f : ℕ) (v : Value) → not_default meta f (taken meta f v) ≡ true
+pub taken_differs : (meta : Meta) (f : ℕ) (v : Value) → not_default meta f (taken meta f v) ≡ true
 taken_differs meta f v = elim (is_default (kind_of meta f) v) as (λ t. is_default (kind_of meta f) v ≡ t → not_default meta f (cond t None (Some v)) ≡ true) [ true ↦ λ _. refl | false ↦ λ is. not_false _ is ] refl
 
 pub set_attr_meets : SetAttrMeets

@@ -8,3 +8,7 @@ pub mod Creates
 pub mod AttributeEdits
 pub mod MoveEdits
 pub mod Idle
+pub mod ManyEdits
+pub mod Fresh
+pub mod Taken
+pub mod Unchanged

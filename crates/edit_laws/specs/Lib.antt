@@ -3,4 +3,7 @@ pub mod Rows
 pub mod References
 pub mod Places
 pub mod Attributes
+pub mod ManyValues
+pub mod FreshIds
+pub mod Edits
 pub mod Laws

@@ -1,4 +1,4 @@
-ghost use Rattle.edit_laws.specs.Laws.{SetRefIdle, CreateMeets, MoveWithinMeets, MoveToMeets, SetAttrMeets, UnsetAttrMeets, SetRefMeets, LinkMeets, UnlinkMeets, UnsetMeets, ReorderMeets};
+ghost use Rattle.edit_laws.specs.Laws.{EditsIdle, EditsMeet, FirstIsFresh, FreshIsFirst, FreshIsId, SetRefIdle, CreateMeets, MoveWithinMeets, MoveToMeets, SetAttrMeets, UnsetAttrMeets, SetRefMeets, LinkMeets, UnlinkMeets, UnsetMeets, ReorderMeets};
 
 /// The steps of an edit of a plain reference lead to the rows that the edit is to leave, with the mirrors of
 /// opposites and what they displace. Setting a reference takes no step exactly where it changes nothing.
@@ -26,4 +26,17 @@ pub fn law_of_attribute_edits()
 pub fn law_of_moves()
     ensures within { MoveWithinMeets }
     ensures to_another { MoveToMeets }
+{}
+
+/// The steps that are recorded of an edit lead to the model that the edit is to leave, and there are none exactly where it changes nothing.
+pub fn law_of_edits()
+    ensures meets { EditsMeet }
+    ensures idle { EditsIdle }
+{}
+
+/// A fresh id is the first of its workspace that is not live, and is of the form of an id.
+pub fn law_of_fresh_ids()
+    ensures first { FreshIsFirst }
+    ensures only { FirstIsFresh }
+    ensures form { FreshIsId }
 {}

@@ -68,17 +68,17 @@ no_empty meta (Container target opposite) upper h = h
 no_empty meta Skip upper h = h
 
 -- an entry is that of its list
-whole : (meta : Meta) (c : Option ℕ) (f : ℕ) (o : Option (List Value)) → AttrOk meta c f o → entry_of (values_of o) ≡ o
+pub whole : (meta : Meta) (c : Option ℕ) (f : ℕ) (o : Option (List Value)) → AttrOk meta c f o → entry_of (values_of o) ≡ o
 whole meta c f None h = refl
 whole meta None f (Some vs) h = absurd h
 whole meta (Some c) f (Some []) h = absurd (no_empty meta (kind_of meta f) (upper_of meta f) h.1)
 whole meta (Some c) f (Some (v ∷ vs)) h = refl
 
-part : (vs : List Value) → values_of (entry_of vs) ≡ vs
+pub part : (vs : List Value) → values_of (entry_of vs) ≡ vs
 part [] = refl
 part (v ∷ vs) = refl
 
-from_entry : (meta : Meta) (c : Option ℕ) (f : ℕ) (o : Option (List Value)) → is_many (kind_of meta f) ≡ true → AttrOk meta c f o → ManyOk meta (kind_of meta f) (upper_of meta f) (values_of o)
+pub from_entry : (meta : Meta) (c : Option ℕ) (f : ℕ) (o : Option (List Value)) → is_many (kind_of meta f) ≡ true → AttrOk meta c f o → ManyOk meta (kind_of meta f) (upper_of meta f) (values_of o)
 from_entry meta c f None many h = record { typed = refl; within = within_none (upper_of meta f); few = omega arith; once = λ _. refl }
 from_entry meta None f (Some vs) many h = absurd h
 from_entry meta (Some c) f (Some vs) many h = from_values meta (kind_of meta f) (upper_of meta f) vs many h.1

@@ -1,0 +1,212 @@
+-- An edit that is not refused: what its tests have shown, the steps taken one by one, and when there is none.
+use Rattle.std.proofs.Common.{◌≡◌, ℕ, Bool, true, false, cond, not, List, [], ◌∷◌, length, refl, ap, subst, ◌∙◌, ◌&&◌, ◌||◌, nat_eq, nat_le, nat_lt}
+use Rattle.std.specs.Prelude.{Option, None, Some, is_some, ok_or, unwrap_or, slice_get, Result, Ok, Err, if◌then◌else◌}
+use Rattle.std.specs.List.{list_any}
+use Rattle.std.specs.Option.{option_map_or}
+use Rattle.std.specs.Str.{bytes_eq}
+use Rattle.std.specs.FinMap.{get}
+use Rattle.finite_maps.specs.Maps.{is_below}
+use Rattle.finite_maps.proofs.EqualLaws.{nat_equality}
+use Rattle.ecore_meta.specs.Meta.{Meta, class_named, feature_named, first_named, name_at}
+use Rattle.ecore_meta.specs.Typing.{fits}
+use Rattle.ecore_meta.specs.declared.meta.Class.{Class}
+use Rattle.ecore_meta.specs.declared.meta.Feature.{Feature}
+use Rattle.ecore_meta.specs.declared.meta.Kind.{Kind}
+use Rattle.ecore_meta.specs.declared.meta.Kind.TheVariants.{Attr, AttrMany}
+use Rattle.ecore_meta.specs.declared.meta.Scalar.{Scalar}
+use Rattle.ecore_meta.specs.declared.meta.Value.{Value}
+use Rattle.model_state.specs.declared.entry.Entry.{Entry}
+use Rattle.model_state.specs.declared.step.Place.TheVariants.{Root}
+use Rattle.model_state.specs.Ident.{is_id}
+use Rattle.model_state.specs.Keys.{Name}
+use Rattle.model_state.specs.Listing.{children}
+use Rattle.model_state.specs.State.{State, is_live}
+use Rattle.model_state.specs.Steps.{fold, class_has, value_fits, not_default}
+use Rattle.model_state.specs.Typing.{value_eq, kind_of, upper_of, is_concrete, is_attr, is_many, is_unique, attr_fits, many_fits}
+use Rattle.model_state.specs.Good.{Good, Sound}
+use Rattle.edit_laws.specs.declared.edit.Edit.{Edit}
+use Rattle.edit_laws.specs.declared.edit.Edit.TheVariants.{Create, Set, Unset, Add, Remove, Shift}
+use Rattle.edit_laws.specs.declared.fault.EditFault.{EditFault}
+use Rattle.edit_laws.specs.declared.fault.EditFault.TheVariants.{NoFeature}
+use Rattle.edit_laws.specs.Spot.{rank_for, ranks_of, spot_by}
+use Rattle.edit_laws.specs.Places.{MayCreate}
+use Rattle.edit_laws.specs.Attributes.{IsAttribute, taken}
+use Rattle.edit_laws.specs.ManyValues.{values_in}
+use Rattle.edit_laws.specs.FreshIds.{id_or_fresh}
+use Rattle.edit_laws.specs.Edits.{Reading, Effect, Creates, Puts, Clears, Inserts, Removes, Shifts, class_at, feature_at, end_rank, create_effect, put_effect, set_effect, unset_effect, insert_effect, add_effect, remove_effect, shift_effect, of_feature, effect_of, made, after}
+use Rattle.edit_laws.specs.Laws.{IsTyped, EditsMeet}
+use Rattle.edit_laws.proofs.Creates.{create_meets}
+use Rattle.edit_laws.proofs.AttributeEdits.{put_meets, taken_fits, taken_differs}
+use Rattle.edit_laws.proofs.ManyEdits.{IsMany, MayInsert, insert_meets, remove_meets, shift_meets, clear_meets}
+
+-- what makes an effect possible
+abbrev pub Allowed : Meta → State → Effect → Type 0
+Allowed meta m (Creates e class) = MayCreate meta m e class Root
+Allowed meta m (Puts e f v) = IsAttribute meta m e f × (value_fits meta f v ≡ true) × (not_default meta f v ≡ true)
+Allowed meta m (Clears e f) = IsMany meta m e f
+Allowed meta m (Inserts e f k v) = MayInsert meta m e f k v
+Allowed meta m (Removes e f k) = IsMany meta m e f × (nat_lt k (length (values_in m e f)) ≡ true)
+Allowed meta m (Shifts e f from to) = IsMany meta m e f × (nat_lt from (length (values_in m e f)) ≡ true) × (nat_lt to (length (values_in m e f)) ≡ true)
+
+-- ---- the tests of a row
+passed : {A : Type 0} (b : Bool) (e : EditFault) (r : Result A EditFault) (x : A) → (if not b then Err e else r) ≡ Ok x → (b ≡ true) × (r ≡ Ok x)
+passed true e r x h = (refl, h)
+passed false e r x h = cc
+
+missed : {A : Type 0} (b : Bool) (e : EditFault) (r : Result A EditFault) (x : A) → (if b then Err e else r) ≡ Ok x → (b ≡ false) × (r ≡ Ok x)
+missed true e r x h = cc
+missed false e r x h = (refl, h)
+
+same_effect : (x y : Effect) → ◌≡◌ {A = Result Effect EditFault} (Ok x) (Ok y) → x ≡ y
+same_effect x y h = cc
+
+allowed_as : (meta : Meta) (m : State) (x y : Effect) → ◌≡◌ {A = Result Effect EditFault} (Ok x) (Ok y) → Allowed meta m x → Allowed meta m y
+allowed_as meta m x y same ok = subst (Allowed meta m) (same_effect x y same) ok
+
+-- ---- create
+rank_left : (o : Option ℕ) (xs : List Entry) (k : ℕ) → is_some o ≡ true → is_some (spot_by o xs k).rank ≡ true
+rank_left None xs k h = cc
+rank_left (Some r) xs k h = refl
+
+create_allowed : (meta : Meta) (m : State) (o : Option ℕ) (e : Name) (effect : Effect) → create_effect meta m o e ≡ Ok effect → Allowed meta m effect
+create_allowed meta m None e effect h = cc
+create_allowed meta m (Some c) e effect h =
+    let xs = children m.place m.prank Root in
+    let concrete = passed (is_concrete meta c) _ _ effect h in
+    let ranked = passed (is_some (end_rank m)) _ _ effect concrete.1 in
+    let formed = passed (is_id e) _ _ effect ranked.1 in
+    let fresh = missed (is_live m e) _ _ effect formed.1 in
+    allowed_as meta m (Creates e c) effect fresh.1
+    (record { fresh = fresh.0; parent = refl; concrete = concrete.0; typed = refl; room = refl; ranked = rank_left (rank_for (ranks_of xs) (length xs)) xs (length xs) ranked.0 })
+
+-- ---- the feature of an element
+or_left : (a b : Bool) → a ≡ true → a || b ≡ true
+or_left a b h = ap (λ x. x || b) h
+
+or_more : (a b : Bool) → b ≡ true → a || b ≡ true
+or_more true b h = refl
+or_more false b h = h
+
+some_same : {A : Type 0} (x y : A) → Some x ≡ Some y → x ≡ y
+some_same x y e = cc
+
+among : (features : List Feature) (ns : List ℕ) (q : Name) (f : ℕ) → first_named features ns q ≡ Some f → list_any (nat_eq f) ns ≡ true
+among features [] q f h = cc
+among features (n ∷ ns) q f h =
+    elim (bytes_eq (name_at features n) q) as (λ b. cond b (Some n) (first_named features ns q) ≡ Some f → nat_eq f n || list_any (nat_eq f) ns ≡ true) [
+      | true ↦ λ here. or_left (nat_eq f n) _ (ap (nat_eq f) (some_same n f here) ∙ nat_equality.own f)
+      | false ↦ λ later. or_more (nat_eq f n) _ (among features ns q f later)
+    ] h
+
+held_by : (features : List Feature) (o : Option Class) (q : Name) (f : ℕ) → first_named features (option_map_or (λ class. class.features) o []) q ≡ Some f → option_map_or (λ class. list_any (nat_eq f) class.features) o false ≡ true
+held_by features None q f h = cc
+held_by features (Some class) q f h = among features class.features q f h
+
+there_is : (o : Option ℕ) (e : EditFault) (f : ℕ) → ok_or o e ≡ Ok f → o ≡ Some f
+there_is None e f h = cc
+there_is (Some g) e f h = cc
+
+feature_of : (meta : Meta) (o : Option ℕ) (name : Name) (f : ℕ) → feature_at meta o name ≡ Ok f → class_has meta o f ≡ true
+feature_of meta None name f h = cc
+feature_of meta (Some c) name f h = held_by meta.features (slice_get meta.classes c) name f (there_is (feature_named meta c name) NoFeature f h)
+
+-- what a name names is a feature of the element's class
+pub feature_held : (meta : Meta) (m : State) (e name : Name) (f : ℕ) → feature_at meta (class_at m e) name ≡ Ok f → class_has meta (get m.kind e) f ≡ true
+feature_held meta m e name f h =
+    elim (is_id e) as (λ b. feature_at meta (if b then get m.kind e else None) name ≡ Ok f → class_has meta (get m.kind e) f ≡ true) [
+      | true ↦ λ is. feature_of meta (get m.kind e) name f is
+      | false ↦ λ no. cc
+    ] h
+
+record OfFeature (meta : Meta) (r : Result ℕ EditFault) (effect : ℕ → Kind → Result Effect EditFault) (x : Effect) : Type 0 where
+  pub feature : ℕ
+  pub named : r ≡ Ok feature
+  pub comes : effect feature (kind_of meta feature) ≡ Ok x
+
+with_feature : (meta : Meta) (r : Result ℕ EditFault) (effect : ℕ → Kind → Result Effect EditFault) (x : Effect) → of_feature meta r effect ≡ Ok x → OfFeature meta r effect x
+with_feature meta (Err e) effect x h = cc
+with_feature meta (Ok f) effect x h = record { feature = f; named = refl; comes = h }
+
+-- ---- the rows of attributes
+module _ (meta : Meta) (m : State) (e : Name) (f : ℕ) (has : class_has meta (get m.kind e) f ≡ true) (effect : Effect) where
+  put_allowed : (o : Option Value) → is_attr (kind_of meta f) ≡ true → ((v : Value) → o ≡ Some v → attr_fits meta (kind_of meta f) v ≡ true) → put_effect meta e f o ≡ Ok effect → Allowed meta m effect
+  put_allowed None is fit h = cc
+  put_allowed (Some v) is fit h = allowed_as meta m (Puts e f (taken meta f v)) effect h ((has, is), taken_fits meta f v (fit v refl), taken_differs meta f v)
+
+  set_allowed : (reading : Reading) → IsTyped meta reading → (text : List ℕ) (k : Kind) → kind_of meta f ≡ k → set_effect reading meta e f k text ≡ Ok effect → Allowed meta m effect
+  set_allowed reading typed text (Attr scalar default) is h = put_allowed (reading scalar text) (ap is_attr is) (λ v read. ap (λ k. attr_fits meta k v) is ∙ typed scalar text v read) h
+  set_allowed reading typed text k is h = cc
+
+  unset_allowed : (k : Kind) → kind_of meta f ≡ k → unset_effect e f k ≡ Ok effect → Allowed meta m effect
+  unset_allowed (Attr scalar default) is h = allowed_as meta m (Puts e f None) effect h ((has, ap is_attr is), refl, refl)
+  unset_allowed (AttrMany scalar unique) is h = allowed_as meta m (Clears e f) effect h (has, ap is_many is)
+  unset_allowed k is h = cc
+
+  insert_allowed : (scalar : Scalar) (unique : Bool) → kind_of meta f ≡ AttrMany scalar unique → (k : ℕ) → nat_le k (length (values_in m e f)) ≡ true → (o : Option Value) → ((v : Value) → o ≡ Some v → fits meta scalar v ≡ true)
+      → insert_effect e f unique (upper_of meta f) (values_in m e f) k o ≡ Ok effect → Allowed meta m effect
+  insert_allowed scalar unique is k within None fit h = cc
+  insert_allowed scalar unique is k within (Some v) fit h =
+      let vs = values_in m e f in
+      let once = missed (unique && list_any (value_eq v) vs) _ _ effect h in
+      let room = passed (is_below (length vs) (upper_of meta f)) _ _ effect once.1 in
+      let few = passed (nat_lt (length vs) 4294967295) _ _ effect room.1 in
+      allowed_as meta m (Inserts e f k v) effect few.1 (record {
+        many = (has, ap is_many is);
+        typed = ap (λ k. many_fits meta k v) is ∙ fit v refl;
+        within = within;
+        once = ap (λ k. is_unique k && list_any (value_eq v) vs) is ∙ once.0;
+        room = room.0;
+        few = few.0;
+      })
+
+  add_allowed : (reading : Reading) → IsTyped meta reading → (at : Option ℕ) (text : List ℕ) (k : Kind) → kind_of meta f ≡ k → add_effect reading meta m e f k at text ≡ Ok effect → Allowed meta m effect
+  add_allowed reading typed at text (AttrMany scalar unique) is h =
+      let k = unwrap_or at (length (values_in m e f)) in
+      let within = passed (nat_le k (length (values_in m e f))) _ _ effect h in
+      insert_allowed scalar unique is k within.0 (reading scalar text) (typed scalar text) within.1
+  add_allowed reading typed at text k is h = cc
+
+  remove_allowed : (i : ℕ) (k : Kind) → kind_of meta f ≡ k → remove_effect m e f k i ≡ Ok effect → Allowed meta m effect
+  remove_allowed i (AttrMany scalar unique) is h =
+      let within = passed (nat_lt i (length (values_in m e f))) _ _ effect h in
+      allowed_as meta m (Removes e f i) effect within.1 ((has, ap is_many is), within.0)
+  remove_allowed i k is h = cc
+
+  shift_allowed : (from to : ℕ) (k : Kind) → kind_of meta f ≡ k → shift_effect m e f k from to ≡ Ok effect → Allowed meta m effect
+  shift_allowed from to (AttrMany scalar unique) is h =
+      let within = passed (nat_lt from (length (values_in m e f))) _ _ effect h in
+      let within_to = passed (nat_lt to (length (values_in m e f))) _ _ effect within.1 in
+      allowed_as meta m (Shifts e f from to) effect within_to.1 ((has, ap is_many is), within.0, within_to.0)
+  shift_allowed from to k is h = cc
+
+-- the effect of an edit that is not refused is possible
+pub allowed : (meta : Meta) (m : State) (reading : Reading) → IsTyped meta reading → (ws : ℕ) (edit : Edit) (effect : Effect) → effect_of reading meta m ws edit ≡ Ok effect → Allowed meta m effect
+unfolding effect_of
+allowed meta m reading typed ws (Create class id) effect h = create_allowed meta m (class_named meta class) (id_or_fresh m ws id) effect h
+allowed meta m reading typed ws (Set e name value) effect h =
+    let w = with_feature meta (feature_at meta (class_at m e) name) (λ f k. set_effect reading meta e f k value) effect h in
+    set_allowed meta m e w.feature (feature_held meta m e name w.feature w.named) effect reading typed value (kind_of meta w.feature) refl w.comes
+allowed meta m reading typed ws (Unset e name) effect h =
+    let w = with_feature meta (feature_at meta (class_at m e) name) (λ f k. unset_effect e f k) effect h in
+    unset_allowed meta m e w.feature (feature_held meta m e name w.feature w.named) effect (kind_of meta w.feature) refl w.comes
+allowed meta m reading typed ws (Add e name at value) effect h =
+    let w = with_feature meta (feature_at meta (class_at m e) name) (λ f k. add_effect reading meta m e f k at value) effect h in
+    add_allowed meta m e w.feature (feature_held meta m e name w.feature w.named) effect reading typed at value (kind_of meta w.feature) refl w.comes
+allowed meta m reading typed ws (Remove e name index) effect h =
+    let w = with_feature meta (feature_at meta (class_at m e) name) (λ f k. remove_effect m e f k index) effect h in
+    remove_allowed meta m e w.feature (feature_held meta m e name w.feature w.named) effect index (kind_of meta w.feature) refl w.comes
+allowed meta m reading typed ws (Shift e name from to) effect h =
+    let w = with_feature meta (feature_at meta (class_at m e) name) (λ f k. shift_effect m e f k from to) effect h in
+    shift_allowed meta m e w.feature (feature_held meta m e name w.feature w.named) effect from to (kind_of meta w.feature) refl w.comes
+
+-- ---- the steps
+pub made_leads : (meta : Meta) → Sound meta → (m : State) → Good meta m → (effect : Effect) → Allowed meta m effect → fold meta m (made m effect) ≡ Some (after m effect)
+made_leads meta sound m good (Creates e class) may = create_meets meta sound m good e class Root may
+made_leads meta sound m good (Puts e f v) may = put_meets meta m good e f v may.0 may.1 may.2
+made_leads meta sound m good (Clears e f) may = clear_meets meta m good e f may
+made_leads meta sound m good (Inserts e f k v) may = insert_meets meta m e f k v may
+made_leads meta sound m good (Removes e f k) may = remove_meets meta m good e f k may.0 may.1
+made_leads meta sound m good (Shifts e f from to) may = shift_meets meta m good e f from to may.0 may.1 may.2
+
+pub edits_meet : EditsMeet
+edits_meet meta sound m good reading typed ws edit effect comes = made_leads meta sound m good effect (allowed meta m reading typed ws edit effect comes)

@@ -1,0 +1,9 @@
+use Rattle.edit_laws.proofs.Taken.{edits_meet}
+use Rattle.edit_laws.proofs.Unchanged.{edits_idle}
+use Rattle.edit_laws.proofs.laws.law_of_edits.Goals as goal
+
+pub returns-clause-meets : goal.returns-clause-meets
+returns-clause-meets c = edits_meet
+
+pub returns-clause-idle : goal.returns-clause-idle
+returns-clause-idle c = edits_idle

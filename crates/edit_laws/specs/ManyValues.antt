@@ -1,0 +1,59 @@
+-- Edits of many-valued attributes: the model after each, said without steps, and the steps.
+use Rattle.std.specs.Prelude.{ℕ, ◌+◌, cond, List, [], ◌∷◌, ◌++◌, slice_get}
+use Rattle.std.specs.List.{insert, remove}
+use Rattle.std.specs.Option.{option_map_or}
+use Rattle.std.specs.FinMap.{get}
+use Rattle.finite_maps.specs.Equal.{list_eq}
+use Rattle.finite_maps.specs.Maps.{set}
+use Rattle.ecore_meta.specs.declared.meta.Value.{Value}
+use Rattle.model_state.specs.declared.step.Step.{Step}
+use Rattle.model_state.specs.declared.step.Step.TheVariants.{Ins, Del, Shift}
+use Rattle.model_state.specs.Keys.{Name}
+use Rattle.model_state.specs.Typing.{value_eq}
+use Rattle.model_state.specs.Lists.{entry_of, values_of, shifted}
+use Rattle.model_state.specs.State.{State}
+
+-- the values that an attribute of an element has
+abbrev pub values_in : State → Name → ℕ → List Value
+values_in m e f = values_of (get m.attr (e, f))
+
+-- the attribute has these values
+abbrev pub with_values : State → Name → ℕ → List Value → State
+with_values m e f vs = record m { attr = set m.attr (e, f) (entry_of vs) }
+
+-- ---- a value comes in at an index
+abbrev pub insert_after : State → Name → ℕ → ℕ → Value → State
+insert_after m e f k v = with_values m e f (insert (values_in m e f) k v)
+
+-- one step
+abbrev pub insert_made : Name → ℕ → ℕ → Value → List Step
+insert_made e f k v = Ins e f k v ∷ []
+
+-- ---- the value at an index goes
+abbrev pub remove_after : State → Name → ℕ → ℕ → State
+remove_after m e f k = with_values m e f (remove (values_in m e f) k)
+
+-- one step, which names the value
+abbrev pub remove_made : State → Name → ℕ → ℕ → List Step
+remove_made m e f k = option_map_or (λ v. Del e f k v ∷ []) (slice_get (values_in m e f) k) []
+
+-- ---- the value at an index is taken out and put at another
+abbrev pub shift_after : State → Name → ℕ → ℕ → ℕ → State
+shift_after m e f from to = with_values m e f (shifted (values_in m e f) from to)
+
+-- one step, and none where the list stays the same
+abbrev pub shift_made : State → Name → ℕ → ℕ → ℕ → List Step
+shift_made m e f from to = cond (list_eq value_eq (shifted (values_in m e f) from to) (values_in m e f)) [] (Shift e f from to ∷ [])
+
+-- ---- all values go
+abbrev pub clear_after : State → Name → ℕ → State
+clear_after m e f = with_values m e f []
+
+-- a step for each of the values, of which the first stands at n, the last first
+abbrev pub dels : Name → ℕ → ℕ → List Value → List Step
+dels e f n [] = []
+dels e f n (v ∷ vs) = dels e f (n + 1) vs ++ Del e f n v ∷ []
+
+-- a step for each value, the last first
+abbrev pub clear_made : State → Name → ℕ → List Step
+clear_made m e f = dels e f 0 (values_in m e f)

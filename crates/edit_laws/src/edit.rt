@@ -1,0 +1,53 @@
+use ecore_meta::Text;
+use model_state::{Id, Operation};
+
+/// An edit of a model as it is given: elements by their ids, classes and features by their names, and values as texts.
+/// A feature's name is looked up in the element's class, inherited features too.
+#[derive(Debug, PartialEq, Drop)]
+pub enum Edit {
+    /// A new element of the class, last at the root, with that id or a fresh one.
+    Create {
+        class: Text,
+        id: Option<Text>,
+    },
+    /// A single attribute gets a value.
+    Set {
+        id: Text,
+        feature: Text,
+        value: Text,
+    },
+    /// All values of an attribute go.
+    Unset {
+        id: Text,
+        feature: Text,
+    },
+    /// A value comes into a many-valued attribute, in front of the value at that index, or last where there is none.
+    Add {
+        id: Text,
+        feature: Text,
+        at: Option<u32>,
+        value: Text,
+    },
+    /// The value at an index of a many-valued attribute goes.
+    Remove {
+        id: Text,
+        feature: Text,
+        index: u32,
+    },
+    /// The value at an index of a many-valued attribute is taken out and put at another.
+    Shift {
+        id: Text,
+        feature: Text,
+        from: u32,
+        to: u32,
+    },
+}
+
+/// What is recorded of an edit.
+#[derive(Debug, Drop)]
+pub struct Recorded {
+    /// The operation, None where the edit changes nothing.
+    pub operation: Option<Operation>,
+    /// The id of the element that the edit creates.
+    pub id: Option<Id>,
+}

@@ -1,0 +1,54 @@
+ghost use Rattle.std.specs.Prelude.{◌≡◌};
+ghost use Rattle.edit_laws.specs.declared.fault.EditFault.TheVariants.{Memory};
+
+use std::alloc::AllocError;
+use thiserror::Error;
+
+/// Why an edit is refused: the first of its tests that fails.
+#[derive(Clone, Copy, Debug, PartialEq, Eq, Drop, Error)]
+pub enum EditFault {
+    /// No live element has the id.
+    #[error("no such element")]
+    NoElement,
+    /// The id of the new element is that of a live one.
+    #[error("the id is in use")]
+    IdInUse,
+    /// The id of the new element isn't of the form of an id.
+    #[error("no id")]
+    BadId,
+    /// The metamodel has no class of that name.
+    #[error("no such class")]
+    NoClass,
+    /// The class is abstract.
+    #[error("the class is abstract")]
+    Abstract,
+    /// The element's class has no feature of that name.
+    #[error("no such feature")]
+    NoFeature,
+    /// The feature isn't of a kind that the edit takes.
+    #[error("a feature of another kind")]
+    WrongKind,
+    /// The text isn't a value of the attribute's type.
+    #[error("no value of the attribute's type")]
+    BadValue,
+    /// A list would get a value more and is at its upper bound or has 4,294,967,295 values, or no rank is left behind
+    /// the last element at the root.
+    #[error("the list is full")]
+    Bound,
+    /// The attribute holds each value once, and holds this one.
+    #[error("there already")]
+    AlreadyThere,
+    /// The list has no such index.
+    #[error("no such entry")]
+    NoEntry,
+    #[error("out of memory")]
+    Memory,
+}
+
+impl From<AllocError> for EditFault {
+    ghost from_gives = { λ _ e. e ≡ Memory };
+
+    fn from(_: AllocError) -> EditFault {
+        EditFault::Memory
+    }
+}
