@@ -37,7 +37,7 @@ literal_below ls text n h = by_text (number_of text (map (λ l. l.text) ls)) ref
     by_text None is h = omega (arith, number_below text (map (λ l. l.name) ls) n h, length-map ls (λ l. l.name))
     by_text (Some m) is h = omega (arith, number_below text (map (λ l. l.text) ls) n (is ∙ h), length-map ls (λ l. l.text))
 
-count_is : (meta : Meta) (e : ℕ) → literal_count meta e ≡ length (literals_of meta e)
+pub count_is : (meta : Meta) (e : ℕ) → literal_count meta e ≡ length (literals_of meta e)
 count_is meta e = by_entry (slice_get meta.literals e)
   where
     by_entry : (o : Option (List EnumLiteral)) → option_map_or length o 0 ≡ length (option_map_or (λ ls. ls) o [])

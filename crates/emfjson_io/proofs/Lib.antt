@@ -1,1 +1,4 @@
 pub mod Fits
+mod JsonTexts
+mod Literals
+pub mod Again

@@ -1,6 +1,9 @@
-ghost use Rattle.emfjson_io.specs.Laws.{ReadValuesFit};
+ghost use Rattle.emfjson_io.specs.Laws.{BuiltTextsAreApart, ReadValuesFit, WrittenValuesAreRead};
 
-/// The law of values: what is read is of the type.
+/// The law of values: what is read is of the type, and what is written for a value is read again as that value, where
+/// the literals of an enum have different texts, as they have in every metamodel that is built.
 pub fn law_of_values()
     ensures fit { ReadValuesFit }
+    ensures apart { BuiltTextsAreApart }
+    ensures again { WrittenValuesAreRead }
 {}

@@ -3,6 +3,8 @@
 
 mod laws;
 mod read;
+#[cfg(test)]
+mod tests;
 mod write;
 
 pub use ecore_meta::ValueFault;
