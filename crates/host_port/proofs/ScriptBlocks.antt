@@ -1,5 +1,5 @@
 -- A line of a block, as a step of the script.
-use Rattle.std.proofs.Common.{◌≡◌, ◌⊎◌, ℕ, ◌+◌, ◌-◌, ◌^◌, ◌<◌, ◌≤◌, ◌++◌, ◌&&◌, List, [], ◌∷◌, Bool, true, false, nat_lt, nat_le, get_or, length, take, drop, refl, ap, sym, ◌∙◌, arith, Result, Ok, Err, Some, length-append, length-drop, inl, inr, OnOk, if◌then◌else◌}
+use Rattle.std.proofs.Common.{◌≡◌, ◌⊎◌, ℕ, ◌+◌, ◌-◌, ◌^◌, ◌<◌, ◌≤◌, ◌++◌, ◌&&◌, List, [], ◌∷◌, Bool, true, false, nat_lt, nat_le, get_or, length, take, drop, refl, ap, sym, ◌∙◌, arith, Result, Ok, Err, Some, length-append, length-drop, inl, inr, OnOk, if◌then◌else◌, subst}
 use Rattle.std.proofs.lemmas.Bool.{false_from_ne_true, lt-ltb, le-ltb, le-leb}
 use Rattle.std.proofs.lemmas.List.{get_or_append_left}
 use Rattle.std.proofs.lemmas.Grind.{common_steps}
@@ -9,7 +9,7 @@ use Rattle.host_port.specs.declared.lines.LineFault.TheVariants as faults
 use Rattle.host_port.specs.declared.lines.unread.Stop.{Stop}
 use Rattle.host_port.specs.declared.lines.unread.Stop.TheVariants.{Feed, Close, Far}
 use Rattle.host_port.specs.declared.lines.TheConstants.{BLOCK_LIMIT, INPUT_LIMIT}
-use Rattle.host_port.specs.Cut.{is_lf, raw_line, is_ended, Script, cut_block, script_from, ends_by, after_block, ends_block, block_line, is_dot, without_cr}
+use Rattle.host_port.specs.Cut.{is_lf, raw_line, is_ended, Script, cut_block, script_from, ends_by, after_block, ends_block, block_line, behind_line, line_bytes, is_dot, without_cr}
 use Rattle.host_port.specs.Reads.{BlockLine, BlockFault, FarFault, EndsScript, GotBlockLine, is_feed}
 use Rattle.host_port.proofs.ScriptCuts.{first_at, raw_is, ended_is, after_is, position_long, length-raw_line}
 use Rattle.host_port.proofs.ScriptItems.{block_goes, block_ends, ended_splits, unended_splits, cut_block_ended, cut_block_last, split_cons}
@@ -20,19 +20,25 @@ and_false false = refl
 
 -- a fault of a line ends the script
 pub block_err : (takes : List ℕ → Bool) (line : List ℕ) (start place : ℕ) (text : Result (List ℕ) LineFault) (unread : List ℕ) (e : LineFault)
-    → ends_block place (raw_line unread) ≡ false → block_line start place text (raw_line unread) ≡ Err e
+    → ends_block place (is_ended unread) (raw_line unread) ≡ false → block_line start place (is_ended unread) text (raw_line unread) ≡ Err e
     → cut_block takes line start place text (slice_split is_lf unread) ≡ ends_by (Some e)
 block_err takes line start place text unread e dot is = go (is_ended unread) refl
   where
     go : (b : Bool) → is_ended unread ≡ b → cut_block takes line start place text (slice_split is_lf unread) ≡ ends_by (Some e)
-    go true b = let s = ended_splits unread b in
+    go true b =
+        let s = ended_splits unread b in
+        let dot : ends_block place true (raw_line unread) ≡ false = subst (λ (x : Bool). ends_block place x (raw_line unread) ≡ false) b dot in
+        let is : block_line start place true text (raw_line unread) ≡ Err e = subst (λ (x : Bool). block_line start place x text (raw_line unread) ≡ Err e) b is in
         rw s.split (cut_block_ended takes line start place text (raw_line unread) (slice_split is_lf (after_first is_lf unread)) (split_cons (after_first is_lf unread)) ∙ rw (dot, is) refl)
-    go false b = let s = unended_splits unread b in
+    go false b =
+        let s = unended_splits unread b in
+        let dot : ends_block place false (raw_line unread) ≡ false = subst (λ (x : Bool). ends_block place x (raw_line unread) ≡ false) b dot in
+        let is : block_line start place false text (raw_line unread) ≡ Err e = subst (λ (x : Bool). block_line start place x text (raw_line unread) ≡ Err e) b is in
         rw s.split (cut_block_last takes line start place text (raw_line unread) ∙ rw (dot, is) refl)
 
 -- the input ends within the block
 pub block_unended : (takes : List ℕ → Bool) (line : List ℕ) (start place : ℕ) (text more : Result (List ℕ) LineFault) (unread : List ℕ) → is_ended unread ≡ false
-    → ends_block place (raw_line unread) ≡ false → block_line start place text (raw_line unread) ≡ Ok more
+    → ends_block place false (raw_line unread) ≡ false → block_line start place false text (raw_line unread) ≡ Ok more
     → cut_block takes line start place text (slice_split is_lf unread) ≡ ends_by (Some (faults.UnendedBlock (place + length (raw_line unread))))
 block_unended takes line start place text more unread b dot is =
     let s = unended_splits unread b in
@@ -46,27 +52,35 @@ is_dot_len (b ∷ c ∷ bs) e = absurd cc
 cr_len : (raw : List ℕ) → length raw ≤ length (without_cr raw) + 1
 cr_len raw = grind (arith, common_steps)
 
-pub long_is_no_dot : (raw : List ℕ) → 2 < length raw → is_dot (without_cr raw) ≡ false
-long_is_no_dot raw long = false_from_ne_true (is_dot (without_cr raw)) (λ e. omega (arith, is_dot_len (without_cr raw) e, cr_len raw))
+line_len : (ended : Bool) (raw : List ℕ) → length raw ≤ length (line_bytes ended raw) + 1
+line_len true raw = cr_len raw
+line_len false raw = omega arith
 
-far_no_end : (place len : ℕ) (raw : List ℕ) → len ≤ length raw → (2 < len) ⊎ (place + len ≡ 2 ^ 40) → ends_block place raw ≡ false
-far_no_end place len raw long (inl h) = rw (long_is_no_dot raw (omega arith)) refl
-far_no_end place len raw long (inr h) = let far : nat_lt (place + length raw) INPUT_LIMIT ≡ false = grind arith in rw far (and_false (is_dot (without_cr raw)))
+pub long_is_no_dot : (ended : Bool) (raw : List ℕ) → 2 < length raw → is_dot (line_bytes ended raw) ≡ false
+long_is_no_dot ended raw long = false_from_ne_true (is_dot (line_bytes ended raw)) (λ e. omega (arith, is_dot_len (line_bytes ended raw) e, line_len ended raw))
 
-far_line : (start place len : ℕ) (text : Result (List ℕ) LineFault) (raw : List ℕ) (e : LineFault) → start ≤ place → len ≤ length raw → place + len ≤ 2 ^ 40
-    → (BLOCK_LIMIT < place + len - start) ⊎ (place + len ≡ 2 ^ 40) → FarFault start e → block_line start place text raw ≡ Err e
-far_line start place len text raw e h long within d (inl f) =
-    let l : nat_lt BLOCK_LIMIT (place + length raw - start) ≡ true = lt-ltb _ _ (over d) in
+far_no_end : (place len : ℕ) (ended : Bool) (raw : List ℕ) → len ≤ length raw → (2 < len) ⊎ (place + len ≡ 2 ^ 40) → ends_block place ended raw ≡ false
+far_no_end place len ended raw long (inl h) = rw (long_is_no_dot ended raw (omega arith)) refl
+far_no_end place len ended raw long (inr h) = let far : nat_lt (place + length raw) INPUT_LIMIT ≡ false = grind arith in rw far (and_false (is_dot (line_bytes ended raw)))
+
+behind_raw : (place : ℕ) (ended : Bool) (raw : List ℕ) → place + length raw ≤ behind_line place ended raw
+behind_raw place true raw = omega arith
+behind_raw place false raw = omega arith
+
+far_line : (start place len : ℕ) (ended : Bool) (text : Result (List ℕ) LineFault) (raw : List ℕ) (e : LineFault) → start ≤ place → len ≤ length raw → place + len ≤ 2 ^ 40
+    → (BLOCK_LIMIT < place + len - start) ⊎ (place + len ≡ 2 ^ 40) → FarFault start e → block_line start place ended text raw ≡ Err e
+far_line start place len ended text raw e h long within d (inl f) =
+    let l : nat_lt BLOCK_LIMIT (behind_line place ended raw - start) ≡ true = lt-ltb _ _ (over d) in
     let n : nat_lt (start + BLOCK_LIMIT) INPUT_LIMIT ≡ true = lt-ltb _ _ f.1 in
     rw (l, n) (ap (λ (x : LineFault). Err x) (sym f.0))
   where
-    over : (BLOCK_LIMIT < place + len - start) ⊎ (place + len ≡ 2 ^ 40) → BLOCK_LIMIT < place + length raw - start
-    over (inl x) = omega arith
-    over (inr x) = omega (arith, f.1)
-far_line start place len text raw e h long within d (inr f) =
+    over : (BLOCK_LIMIT < place + len - start) ⊎ (place + len ≡ 2 ^ 40) → BLOCK_LIMIT < behind_line place ended raw - start
+    over (inl x) = omega (arith, behind_raw place ended raw)
+    over (inr x) = omega (arith, f.1, behind_raw place ended raw)
+far_line start place len ended text raw e h long within d (inr f) =
     let n : nat_lt (start + BLOCK_LIMIT) INPUT_LIMIT ≡ false = le-ltb _ _ f.1 in
     let i : nat_le INPUT_LIMIT (place + length raw) ≡ true = le-leb _ _ (over d) in
-    rw (n, and_false (nat_lt BLOCK_LIMIT (place + length raw - start)), i) (ap (λ (x : LineFault). Err x) (sym f.0))
+    rw (n, and_false (nat_lt BLOCK_LIMIT (behind_line place ended raw - start)), i) (ap (λ (x : LineFault). Err x) (sym f.0))
   where
     over : (BLOCK_LIMIT < place + len - start) ⊎ (place + len ≡ 2 ^ 40) → INPUT_LIMIT ≤ place + length raw
     over (inl x) = omega (arith, f.1)
@@ -83,7 +97,7 @@ pub block_far : (takes : List ℕ → Bool) (line : List ℕ) (start place len :
     → cut_block takes line start place text (slice_split is_lf unread) ≡ ends_by (Some e)
 block_far takes line start place len text unread e h long within d fault =
     let b = or_far place len start d in
-    block_err takes line start place text unread e (far_no_end place len (raw_line unread) long b.0) (far_line start place len text (raw_line unread) e h long within b.1 fault)
+    block_err takes line start place text unread e (far_no_end place len (is_ended unread) (raw_line unread) long b.0) (far_line start place len (is_ended unread) text (raw_line unread) e h long within b.1 fault)
 
 -- ---- a line of a block that was found
 
@@ -99,9 +113,9 @@ pub block_found : (takes : List ℕ → Bool) (line : List ℕ) (start place pla
     → len ≤ length pending → position_or_len is_lf (pending ++ left) ≡ len
     → (ended ≡ true → len < length pending) → (ended ≡ false → len ≡ length pending) → (ended ≡ false → left ≡ []) → place + len < 2 ^ 40
     → pending' ≡ drop (if ended then len + 1 else len) pending → place' ≡ place + (if ended then len + 1 else len)
-    → ((ends_block place (take len pending) ≡ true) → (new ≡ old)
+    → ((ends_block place ended (take len pending) ≡ true) → (new ≡ old)
     → cut_block takes line start place old (slice_split is_lf (pending ++ left)) ≡ after_block line new (script_from takes place' (pending' ++ left)))
-    × (ended ≡ true → (ends_block place (take len pending) ≡ false) → (block_line start place old (take len pending) ≡ Ok new)
+    × (ended ≡ true → (ends_block place true (take len pending) ≡ false) → (block_line start place true old (take len pending) ≡ Ok new)
     → cut_block takes line start place old (slice_split is_lf (pending ++ left)) ≡ cut_block takes line start place' new (slice_split is_lf (pending' ++ left)))
 block_found takes line start place place' len ended old new pending left pending' h at some none end within moved there =
     let raw : raw_line (pending ++ left) ≡ take len pending = raw_is len pending left h at in
@@ -110,10 +124,10 @@ block_found takes line start place place' len ended old new pending left pending
     let rest : pending' ++ left ≡ after_first is_lf (pending ++ left) = rw moved (sym after) in
     let place_ok : place' + length (after_first is_lf (pending ++ left)) ≡ place + length (pending ++ left) = place_at (if ended then len + 1 else len) place place' (pending ++ left) pending left (after_first is_lf (pending ++ left)) refl after (past_len ended len pending h some) there in
     let size : length (raw_line (pending ++ left)) ≡ len = length-raw_line (pending ++ left) ∙ at in (
-      (λ dot same. block_ends takes line start place place' old (pending ++ left) (ap (λ (r : List ℕ). ends_block place r) raw ∙ dot) (omega arith) place_ok
+      (λ dot same. block_ends takes line start place place' old (pending ++ left) (ap (λ (b : Bool). ends_block place b (raw_line (pending ++ left))) e ∙ (ap (λ (r : List ℕ). ends_block place ended r) raw ∙ dot)) (omega arith) place_ok
           ∙ (ap (λ (b : Result (List ℕ) LineFault). after_block line b (script_from takes place' (after_first is_lf (pending ++ left)))) (sym same)
           ∙ ap (λ (u : List ℕ). after_block line new (script_from takes place' u)) (sym rest))),
-      (λ t dot is. block_goes takes line start place place' old new (pending ++ left) (e ∙ t) (ap (λ (r : List ℕ). ends_block place r) raw ∙ dot) (ap (λ (r : List ℕ). block_line start place old r) raw ∙ is) place_ok
+      (λ t dot is. block_goes takes line start place place' old new (pending ++ left) (e ∙ t) (ap (λ (r : List ℕ). ends_block place true r) raw ∙ dot) (ap (λ (r : List ℕ). block_line start place true old r) raw ∙ is) place_ok
           ∙ ap (λ (u : List ℕ). cut_block takes line start place' new (slice_split is_lf u)) (sym rest)),
     )
 
@@ -160,8 +174,11 @@ fault_ends : (takes : List ℕ → Bool) (line : List ℕ) (start place len : �
     → Found start place len pending left stop → BlockFault stop start place old (take len pending) e
     → cut_block takes line start place old (slice_split is_lf (pending ++ left)) ≡ ends_by (Some e)
 fault_ends takes line start place len old pending left Feed e f d =
-    let raw : raw_line (pending ++ left) ≡ take len pending = raw_is len pending left f.within_pending (at_feed start place len pending left f) in
-    block_err takes line start place old (pending ++ left) e (ap (λ (r : List ℕ). ends_block place r) raw ∙ d.0) (ap (λ (r : List ℕ). block_line start place old r) raw ∙ d.1)
+    let at = at_feed start place len pending left f in
+    let raw : raw_line (pending ++ left) ≡ take len pending = raw_is len pending left f.within_pending at in
+    let e_is : is_ended (pending ++ left) ≡ true = ended_is len true pending left f.within_pending (λ _. (f.feed refl).0) (λ h. absurd cc) (λ h. absurd cc) at in
+    block_err takes line start place old (pending ++ left) e (ap (λ (b : Bool). ends_block place b (raw_line (pending ++ left))) e_is ∙ (ap (λ (r : List ℕ). ends_block place true r) raw ∙ d.0))
+    (ap (λ (b : Bool). block_line start place b old (raw_line (pending ++ left))) e_is ∙ (ap (λ (r : List ℕ). block_line start place true old r) raw ∙ d.1))
 fault_ends takes line start place len old pending left Far e f d =
     let front : (k : ℕ) → k < len → get_or (pending ++ left) k 0 ≡ 10 → ⊥ = λ k lt is. f.clear k lt (sym (get_or_append_left pending left 0 k (omega (arith, f.within_pending))) ∙ is) in
     let long : len ≤ length (raw_line (pending ++ left)) = omega (arith, length-raw_line (pending ++ left), position_long (pending ++ left) len (omega (arith, length-append pending left, f.within_pending)) front) in
@@ -170,10 +187,11 @@ fault_ends takes line start place len old pending left Close e f d =
     let at = at_close start place len pending left f in
     let raw : raw_line (pending ++ left) ≡ take len pending = raw_is len pending left f.within_pending at in
     let e_is : is_ended (pending ++ left) ≡ false = ended_is len false pending left f.within_pending (λ h. absurd cc) (λ _. f.all no_close) (λ _. f.end refl) at in
-    let dot : ends_block place (raw_line (pending ++ left)) ≡ false = ap (λ (r : List ℕ). ends_block place r) raw ∙ d.0 in
+    let dot : ends_block place false (raw_line (pending ++ left)) ≡ false = ap (λ (r : List ℕ). ends_block place false r) raw ∙ d.0 in
     elim d.1 [
-      | inl x ↦ block_err takes line start place old (pending ++ left) e dot (ap (λ (r : List ℕ). block_line start place old r) raw ∙ x)
-      | inr x ↦ block_unended takes line start place old x.1.0 (pending ++ left) e_is dot (ap (λ (r : List ℕ). block_line start place old r) raw ∙ x.1.1)
+      | inl x ↦ block_err takes line start place old (pending ++ left) e (ap (λ (b : Bool). ends_block place b (raw_line (pending ++ left))) e_is ∙ dot)
+          (ap (λ (b : Bool). block_line start place b old (raw_line (pending ++ left))) e_is ∙ (ap (λ (r : List ℕ). block_line start place false old r) raw ∙ x))
+      | inr x ↦ block_unended takes line start place old x.1.0 (pending ++ left) e_is dot (ap (λ (r : List ℕ). block_line start place false old r) raw ∙ x.1.1)
           ∙ ap (λ (f : LineFault). ends_by (Some f)) (ap (λ (r : List ℕ). faults.UnendedBlock (place + length r)) raw ∙ sym x.0)
     ]
 

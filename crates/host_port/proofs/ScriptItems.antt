@@ -41,8 +41,8 @@ unfolding cut
 cut_last takes place raw = refl
 
 pub cut_block_last : (takes : List ℕ → Bool) (line : List ℕ) (start place : ℕ) (text : Result (List ℕ) LineFault) (raw : List ℕ) → cut_block takes line start place text (raw ∷ []) ≡
-    (if ends_block place raw then after_block line text (ends_by None)
-    else in_block_by (block_line start place text raw) (λ _. ends_by (Some (UnendedBlock (place + length raw)))))
+    (if ends_block place false raw then after_block line text (ends_by None)
+    else in_block_by (block_line start place false text raw) (λ _. ends_by (Some (UnendedBlock (place + length raw)))))
 unfolding cut_block
 cut_block_last takes line start place text raw = refl
 
@@ -124,17 +124,17 @@ script_fault takes place unread fault is = script_ends takes place unread (Err f
 
 pub cut_block_ended : (takes : List ℕ → Bool) (line : List ℕ) (start place : ℕ) (text : Result (List ℕ) LineFault) (raw : List ℕ) (parts : List (List ℕ)) → IsCons parts
     → cut_block takes line start place text (raw ∷ parts) ≡
-    (if ends_block place raw then after_block line text (cut takes (place + length raw + 1) parts)
-    else in_block_by (block_line start place text raw) (λ more. cut_block takes line start (place + length raw + 1) more parts))
+    (if ends_block place true raw then after_block line text (cut takes (place + length raw + 1) parts)
+    else in_block_by (block_line start place true text raw) (λ more. cut_block takes line start (place + length raw + 1) more parts))
 unfolding cut_block
 cut_block_ended takes line start place text raw parts (is_cons a rest e) =
     subst (λ (ps : List (List ℕ)). cut_block takes line start place text (raw ∷ ps) ≡
-    (if ends_block place raw then after_block line text (cut takes (place + length raw + 1) ps)
-    else in_block_by (block_line start place text raw) (λ more. cut_block takes line start (place + length raw + 1) more ps))) (sym e) refl
+    (if ends_block place true raw then after_block line text (cut takes (place + length raw + 1) ps)
+    else in_block_by (block_line start place true text raw) (λ more. cut_block takes line start (place + length raw + 1) more ps))) (sym e) refl
 
 -- a block goes on behind a line of it
 pub block_goes : (takes : List ℕ → Bool) (line : List ℕ) (start place place' : ℕ) (text more : Result (List ℕ) LineFault) (unread : List ℕ) → is_ended unread ≡ true
-    → ends_block place (raw_line unread) ≡ false → block_line start place text (raw_line unread) ≡ Ok more
+    → ends_block place true (raw_line unread) ≡ false → block_line start place true text (raw_line unread) ≡ Ok more
     → place' + length (after_first is_lf unread) ≡ place + length unread
     → cut_block takes line start place text (slice_split is_lf unread) ≡ cut_block takes line start place' more (slice_split is_lf (after_first is_lf unread))
 block_goes takes line start place place' text more unread e dot is at =
@@ -144,7 +144,7 @@ block_goes takes line start place place' text more unread e dot is at =
 
 -- a block ends at its dot
 pub block_ends : (takes : List ℕ → Bool) (line : List ℕ) (start place place' : ℕ) (text : Result (List ℕ) LineFault) (unread : List ℕ)
-    → ends_block place (raw_line unread) ≡ true → place + length (raw_line unread) < INPUT_LIMIT
+    → ends_block place (is_ended unread) (raw_line unread) ≡ true → place + length (raw_line unread) < INPUT_LIMIT
     → place' + length (after_first is_lf unread) ≡ place + length unread
     → cut_block takes line start place text (slice_split is_lf unread) ≡ after_block line text (script_from takes place' (after_first is_lf unread))
 block_ends takes line start place place' text unread dot within at = go (is_ended unread) refl
@@ -152,9 +152,11 @@ block_ends takes line start place place' text unread dot within at = go (is_ende
     go : (e : Bool) → is_ended unread ≡ e → cut_block takes line start place text (slice_split is_lf unread) ≡ after_block line text (script_from takes place' (after_first is_lf unread))
     go true e =
         let s = ended_splits unread e in
+        let dot : ends_block place true (raw_line unread) ≡ true = subst (λ (b : Bool). ends_block place b (raw_line unread) ≡ true) e dot in
         let there : place' ≡ place + length (raw_line unread) + 1 = omega (arith, s.total) in
         rw s.split (rw there (cut_block_ended takes line start place text (raw_line unread) (slice_split is_lf (after_first is_lf unread)) (split_cons (after_first is_lf unread)) ∙ rw dot refl))
     go false e =
         let s = unended_splits unread e in
         let there : place' ≡ place + length (raw_line unread) = rw s.raw (let at' : place' + 0 ≡ place + length unread = rw (sym (ap length s.after)) at in omega arith) in
+        let dot : ends_block place false (raw_line unread) ≡ true = subst (λ (b : Bool). ends_block place b (raw_line unread) ≡ true) e dot in
         rw s.split (cut_block_last takes line start place text (raw_line unread) ∙ rw dot (ap (λ x. after_block line text x) (rw s.after (sym (cut_nothing takes place' (omega arith))))))

@@ -13,6 +13,10 @@ is_lf b = b == 10
 abbrev pub without_cr : List ℕ → List ℕ
 without_cr raw = if slice_index raw (length raw - 1) == 13 then take (length raw - 1) raw else raw
 
+-- the bytes of a line, where ended says whether a line feed follows: a carriage return right before it is none of them
+abbrev pub line_bytes : Bool → List ℕ → List ℕ
+line_bytes ended raw = if ended then without_cr raw else raw
+
 -- the bytes as text, or the place of the first byte that is none
 abbrev pub text_at : ℕ → List ℕ → Result (List ℕ) LineFault
 text_at place bytes = if utf8_valid_len bytes == length bytes then Ok bytes else Err (NotText (place + utf8_valid_len bytes))
@@ -22,7 +26,7 @@ line_text (Ok t) = Ok (Some t)
 line_text (Err e) = Err e
 
 abbrev pub line_or_end : ℕ → List ℕ → Bool → Result (Option (List ℕ)) LineFault
-line_or_end place raw ended = if not ended && (length raw == 0) then Ok None else line_text (text_at place (without_cr raw))
+line_or_end place raw ended = if not ended && (length raw == 0) then Ok None else line_text (text_at place (line_bytes ended raw))
 
 -- What stands at place, where the bytes up to the next line feed are raw, and ended says whether there is one:
 -- a line, nothing at the end of the input, or a fault. The length is judged first.
@@ -73,17 +77,21 @@ abbrev pub text_with : ℕ → Result (List ℕ) LineFault → List ℕ → Resu
 text_with place (Err e) line = Err e
 text_with place (Ok text) line = line_added text (text_at place line)
 
+-- the place behind a line, and behind its line feed where one follows
+abbrev pub behind_line : ℕ → Bool → List ℕ → ℕ
+behind_line place ended raw = place + (if ended then length raw + 1 else length raw)
+
 -- A line of a block that began at start, where it isn't `.`: a fault of its length, or the text with it. What stands
--- before it is the text, or the fault of it.
-abbrev pub block_line : ℕ → ℕ → Result (List ℕ) LineFault → List ℕ → Result (Result (List ℕ) LineFault) LineFault
-block_line start place text raw =
-    if nat_lt BLOCK_LIMIT (place + length raw - start) && nat_lt (start + BLOCK_LIMIT) INPUT_LIMIT then Err (BlockTooLong (start + BLOCK_LIMIT))
+-- before it is the text, or the fault of it. The block's line feeds count.
+abbrev pub block_line : ℕ → ℕ → Bool → Result (List ℕ) LineFault → List ℕ → Result (Result (List ℕ) LineFault) LineFault
+block_line start place ended text raw =
+    if nat_lt BLOCK_LIMIT (behind_line place ended raw - start) && nat_lt (start + BLOCK_LIMIT) INPUT_LIMIT then Err (BlockTooLong (start + BLOCK_LIMIT))
     else if nat_le INPUT_LIMIT (place + length raw) then Err (InputTooLong INPUT_LIMIT)
-    else Ok (text_with place text (without_cr raw))
+    else Ok (text_with place text (line_bytes ended raw))
 
 -- does a line end its block
-abbrev pub ends_block : ℕ → List ℕ → Bool
-ends_block place raw = is_dot (without_cr raw) && nat_lt (place + length raw) INPUT_LIMIT
+abbrev pub ends_block : ℕ → Bool → List ℕ → Bool
+ends_block place ended raw = is_dot (line_bytes ended raw) && nat_lt (place + length raw) INPUT_LIMIT
 
 -- the script that begins with a line, by what the line is: with a block, or without
 abbrev pub after_line : (List ℕ → Bool) → Result (Option (List ℕ)) LineFault → (List ℕ → Script) → Script → Script
@@ -115,11 +123,11 @@ unfoldable mutual
   pub cut_block : (List ℕ → Bool) → List ℕ → ℕ → ℕ → Result (List ℕ) LineFault → List (List ℕ) → Script
   cut_block takes_block line start place text [] = ends_by None
   cut_block takes_block line start place text (raw ∷ []) =
-      if ends_block place raw then after_block line text (ends_by None)
-      else in_block_by (block_line start place text raw) (λ _. ends_by (Some (UnendedBlock (place + length raw))))
+      if ends_block place false raw then after_block line text (ends_by None)
+      else in_block_by (block_line start place false text raw) (λ _. ends_by (Some (UnendedBlock (place + length raw))))
   cut_block takes_block line start place text (raw ∷ next ∷ parts) =
-      if ends_block place raw then after_block line text (cut takes_block (place + length raw + 1) (next ∷ parts))
-      else in_block_by (block_line start place text raw) (λ more. cut_block takes_block line start (place + length raw + 1) more (next ∷ parts))
+      if ends_block place true raw then after_block line text (cut takes_block (place + length raw + 1) (next ∷ parts))
+      else in_block_by (block_line start place true text raw) (λ more. cut_block takes_block line start (place + length raw + 1) more (next ∷ parts))
 
 -- the script that the unread bytes are, from a place on
 abbrev pub script_from : (List ℕ → Bool) → ℕ → List ℕ → Script

@@ -63,14 +63,14 @@ FarFault start e = ((e ≡ BlockTooLong (start + BLOCK_LIMIT)) × (start + BLOCK
 
 abbrev pub BlockFault : Stop → ℕ → ℕ → Result (List ℕ) LineFault → List ℕ → LineFault → Type 0
 BlockFault Far start place text raw e = FarFault start e
-BlockFault Feed start place text raw e = (ends_block place raw ≡ false) × (block_line start place text raw ≡ Err e)
-BlockFault Close start place text raw e = (ends_block place raw ≡ false) × ((block_line start place text raw ≡ Err e)
-    ⊎ ((e ≡ UnendedBlock (place + length raw)) × ((more : Result (List ℕ) LineFault) × (block_line start place text raw ≡ Ok more))))
+BlockFault Feed start place text raw e = (ends_block place true raw ≡ false) × (block_line start place true text raw ≡ Err e)
+BlockFault Close start place text raw e = (ends_block place false raw ≡ false) × ((block_line start place false text raw ≡ Err e)
+    ⊎ ((e ≡ UnendedBlock (place + length raw)) × ((more : Result (List ℕ) LineFault) × (block_line start place false text raw ≡ Ok more))))
 
 -- what a line of a block with the bytes raw is: its end, a line more, or a fault
 abbrev pub BlockLine : Stop → ℕ → ℕ → Result (List ℕ) LineFault → Result (List ℕ) LineFault → List ℕ → Result Bool LineFault → Type 0
-BlockLine stop start place old new raw (Ok true) = (ends_block place raw ≡ true) × (new ≡ old) × (stop ≡ Far → ⊥)
-BlockLine stop start place old new raw (Ok false) = (ends_block place raw ≡ false) × (block_line start place old raw ≡ Ok new) × (stop ≡ Feed)
+BlockLine stop start place old new raw (Ok true) = (ends_block place (is_feed stop) raw ≡ true) × (new ≡ old) × (stop ≡ Far → ⊥)
+BlockLine stop start place old new raw (Ok false) = (ends_block place (is_feed stop) raw ≡ false) × (block_line start place (is_feed stop) old raw ≡ Ok new) × (stop ≡ Feed)
 BlockLine stop start place old new raw (Err Memory) = Unit {0}
 BlockLine stop start place old new raw (Err e) = BlockFault stop start place old raw e
 

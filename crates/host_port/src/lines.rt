@@ -6,6 +6,8 @@ ghost use Rattle.host_port.specs.Cut.{cut_block, script_from, is_lf, next_line_o
 ghost use Rattle.host_port.specs.Reads.{GotBlock, GotLine, PastLine};
 
 mod block;
+#[cfg(test)]
+mod tests;
 mod unread;
 
 use crate::Host;
@@ -137,7 +139,7 @@ impl Lines {
         ensures block { IsTrue (H.told host.old).tells → (takes : List ℕ → Bool) (line : List ℕ) → GotBlock result self.new.text line
             (cut_block takes line self.old.place self.old.place (Ok []) (slice_split is_lf (self.old.pending ++ (H.told host.old).left)))
             (script_from takes self.new.place (self.new.pending ++ (H.told host.new).left)) }
-        ensures short { OnOk result (length self.new.text ≤ BLOCK_LIMIT + 1) }
+        ensures short { OnOk result (length self.new.text ≤ BLOCK_LIMIT) }
         ensures failed { IsTrue self.new.failed ↔ IsErr result }
         ensures later { self.old.place ≤ self.new.place }
         ensures low { self.new.place ≤ 2 ^ 40 }

@@ -5,7 +5,7 @@ ghost use Rattle.host_port.specs.Host.{GoesOn, KeepsDisk, KeepsSaid, RaisesTakes
 ghost use Rattle.host_port.specs.Cut.{cut_block, script_from, after_block, is_lf, text_with};
 ghost use Rattle.host_port.specs.Reads.{GotBlock, GotBlockLine, BlockLine, FarFault, is_feed, read_so_far};
 
-use super::unread::{Stop, Unread, cut_cr};
+use super::unread::{Stop, Unread, line_bytes};
 use super::{BLOCK_LIMIT, INPUT_LIMIT, LineFault};
 use crate::Host;
 use std::alloc::{AllocError, Global};
@@ -29,6 +29,16 @@ fn far_fault(start: u64) -> LineFault
         }
     } else {
         LineFault::InputTooLong { at: INPUT_LIMIT }
+    }
+}
+
+fn is_feed(stop: Stop) -> bool
+    ensures { result ≡ is_feed stop }
+{
+    match stop {
+        Stop::Feed => true,
+        Stop::Close => false,
+        Stop::Far => false,
     }
 }
 
@@ -87,7 +97,7 @@ impl Block {
         ensures pending { OnOk result (unread.new.pending.items ≡ drop (if is_feed stop then len + 1 else len) unread.old.pending.items) }
         ensures place { OnOk result (unread.new.place ≡ unread.old.place + (if is_feed stop then len + 1 else len)) }
         ensures short { OnOk result (length (string_bytes self.old.text) + start ≤ unread.old.place → length (string_bytes self.new.text) + start ≤ unread.new.place) }
-        ensures near { IfOk result (λ end. end ≡ false → unread.new.place ≤ start + BLOCK_LIMIT + 1) }
+        ensures near { IfOk result (λ end. end ≡ false → unread.new.place ≤ start + BLOCK_LIMIT) }
         ensures same { IfOk result (λ end. IsTrue end → string_bytes self.new.text ≡ string_bytes self.old.text) }
         ensures not_failed { IfErr result (λ e. e ≢ LineFault.Failed) }
         ensures later { unread.old.place ≤ unread.new.place }
@@ -95,23 +105,21 @@ impl Block {
         if let Stop::Far = stop {
             return Err(far_fault(start));
         }
-        let past = match stop {
-            Stop::Feed => len + 1,
-            _ => len,
-        };
-        let raw = cut_cr(&unread.pending[..len]);
-        if raw.len() == 1 && raw[0] == b'.' {
+        let ended = is_feed(stop);
+        let past = if ended { len + 1 } else { len };
+        let line = line_bytes(&unread.pending[..len], ended);
+        if line.len() == 1 && line[0] == b'.' {
             unread.go_past(past);
             return Ok(true);
         }
-        let far = unread.place + len as u64;
-        if far - start > BLOCK_LIMIT {
+        let behind = unread.place + past as u64;
+        if behind - start > BLOCK_LIMIT {
             return Err(far_fault(start));
         }
-        if let Stop::Close = stop {
-            return Err(LineFault::UnendedBlock { at: far });
+        if !ended {
+            return Err(LineFault::UnendedBlock { at: behind });
         }
-        if self.add(unread.place, raw).is_err() {
+        if self.add(unread.place, line).is_err() {
             return Err(LineFault::Memory);
         }
         unread.go_past(past);
@@ -131,7 +139,7 @@ impl Block {
             (cut_block takes line start unread.new.place (read_so_far self.new) (slice_split is_lf (unread.new.pending.items ++ (H.told host.new).left)))
             (after_block line (read_so_far self.new) (script_from takes unread.new.place (unread.new.pending.items ++ (H.told host.new).left))) }
         ensures short { OnOk result (length (string_bytes self.old.text) + start ≤ unread.old.place → length (string_bytes self.new.text) + start ≤ unread.new.place) }
-        ensures near { IfOk result (λ end. end ≡ false → unread.new.place ≤ start + BLOCK_LIMIT + 1) }
+        ensures near { IfOk result (λ end. end ≡ false → unread.new.place ≤ start + BLOCK_LIMIT) }
         ensures same { IfOk result (λ end. IsTrue end → string_bytes self.new.text ≡ string_bytes self.old.text) }
         ensures later { unread.old.place ≤ unread.new.place }
         ensures advances { IfOk result (λ end. end ≡ false → unread.old.place < unread.new.place) }
@@ -156,7 +164,7 @@ impl Block {
         ensures block { IsTrue (H.told host.old).tells → (takes : List ℕ → Bool) (line : List ℕ) → GotBlock result (string_bytes self.new.text) line
             (cut_block takes line unread.old.place unread.old.place (Ok []) (slice_split is_lf (unread.old.pending.items ++ (H.told host.old).left)))
             (script_from takes unread.new.place (unread.new.pending.items ++ (H.told host.new).left)) }
-        ensures short { OnOk result (length (string_bytes self.new.text) ≤ BLOCK_LIMIT + 1) }
+        ensures short { OnOk result (length (string_bytes self.new.text) ≤ BLOCK_LIMIT) }
         ensures later { unread.old.place ≤ unread.new.place }
         ensures course { GoesOn (H.told host.old) (H.told host.new) }
         ensures disk { KeepsDisk (H.told host.old) (H.told host.new) }

@@ -1,7 +1,7 @@
 //! The bytes that a host handed over and that are not read yet.
 ghost use Rattle.std.specs.Prelude.{◌≡◌, ◌⊎◌, ◌≢◌, false, ◌+◌, ◌<◌, ◌≤◌, ◌^◌, ℕ, [], ◌++◌, length, drop, take, slice_index, IsTrue, IfOk, OnOk, IfErr, IfSome, IfNone, IsErrOf, if◌then◌else◌, vec_len, string_bytes, Ok};
 ghost use Rattle.host_port.specs.Host.{GoesOn, KeepsDisk, KeepsSaid, RaisesTakesAlone, Rose};
-ghost use Rattle.host_port.specs.Cut.{next_line_of, line_or_end, text_at, without_cr};
+ghost use Rattle.host_port.specs.Cut.{next_line_of, line_bytes, line_or_end, text_at, without_cr};
 ghost use Rattle.host_port.specs.Reads.{IsLineFault, IsTextFault, GotLine, PastLine};
 
 use super::{Got, INPUT_LIMIT, LINE_LIMIT, LineFault};
@@ -205,25 +205,24 @@ impl Unread {
         if !ended && len == 0 {
             return Ok(Got::End);
         }
-        let past = if ended { len + 1 } else { len };
-        self.take_text(text, len, past)?;
+        self.take_text(text, len, ended)?;
         Ok(Got::Line)
     }
 
-    /// Makes the first bytes the text, without a carriage return at their end, and goes past them.
+    /// Makes the line of the first bytes the text, and goes past it and its line feed.
     #[tactic(auto, using(crate::proofs::ScriptCuts::text_lemmas))]
-    fn take_text(&mut self, text: &mut String, len: usize, past: usize) -> Result<(), LineFault>
-        requires len { len ≤ past }
-        requires past { past ≤ length self.old.pending.items }
-        ensures text { OnOk result (text_at self.old.place (without_cr (take len self.old.pending.items)) ≡ Ok (string_bytes text.new)) }
+    fn take_text(&mut self, text: &mut String, len: usize, ended: bool) -> Result<(), LineFault>
+        requires len { len ≤ length self.old.pending.items }
+        requires ended { IsTrue ended → len < length self.old.pending.items }
+        ensures text { OnOk result (text_at self.old.place (line_bytes ended (take len self.old.pending.items)) ≡ Ok (string_bytes text.new)) }
         ensures short { OnOk result (length (string_bytes text.new) ≤ len) }
-        ensures pending { OnOk result (self.new.pending.items ≡ drop past self.old.pending.items) }
-        ensures place { OnOk result (self.new.place ≡ self.old.place + past) }
-        ensures fault { IfErr result (λ e. IsTextFault e (text_at self.old.place (without_cr (take len self.old.pending.items)))) }
+        ensures pending { OnOk result (self.new.pending.items ≡ drop (if ended then len + 1 else len) self.old.pending.items) }
+        ensures place { OnOk result (self.new.place ≡ self.old.place + (if ended then len + 1 else len)) }
+        ensures fault { IfErr result (λ e. IsTextFault e (text_at self.old.place (line_bytes ended (take len self.old.pending.items)))) }
         ensures not_failed { IfErr result (λ e. e ≢ LineFault.Failed) }
     {
-        set_text(text, self.place, cut_cr(&self.pending[..len]))?;
-        self.go_past(past);
+        set_text(text, self.place, line_bytes(&self.pending[..len], ended))?;
+        self.go_past(if ended { len + 1 } else { len });
         Ok(())
     }
 
@@ -238,8 +237,16 @@ impl Unread {
     }
 }
 
+/// The bytes of a line: one carriage return right before its line feed is none of them.
+pub fn line_bytes(raw: &[u8], ended: bool) -> &[u8]
+    ensures line { result.now ≡ line_bytes ended raw.now }
+    ensures short { length result.now ≤ length raw.now }
+{
+    if ended { cut_cr(raw) } else { raw }
+}
+
 /// The line without a carriage return at its end.
-pub fn cut_cr(raw: &[u8]) -> &[u8]
+fn cut_cr(raw: &[u8]) -> &[u8]
     ensures line { result.now ≡ without_cr raw.now }
     ensures short { length result.now ≤ length raw.now }
 {

@@ -10,7 +10,7 @@ use Rattle.host_port.proofs.lines.block.Block.read.Given as goal
 abbrev pub invariant-lines : goal.invariant-lines
 invariant-lines g l = record {
   started : l.start ≤ l.unread.place;
-  near : l.unread.place ≤ l.start + BLOCK_LIMIT + 1;
+  near : l.unread.place ≤ l.start + BLOCK_LIMIT;
   short : length (string_bytes l.self.text) + l.start ≤ l.unread.place;
   goes : IsTrue (g.H.Host.told l.fn.host).tells → (takes : List ℕ → Bool) (line : List ℕ) →
       cut_block takes line l.start l.start (Ok []) (slice_split is_lf (l.fn.unread.pending.items ++ (g.H.Host.told l.fn.host).left))
