@@ -11,6 +11,8 @@ mod moves;
 mod places;
 mod plain;
 mod rows;
+#[cfg(test)]
+mod tests;
 mod values;
 
 pub use plain::Plain;
