@@ -1,0 +1,30 @@
+-- What is recorded leads to the model that the edit is to leave.
+use Rattle.std.specs.Prelude.{◌≡◌, ◌↔◌, ℕ, List, [], Option, None, Some, Ok}
+use Rattle.ecore_meta.specs.Meta.{Meta}
+use Rattle.model_state.specs.declared.operation.Operation.{Operation}
+use Rattle.model_state.specs.declared.step.Step.{Step}
+use Rattle.model_state.specs.Packages.{steps_of}
+use Rattle.model_state.specs.State.{State}
+use Rattle.model_state.specs.Steps.{fold}
+use Rattle.model_state.specs.Good.{Good, Sound}
+use Rattle.emfjson_io.specs.Values.{value_of}
+use Rattle.edit_laws.specs.declared.edit.Edit.{Edit}
+use Rattle.edit_laws.specs.declared.edit.Recorded.{Recorded}
+use Rattle.edit_laws.specs.Edits.{Effect, effect_of, after}
+use Rattle.recorder.specs.Recording.{recorded}
+
+-- the steps of an operation, if there is one
+abbrev pub steps_in : Option Operation → List Step
+steps_in None = []
+steps_in (Some operation) = steps_of operation
+
+-- the steps lead from the model to the one after the effect of the edit, and there is no operation exactly where that changes nothing
+pub record LeadsOn (meta : Meta) (m : State) (ws : ℕ) (edit : Edit) (r : Recorded) : Type 0 where
+  pub effect : Effect
+  pub is : effect_of (value_of meta) meta m ws edit ≡ Ok effect
+  pub run : fold meta m (steps_in r.operation) ≡ Some (after m effect)
+  pub idle : (r.operation ≡ None) ↔ (after m effect ≡ m)
+
+-- so does what is recorded of an edit that is not refused
+abbrev pub RecordingLeads : Type 0
+RecordingLeads = (meta : Meta) → Sound meta → (m : State) → Good meta m → (ws : ℕ) (edit : Edit) (r : Recorded) → recorded meta m ws edit ≡ Ok r → LeadsOn meta m ws edit r

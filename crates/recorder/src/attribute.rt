@@ -1,0 +1,106 @@
+ghost use Rattle.std.specs.Prelude.{◌≡◌, IfOk};
+ghost use Rattle.std.specs.FinMap.{get};
+ghost use Rattle.finite_maps.specs.Equal.{option_eq};
+ghost use Rattle.model_state.specs.Typing.{kind_of, value_eq};
+ghost use Rattle.emfjson_io.specs.Values.{value_of};
+ghost use Rattle.edit_laws.specs.Attributes.{held, put_made, taken};
+ghost use Rattle.edit_laws.specs.Edits.{Puts, recording, recording_of, set_effect};
+ghost use Rattle.recorder.specs.Answers.{Answers};
+
+use crate::feature::{Named, feature, read};
+use crate::operation::operation;
+use ecore_meta::{Kind, List, Metamodel, Text, Value};
+use edit_laws::{EditFault, Recorded};
+use model_state::{Id, Look, OpKind, Step, is_default, is_same_value};
+use std::alloc::{AllocError, Global};
+
+/// Whether both are the same value, or none.
+fn is_same(x: &Option<Value>, y: &Option<Value>) -> bool
+    ensures { result ≡ option_eq value_eq x.now y.now }
+{
+    match x {
+        None => y.is_none(),
+        Some(x) => match y {
+            None => false,
+            Some(y) => is_same_value(x, y),
+        },
+    }
+}
+
+/// The single value of an attribute, None where it isn't set.
+fn held<L: Look>(alloc: Global, look: &L, e: &Id, f: u32) -> Result<Option<Value>, AllocError>
+    ensures { IfOk result (λ v. v ≡ held (get (L.state look.now).attr (e.now, f))) }
+{
+    match look.attr(e, f).first() {
+        None => Ok(None),
+        Some(v) => Ok(Some(v.copy(alloc)?)),
+    }
+}
+
+/// The value as it is held: a default isn't.
+fn taken(meta: &Metamodel, f: u32, v: Value) -> Option<Value>
+    ensures { result ≡ taken meta.now f v }
+{
+    if is_default(meta, f, &v) {
+        None
+    } else {
+        Some(v)
+    }
+}
+
+/// The step that gives a single attribute the value, or none; no step where it has it.
+fn put_steps<L: Look>(
+    alloc: Global,
+    look: &L,
+    e: &Id,
+    f: u32,
+    new: Option<Value>,
+) -> Result<List<Step>, AllocError>
+    ensures { IfOk result (λ steps. steps ≡ put_made (L.state look.now) e.now f new) }
+{
+    let old = held(alloc, look, e, f)?;
+    let mut steps = List::new(alloc);
+    if !is_same(&old, &new) {
+        let e = e.copy(alloc)?;
+        steps.push(Step::Put { e, f, old, new })?;
+    }
+    Ok(steps)
+}
+
+/// Records that a single attribute has the value, or none.
+pub fn put<L: Look>(
+    alloc: Global,
+    look: &L,
+    named: &Named,
+    new: Option<Value>,
+) -> Result<Recorded, AllocError>
+    ensures { IfOk result (λ r. r ≡ recording (L.state look.now) (Puts named.now.id named.now.feature new)) }
+{
+    let steps = put_steps(alloc, look, &named.id, named.feature, new)?;
+    Ok(Recorded {
+        operation: operation(OpKind::Attribute, steps),
+        id: None,
+    })
+}
+
+/// Records that an attribute gets a value: of the attribute's type, and not held where it is the default.
+pub fn set<L: Look>(
+    alloc: Global,
+    look: &L,
+    meta: &Metamodel,
+    named: &Named,
+    text: &Text,
+) -> Result<Recorded, EditFault>
+    ensures { Answers result (recording_of (L.state look.now) (set_effect (value_of meta.now) meta.now named.now.id named.now.feature (kind_of meta.now named.now.feature) text.now)) }
+{
+    match feature(meta, named.feature) {
+        None => Err(EditFault::WrongKind),
+        Some(feature) => match &feature.kind {
+            Kind::Attr { scalar, .. } => {
+                let value = read(alloc, meta, scalar, text)?;
+                Ok(put(alloc, look, named, taken(meta, named.feature, value))?)
+            }
+            _ => Err(EditFault::WrongKind),
+        },
+    }
+}

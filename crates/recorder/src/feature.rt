@@ -1,0 +1,74 @@
+ghost use Rattle.std.specs.Prelude.{◌≡◌, IfOk, slice_get};
+ghost use Rattle.std.specs.Option.{option_copied};
+ghost use Rattle.model_state.specs.Good.{Good};
+ghost use Rattle.emfjson_io.specs.Values.{value_of};
+ghost use Rattle.edit_laws.specs.Edits.{class_at, feature_at};
+ghost use Rattle.recorder.specs.Answers.{AnswersFeature, AnswersValue};
+
+use ecore_meta::{Feature, Metamodel, Scalar, Text, Value, ValueFault};
+use edit_laws::EditFault;
+use emfjson_io::read_value;
+use model_state::{Id, IdFault, Look};
+use std::alloc::Global;
+
+/// A live element and a feature of its class.
+#[derive(Debug, Drop)]
+pub struct Named {
+    pub id: Id,
+    pub feature: u32,
+}
+
+impl Named {
+    /// The element of the id, and the feature of its class that has the name.
+    pub fn find<L: Look>(
+        alloc: Global,
+        look: &L,
+        meta: &Metamodel,
+        id: &Text,
+        feature: &Text,
+    ) -> Result<Named, EditFault>
+        requires good { Good meta.now (L.state look.now) }
+        ensures id { IfOk result (λ named. named.id ≡ id.now) }
+        ensures feature { AnswersFeature result (feature_at meta.now (class_at (L.state look.now) id.now) feature.now) }
+    {
+        let id = match Id::read(alloc, id.as_str()) {
+            Ok(id) => id,
+            Err(IdFault::Bad) => return Err(EditFault::NoElement),
+            Err(IdFault::Memory) => return Err(EditFault::Memory),
+        };
+        let Some(class) = look.class(&id) else {
+            return Err(EditFault::NoElement);
+        };
+        match meta.feature_named(class, feature.as_str()) {
+            None => Err(EditFault::NoFeature),
+            Some(feature) => Ok(Named { id, feature }),
+        }
+    }
+}
+
+/// The feature of that number, where there is one.
+pub fn feature(meta: &Metamodel, f: u32) -> Option<&Feature>
+    ensures { option_copied result ≡ slice_get meta.now.features f }
+{
+    if f < meta.feature_count() {
+        Some(meta.feature(f))
+    } else {
+        None
+    }
+}
+
+/// The value of the type that the text is.
+pub fn read(
+    alloc: Global,
+    meta: &Metamodel,
+    scalar: &Scalar,
+    text: &Text,
+) -> Result<Value, EditFault>
+    ensures { AnswersValue result (value_of meta.now scalar.now text.now) }
+{
+    match read_value(alloc, text.as_str(), scalar, meta) {
+        Ok(value) => Ok(value),
+        Err(ValueFault::Bad) => Err(EditFault::BadValue),
+        Err(ValueFault::Memory) => Err(EditFault::Memory),
+    }
+}

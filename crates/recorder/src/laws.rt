@@ -1,0 +1,7 @@
+ghost use Rattle.recorder.specs.Laws.{RecordingLeads};
+
+/// What is recorded of an edit that is not refused leads to the model that the edit is to leave, and is nothing exactly where it
+/// changes nothing.
+pub fn law_of_recording()
+    ensures leads { RecordingLeads }
+{}

@@ -1,0 +1,16 @@
+//! Edits as they are recorded: names are looked up, values are read, and the steps are made, or the edit is refused with
+//! the first of its refusals.
+#![tactic(auto)]
+
+mod attribute;
+mod create;
+mod feature;
+mod fresh;
+mod laws;
+mod many;
+mod operation;
+mod record;
+
+pub use edit_laws::{Edit, EditFault, Recorded};
+pub use laws::law_of_recording;
+pub use record::take_edit;

@@ -1,0 +1,240 @@
+ghost use Rattle.std.specs.Prelude.{◌≡◌, ◌≤◌, ◌<◌, ◌∷◌, IfOk, [], None, Some, length, true, unwrap_or};
+ghost use Rattle.std.specs.List.{list_all, list_any};
+ghost use Rattle.finite_maps.specs.Equal.{list_eq};
+ghost use Rattle.finite_maps.specs.Maps.{is_below};
+ghost use Rattle.ecore_meta.specs.Typing.{upper_of};
+ghost use Rattle.model_state.specs.Good.{Good};
+ghost use Rattle.model_state.specs.Lists.{shifted};
+ghost use Rattle.model_state.specs.Typing.{is_many, kind_of, value_eq};
+ghost use Rattle.emfjson_io.specs.Values.{value_of};
+ghost use Rattle.edit_laws.specs.ManyValues.{dels, values_in};
+ghost use Rattle.model_state.specs.declared.operation.OpKind.TheVariants.{ManyAttribute};
+ghost use Rattle.edit_laws.specs.Edits.{Clears, operation_of, add_effect, insert_effect, recording, recording_of, remove_effect, shift_effect};
+ghost use Rattle.recorder.specs.Answers.{Answers};
+
+use crate::feature::{Named, feature, read};
+use crate::operation::operation;
+use ecore_meta::{Kind, List, Metamodel, Text, Value};
+use edit_laws::{EditFault, Recorded};
+use model_state::{Id, Look, OpKind, Step, is_many, is_same_value, upper_of};
+use std::alloc::{AllocError, Global};
+
+fn contains(values: &[Value], v: &Value) -> bool
+    ensures { result ≡ list_any (value_eq v.now) values.now }
+{
+    values.iter().any(|x| is_same_value(v, x))
+}
+
+/// Whether a list of n values has room for one more under the upper bound.
+fn has_room(meta: &Metamodel, f: u32, n: usize) -> bool
+    ensures { result ≡ is_below n (upper_of meta.now f) }
+{
+    match upper_of(meta, f) {
+        None => true,
+        Some(upper) => n < upper as usize,
+    }
+}
+
+/// How many values a many-valued attribute has: fewer than 2^32.
+fn count<L: Look>(look: &L, meta: &Metamodel, e: &Id, f: u32) -> u32
+    requires good { Good meta.now (L.state look.now) }
+    requires many { is_many (kind_of meta.now f) ≡ true }
+    ensures { result ≡ length (values_in (L.state look.now) e.now f) }
+{
+    let _meta = meta;
+    look.attr(e, f).len() as u32
+}
+
+/// What is recorded of one step of a many-valued attribute.
+fn one(alloc: Global, step: Step) -> Result<Recorded, AllocError>
+    ensures { IfOk result (λ r. r ≡ record { operation = operation_of ManyAttribute (step ∷ []); id = None }) }
+{
+    let mut steps = List::new(alloc);
+    steps.push(step)?;
+    Ok(Recorded {
+        operation: operation(OpKind::ManyAttribute, steps),
+        id: None,
+    })
+}
+
+/// A step for each of the values, the last first.
+fn dels(alloc: Global, e: &Id, f: u32, values: &[Value]) -> Result<List<Step>, AllocError>
+    requires { length values.now ≤ 4294967295 }
+    ensures { IfOk result (λ steps. steps ≡ dels e.now f 0 values.now) }
+{
+    let mut steps = List::new(alloc);
+    for at in (0..values.len()).rev() {
+        steps.push(Step::Del {
+            e: e.copy(alloc)?,
+            f,
+            at: at as u32,
+            v: values[at].copy(alloc)?,
+        })?;
+    }
+    Ok(steps)
+}
+
+/// Records that all values of a many-valued attribute go.
+pub fn clear<L: Look>(
+    alloc: Global,
+    look: &L,
+    meta: &Metamodel,
+    named: &Named,
+) -> Result<Recorded, AllocError>
+    requires good { Good meta.now (L.state look.now) }
+    requires many { is_many (kind_of meta.now named.now.feature) ≡ true }
+    ensures { IfOk result (λ r. r ≡ recording (L.state look.now) (Clears named.now.id named.now.feature)) }
+{
+    let _meta = meta;
+    let values = look.attr(&named.id, named.feature);
+    let steps = dels(alloc, &named.id, named.feature, values)?;
+    Ok(Recorded {
+        operation: operation(OpKind::ManyAttribute, steps),
+        id: None,
+    })
+}
+
+/// Records that a value comes into a many-valued attribute, at an index of its values or at their end. Refused with
+/// AlreadyThere before Bound.
+fn add_value<L: Look>(
+    alloc: Global,
+    look: &L,
+    meta: &Metamodel,
+    named: &Named,
+    unique: bool,
+    at: u32,
+    value: Value,
+) -> Result<Recorded, EditFault>
+    ensures { Answers result (recording_of (L.state look.now) (insert_effect named.now.id named.now.feature unique (upper_of meta.now named.now.feature) (values_in (L.state look.now) named.now.id named.now.feature) at (Some value))) }
+{
+    let values = look.attr(&named.id, named.feature);
+    if unique && contains(values, &value) {
+        return Err(EditFault::AlreadyThere);
+    }
+    if !has_room(meta, named.feature, values.len()) {
+        return Err(EditFault::Bound);
+    }
+    if values.len() >= 4294967295 {
+        return Err(EditFault::Bound);
+    }
+    let step = Step::Ins {
+        e: named.id.copy(alloc)?,
+        f: named.feature,
+        at,
+        v: value,
+    };
+    Ok(one(alloc, step)?)
+}
+
+/// Records that a value comes into a many-valued attribute, in front of the value at the index or last.
+///
+/// Refused with WrongKind, NoEntry, BadValue, AlreadyThere and Bound, in this order.
+pub fn add<L: Look>(
+    alloc: Global,
+    look: &L,
+    meta: &Metamodel,
+    named: &Named,
+    at: Option<u32>,
+    text: &Text,
+) -> Result<Recorded, EditFault>
+    requires good { Good meta.now (L.state look.now) }
+    ensures { Answers result (recording_of (L.state look.now) (add_effect (value_of meta.now) meta.now (L.state look.now) named.now.id named.now.feature (kind_of meta.now named.now.feature) at text.now)) }
+{
+    match feature(meta, named.feature) {
+        None => Err(EditFault::WrongKind),
+        Some(feature) => match &feature.kind {
+            Kind::AttrMany { scalar, unique } => {
+                let end = count(look, meta, &named.id, named.feature);
+                let at = at.unwrap_or(end);
+                if at > end {
+                    return Err(EditFault::NoEntry);
+                }
+                let value = read(alloc, meta, scalar, text)?;
+                add_value(alloc, look, meta, named, *unique, at, value)
+            }
+            _ => Err(EditFault::WrongKind),
+        },
+    }
+}
+
+/// Records that the value at an index of a many-valued attribute goes. Refused with WrongKind before NoEntry.
+pub fn remove<L: Look>(
+    alloc: Global,
+    look: &L,
+    meta: &Metamodel,
+    named: &Named,
+    index: u32,
+) -> Result<Recorded, EditFault>
+    ensures { Answers result (recording_of (L.state look.now) (remove_effect (L.state look.now) named.now.id named.now.feature (kind_of meta.now named.now.feature) index)) }
+{
+    if !is_many(meta, named.feature) {
+        return Err(EditFault::WrongKind);
+    }
+    let Some(v) = look.attr(&named.id, named.feature).get(index as usize) else {
+        return Err(EditFault::NoEntry);
+    };
+    let step = Step::Del {
+        e: named.id.copy(alloc)?,
+        f: named.feature,
+        at: index,
+        v: v.copy(alloc)?,
+    };
+    Ok(one(alloc, step)?)
+}
+
+fn are_all(values: &[Value], v: &Value) -> bool
+    ensures { result ≡ list_all (value_eq v.now) values.now }
+{
+    values.iter().all(|x| is_same_value(v, x))
+}
+
+/// Whether the list stays the same when the value at one place is taken out and put at another: where all that it passes
+/// are the same as it.
+fn stays(values: &[Value], from: usize, to: usize) -> bool
+    requires from { from < length values.now }
+    requires to { to < length values.now }
+    ensures { result ≡ list_eq value_eq (shifted values.now from to) values.now }
+{
+    let v = &values[from];
+    if from <= to {
+        are_all(&values[from + 1..to + 1], v)
+    } else {
+        are_all(&values[to..from], v)
+    }
+}
+
+/// Records that the value at an index of a many-valued attribute is taken out and put at another, unless the list stays the
+/// same.
+///
+/// Refused with WrongKind before NoEntry.
+pub fn shift<L: Look>(
+    alloc: Global,
+    look: &L,
+    meta: &Metamodel,
+    named: &Named,
+    from: u32,
+    to: u32,
+) -> Result<Recorded, EditFault>
+    ensures { Answers result (recording_of (L.state look.now) (shift_effect (L.state look.now) named.now.id named.now.feature (kind_of meta.now named.now.feature) from to)) }
+{
+    if !is_many(meta, named.feature) {
+        return Err(EditFault::WrongKind);
+    }
+    let values = look.attr(&named.id, named.feature);
+    if from as usize >= values.len() || to as usize >= values.len() {
+        return Err(EditFault::NoEntry);
+    }
+    if stays(values, from as usize, to as usize) {
+        return Ok(Recorded {
+            operation: None,
+            id: None,
+        });
+    }
+    let step = Step::Shift {
+        e: named.id.copy(alloc)?,
+        f: named.feature,
+        from,
+        to,
+    };
+    Ok(one(alloc, step)?)
+}
