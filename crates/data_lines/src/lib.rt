@@ -1,0 +1,13 @@
+//! Data lines: what the replies to commands show besides their last line. So far the lines of operations and steps.
+#![tactic(auto)]
+
+mod line;
+mod operation;
+mod step;
+#[cfg(test)]
+mod tests;
+mod typed;
+mod words;
+
+pub use operation::{open_lines, operation_lines};
+pub use typed::{are_typed, is_typed, is_typed_package};

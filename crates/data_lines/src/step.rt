@@ -1,0 +1,185 @@
+// The line of a step.
+ghost use Rattle.std.specs.Prelude.{◌≡◌, ◌++◌, ◌∷◌, [], IfOk, OnOk};
+ghost use Rattle.std.specs.Fmt.{decimal};
+ghost use Rattle.data_lines.specs.Lines.{class_name, feature_name, optional, place_word, spaced, step_line, value_word};
+ghost use Rattle.data_lines.specs.Typed.{IsClass, IsFeature, IsPlace, IsTyped, IsValue, IsValueIfAny};
+
+use crate::line::Line;
+use crate::words::{
+    class_name, feature_name, push_place, push_rank_if_any, push_value, push_value_if_any,
+};
+use ecore_meta::{Metamodel, Text, Value};
+use model_state::{Id, Place, Step};
+use std::alloc::{AllocError, Global};
+
+/// The line of a step.
+pub(crate) fn step_line(alloc: Global, meta: &Metamodel, step: &Step) -> Result<Text, AllocError>
+    requires { IsTyped meta.now step.now }
+    ensures { IfOk result (λ t. t ≡ step_line meta.now step.now) }
+{
+    let mut line = Line::new(alloc);
+    push_step(&mut line, meta, step)?;
+    line.into_text()
+}
+
+#[tactic(auto, unfolding(crate::specs::Lines::step_words))]
+fn push_step(line: &mut Line, meta: &Metamodel, step: &Step) -> Result<(), AllocError>
+    requires { IsTyped meta.now step.now }
+    ensures { OnOk result (line.new ≡ line.old ++ step_line meta.now step.now) }
+{
+    match step {
+        Step::Put { e, f, old, new } => {
+            push_feature(line, meta, "put", e, *f)?;
+            push_change(line, meta, *f, old, new)
+        }
+        Step::Ins { e, f, at, v } => {
+            push_feature(line, meta, "ins", e, *f)?;
+            push_at(line, meta, *f, *at, v)
+        }
+        Step::Del { e, f, at, v } => {
+            push_feature(line, meta, "del", e, *f)?;
+            push_at(line, meta, *f, *at, v)
+        }
+        Step::Shift { e, f, from, to } => {
+            push_feature(line, meta, "shift", e, *f)?;
+            push_numbers(line, *from as u64, *to as u64)
+        }
+        Step::Link { a, f, ra, b, rb } => {
+            push_feature(line, meta, "link", a, *f)?;
+            push_ends(line, *ra, b, *rb)
+        }
+        Step::Unlink { a, f, ra, b, rb } => {
+            push_feature(line, meta, "unlink", a, *f)?;
+            push_ends(line, *ra, b, *rb)
+        }
+        Step::RerankRow { a, f, b, old, new } => {
+            push_feature(line, meta, "rerank", a, *f)?;
+            line.push_word(b.as_str())?;
+            push_numbers(line, *old, *new)
+        }
+        Step::New {
+            e,
+            class,
+            place,
+            rank,
+        } => {
+            push_class(line, meta, "new", e, *class)?;
+            push_spot(line, meta, place, *rank)
+        }
+        Step::Gone {
+            e,
+            class,
+            place,
+            rank,
+        } => {
+            push_class(line, meta, "gone", e, *class)?;
+            push_spot(line, meta, place, *rank)
+        }
+        Step::Move {
+            e,
+            from,
+            from_rank,
+            to,
+            to_rank,
+            ..
+        } => {
+            push_element(line, "move", e)?;
+            push_spot(line, meta, from, *from_rank)?;
+            push_spot(line, meta, to, *to_rank)
+        }
+        Step::RerankPlace { e, old, new } => {
+            push_element(line, "place", e)?;
+            push_numbers(line, *old, *new)
+        }
+    }
+}
+
+/// A kind of step, and the element that it changes.
+fn push_element(line: &mut Line, kind: &str, e: &Id) -> Result<(), AllocError>
+    ensures { OnOk result (line.new ≡ line.old ++ spaced (kind.now ∷ e.now ∷ [])) }
+{
+    line.push_word(kind)?;
+    line.push_word(e.as_str())
+}
+
+/// A kind of step, and the feature of an element that it changes.
+fn push_feature(
+    line: &mut Line,
+    meta: &Metamodel,
+    kind: &str,
+    e: &Id,
+    f: u32,
+) -> Result<(), AllocError>
+    requires { IsFeature meta.now f }
+    ensures { OnOk result (line.new ≡ line.old ++ spaced (kind.now ∷ e.now ∷ feature_name meta.now f ∷ [])) }
+{
+    push_element(line, kind, e)?;
+    line.push_word(feature_name(meta, f))
+}
+
+/// A kind of step, and the element that comes or goes, with its class.
+fn push_class(
+    line: &mut Line,
+    meta: &Metamodel,
+    kind: &str,
+    e: &Id,
+    class: u32,
+) -> Result<(), AllocError>
+    requires { IsClass meta.now class }
+    ensures { OnOk result (line.new ≡ line.old ++ spaced (kind.now ∷ e.now ∷ class_name meta.now class ∷ [])) }
+{
+    push_element(line, kind, e)?;
+    line.push_word(class_name(meta, class))
+}
+
+/// The value before and the value after.
+fn push_change(
+    line: &mut Line,
+    meta: &Metamodel,
+    f: u32,
+    old: &Option<Value>,
+    new: &Option<Value>,
+) -> Result<(), AllocError>
+    requires feature { IsFeature meta.now f }
+    requires old { IsValueIfAny meta.now f old.now }
+    requires new { IsValueIfAny meta.now f new.now }
+    ensures { OnOk result (line.new ≡ line.old ++ spaced (optional (value_word meta.now f) old.now ∷ optional (value_word meta.now f) new.now ∷ [])) }
+{
+    push_value_if_any(line, meta, f, old)?;
+    push_value_if_any(line, meta, f, new)
+}
+
+/// An index of a list, and the value there.
+fn push_at(line: &mut Line, meta: &Metamodel, f: u32, at: u32, v: &Value) -> Result<(), AllocError>
+    requires feature { IsFeature meta.now f }
+    requires value { IsValue meta.now f v.now }
+    ensures { OnOk result (line.new ≡ line.old ++ spaced (decimal at ∷ value_word meta.now f v.now ∷ [])) }
+{
+    line.push_number(at as u64)?;
+    push_value(line, meta, f, v)
+}
+
+/// The rank of a reference, its target, and the rank of its opposite.
+fn push_ends(line: &mut Line, ra: u64, b: &Id, rb: Option<u64>) -> Result<(), AllocError>
+    ensures { OnOk result (line.new ≡ line.old ++ spaced (decimal ra ∷ b.now ∷ optional decimal rb ∷ [])) }
+{
+    line.push_number(ra)?;
+    line.push_word(b.as_str())?;
+    push_rank_if_any(line, rb)
+}
+
+/// A place, and the rank there.
+fn push_spot(line: &mut Line, meta: &Metamodel, place: &Place, rank: u64) -> Result<(), AllocError>
+    requires { IsPlace meta.now place.now }
+    ensures { OnOk result (line.new ≡ line.old ++ spaced (place_word meta.now place.now ∷ decimal rank ∷ [])) }
+{
+    push_place(line, meta, place)?;
+    line.push_number(rank)
+}
+
+fn push_numbers(line: &mut Line, before: u64, after: u64) -> Result<(), AllocError>
+    ensures { OnOk result (line.new ≡ line.old ++ spaced (decimal before ∷ decimal after ∷ [])) }
+{
+    line.push_number(before)?;
+    line.push_number(after)
+}
