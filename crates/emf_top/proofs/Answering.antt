@@ -4,44 +4,42 @@ use Rattle.std.specs.Prelude.{IsTrue}
 use Rattle.host_port.specs.Host.{Told, Disk, GoesOn, Throughout, KeepsDisk, KeepsSaid, AddsPart, disk_now, said_now}
 use Rattle.host_port.specs.Cut.{Item}
 use Rattle.host_port.proofs.Course.{carry_on, told_next, adds_none, said_kept_now, kept_now}
-use Rattle.command_runs.specs.Runs.{Answer, listed}
+use Rattle.command_runs.specs.Runs.{Answer, listed, after}
 use Rattle.command_runs.specs.Stops.{IsStepping}
-use Rattle.plain_repository.specs.declared.Event.{Event}
-use Rattle.plain_repository.specs.Commands.{is_skipped}
-use Rattle.plain_repository.specs.Repository.{State, decide, decide_line, answer_of}
+use Rattle.op_form.specs.declared.event.Event.{Event}
+use Rattle.plain_repository.specs.Lines.{is_skipped}
+use Rattle.plain_repository.specs.Repository.{State, play, decide, decide_line, answer_of}
 use Rattle.plain_repository.specs.Store.{Stands}
 use Rattle.emf_top.specs.Session.{Holds, IsEntering}
 use Rattle.emf_top.proofs.Entering.{entering_step, say_step, say_part}
 
-abbrev pub line_item : List ℕ → Item
-line_item line = record { line = line; block = None }
-
 abbrev pub silent : Answer Event
 silent = record { reply = []; refused = false; event = None }
 
-pub decide_skipped : (s : State) (line : List ℕ) → is_skipped line ≡ true → decide s (line_item line) ≡ silent
+pub decide_skipped : (s : State) (item : Item) → is_skipped item.line ≡ true → decide s item ≡ silent
 unfolding decide
-decide_skipped s line is = rw is refl
+decide_skipped s item is = rw is refl
 
-pub decide_read : (s : State) (line : List ℕ) → is_skipped line ≡ false → decide s (line_item line) ≡ answer_of (decide_line s line)
+pub decide_read : (s : State) (item : Item) → is_skipped item.line ≡ false → decide s item ≡ answer_of (decide_line s item.line item.block)
 unfolding decide
-decide_read s line is = rw is refl
+decide_read s item is = rw is refl
 
 pub holds_at : (disk : Disk) (s t : State) (e f : ℕ) (made : List Event) → t ≡ s → f ≡ e → Holds disk s e made → Holds disk t f made
 holds_at disk s t e f made t_is f_is holds = subst (λ (u : State). Holds disk u f made) (sym t_is) (subst (λ (n : ℕ). Holds disk s n made) (sym f_is) holds)
 
-module _ (a b : Told) (s t : State) (e f : ℕ) (answer : Answer Event) (event : Option Event) (t_is : t ≡ s) (f_is : f ≡ e) (event_is : event ≡ answer.event)
+module _ (a b : Told) (s : State) (e f : ℕ) (answer : Answer Event) (event : Option Event) (f_is : f ≡ e) (event_is : event ≡ answer.event)
     (course : GoesOn a b) (said : KeepsSaid a b)
-    (entering : (made : List Event) → Holds (disk_now a) t f made → Throughout a b (λ disk said. IsEntering made event disk)) where
+    (entering : (made : List Event) → Holds (disk_now a) s f made → Throughout a b (λ disk said. IsEntering made event disk)) where
   pub entered_moments : (made : List Event) → Holds (disk_now a) s e made → Throughout a b (IsStepping Stands made answer.event (said_now a))
   entered_moments made holds = subst (λ (o : Option Event). Throughout a b (IsStepping Stands made o (said_now a))) event_is
-      (entering_step a b s e made event (entering made (holds_at (disk_now a) s t e f made t_is f_is holds)) said)
+      (entering_step a b s e made event (entering made (holds_at (disk_now a) s s e f made refl f_is holds)) said)
 
   module _ (d : Told) (now : State) (g : ℕ) (reply : List ℕ) (reply_is : reply ≡ answer.reply) (on : GoesOn b d) (disk : KeepsDisk b d)
-      (part : Throughout b d (λ disk said. AddsPart (said_now b) reply said))
-      (added : IsTrue a.tells → (made : List Event) → Holds (disk_now a) t f made → Holds (disk_now b) now g (made ++ listed event)) where
+      (part : Throughout b d (λ disk said. AddsPart (said_now b) reply said)) (now_is : now ≡ after play s event)
+      (added : IsTrue a.tells → (made : List Event) → Holds (disk_now a) s f made → Holds (disk_now b) (after play s event) g (made ++ listed event)) where
     added_here : IsTrue a.tells → (made : List Event) → Holds (disk_now a) s e made → Holds (disk_now b) now g (made ++ listed answer.event)
-    added_here told made holds = subst (λ (o : Option Event). Holds (disk_now b) now g (made ++ listed o)) event_is (added told made (holds_at (disk_now a) s t e f made t_is f_is holds))
+    added_here told made holds = subst (λ (o : Option Event). Holds (disk_now b) now g (made ++ listed o)) event_is
+        (subst (λ (t : State). Holds (disk_now b) t g (made ++ listed event)) (sym now_is) (added told made (holds_at (disk_now a) s s e f made refl f_is holds)))
 
     pub said_added : IsTrue a.tells → (made : List Event) → Holds (disk_now a) s e made → Holds (disk_now d) now g (made ++ listed answer.event)
     said_added told made holds = subst (λ (x : Disk). Holds x now g (made ++ listed answer.event)) (sym (kept_now b d on disk (told_next a b course told))) (added_here told made holds)

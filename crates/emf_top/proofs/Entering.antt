@@ -11,15 +11,16 @@ use Rattle.commit_journal.proofs.Ends.{stands}
 use Rattle.command_runs.specs.Runs.{listed, played}
 use Rattle.command_runs.specs.Stops.{StopLeaves, IsStepping}
 use Rattle.command_runs.proofs.RunLaws.{played-append}
-use Rattle.plain_repository.specs.declared.Event.{Event}
-use Rattle.plain_repository.specs.Repository.{State, empty, form, play, playable, are_playable}
+use Rattle.op_form.specs.declared.event.Event.{Event}
+use Rattle.op_form.specs.Events.{event_form}
+use Rattle.plain_repository.specs.Repository.{State, empty, play, playable, are_playable}
 use Rattle.plain_repository.specs.Store.{Stands}
 use Rattle.plain_repository.proofs.Forms.{and_left, and_right}
 use Rattle.emf_top.specs.Session.{Holds, IsEntering}
 
-pub map-more : (events : List Event) (event : Event) → map form (events ++ event ∷ []) ≡ map form events ++ form event ∷ []
+pub map-more : (events : List Event) (event : Event) → map event_form (events ++ event ∷ []) ≡ map event_form events ++ event_form event ∷ []
 map-more [] event = refl
-map-more (e ∷ events) event = ap (λ (l : List (List ℕ)). form e ∷ l) (map-more events event)
+map-more (e ∷ events) event = ap (λ (l : List (List ℕ)). event_form e ∷ l) (map-more events event)
 
 pub playable-more : (s : State) (events : List Event) (event : Event) → IsTrue (are_playable s events) → IsTrue (playable (played play s events) event) → IsTrue (are_playable s (events ++ event ∷ []))
 playable-more s [] event could can = subst (λ (b : Bool). IsTrue (b && true)) (sym can) refl
@@ -27,12 +28,12 @@ playable-more s (e ∷ events) event could can = subst (λ (b : Bool). IsTrue (b
 
 pub rest_leaves : (disk : Disk) (state : State) (end : ℕ) (made : List Event) → Holds disk state end made → StopLeaves (λ x. Stands x made) disk
 rest_leaves disk state end made holds x left = record {
-  forms = subst (λ (l : List ℕ). StandsFor l (map form made)) (sym (left_settled disk x holds.rests.journal.settled left)) (stands disk.now (map form made) end holds.rests.journal.ends);
+  forms = subst (λ (l : List ℕ). StandsFor l (map event_form made)) (sym (left_settled disk x holds.rests.journal.settled left)) (stands disk.now (map event_form made) end holds.rests.journal.ends);
   playable = holds.rests.playable;
 }
 
 pub holds_stands : (disk : Disk) (state : State) (end : ℕ) (made : List Event) → Holds disk state end made → Stands disk.now made
-holds_stands disk state end made holds = record { forms = stands disk.now (map form made) end holds.rests.journal.ends; playable = holds.rests.playable }
+holds_stands disk state end made holds = record { forms = stands disk.now (map event_form made) end holds.rests.journal.ends; playable = holds.rests.playable }
 
 -- no event
 pub none_added : (disk : Disk) (state : State) (end : ℕ) (made : List Event) → Holds disk state end made → Holds disk state end (made ++ [])
@@ -45,20 +46,20 @@ module _ (a b : Told) (state : State) (end : ℕ) (made : List Event) (event : E
   could : IsTrue (are_playable empty (made ++ event ∷ []))
   could = playable-more empty made event holds.rests.playable (subst (λ (s : State). IsTrue (playable s event)) holds.state_is can)
 
-  pub event_added : (disk : Disk) (next : State) (end_next : ℕ) (bytes : List ℕ) → bytes ≡ form event → next ≡ play state event → IsAtRest disk (map form made ++ bytes ∷ []) end_next → Holds disk next end_next (made ++ event ∷ [])
+  pub event_added : (disk : Disk) (next : State) (end_next : ℕ) (bytes : List ℕ) → bytes ≡ event_form event → next ≡ play state event → IsAtRest disk (map event_form made ++ bytes ∷ []) end_next → Holds disk next end_next (made ++ event ∷ [])
   event_added disk next end_next bytes bytes_is next_is rest = record {
     rests = record {
-      journal = subst (λ (l : List (List ℕ)). IsAtRest disk l end_next) (ap (λ (l : List ℕ). map form made ++ l ∷ []) bytes_is ∙ sym (map-more made event)) rest;
+      journal = subst (λ (l : List (List ℕ)). IsAtRest disk l end_next) (ap (λ (l : List ℕ). map event_form made ++ l ∷ []) bytes_is ∙ sym (map-more made event)) rest;
       playable = could;
     };
     state_is = next_is ∙ ap (λ (s : State). play s event) holds.state_is ∙ sym (played-append play empty made (event ∷ []));
   }
 
-  pub event_entering : (bytes : List ℕ) → bytes ≡ form event → Throughout a b (λ disk said. journal.StopLeaves (IsBeforeOrAfter (map form made) bytes) disk) → Throughout a b (λ disk said. IsEntering made (Some event) disk)
+  pub event_entering : (bytes : List ℕ) → bytes ≡ event_form event → Throughout a b (λ disk said. journal.StopLeaves (IsBeforeOrAfter (map event_form made) bytes) disk) → Throughout a b (λ disk said. IsEntering made (Some event) disk)
   event_entering bytes bytes_is moments told t low high x left =
       ⊎_elim
       (λ old. inl (record { forms = old; playable = holds.rests.playable }))
-      (λ new. inr (record { forms = subst (λ (l : List (List ℕ)). StandsFor x l) (ap (λ (l : List ℕ). map form made ++ l ∷ []) bytes_is ∙ sym (map-more made event)) new; playable = could }))
+      (λ new. inr (record { forms = subst (λ (l : List (List ℕ)). StandsFor x l) (ap (λ (l : List ℕ). map event_form made ++ l ∷ []) bytes_is ∙ sym (map-more made event)) new; playable = could }))
       (moments told t low high x left)
 
 -- the moments of a command

@@ -9,9 +9,10 @@ use Rattle.commit_journal.proofs.Unique.{one_meaning}
 use Rattle.command_runs.specs.Runs.{played, replies, events}
 use Rattle.command_runs.specs.Stops.{IsRunning, IsOpenedRunning}
 use Rattle.command_runs.proofs.Going.{among}
-use Rattle.plain_repository.specs.declared.Event.{Event}
-use Rattle.plain_repository.specs.Commands.{takes_block}
-use Rattle.plain_repository.specs.Repository.{State, empty, form, play, decide}
+use Rattle.op_form.specs.declared.event.Event.{Event}
+use Rattle.op_form.specs.Events.{event_form}
+use Rattle.plain_repository.specs.Lines.{takes_block}
+use Rattle.plain_repository.specs.Repository.{State, empty, play, decide}
 use Rattle.plain_repository.specs.Store.{Stands, StandsForNoEvents, IsDamaged}
 use Rattle.plain_repository.proofs.Forms.{forms_are}
 use Rattle.emf_top.specs.declared.top.Status.{Status}
@@ -25,7 +26,7 @@ use Rattle.emf_top.proofs.Opening.{IsMounting}
 pub same_events : (file : List ℕ) (first made : List Event) → Stands file first → Stands file made → first ≡ made
 same_events file first made one two = forms_are empty first made one.playable two.playable (elim two.forms [
   | inl few ↦ elim one.forms [ inl x ↦ x.1 ∙ sym few.1 | inr x ↦ absurd (omega (arith, few.0, x.0)) ]
-  | inr many ↦ one_meaning file (map form first) (map form made) many.1.0 one.forms many.1.1
+  | inr many ↦ one_meaning file (map event_form first) (map event_form made) many.1.0 one.forms many.1.1
 ])
 
 halted_from : (s : State) (c : Script) (first : List Event) (entry a b : Told) → said_now a ≡ said_now entry → IsHalted s c first a b → IsHalted s c first entry b
@@ -63,7 +64,7 @@ module _ (entry a : Told) (course : GoesOn entry a) (said : KeepsSaid entry a) (
       ⊎_elim
       (λ before. inl (before, said told t low high))
       (λ same. inr (λ x left. among decide play Stands s first c.items [] c.items x (length (a.said t) - length (said_now entry)) refl none
-      (subst (λ (l : List Event). Stands x l) (sym (append-nil first)) (record { forms = same x left (map form first) stood.forms; playable = stood.playable }))))
+      (subst (λ (l : List Event). Stands x l) (sym (append-nil first)) (record { forms = same x left (map event_form first) stood.forms; playable = stood.playable }))))
       (mounting told t low high)
 
   -- before the first line
@@ -75,7 +76,7 @@ module _ (entry a : Told) (course : GoesOn entry a) (said : KeepsSaid entry a) (
     said = said_kept_now entry a course said told ∙ sym (append-nil (said_now entry));
     stands = subst (λ (l : List Event). Stands (disk_now a).now l) (sym (append-nil first)) (⊎_elim
         (λ before. subst (λ d. Stands d.now first) (sym before) stood)
-        (λ same. record { forms = same (disk_now a).now left (map form first) stood.forms; playable = stood.playable })
+        (λ same. record { forms = same (disk_now a).now left (map event_form first) stood.forms; playable = stood.playable })
         (at_last entry a (λ disk said. IsMounting (disk_now entry) disk) course mounting told));
   }
 

@@ -11,8 +11,9 @@ use Rattle.commit_journal.proofs.Mounting.{length-new_file}
 use Rattle.command_runs.specs.Runs.{played}
 use Rattle.command_runs.specs.Stops.{StopLeaves}
 use Rattle.command_runs.proofs.RunLaws.{played-append}
-use Rattle.plain_repository.specs.declared.Event.{Event}
-use Rattle.plain_repository.specs.Repository.{State, empty, form, play, playable}
+use Rattle.op_form.specs.declared.event.Event.{Event}
+use Rattle.op_form.specs.Events.{event_form}
+use Rattle.plain_repository.specs.Repository.{State, empty, play, playable}
 use Rattle.plain_repository.specs.Store.{Stands, StandsForNoEvents, IsDamaged}
 use Rattle.plain_repository.proofs.Stores.{from_mounted, reads_first, none_has}
 use Rattle.commit_journal.specs.declared.fault.JournalFault.{JournalFault}
@@ -28,7 +29,7 @@ IsMounting entry disk = (disk ≡ entry) ⊎ StopLeaves (StandsForSame entry.now
 
 -- the event that was played
 abbrev pub Played : State → List ℕ → State → Type 0
-Played state bytes next = (event : Event) × IsTrue (playable state event) × (bytes ≡ form event) × (next ≡ play state event)
+Played state bytes next = (event : Event) × IsTrue (playable state event) × (bytes ≡ event_form event) × (next ≡ play state event)
 
 -- where the reading of a store stands
 pub record Replays (entry now : Told) (walk : WalkState) (state : State) : Type 0 where
@@ -78,7 +79,7 @@ module _ (entry a b : Told) (walk : WalkState) (state : State) (replays : Replay
   replays_on next bytes after ended low next_is event walked = record {
     ended = ended ∙ replays.ended;
     low = low;
-    end = ap (λ (s : State). s.end) event.3 ∙ play_end state event.0 ∙ (let e : state.end + 5 + length (form event.0) ≡ next.next = omega (arith, replays.end, ap length event.2, next_is) in e);
+    end = ap (λ (s : State). s.end) event.3 ∙ play_end state event.0 ∙ (let e : state.end + 5 + length (event_form event.0) ≡ next.next = omega (arith, replays.end, ap length event.2, next_is) in e);
     course = keeps_course;
     said = keeps_said;
     input = keeps_input;
@@ -86,7 +87,7 @@ module _ (entry a b : Told) (walk : WalkState) (state : State) (replays : Replay
         let had = replays.replayed told in (
           had.0 ++ event.0 ∷ [],
           record {
-            walked = subst (λ (l : List (List ℕ)). IsWalked (disk_now b) l next.next) (ap (λ (l : List ℕ). map form had.0 ++ l ∷ []) event.2 ∙ sym (map-more had.0 event.0)) (walked (told_a told) (map form had.0) had.1.walked);
+            walked = subst (λ (l : List (List ℕ)). IsWalked (disk_now b) l next.next) (ap (λ (l : List ℕ). map event_form had.0 ++ l ∷ []) event.2 ∙ sym (map-more had.0 event.0)) (walked (told_a told) (map event_form had.0) had.1.walked);
             playable = playable-more empty had.0 event.0 had.1.playable (subst (λ (s : State). IsTrue (playable s event.0)) had.1.state_is event.1);
             state_is = event.3 ∙ ap (λ (s : State). play s event.0) had.1.state_is ∙ sym (played-append play empty had.0 (event.0 ∷ []));
           },
@@ -101,10 +102,10 @@ module _ (entry a b : Told) (walk : WalkState) (state : State) (replays : Replay
       → IsTrue entry.tells → (made : List Event) × Holds (disk_now b) state end made × Stands (disk_now entry).now made
   opened end closed told =
       let had = replays.replayed told in
-      let rest = closed (told_a told) (map form had.0) had.1.walked in (
+      let rest = closed (told_a told) (map event_form had.0) had.1.walked in (
         had.0,
         record { rests = record { journal = rest; playable = had.1.playable }; state_is = had.1.state_is },
-        record { forms = from_mounted (disk_now entry).now (disk_now b).now (map form had.0) (keeps_file told) (stands (disk_now b).now (map form had.0) end rest.ends); playable = had.1.playable },
+        record { forms = from_mounted (disk_now entry).now (disk_now b).now (map event_form had.0) (keeps_file told) (stands (disk_now b).now (map event_form had.0) end rest.ends); playable = had.1.playable },
       )
 
   -- the reading of the records stops
@@ -112,13 +113,13 @@ module _ (entry a b : Told) (walk : WalkState) (state : State) (replays : Replay
       → IsTrue entry.tells → IsDamaged (disk_now entry).now at × StandsForNoEvents (disk_now entry).now × ((disk_now b).now ≡ (disk_now entry).now)
   stuck_is_damage at at_is stuck none told =
       let had = replays.replayed told in
-      let nothing : StandsForNoEvents (disk_now entry).now = λ events stood. none (told_a told) (map form events) (replays.same told (map form events) stood.forms) in
+      let nothing : StandsForNoEvents (disk_now entry).now = λ events stood. none (told_a told) (map event_form events) (replays.same told (map event_form events) stood.forms) in
       elim (replays.file told) [
         | inl same ↦ (
           inr (record {
             events = had.0;
             playable = had.1.playable;
-            reads = subst (λ (l : List ℕ). ReadsTo l (map form had.0) at) same.1 (subst (λ (n : ℕ). ReadsTo (disk_now a).now (map form had.0) n) (sym at_is) had.1.walked.reads);
+            reads = subst (λ (l : List ℕ). ReadsTo l (map event_form had.0) at) same.1 (subst (λ (n : ℕ). ReadsTo (disk_now a).now (map event_form had.0) n) (sym at_is) had.1.walked.reads);
             stuck = inl (subst (λ (l : List ℕ). IsStuck l at) same.1 (stuck (told_a told)));
           }),
           nothing,
@@ -143,35 +144,35 @@ module _ (entry a b : Told) (walk : WalkState) (state : State) (replays : Replay
   )
 
   -- the bytes of a record are no event that can be made there
-  pub event_is_damage : (next : WalkState) (bytes : List ℕ) (at : ℕ) → at ≡ walk.next → next.next ≡ walk.next + 5 + length bytes → ((event : Event) → IsTrue (playable state event) → bytes ≡ form event → ⊥)
+  pub event_is_damage : (next : WalkState) (bytes : List ℕ) (at : ℕ) → at ≡ walk.next → next.next ≡ walk.next + 5 + length bytes → ((event : Event) → IsTrue (playable state event) → bytes ≡ event_form event → ⊥)
       → (IsTrue a.tells → (forms : List (List ℕ)) → IsWalked (disk_now a) forms walk.next → IsWalked (disk_now b) (forms ++ bytes ∷ []) next.next)
       → IsTrue entry.tells → IsDamaged (disk_now entry).now at × StandsForNoEvents (disk_now entry).now × ((disk_now b).now ≡ (disk_now entry).now)
   event_is_damage next bytes at at_is next_is none walked told =
       let had = replays.replayed told in
-      let on = walked (told_a told) (map form had.0) had.1.walked in
-      let no_such : (event : Event) → IsTrue (playable (played play empty had.0) event) → bytes ≡ form event → ⊥ = subst (λ (s : State). (event : Event) → IsTrue (playable s event) → bytes ≡ form event → ⊥) had.1.state_is none in
+      let on = walked (told_a told) (map event_form had.0) had.1.walked in
+      let no_such : (event : Event) → IsTrue (playable (played play empty had.0) event) → bytes ≡ event_form event → ⊥ = subst (λ (s : State). (event : Event) → IsTrue (playable s event) → bytes ≡ event_form event → ⊥) had.1.state_is none in
       elim (keeps_file told) [
         | inl same ↦
-            let reads : ReadsTo (disk_now entry).now (map form had.0 ++ bytes ∷ []) next.next = subst (λ (l : List ℕ). ReadsTo l (map form had.0 ++ bytes ∷ []) next.next) same.1 on.reads in (
+            let reads : ReadsTo (disk_now entry).now (map event_form had.0 ++ bytes ∷ []) next.next = subst (λ (l : List ℕ). ReadsTo l (map event_form had.0 ++ bytes ∷ []) next.next) same.1 on.reads in (
               inr (record {
                 events = had.0;
                 playable = had.1.playable;
-                reads = subst (λ (l : List ℕ). ReadsTo l (map form had.0) at) (sym (ap (λ d. d.now) (same_disk told)) ∙ same.1) (subst (λ (n : ℕ). ReadsTo (disk_now a).now (map form had.0) n) (sym at_is) had.1.walked.reads);
+                reads = subst (λ (l : List ℕ). ReadsTo l (map event_form had.0) at) (sym (ap (λ d. d.now) (same_disk told)) ∙ same.1) (subst (λ (n : ℕ). ReadsTo (disk_now a).now (map event_form had.0) n) (sym at_is) had.1.walked.reads);
                 stuck = inr (record {
                   bytes = bytes;
-                  reads = subst (λ (n : ℕ). ReadsTo (disk_now entry).now (map form had.0 ++ bytes ∷ []) n) (next_is ∙ ap (λ (n : ℕ). n + 5 + length bytes) (sym at_is)) reads;
-                  no_event = λ events could is. none_has had.0 events bytes [] had.1.playable no_such could (is ∙ sym (append-nil (map form had.0 ++ bytes ∷ [])));
+                  reads = subst (λ (n : ℕ). ReadsTo (disk_now entry).now (map event_form had.0 ++ bytes ∷ []) n) (next_is ∙ ap (λ (n : ℕ). n + 5 + length bytes) (sym at_is)) reads;
+                  no_event = λ events could is. none_has had.0 events bytes [] had.1.playable no_such could (is ∙ sym (append-nil (map event_form had.0 ++ bytes ∷ [])));
                 });
               }),
               (λ events stood. elim stood.forms [
                 | inl few ↦ absurd (omega (arith, few.0, same.0))
                 | inr many ↦
-                    let more = reads_first (disk_now entry).now (map form had.0 ++ bytes ∷ []) (map form events) next.next many.1.0 reads many.1.1 in
+                    let more = reads_first (disk_now entry).now (map event_form had.0 ++ bytes ∷ []) (map event_form events) next.next many.1.0 reads many.1.1 in
                     none_has had.0 events bytes more.0 had.1.playable no_such stood.playable more.1
               ]),
               same.1,
             )
-        | inr fresh ↦ absurd (no_fresh (map form had.0) bytes next.next (subst (λ (l : List ℕ). ReadsTo l (map form had.0 ++ bytes ∷ []) next.next) fresh.1 on.reads))
+        | inr fresh ↦ absurd (no_fresh (map event_form had.0) bytes next.next (subst (λ (l : List ℕ). ReadsTo l (map event_form had.0 ++ bytes ∷ []) next.next) fresh.1 on.reads))
       ]
 
 -- a store that is mounted, before its first record
@@ -202,4 +203,4 @@ pub bytes_kept : (a b : Told) → GoesOn a b → Throughout a b (λ disk said. d
 bytes_kept a b course kept told = kept told b.clock course.clock (omega arith)
 
 pub none_stands : (file : List ℕ) → StandsForNone file → StandsForNoEvents file
-none_stands file none events stood = none (map form events) stood.forms
+none_stands file none events stood = none (map event_form events) stood.forms

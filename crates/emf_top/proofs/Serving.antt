@@ -1,29 +1,25 @@
 -- The loop over the lines of the input.
-use Rattle.std.proofs.Common.{◌⊎◌, inr, inl, ⊎_elim, ◌≡◌, ℕ, ◌+◌, List, ◌++◌, Bool, true, false, ◌||◌, length, Option, Some, None, Ok, Err, append_assoc, refl, sym, ◌∙◌, ap, subst}
+use Rattle.std.proofs.Common.{◌⊎◌, inr, inl, ⊎_elim, ◌≡◌, ℕ, List, ◌++◌, Bool, false, ◌||◌, Option, Some, None, Err, append_assoc, refl, sym, ◌∙◌, ap, subst}
 use Rattle.std.specs.Prelude.{IsTrue}
 use Rattle.std.proofs.lemmas.List.{append-nil}
 use Rattle.host_port.specs.Host.{MayLeave, Told, GoesOn, Throughout, KeepsDisk, KeepsSaid, KeepsInput, AddsPart, disk_now, said_now}
-use Rattle.host_port.specs.Cut.{Item, Script, script_from, with_item, ends_by, next_line_of}
-use Rattle.host_port.specs.Reads.{GotLine, PastLine}
+use Rattle.host_port.specs.Cut.{Item, Script, script_from, with_item, ends_by}
 use Rattle.host_port.specs.declared.lines.LineFault.{LineFault}
 use Rattle.host_port.specs.declared.lines.LineFault.TheVariants as faults
 use Rattle.host_port.proofs.Course.{at_last, course_on, course_still, told_next, kept_now}
-use Rattle.host_port.proofs.ScriptItems.{script_line, script_end, script_fault}
 use Rattle.command_runs.specs.Runs.{listed, played, after, replies, events, refuses}
 use Rattle.command_runs.specs.Stops.{IsRunning, IsStepping}
 use Rattle.command_runs.proofs.Going.{Going, Steps, quietly, begins, one_more, stepped_part, stepped_moments, events_done, items_more}
-use Rattle.plain_repository.specs.declared.Event.{Event}
-use Rattle.plain_repository.specs.Commands.{takes_block}
+use Rattle.op_form.specs.declared.event.Event.{Event}
+use Rattle.plain_repository.specs.Lines.{takes_block}
 use Rattle.plain_repository.specs.Repository.{State, decide, play}
 use Rattle.plain_repository.specs.Store.{Stands}
-use Rattle.emf_top.specs.declared.session.Answered.TheVariants.{Accepted, Refused}
 use Rattle.emf_top.specs.declared.session.SessionFault.{SessionFault}
 use Rattle.emf_top.specs.declared.session.SessionFault.TheVariants as session
 use Rattle.emf_top.specs.declared.top.Status.TheVariants.{ReadFault}
-use Rattle.emf_top.specs.Session.{Holds, IfMade, answered_as}
+use Rattle.emf_top.specs.Session.{Holds, IfMade, GotItem}
 use Rattle.emf_top.specs.Headline.{IsServed, IsUnsaid, IsHalted, Ends, input_status, session_status, end_of, outcome, said_by, made_by, refused_in, least_of}
 use Rattle.emf_top.proofs.Entering.{rest_leaves, holds_stands}
-use Rattle.emf_top.proofs.Answering.{line_item}
 
 -- a run between two commands, where the store rests
 abbrev pub Between : Told → Told → List Event → State → Script → Script → State → ℕ → Bool → Type 0
@@ -49,10 +45,6 @@ serving_starts entry s0 e0 failed place pending broken fresh unbroken end_is hol
   going = λ told made rest. begins decide play Stands entry made s0 (script_from takes_block place (pending ++ entry.left)) (λ events. Holds (disk_now entry) s0 e0 events)
       (λ holds_made. rest_leaves (disk_now entry) s0 e0 made holds_made) rest;
 }
-
-no_block : (line : List ℕ) → takes_block line ≡ false
-unfolding takes_block
-no_block line = refl
 
 -- the input was looked at
 module _ (entry a b : Told) (made : List Event) (s0 : State) (whole left : Script) (state : State) (end : ℕ) (refused : Bool) (going : Between entry a made s0 whole left state end refused)
@@ -86,109 +78,85 @@ halted entry b made s0 whole left state end refused going = record {
   stands = holds_stands (disk_now b) state end (made ++ events decide play s0 going.done) going.rest;
 }
 
--- a fault of the input
-module _ (entry a b : Told) (made : List Event) (s0 : State) (whole : Script) (place : ℕ) (unread text : List ℕ) (state : State) (end : ℕ) (refused : Bool)
-    (going : Between entry a made s0 whole (script_from takes_block place unread) state end refused)
+-- an item was asked for
+module _ (entry a b : Told) (made : List Event) (s0 : State) (whole left : Script) (state : State) (end : ℕ) (refused : Bool)
+    (going : Between entry a made s0 whole left state end refused)
     (course : GoesOn entry a) (on : GoesOn a b) (disk : KeepsDisk a b) (said : KeepsSaid a b) (told : IsTrue entry.tells) where
-  at_fault : (fault : LineFault) → next_line_of place unread ≡ Err fault → IsServed s0 whole made entry b × (outcome s0 whole ≡ input_status fault)
+  at_fault : (fault : LineFault) → left ≡ ends_by (Some fault) → IsServed s0 whole made entry b × (outcome s0 whole ≡ input_status fault)
   at_fault fault is =
-      let there = looked entry a b made s0 whole (script_from takes_block place unread) state end refused going course on disk said told (ends_by (Some fault)) (script_fault takes_block place unread fault is) in
+      let there = looked entry a b made s0 whole left state end refused going course on disk said told (ends_by (Some fault)) is in
       (served entry b made s0 whole state end refused (Some fault) there, outcome_is entry b made s0 whole state end refused (Some fault) there)
 
   halted_here : IsHalted s0 whole made entry b
-  halted_here = halted entry b made s0 whole (script_from takes_block place unread) state end refused
-      (looked entry a b made s0 whole (script_from takes_block place unread) state end refused going course on disk said told (script_from takes_block place unread) refl)
+  halted_here = halted entry b made s0 whole left state end refused (looked entry a b made s0 whole left state end refused going course on disk said told left refl)
 
-  pub fault_ends : (fault : LineFault) → GotLine (Err fault) text (next_line_of place unread) → Ends s0 whole made entry b (input_status fault)
-  fault_ends (faults.LineTooLong at) is = at_fault (faults.LineTooLong at) is
-  fault_ends (faults.BlockTooLong at) is = at_fault (faults.BlockTooLong at) is
-  fault_ends (faults.NotText at) is = at_fault (faults.NotText at) is
-  fault_ends (faults.UnendedBlock at) is = at_fault (faults.UnendedBlock at) is
-  fault_ends (faults.InputTooLong at) is = at_fault (faults.InputTooLong at) is
-  fault_ends faults.Failed is = halted_here
-  fault_ends faults.Memory is = halted_here
+  pub fault_ends : (fault : LineFault) (rest : Script) → GotItem (Err fault) left rest → Ends s0 whole made entry b (input_status fault)
+  fault_ends (faults.LineTooLong at) rest is = at_fault (faults.LineTooLong at) is
+  fault_ends (faults.BlockTooLong at) rest is = at_fault (faults.BlockTooLong at) is
+  fault_ends (faults.NotText at) rest is = at_fault (faults.NotText at) is
+  fault_ends (faults.UnendedBlock at) rest is = at_fault (faults.UnendedBlock at) is
+  fault_ends (faults.InputTooLong at) rest is = at_fault (faults.InputTooLong at) is
+  fault_ends faults.Failed rest is = halted_here
+  fault_ends faults.Memory rest is = halted_here
 
-  pub end_ends : next_line_of place unread ≡ Ok None → IsServed s0 whole made entry b × (outcome s0 whole ≡ end_of None refused)
+  pub end_ends : left ≡ ends_by None → IsServed s0 whole made entry b × (outcome s0 whole ≡ end_of None refused)
   end_ends is =
-      let there = looked entry a b made s0 whole (script_from takes_block place unread) state end refused going course on disk said told (ends_by None) (script_end takes_block place unread is) in
+      let there = looked entry a b made s0 whole left state end refused going course on disk said told (ends_by None) is in
       (served entry b made s0 whole state end refused None there, outcome_is entry b made s0 whole state end refused None there)
 
   pub looked_part : Throughout entry b (λ disk said. AddsPart (said_now entry) (said_by s0 whole) said)
-  looked_part = (looked entry a b made s0 whole (script_from takes_block place unread) state end refused going course on disk said told (script_from takes_block place unread) refl).part
+  looked_part = (looked entry a b made s0 whole left state end refused going course on disk said told left refl).part
 
   pub looked_moments : Throughout entry b (IsRunning Stands made (made_by s0 whole) (least_of s0 whole) (said_now entry))
-  looked_moments = (looked entry a b made s0 whole (script_from takes_block place unread) state end refused going course on disk said told (script_from takes_block place unread) refl).moments
+  looked_moments = (looked entry a b made s0 whole left state end refused going course on disk said told left refl).moments
 
-  -- a line was read
-  pub at_line : (place_next : ℕ) (unread_next : List ℕ) → next_line_of place unread ≡ Ok (Some text) → PastLine unread unread_next place place_next
-      → Between entry b made s0 whole (with_item text None (script_from takes_block place_next unread_next)) state end refused
-  at_line place_next unread_next is past =
-      looked entry a b made s0 whole (script_from takes_block place unread) state end refused going course on disk said told (with_item text None (script_from takes_block place_next unread_next))
-      (script_line takes_block place place_next unread text is (no_block text) (ap (λ (l : List ℕ). place_next + length l) (sym past.unread) ∙ past.place)
-      ∙ ap (λ (l : List ℕ). with_item text None (script_from takes_block place_next l)) (sym past.unread))
-
--- a line was answered
-module _ (entry b d : Told) (made : List Event) (s0 : State) (whole next : Script) (text : List ℕ) (state : State) (end : ℕ) (refused : Bool)
-    (going : Between entry b made s0 whole (with_item text None next) state end refused) (course : GoesOn entry b) (on : GoesOn b d)
-    (part : Throughout b d (λ disk said. AddsPart (said_now b) (decide state (line_item text)).reply said))
-    (moments : (events : List Event) → Holds (disk_now b) state end events → Throughout b d (IsStepping Stands events (decide state (line_item text)).event (said_now b))) where
-  steps : Steps Stands b d (decide state (line_item text)) (λ events. Holds (disk_now b) state end events)
+-- an item was answered
+module _ (entry b d : Told) (made : List Event) (s0 : State) (whole next : Script) (item : Item) (state : State) (end : ℕ) (refused : Bool)
+    (going : Between entry b made s0 whole (with_item item.line item.block next) state end refused) (course : GoesOn entry b) (on : GoesOn b d)
+    (part : Throughout b d (λ disk said. AddsPart (said_now b) (decide state item).reply said))
+    (moments : (events : List Event) → Holds (disk_now b) state end events → Throughout b d (IsStepping Stands events (decide state item).event (said_now b))) where
+  steps : Steps Stands b d (decide state item) (λ events. Holds (disk_now b) state end events)
   steps = record { course = on; part = part; moments = moments }
 
   pub answered_part : Throughout entry d (λ disk said. AddsPart (said_now entry) (said_by s0 whole) said)
-  answered_part = stepped_part decide play Stands entry made s0 whole b d (with_item text None next) state refused (λ events. Holds (disk_now b) state end events) going course (line_item text) next refl steps
+  answered_part = stepped_part decide play Stands entry made s0 whole b d (with_item item.line item.block next) state refused (λ events. Holds (disk_now b) state end events) going course item next refl steps
 
   pub answered_moments : Throughout entry d (IsRunning Stands made (made_by s0 whole) (least_of s0 whole) (said_now entry))
-  answered_moments = stepped_moments decide play Stands entry made s0 whole b d (with_item text None next) state refused (λ events. Holds (disk_now b) state end events) going course (line_item text) next refl steps
+  answered_moments = stepped_moments decide play Stands entry made s0 whole b d (with_item item.line item.block next) state refused (λ events. Holds (disk_now b) state end events) going course item next refl steps
 
   -- its reply was not said whole, and it is kept
-  pub unsaid_kept : IsTrue b.tells → Stands (disk_now d).now ((made ++ events decide play s0 going.done) ++ listed (decide state (line_item text)).event) → IsUnsaid s0 whole made entry d
+  pub unsaid_kept : IsTrue b.tells → Stands (disk_now d).now ((made ++ events decide play s0 going.done) ++ listed (decide state item).event) → IsUnsaid s0 whole made entry d
   unsaid_kept told_b stood = record {
     done = going.done;
-    item = line_item text;
+    item = item;
     left = next.items;
-    items = items_more decide play Stands entry made s0 whole b d (with_item text None next) state refused (λ events. Holds (disk_now b) state end events) going course (line_item text) next refl steps;
-    said = subst (λ (l : List ℕ). AddsPart l (decide (played play s0 (events decide play s0 going.done)) (line_item text)).reply (said_now d)) going.said
-        (subst (λ (t : State). AddsPart (said_now b) (decide t (line_item text)).reply (said_now d)) going.state_is (at_last b d (λ disk said. AddsPart (said_now b) (decide state (line_item text)).reply said) on part told_b));
+    items = items_more decide play Stands entry made s0 whole b d (with_item item.line item.block next) state refused (λ events. Holds (disk_now b) state end events) going course item next refl steps;
+    said = subst (λ (l : List ℕ). AddsPart l (decide (played play s0 (events decide play s0 going.done)) item).reply (said_now d)) going.said
+        (subst (λ (t : State). AddsPart (said_now b) (decide t item).reply (said_now d)) going.state_is (at_last b d (λ disk said. AddsPart (said_now b) (decide state item).reply said) on part told_b));
     stands = subst (λ (l : List Event). Stands (disk_now d).now l)
-        (append_assoc made (events decide play s0 going.done) (listed (decide state (line_item text)).event)
-        ∙ ap (λ (l : List Event). made ++ l) (sym (events_done decide play Stands entry made s0 whole b d (with_item text None next) state refused (λ events. Holds (disk_now b) state end events) going course (line_item text) next refl steps)))
+        (append_assoc made (events decide play s0 going.done) (listed (decide state item).event)
+        ∙ ap (λ (l : List Event). made ++ l) (sym (events_done decide play Stands entry made s0 whole b d (with_item item.line item.block next) state refused (λ events. Holds (disk_now b) state end events) going course item next refl steps)))
         stood;
   }
 
   -- it was being written, and is kept or not
   pub written_or_not : IsTrue b.tells → MayLeave (disk_now d) (disk_now d).now → IsHalted s0 whole made entry d ⊎ IsUnsaid s0 whole made entry d
   written_or_not told_b left = ⊎_elim
-      (λ (stood, same). inl (record { done = going.done; left = (with_item text None next).items; items = going.items; said = same ∙ going.said; stands = stood }))
+      (λ (stood, same). inl (record { done = going.done; left = (with_item item.line item.block next).items; items = going.items; said = same ∙ going.said; stands = stood }))
       (λ stood. inr (unsaid_kept told_b stood))
-      (at_last b d (IsStepping Stands (made ++ events decide play s0 going.done) (decide state (line_item text)).event (said_now b)) on (moments (made ++ events decide play s0 going.done) going.rest) told_b (disk_now d).now left)
+      (at_last b d (IsStepping Stands (made ++ events decide play s0 going.done) (decide state item).event (said_now b)) on (moments (made ++ events decide play s0 going.done) going.rest) told_b (disk_now d).now left)
 
-  module _ (now : State) (end_next : ℕ) (added : (events : List Event) → Holds (disk_now b) state end events → Holds (disk_now d) now end_next (events ++ listed (decide state (line_item text)).event)) where
+  module _ (now : State) (end_next : ℕ) (added : (events : List Event) → Holds (disk_now b) state end events → Holds (disk_now d) now end_next (events ++ listed (decide state item).event)) where
     -- the reply was not said
     pub unsaid : IsTrue b.tells → IsUnsaid s0 whole made entry d
-    unsaid told_b = unsaid_kept told_b (holds_stands (disk_now d) now end_next ((made ++ events decide play s0 going.done) ++ listed (decide state (line_item text)).event) (added (made ++ events decide play s0 going.done) going.rest))
+    unsaid told_b = unsaid_kept told_b (holds_stands (disk_now d) now end_next ((made ++ events decide play s0 going.done) ++ listed (decide state item).event) (added (made ++ events decide play s0 going.done) going.rest))
 
     -- the reply was said
-    pub answered_one : now ≡ after play state (decide state (line_item text)).event → said_now d ≡ said_now b ++ (decide state (line_item text)).reply
-        → Between entry d made s0 whole next now end_next (refused || (decide state (line_item text)).refused)
-    answered_one now_is said = subst (λ (s : State). Going decide play Stands entry d made s0 whole next s (refused || (decide state (line_item text)).refused) (λ events. Holds (disk_now d) now end_next events)) (sym now_is)
-        (one_more decide play Stands entry made s0 whole b d (with_item text None next) state refused (λ events. Holds (disk_now b) state end events) going course (line_item text) next refl steps
+    pub answered_one : now ≡ after play state (decide state item).event → said_now d ≡ said_now b ++ (decide state item).reply
+        → Between entry d made s0 whole next now end_next (refused || (decide state item).refused)
+    answered_one now_is said = subst (λ (s : State). Going decide play Stands entry d made s0 whole next s (refused || (decide state item).refused) (λ events. Holds (disk_now d) now end_next events)) (sym now_is)
+        (one_more decide play Stands entry made s0 whole b d (with_item item.line item.block next) state refused (λ events. Holds (disk_now b) state end events) going course item next refl steps
         (λ events. Holds (disk_now d) now end_next events) said added)
-
-pub accepted_not : (refused r : Bool) → Accepted ≡ answered_as r → (refused || r) ≡ refused
-accepted_not true true is = refl
-accepted_not false true is = absurd cc
-accepted_not true false is = refl
-accepted_not false false is = refl
-
-pub refused_so : (refused r : Bool) → Refused ≡ answered_as r → (refused || r) ≡ true
-refused_so true true is = refl
-refused_so false true is = refl
-refused_so refused false is = absurd cc
-
-pub not_true : (b : Bool) → (IsTrue b → false ≡ true) → b ≡ false
-not_true true no_ = sym (no_ refl)
-not_true false no_ = refl
 
 pub status_failed : (fault : LineFault) → input_status fault ≡ ReadFault → fault ≡ faults.Failed
 status_failed (faults.LineTooLong at) is = absurd cc
@@ -199,60 +167,60 @@ status_failed (faults.InputTooLong at) is = absurd cc
 status_failed faults.Failed is = refl
 status_failed faults.Memory is = absurd cc
 
--- the loop at a line
+-- the loop at an item
 module _ (entry a b d : Told) (s0 : State) (e0 : ℕ) (whole : Script) (failed : Bool) (place : ℕ) (pending : List ℕ) (refused : Bool) (state : State) (end : ℕ) (broken : Bool)
     (serving : Serving entry a s0 e0 whole failed place pending refused state end broken) (on : GoesOn a b) (disk : KeepsDisk a b) (said : KeepsSaid a b)
-    (text : List ℕ) (place_b : ℕ) (pending_b : List ℕ) (line : IsTrue a.tells → next_line_of place (pending ++ a.left) ≡ Ok (Some text))
-    (past : IsTrue a.tells → PastLine (pending ++ a.left) (pending_b ++ b.left) place place_b)
-    (step_on : GoesOn b d) (part : Throughout b d (λ disk said. AddsPart (said_now b) (decide state (line_item text)).reply said))
-    (moments : (events : List Event) → Holds (disk_now b) state end events → Throughout b d (IsStepping Stands events (decide state (line_item text)).event (said_now b))) where
+    (item : Item) (place_b : ℕ) (pending_b : List ℕ)
+    (got : IsTrue a.tells → script_from takes_block place (pending ++ a.left) ≡ with_item item.line item.block (script_from takes_block place_b (pending_b ++ b.left)))
+    (step_on : GoesOn b d) (part : Throughout b d (λ disk said. AddsPart (said_now b) (decide state item).reply said))
+    (moments : (events : List Event) → Holds (disk_now b) state end events → Throughout b d (IsStepping Stands events (decide state item).event (said_now b))) where
   course_b : GoesOn entry b
   course_b = course_on entry a b serving.course on
 
-  line_between : IsTrue entry.tells → (made : List Event) → Holds (disk_now entry) s0 e0 made → Between entry b made s0 whole (with_item text None (script_from takes_block place_b (pending_b ++ b.left))) state end refused
-  line_between told made holds = at_line entry a b made s0 whole place (pending ++ a.left) text state end refused (serving.going told made holds) serving.course on disk said told place_b (pending_b ++ b.left)
-      (line (told_next entry a serving.course told)) (past (told_next entry a serving.course told))
+  item_between : IsTrue entry.tells → (made : List Event) → Holds (disk_now entry) s0 e0 made → Between entry b made s0 whole (with_item item.line item.block (script_from takes_block place_b (pending_b ++ b.left))) state end refused
+  item_between told made holds = looked entry a b made s0 whole (script_from takes_block place (pending ++ a.left)) state end refused (serving.going told made holds) serving.course on disk said told
+      (with_item item.line item.block (script_from takes_block place_b (pending_b ++ b.left))) (got (told_next entry a serving.course told))
 
-  pub line_part : (made : List Event) → Holds (disk_now entry) s0 e0 made → Throughout entry d (λ disk said. AddsPart (said_now entry) (said_by s0 whole) said)
-  line_part made holds told = answered_part entry b d made s0 whole (script_from takes_block place_b (pending_b ++ b.left)) text state end refused (line_between told made holds) course_b step_on part moments told
+  pub item_part : (made : List Event) → Holds (disk_now entry) s0 e0 made → Throughout entry d (λ disk said. AddsPart (said_now entry) (said_by s0 whole) said)
+  item_part made holds told = answered_part entry b d made s0 whole (script_from takes_block place_b (pending_b ++ b.left)) item state end refused (item_between told made holds) course_b step_on part moments told
 
-  pub line_moments : (made : List Event) → Holds (disk_now entry) s0 e0 made → Throughout entry d (IsRunning Stands made (made_by s0 whole) (least_of s0 whole) (said_now entry))
-  line_moments made holds told = answered_moments entry b d made s0 whole (script_from takes_block place_b (pending_b ++ b.left)) text state end refused (line_between told made holds) course_b step_on part moments told
+  pub item_moments : (made : List Event) → Holds (disk_now entry) s0 e0 made → Throughout entry d (IsRunning Stands made (made_by s0 whole) (least_of s0 whole) (said_now entry))
+  item_moments made holds told = answered_moments entry b d made s0 whole (script_from takes_block place_b (pending_b ++ b.left)) item state end refused (item_between told made holds) course_b step_on part moments told
 
   pub step_fault_ends : (fault : SessionFault) (now : State) (end_next : ℕ)
-      → IfMade (Err fault) (IsTrue b.tells → (events : List Event) → Holds (disk_now b) state end events → Holds (disk_now d) now end_next (events ++ listed (decide state (line_item text)).event))
+      → IfMade (Err fault) (IsTrue b.tells → (events : List Event) → Holds (disk_now b) state end events → Holds (disk_now d) now end_next (events ++ listed (decide state item).event))
       → ((at : ℕ) → fault ≡ session.Damaged at → ⊥) → (fault ≡ session.Memory → KeepsDisk b d × KeepsSaid b d) → (IsTrue d.tells → MayLeave (disk_now d) (disk_now d).now)
       → IsTrue entry.tells → (made : List Event) → Holds (disk_now entry) s0 e0 made → Ends s0 whole made entry d (session_status fault)
   step_fault_ends session.DiskFault now end_next added never quiet left told made holds =
       let told_b = told_next entry b course_b told in
-      written_or_not entry b d made s0 whole (script_from takes_block place_b (pending_b ++ b.left)) text state end refused (line_between told made holds) course_b step_on part moments told_b (left (told_next b d step_on told_b))
+      written_or_not entry b d made s0 whole (script_from takes_block place_b (pending_b ++ b.left)) item state end refused (item_between told made holds) course_b step_on part moments told_b (left (told_next b d step_on told_b))
   step_fault_ends session.SayFault now end_next added never quiet left told made holds =
-      unsaid entry b d made s0 whole (script_from takes_block place_b (pending_b ++ b.left)) text state end refused (line_between told made holds) course_b step_on part moments now end_next (added (told_next entry b course_b told)) (told_next entry b course_b told)
+      unsaid entry b d made s0 whole (script_from takes_block place_b (pending_b ++ b.left)) item state end refused (item_between told made holds) course_b step_on part moments now end_next (added (told_next entry b course_b told)) (told_next entry b course_b told)
   step_fault_ends (session.Damaged at) now end_next added never quiet left told made holds = absurd (never at refl)
   step_fault_ends session.Memory now end_next added never quiet left told made holds =
-      let line_left = with_item text None (script_from takes_block place_b (pending_b ++ b.left)) in
+      let item_left = with_item item.line item.block (script_from takes_block place_b (pending_b ++ b.left)) in
       let keeps = quiet refl in
-      halted entry d made s0 whole line_left state end refused (looked entry b d made s0 whole line_left state end refused (line_between told made holds) course_b step_on keeps.0 keeps.1 told line_left refl)
+      halted entry d made s0 whole item_left state end refused (looked entry b d made s0 whole item_left state end refused (item_between told made holds) course_b step_on keeps.0 keeps.1 told item_left refl)
 
-  pub serving_on : (failed_b : Bool) (now : State) (end_next : ℕ) (broken_d refused_d : Bool) → (IsTrue failed_b → false ≡ true) → broken_d ≡ false → now.end ≡ end_next → KeepsInput b d
-      → (refused || (decide state (line_item text)).refused) ≡ refused_d → now ≡ after play state (decide state (line_item text)).event
-      → (IsTrue b.tells → said_now d ≡ said_now b ++ (decide state (line_item text)).reply)
-      → (IsTrue b.tells → (events : List Event) → Holds (disk_now b) state end events → Holds (disk_now d) now end_next (events ++ listed (decide state (line_item text)).event))
+  pub serving_on : (failed_b : Bool) (now : State) (end_next : ℕ) (broken_d refused_d : Bool) → failed_b ≡ false → broken_d ≡ false → now.end ≡ end_next → KeepsInput b d
+      → (refused || (decide state item).refused) ≡ refused_d → now ≡ after play state (decide state item).event
+      → (IsTrue b.tells → said_now d ≡ said_now b ++ (decide state item).reply)
+      → (IsTrue b.tells → (events : List Event) → Holds (disk_now b) state end events → Holds (disk_now d) now end_next (events ++ listed (decide state item).event))
       → Serving entry d s0 e0 whole failed_b place_b pending_b refused_d now end_next broken_d
   serving_on failed_b now end_next broken_d refused_d fresh unbroken end_is input refused_is now_is replied added = record {
-    fresh = not_true failed_b fresh;
+    fresh = fresh;
     unbroken = unbroken;
     end_is = end_is;
     course = course_on entry b d course_b step_on;
     holds = λ told.
         let had = serving.holds told in
         let told_b = told_next entry b course_b told in (
-          had.0 ++ listed (decide state (line_item text)).event,
+          had.0 ++ listed (decide state item).event,
           added told_b had.0 (subst (λ x. Holds x state end had.0) (sym (kept_now a b on disk (told_next entry a serving.course told))) had.1),
         );
     going = λ told made holds.
         subst (λ (l : List ℕ). Between entry d made s0 whole (script_from takes_block place_b (pending_b ++ l)) now end_next refused_d) (sym input.left)
         (subst (λ (r : Bool). Between entry d made s0 whole (script_from takes_block place_b (pending_b ++ b.left)) now end_next r) refused_is
-        (answered_one entry b d made s0 whole (script_from takes_block place_b (pending_b ++ b.left)) text state end refused (line_between told made holds) course_b step_on part moments now end_next
+        (answered_one entry b d made s0 whole (script_from takes_block place_b (pending_b ++ b.left)) item state end refused (item_between told made holds) course_b step_on part moments now end_next
         (added (told_next entry b course_b told)) now_is (replied (told_next entry b course_b told))));
   }

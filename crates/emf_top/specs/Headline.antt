@@ -6,8 +6,8 @@ use Rattle.host_port.specs.declared.lines.LineFault.{LineFault}
 use Rattle.host_port.specs.declared.lines.LineFault.TheVariants as faults
 use Rattle.command_runs.specs.Runs.{played, replies, events, refuses, answered}
 use Rattle.command_runs.specs.Stops.{IsAmong}
-use Rattle.plain_repository.specs.declared.Event.{Event}
-use Rattle.plain_repository.specs.Commands.{takes_block}
+use Rattle.op_form.specs.declared.event.Event.{Event}
+use Rattle.plain_repository.specs.Lines.{takes_block}
 use Rattle.plain_repository.specs.Repository.{State, decide, play}
 use Rattle.plain_repository.specs.Store.{Stands, StandsForNoEvents, IsDamaged}
 use Rattle.emf_top.specs.declared.top.Status.{Status}

@@ -1,3 +1,2 @@
 pub mod Headline
-pub mod Held
 pub mod Session

@@ -1,5 +1,5 @@
 -- What the parts of a session do.
-use Rattle.std.specs.Prelude.{◌≡◌, ◌⊎◌, ℕ, ◌+◌, ◌≤◌, ◌^◌, List, ◌++◌, Bool, true, false, IsTrue, length, map, Option, Some, None, Result, Ok, Err, string_bytes}
+use Rattle.std.specs.Prelude.{◌≡◌, ◌⊎◌, ℕ, ◌-◌, ◌<◌, ◌^◌, List, ◌++◌, Bool, true, false, IsTrue, length, map, Option, Some, None, Result, Ok, Err}
 use Rattle.host_port.specs.Host.{Disk}
 use Rattle.commit_journal.specs.Journal as journal
 use Rattle.commit_journal.specs.Journal.{IsWalked}
@@ -7,39 +7,22 @@ use Rattle.commit_journal.specs.declared.fault.JournalFault.{JournalFault}
 use Rattle.commit_journal.specs.declared.fault.JournalFault.TheVariants as journals
 use Rattle.command_runs.specs.Runs.{listed, played}
 use Rattle.command_runs.specs.Stops.{StopLeaves}
-use Rattle.plain_repository.specs.declared.Event.{Event}
-use Rattle.plain_repository.specs.Repository.{State, empty, play, playable, are_playable, form}
+use Rattle.op_form.specs.declared.event.Event.{Event}
+use Rattle.op_form.specs.Events.{event_form}
+use Rattle.plain_repository.specs.Repository.{State, empty, play, playable, are_playable, is_refusal}
 use Rattle.plain_repository.specs.Repository as plain
 use Rattle.plain_repository.specs.Store.{Stands, Rests}
-use Rattle.emf_top.specs.declared.repo.Decision.{Decision}
-use Rattle.emf_top.specs.declared.repo.Made.{Made}
+use Rattle.repo_core.specs.Decisions.{CanMake, IsShortBlock}
 use Rattle.emf_top.specs.declared.session.Answered.{Answered}
 use Rattle.emf_top.specs.declared.session.Ready.{Ready}
 use Rattle.emf_top.specs.declared.session.Plan.{Plan}
-use Rattle.plain_repository.specs.Replies.{printed, is_refusal}
+use Rattle.script_lang.specs.Reply.{printed}
+use Rattle.host_port.specs.Cut.{Item, Script, with_item, ends_by}
+use Rattle.host_port.specs.Reads.{EndsScript}
+use Rattle.host_port.specs.declared.lines.LineFault.{LineFault}
 use Rattle.emf_top.specs.declared.session.Answered.TheVariants.{Accepted, Refused}
 use Rattle.emf_top.specs.declared.session.SessionFault.{SessionFault}
 use Rattle.emf_top.specs.declared.session.SessionFault.TheVariants.{DiskFault, SayFault, Damaged, Memory}
-
--- the event of a decision
-abbrev pub event_of : Option Made → Option Event
-event_of None = None
-event_of (Some made) = Some made.event
-
--- a decision as the plain repository has it
-abbrev pub seen : Decision → plain.Decision
-seen decision = record { reply = decision.reply; event = event_of decision.made }
-
--- an event that can be made on a state has its bytes beside it, and the journal has room for them
-pub record CanMake (state : State) (made : Made) : Type 0 where
-  pub form_is : made.form.items ≡ form made.event
-  pub playable : IsTrue (playable state made.event)
-  pub short : length (form made.event) ≤ 16777211
-  pub fits : state.end + length (form made.event) + 6 ≤ 2 ^ 40
-
-abbrev pub CanMakeIt : State → Option Made → Type 0
-CanMakeIt state None = Unit {0}
-CanMakeIt state (Some made) = CanMake state made
 
 -- a store at rest and the state of its events
 pub record Holds (disk : Disk) (state : State) (end : ℕ) (made : List Event) : Type 0 where
@@ -72,9 +55,14 @@ abbrev pub IsReady : State → Option Ready → Type 0
 IsReady state None = Unit {0}
 IsReady state (Some ready) = CanMake state ready.made × journal.Holds ready.prepared ready.made.form.items
 
+-- the journal has room for a record that is ready, and the record is that of the event's bytes
+abbrev pub HasRoom : ℕ → Option Ready → Type 0
+HasRoom end None = Unit {0}
+HasRoom end (Some ready) = journal.Holds ready.prepared ready.made.form.items × journal.Fits end (length ready.made.form.items)
+
 -- all of a decision is prepared: its reply's bytes, and its event's record
 pub record IsPlan (state : State) (decision : plain.Decision) (plan : Plan) : Type 0 where
-  pub reply : string_bytes plan.reply ≡ printed decision.reply
+  pub reply : plan.reply.items ≡ printed decision.reply
   pub answered : plan.answered ≡ answered_as (is_refusal decision.reply)
   pub event : event_of_ready plan.ready ≡ decision.event
   pub ready : IsReady state plan.ready
@@ -82,7 +70,7 @@ pub record IsPlan (state : State) (decision : plain.Decision) (plan : Plan) : Ty
 -- a store while it is read: its records up to a place are those of events, each one that a command could make, and the
 -- state is theirs
 pub record IsReplayed (disk : Disk) (state : State) (place : ℕ) (made : List Event) : Type 0 where
-  pub walked : IsWalked disk (map form made) place
+  pub walked : IsWalked disk (map event_form made) place
   pub playable : IsTrue (are_playable empty made)
   pub state_is : state ≡ played play empty made
 
@@ -97,3 +85,13 @@ abbrev pub fault_of : JournalFault → SessionFault
 fault_of (journals.Damaged at) = Damaged at
 fault_of journals.DiskFault = DiskFault
 fault_of journals.Memory = Memory
+
+-- the texts of an item are short enough to be read
+abbrev pub IsShortItem : Item → Type 0
+IsShortItem item = (length item.line < 2 ^ 32 - 1) × IsShortBlock item.block
+
+-- the script's next item, with what is left of the script behind it; or its end; or its fault
+abbrev pub GotItem : Result (Option Item) LineFault → Script → Script → Type 0
+GotItem (Ok (Some item)) whole rest = whole ≡ with_item item.line item.block rest
+GotItem (Ok None) whole rest = whole ≡ ends_by None
+GotItem (Err fault) whole rest = EndsScript fault whole

@@ -1,10 +1,7 @@
 //! All that the program does, as one call over a host.
 #![tactic(auto)]
 
-mod command;
-mod event;
-mod reply;
-mod repo;
+mod item;
 mod session;
 #[cfg(test)]
 mod tests;

@@ -1,22 +1,20 @@
 //! One command after another: decided, written, made, and answered.
-ghost use Rattle.std.specs.Prelude.{◌≡◌, ◌≢◌, ◌⊎◌, ◌≤◌, ◌++◌, ℕ, List, None, IsTrue, IfOk, OnOk, IfErr, IsErrOf, string_bytes, false};
+ghost use Rattle.std.specs.Prelude.{◌≡◌, ◌≢◌, ◌⊎◌, ◌≤◌, ◌++◌, ℕ, List, None, IsTrue, IfOk, OnOk, IfErr, IsErrOf, false};
 ghost use Rattle.host_port.specs.Host.{disk_now, said_now, Rose, GoesOn, Throughout, KeepsDisk, KeepsSaid, KeepsInput, AddsPart};
 ghost use Rattle.command_runs.specs.Runs.{listed, after};
 ghost use Rattle.command_runs.specs.Stops.{IsStepping, StopLeaves};
-ghost use Rattle.plain_repository.specs.declared.Event.{Event};
-ghost use Rattle.plain_repository.specs.Replies.{is_refusal};
-ghost use Rattle.plain_repository.specs.Repository.{decide, decide_line, play};
+ghost use Rattle.op_form.specs.declared.event.Event.{Event};
+ghost use Rattle.plain_repository.specs.Repository.{State, decide, decide_line, play, is_refusal};
 ghost use Rattle.plain_repository.specs.Store.{Stands, IsDamaged, StandsForNoEvents};
 ghost use Rattle.commit_journal.specs.Journal.{StandsForSame};
-ghost use Rattle.emf_top.specs.Session.{Holds, IsEntering, IsPlan, IsReady, IfMade, IfDamaged, answered_as, event_of_ready, fault_of};
+ghost use Rattle.emf_top.specs.Session.{Holds, IsEntering, IsPlan, IsReady, HasRoom, IsShortItem, IfMade, IfDamaged, answered_as, event_of_ready, fault_of};
 ghost use Rattle.emf_top.specs.declared.session.SessionFault.TheVariants.{DiskFault};
 
-use crate::command::is_skipped;
-use crate::reply::print_reply;
-use crate::repo::{Decision, Made, ReplayFault, Repo};
+use crate::item::Item;
 use commit_journal::{Journal, JournalFault, Prepared, Walk};
 use host_port::Host;
-use plain_repository::Reply;
+use repo_core::{Decision, Made, ReplayFault, Repo};
+use script_lang::{Last, Reply, print_reply};
 use std::alloc::{AllocError, Global};
 use thiserror::Error;
 
@@ -58,7 +56,7 @@ pub struct Ready {
 /// All that answering a command takes: no memory is wanted any more.
 #[derive(Drop)]
 pub struct Plan {
-    pub reply: String,
+    pub reply: Vec<u8>,
     pub answered: Answered,
     pub ready: Option<Ready>,
 }
@@ -66,9 +64,9 @@ pub struct Plan {
 fn kind_of(reply: &Reply) -> Answered
     ensures { result ≡ answered_as (is_refusal reply.now) }
 {
-    match reply {
-        Reply::Ok { .. } => Answered::Accepted,
-        Reply::No { .. } => Answered::Refused,
+    match &reply.last {
+        Last::Ok(_) => Answered::Accepted,
+        Last::No(_) => Answered::Refused,
     }
 }
 
@@ -82,12 +80,42 @@ fn session_fault(fault: JournalFault) -> SessionFault
     }
 }
 
+/// Writes an event's record, if there is one.
+fn enter<H: Host>(
+    journal: &mut Journal,
+    host: &mut H,
+    ready: Option<Ready>,
+) -> Result<(), SessionFault>
+    requires whole { journal.old.broken ≡ false }
+    requires fits { HasRoom journal.old.end ready }
+    requires holds { IsTrue (H.told host.old).tells → ((state : State) × (made : List Event) × Holds (disk_now (H.told host.old)) state journal.old.end made) }
+    ensures whole { OnOk result (journal.new.broken ≡ false) }
+    ensures end { OnOk result ((state : State) → state.end ≡ journal.old.end → IsReady state ready → (after play state (event_of_ready ready)).end ≡ journal.new.end) }
+    ensures added { OnOk result (IsTrue (H.told host.old).tells → (state : State) → IsReady state ready → (made : List Event) → Holds (disk_now (H.told host.old)) state journal.old.end made
+        → Holds (disk_now (H.told host.new)) (after play state (event_of_ready ready)) journal.new.end (made ++ listed (event_of_ready ready))) }
+    ensures entering { (state : State) → IsReady state ready → (made : List Event) → Holds (disk_now (H.told host.old)) state journal.old.end made
+        → Throughout (H.told host.old) (H.told host.new) (λ disk _. IsEntering made (event_of_ready ready) disk) }
+    ensures fault { IfErr result (λ e. e ≡ DiskFault) }
+    ensures cause { IsErrOf result SessionFault.DiskFault → Rose (H.told host.old).disk_faults (H.told host.new).disk_faults }
+    ensures course { GoesOn (H.told host.old) (H.told host.new) }
+    ensures said { KeepsSaid (H.told host.old) (H.told host.new) }
+    ensures input { KeepsInput (H.told host.old) (H.told host.new) }
+{
+    let Some(Ready { prepared, .. }) = ready else {
+        return Ok(());
+    };
+    match journal.append(host, prepared) {
+        Ok(()) => Ok(()),
+        Err(_) => Err(SessionFault::DiskFault),
+    }
+}
+
 impl Session {
     /// Opens the store: its records are read, and their events played.
     pub fn mount<H: Host>(alloc: Global, host: &mut H) -> Result<Session, SessionFault>
         ensures whole { IfOk result (λ s. s.journal.broken ≡ false) }
-        ensures end { IfOk result (λ s. s.repo.state.end ≡ s.journal.end) }
-        ensures holds { IfOk result (λ s. IsTrue (H.told host.old).tells → ((made : List Event) × Holds (disk_now (H.told host.new)) s.repo.state s.journal.end made × Stands (disk_now (H.told host.old)).now made)) }
+        ensures end { IfOk result (λ s. s.repo.end ≡ s.journal.end) }
+        ensures holds { IfOk result (λ s. IsTrue (H.told host.old).tells → ((made : List Event) × Holds (disk_now (H.told host.new)) s.repo s.journal.end made × Stands (disk_now (H.told host.old)).now made)) }
         ensures moments { Throughout (H.told host.old) (H.told host.new) (λ disk _. (disk ≡ disk_now (H.told host.old)) ⊎ StopLeaves (StandsForSame (disk_now (H.told host.old)).now) disk) }
         ensures damaged { IfErr result (λ e. IfDamaged e (λ at. IsTrue (H.told host.old).tells → IsDamaged (disk_now (H.told host.old)).now at × StandsForNoEvents (disk_now (H.told host.old)).now × ((disk_now (H.told host.new)).now ≡ (disk_now (H.told host.old)).now))) }
         ensures never { IfErr result (λ e. e ≢ SessionFault.SayFault) }
@@ -121,14 +149,15 @@ impl Session {
         }
     }
 
-    fn plan(&mut self, alloc: Global, line: &str) -> Result<Plan, AllocError>
-        requires end { self.old.repo.state.end ≡ self.old.journal.end }
-        ensures plan { IfOk result (IsPlan self.old.repo.state (decide_line self.old.repo.state line.now)) }
-        ensures state { self.new.repo.state ≡ self.old.repo.state }
+    /// Decides a command, with all the memory that it takes; its event is made in memory, and its record is ready.
+    fn plan(&mut self, alloc: Global, item: &Item) -> Result<Plan, AllocError>
+        requires short { IsShortItem item.now }
+        requires end { self.old.repo.end ≡ self.old.journal.end }
+        ensures plan { IfOk result (IsPlan self.old.repo (decide_line self.old.repo item.now.line item.now.block)) }
+        ensures repo { IfOk result (λ plan. self.new.repo ≡ after play self.old.repo (event_of_ready plan.ready)) }
         ensures journal { self.new.journal ≡ self.old.journal }
-        ensures spare { OnOk result (1 ≤ self.new.repo.spare) }
     {
-        let Decision { reply, made } = self.repo.decide(alloc, line)?;
+        let Decision { reply, made } = self.repo.decide(alloc, item.line(), item.block())?;
         let answered = kind_of(&reply);
         let reply = print_reply(alloc, &reply)?;
         let Some(made) = made else {
@@ -139,6 +168,7 @@ impl Session {
             });
         };
         let prepared = self.journal.prepare(alloc, &made.form)?;
+        self.repo.play(alloc, &made.event, made.form.len())?;
         let ready = Some(Ready { made, prepared });
         Ok(Plan {
             reply,
@@ -147,60 +177,29 @@ impl Session {
         })
     }
 
-    /// Writes an event's record, if there is one, and makes the event.
-    fn enter<H: Host>(&mut self, host: &mut H, ready: Option<Ready>) -> Result<(), SessionFault>
-        requires whole { self.old.journal.broken ≡ false }
-        requires end { self.old.repo.state.end ≡ self.old.journal.end }
-        requires holds { IsTrue (H.told host.old).tells → ((made : List Event) × Holds (disk_now (H.told host.old)) self.old.repo.state self.old.journal.end made) }
-        requires ready { IsReady self.old.repo.state ready }
-        requires spare { 1 ≤ self.old.repo.spare }
-        ensures whole { OnOk result (self.new.journal.broken ≡ false) }
-        ensures end { OnOk result (self.new.repo.state.end ≡ self.new.journal.end) }
-        ensures state { OnOk result (self.new.repo.state ≡ after play self.old.repo.state (event_of_ready ready)) }
-        ensures added { OnOk result (IsTrue (H.told host.old).tells → (made : List Event) → Holds (disk_now (H.told host.old)) self.old.repo.state self.old.journal.end made
-            → Holds (disk_now (H.told host.new)) self.new.repo.state self.new.journal.end (made ++ listed (event_of_ready ready))) }
-        ensures entering { (made : List Event) → Holds (disk_now (H.told host.old)) self.old.repo.state self.old.journal.end made
-            → Throughout (H.told host.old) (H.told host.new) (λ disk _. IsEntering made (event_of_ready ready) disk) }
-        ensures fault { IfErr result (λ e. e ≡ DiskFault) }
-        ensures cause { IsErrOf result SessionFault.DiskFault → Rose (H.told host.old).disk_faults (H.told host.new).disk_faults }
-        ensures course { GoesOn (H.told host.old) (H.told host.new) }
-        ensures said { KeepsSaid (H.told host.old) (H.told host.new) }
-        ensures input { KeepsInput (H.told host.old) (H.told host.new) }
-    {
-        let Some(Ready { made, prepared }) = ready else {
-            return Ok(());
-        };
-        match self.journal.append(host, prepared) {
-            Ok(()) => {
-                self.repo.install(made);
-                Ok(())
-            }
-            Err(_) => Err(SessionFault::DiskFault),
-        }
-    }
-
-    /// Answers a line: its event is in the file before its reply is said.
+    /// Answers an item: its event is in the file before its reply is said.
     pub fn step<H: Host>(
         &mut self,
         alloc: Global,
         host: &mut H,
-        line: &str,
+        item: &Item,
     ) -> Result<Answered, SessionFault>
+        requires short { IsShortItem item.now }
         requires whole { self.old.journal.broken ≡ false }
-        requires end { self.old.repo.state.end ≡ self.old.journal.end }
-        requires holds { IsTrue (H.told host.old).tells → ((made : List Event) × Holds (disk_now (H.told host.old)) self.old.repo.state self.old.journal.end made) }
+        requires end { self.old.repo.end ≡ self.old.journal.end }
+        requires holds { IsTrue (H.told host.old).tells → ((made : List Event) × Holds (disk_now (H.told host.old)) self.old.repo self.old.journal.end made) }
         // The answer is the plain repository's.
-        ensures refused { IfOk result (λ a. a ≡ answered_as (decide self.old.repo.state (record { line = line.now; block = None })).refused) }
-        ensures replied { OnOk result (IsTrue (H.told host.old).tells → said_now (H.told host.new) ≡ said_now (H.told host.old) ++ (decide self.old.repo.state (record { line = line.now; block = None })).reply) }
-        ensures state { IfMade result (self.new.repo.state ≡ after play self.old.repo.state (decide self.old.repo.state (record { line = line.now; block = None })).event) }
-        ensures added { IfMade result (IsTrue (H.told host.old).tells → (made : List Event) → Holds (disk_now (H.told host.old)) self.old.repo.state self.old.journal.end made
-            → Holds (disk_now (H.told host.new)) self.new.repo.state self.new.journal.end (made ++ listed (decide self.old.repo.state (record { line = line.now; block = None })).event)) }
+        ensures refused { IfOk result (λ a. a ≡ answered_as (decide self.old.repo item.now).refused) }
+        ensures replied { OnOk result (IsTrue (H.told host.old).tells → said_now (H.told host.new) ≡ said_now (H.told host.old) ++ (decide self.old.repo item.now).reply) }
+        ensures state { IfMade result (self.new.repo ≡ after play self.old.repo (decide self.old.repo item.now).event) }
+        ensures added { IfMade result (IsTrue (H.told host.old).tells → (made : List Event) → Holds (disk_now (H.told host.old)) self.old.repo self.old.journal.end made
+            → Holds (disk_now (H.told host.new)) self.new.repo self.new.journal.end (made ++ listed (decide self.old.repo item.now).event)) }
         ensures whole { OnOk result (self.new.journal.broken ≡ false) }
-        ensures end { OnOk result (self.new.repo.state.end ≡ self.new.journal.end) }
+        ensures end { OnOk result (self.new.repo.end ≡ self.new.journal.end) }
         // At each moment a front of the reply is said, and none of it before a stop leaves the event.
-        ensures part { Throughout (H.told host.old) (H.told host.new) (λ _ said. AddsPart (said_now (H.told host.old)) (decide self.old.repo.state (record { line = line.now; block = None })).reply said) }
-        ensures moments { (made : List Event) → Holds (disk_now (H.told host.old)) self.old.repo.state self.old.journal.end made
-            → Throughout (H.told host.old) (H.told host.new) (IsStepping Stands made (decide self.old.repo.state (record { line = line.now; block = None })).event (said_now (H.told host.old))) }
+        ensures part { Throughout (H.told host.old) (H.told host.new) (λ _ said. AddsPart (said_now (H.told host.old)) (decide self.old.repo item.now).reply said) }
+        ensures moments { (made : List Event) → Holds (disk_now (H.told host.old)) self.old.repo self.old.journal.end made
+            → Throughout (H.told host.old) (H.told host.new) (IsStepping Stands made (decide self.old.repo item.now).event (said_now (H.told host.old))) }
         ensures course { GoesOn (H.told host.old) (H.told host.new) }
         ensures input { KeepsInput (H.told host.old) (H.told host.new) }
         ensures disk_cause { IsErrOf result SessionFault.DiskFault → Rose (H.told host.old).disk_faults (H.told host.new).disk_faults }
@@ -208,10 +207,10 @@ impl Session {
         ensures memory { IsErrOf result SessionFault.Memory → KeepsDisk (H.told host.old) (H.told host.new) × KeepsSaid (H.told host.old) (H.told host.new) }
         ensures never { IfErr result (λ e. (at : ℕ) → e ≡ SessionFault.Damaged at → ⊥) }
     {
-        if is_skipped(line) {
+        if item.is_skipped() {
             return Ok(Answered::Accepted);
         }
-        let Ok(plan) = self.plan(alloc, line) else {
+        let Ok(plan) = self.plan(alloc, item) else {
             return Err(SessionFault::Memory);
         };
         let Plan {
@@ -219,8 +218,8 @@ impl Session {
             answered,
             ready,
         } = plan;
-        self.enter(host, ready)?;
-        match host.say(reply.as_bytes()) {
+        enter(&mut self.journal, host, ready)?;
+        match host.say(&reply) {
             Ok(()) => Ok(answered),
             Err(_) => Err(SessionFault::SayFault),
         }

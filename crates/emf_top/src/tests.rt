@@ -3,17 +3,34 @@ use host_port::{FuseHost, Host, MemoryHost, TalkHost};
 use std::alloc::{AllocError, Global};
 use std::test::Fail;
 
-const A: &[u8] = b"create 1 Node / a\n";
+// A metamodel with the class Book and the abstract class Thing.
+const METAMODEL: &[u8] =
+    br#"{"eClass":"http://www.eclipse.org/emf/2002/Ecore#//EPackage","name":"lib","nsURI":"http://lib/1","nsPrefix":"lib","eClassifiers":[
+{"eClass":"http://www.eclipse.org/emf/2002/Ecore#//EClass","name":"Book"},
+{"eClass":"http://www.eclipse.org/emf/2002/Ecore#//EClass","name":"Thing","abstract":true}]}
+"#;
 
-const THREE: &[u8] = b"create 1 Node / a\ncreate 1 Node / b\ncreate 1 Node / c\n";
+const OPENED: &[u8] = b"ok\n[]\nok 1 0 trunk\n";
 
-// The store once `a` was made: header, gate, length, event, closed gate.
-const STORE_OF_A: [u8; 56] =
-    *b"EMFSTORE\0\0\0\x01\0\0\0\0\xa5\0\0\0\x22\x03\0\0\0\x01\0\0\0\x01\x01\x01\0\0\0\x01\x08\0\0\0\x01a\0\0\0\0\0\0\0\0\x01\0\0\0\0\0";
+const TWO: &[u8] = b"create 1 Book / a\ncreate 1 Book / b\n";
 
-fn over(alloc: Global, input: &[u8], file: Vec<u8>) -> Result<MemoryHost, AllocError> {
-    let input = input.to_vec(alloc)?;
-    Ok(MemoryHost::new(alloc, input, 100, file, Vec::new(alloc)))
+// The script that begins a project, and then these lines.
+fn opening(alloc: Global, lines: &[u8]) -> Result<Vec<u8>, AllocError> {
+    let mut script = b"init\n".to_vec(alloc)?;
+    script.extend_from_slice(METAMODEL)?;
+    script.extend_from_slice(b".\ncheckout 0\n")?;
+    script.extend_from_slice(lines)?;
+    Ok(script)
+}
+
+fn joined(alloc: Global, first: &[u8], second: &[u8]) -> Result<Vec<u8>, AllocError> {
+    let mut bytes = first.to_vec(alloc)?;
+    bytes.extend_from_slice(second)?;
+    Ok(bytes)
+}
+
+fn over(alloc: Global, input: Vec<u8>, file: Vec<u8>) -> MemoryHost {
+    MemoryHost::new(alloc, input, 4096, file, Vec::new(alloc))
 }
 
 fn serve<H: Host>(alloc: Global, host: &mut H) -> Status {
@@ -22,83 +39,162 @@ fn serve<H: Host>(alloc: Global, host: &mut H) -> Status {
 }
 
 #[test]
-fn a_script_on_an_empty_file_is_answered_line_by_line(rt: HostRuntime) -> Result<(), Fail> {
+fn lines_behind_the_opening_are_answered_one_by_one(rt: HostRuntime) -> Result<(), Fail> {
     let alloc = rt.alloc();
-    let table: [(&[u8], &[u8], Status, u8); 7] = [
-        (A, b"ok a\n", Status::Accepted, 0),
+    let table: [(&[u8], &[u8], Status, u8); 12] = [
+        (b"", b"", Status::Accepted, 0),
+        (TWO, b"ok a\nok b\n", Status::Accepted, 0),
         (
-            b"create 1 Node / a\ncreate 1 Node / a\n",
+            b"create 1 Book /\ncreate 1 Book / w1n2\ncreate 1 Book /",
+            b"ok w1n1\nok w1n2\nok w1n3\n",
+            Status::Accepted,
+            0,
+        ),
+        (
+            b"create 1 Book / a\ncreate 1 Book / a\n",
             b"ok a\nno 11 IdInUse\n",
             Status::Refused,
             1,
         ),
         (
-            b"create 1 Node / \"\n",
+            b"create 1 Book / \"\n",
             b"no 12 BadId\n",
             Status::Refused,
             1,
         ),
-        (b"fly\n", b"no 1 BadLine 1\n", Status::Refused, 1),
-        (b"", b"", Status::Accepted, 0),
         (
-            b"# fly\n\ncreate 1 Node / a",
-            b"ok a\n",
+            b"create 1 Boo / a\n",
+            b"no 13 NoClass\n",
+            Status::Refused,
+            1,
+        ),
+        (
+            b"create 1 Thing / \"\n",
+            b"no 14 Abstract\n",
+            Status::Refused,
+            1,
+        ),
+        (
+            b"create 2 Boo / \"\n",
+            b"no 5 NoWorkspace\n",
+            Status::Refused,
+            1,
+        ),
+        (
+            b"checkout trunk\ncreate 1 Book / a\ncreate 2 Book / a\n",
+            b"[]\nok 2 0 trunk\nok a\nok a\n",
             Status::Accepted,
             0,
         ),
         (
-            b"create 1 Node / a\n\xff",
+            b"checkout 1\ncheckout main\ncheckout @main\n",
+            b"no 6 NoVersion\nno 7 NoBranch\nno 6 NoVersion\n",
+            Status::Refused,
+            1,
+        ),
+        (
+            b"# fly\n\nfly\ninit\n[]\n.\n",
+            b"no 1 BadLine 1\nno 3 AlreadyInit\n",
+            Status::Refused,
+            1,
+        ),
+        (
+            b"create 1 Book / a\ninit\n[]\n",
             b"ok a\n",
-            Status::Input { fault: 3, at: 18 },
+            Status::Input { fault: 4, at: 343 },
             8,
         ),
     ];
-    for (input, said, status, code) in table {
-        let mut host = over(alloc, input, Vec::new(alloc))?;
+    for (lines, said, status, code) in table {
+        let mut host = over(alloc, opening(alloc, lines)?, Vec::new(alloc));
         let ended = serve(alloc, &mut host);
+        assert_eq!(&rt; host.said(), joined(alloc, OPENED, said)?.as_slice());
         assert_eq!(&rt; ended, status);
         assert_eq!(&rt; ended.code(), code);
-        assert_eq!(&rt; host.said(), said);
         assert_eq!(&rt; host.starved(), 0);
     }
     Ok(())
 }
 
 #[test]
-fn the_first_create_leaves_56_bytes_which_are_read_again(rt: HostRuntime) -> Result<(), Fail> {
+fn before_there_is_a_metamodel_only_init_is_accepted(rt: HostRuntime) -> Result<(), Fail> {
     let alloc = rt.alloc();
-    let mut host = over(alloc, A, Vec::new(alloc))?;
-    assert_eq!(&rt; serve(alloc, &mut host), Status::Accepted);
-    assert_eq!(&rt; host.file(), STORE_OF_A.as_slice());
-    let mut again = over(alloc, A, host.file().to_vec(alloc)?)?;
-    assert_eq!(&rt; serve(alloc, &mut again), Status::Refused);
-    assert_eq!(&rt; again.said(), b"no 11 IdInUse\n".as_slice());
-    assert_eq!(&rt; again.file(), STORE_OF_A.as_slice());
+    let table: [(&[u8], &[u8], Status); 6] = [
+        (
+            b"create 1 Book / a\ncheckout 0\n",
+            b"no 2 NotInit\nno 2 NotInit\n",
+            Status::Refused,
+        ),
+        (b"create 1 Book\n", b"no 1 BadLine 14\n", Status::Refused),
+        (b"init\n[]\n.\n", b"no 4 BadMetamodel 2\n", Status::Refused),
+        (b"init\n{", b"", Status::Input { fault: 4, at: 6 }),
+        (b"\xff", b"", Status::Input { fault: 3, at: 0 }),
+        (b"", b"", Status::Accepted),
+    ];
+    for (input, said, status) in table {
+        let mut host = over(alloc, input.to_vec(alloc)?, Vec::new(alloc));
+        assert_eq!(&rt; serve(alloc, &mut host), status);
+        assert_eq!(&rt; host.said(), said);
+        assert_eq!(&rt; host.file(), b"EMFSTORE\0\0\0\x01\0\0\0\0\0".as_slice());
+    }
     Ok(())
 }
 
-// The calls of a run on three creates over a new file: six of opening, the input, five for each create (record, sync,
-// gate, sync, reply), and the input's end.
+// The store of the opening and two creations: the header, four records behind open gates, and the closed gate.
+fn store_of_two(alloc: Global) -> Result<Vec<u8>, AllocError> {
+    let mut store = b"EMFSTORE\0\0\0\x01\0\0\0\0\xa5\0\0\x01\x30\x01\0\0\x01\x2b".to_vec(alloc)?;
+    store.extend_from_slice(METAMODEL)?;
+    store.extend_from_slice(b"\xa5\0\0\0\x09\x02\0\0\0\0\0\0\0\0")?;
+    for (name, rank) in [(b'a', 1), (b'b', 2)] {
+        store.extend_from_slice(
+            b"\xa5\0\0\0\x22\x03\0\0\0\x01\0\0\0\x01\x01\x01\0\0\0\x01\x08\0\0\0\x01",
+        )?;
+        store.push(name)?;
+        store.extend_from_slice(b"\0\0\0\0\0\0\0\0")?;
+        store.push(rank)?;
+        store.extend_from_slice(b"\0\0\0\0")?;
+    }
+    store.push(0)?;
+    Ok(store)
+}
+
+#[test]
+fn the_store_of_two_creations_is_these_bytes_which_are_read_again(
+    rt: HostRuntime,
+) -> Result<(), Fail> {
+    let alloc = rt.alloc();
+    let store = store_of_two(alloc)?;
+    let mut host = over(alloc, opening(alloc, TWO)?, Vec::new(alloc));
+    assert_eq!(&rt; serve(alloc, &mut host), Status::Accepted);
+    assert_eq!(&rt; host.file(), store.as_slice());
+    let mut again = over(alloc, opening(alloc, TWO)?, host.file().to_vec(alloc)?);
+    assert_eq!(&rt; serve(alloc, &mut again), Status::Refused);
+    assert_eq!(&rt; again.said(), replies_after(4));
+    Ok(())
+}
+
+// The calls of a run of the opening and two creations over a new file: six of opening the store, the input, five for each
+// event (record, sync, gate, sync, reply), and the input's end.
 fn status_at(calls: u64) -> Status {
-    if calls == 6 || calls == 22 {
+    if calls == 6 || calls == 27 {
         return Status::ReadFault;
     }
-    if calls == 23 {
+    if calls == 28 {
         return Status::Accepted;
     }
-    if calls == 11 || calls == 16 || calls == 21 {
+    if calls == 11 || calls == 16 || calls == 21 || calls == 26 {
         return Status::WriteFault;
     }
     Status::DiskFault
 }
 
-// How many creates are there again: behind the write of a gate only where the fill is that of an open gate.
+// How many events are there again: behind the write of a gate only where the fill is that of an open gate.
 fn kept_at(calls: u64, fill: u8) -> u64 {
     if calls < 10 {
         return 0;
     }
-    if calls > 20 {
-        return 3;
+    if calls > 25 {
+        return 4;
     }
     let count = (calls - 10) / 5;
     if (calls - 10) % 5 == 0 && fill != 165 {
@@ -107,24 +203,26 @@ fn kept_at(calls: u64, fill: u8) -> u64 {
     count + 1
 }
 
+// What the same script is answered over a store of its first events.
 fn replies_after(kept: u64) -> &'static [u8] {
     match kept {
-        0 => b"ok a\nok b\nok c\n",
-        1 => b"no 11 IdInUse\nok b\nok c\n",
-        2 => b"no 11 IdInUse\nno 11 IdInUse\nok c\n",
-        _ => b"no 11 IdInUse\nno 11 IdInUse\nno 11 IdInUse\n",
+        0 => b"ok\n[]\nok 1 0 trunk\nok a\nok b\n",
+        1 => b"no 3 AlreadyInit\n[]\nok 1 0 trunk\nok a\nok b\n",
+        2 => b"no 3 AlreadyInit\n[]\nok 2 0 trunk\nok a\nok b\n",
+        3 => b"no 3 AlreadyInit\n[]\nok 2 0 trunk\nno 11 IdInUse\nok b\n",
+        _ => b"no 3 AlreadyInit\n[]\nok 2 0 trunk\nno 11 IdInUse\nno 11 IdInUse\n",
     }
 }
 
 #[test]
-fn a_stop_behind_any_call_leaves_the_first_creates_whole(rt: HostRuntime) -> Result<(), Fail> {
+fn a_stop_behind_any_call_leaves_the_first_events_whole(rt: HostRuntime) -> Result<(), Fail> {
     let alloc = rt.alloc();
-    for calls in 0..24 {
-        let mut fuse = FuseHost::new(over(alloc, THREE, Vec::new(alloc))?, calls);
+    for calls in 0..29 {
+        let mut fuse = FuseHost::new(over(alloc, opening(alloc, TWO)?, Vec::new(alloc)), calls);
         assert_eq!(&rt; serve(alloc, &mut fuse), status_at(calls), "{calls}");
         let host = fuse.into_inner();
-        for fill in 0..=u8::MAX {
-            let mut again = over(alloc, THREE, host.stop_image(fill)?)?;
+        for fill in [0, 1, 164, 165, 166, 255] {
+            let mut again = over(alloc, opening(alloc, TWO)?, host.stop_image(fill)?);
             let _ = serve(alloc, &mut again);
             assert_eq!(&rt;
                 again.said(),
@@ -139,11 +237,13 @@ fn a_stop_behind_any_call_leaves_the_first_creates_whole(rt: HostRuntime) -> Res
 #[test]
 fn a_file_of_no_events_is_damaged_at_its_place(rt: HostRuntime) -> Result<(), Fail> {
     let alloc = rt.alloc();
-    let mut twice = STORE_OF_A[..55].to_vec(alloc)?;
-    twice.extend_from_slice(&STORE_OF_A[16..])?;
-    let mut cut = twice[..90].to_vec(alloc)?;
-    cut[73] = b'b';
-    let table: [(&[u8], Status); 7] = [
+    let store = store_of_two(alloc)?;
+    assert_eq!(&rt; store.len(), 418);
+    let mut twice = store[..378].to_vec(alloc)?;
+    twice.extend_from_slice(&store[339..])?;
+    let mut abstract_class = store.as_slice().to_vec(alloc)?;
+    abstract_class[407] = 1;
+    let table: [(&[u8], Status); 8] = [
         (&[0; 40], Status::Damaged { at: 0 }),
         (&[0; 10], Status::Accepted),
         (b"EMFSTORE\0\0\0\x01\0\0\0\0\xa5", Status::Accepted),
@@ -151,12 +251,16 @@ fn a_file_of_no_events_is_damaged_at_its_place(rt: HostRuntime) -> Result<(), Fa
             b"EMFSTORE\0\0\0\x01\0\0\0\0\xa5\xff\xff\xff\xff",
             Status::Damaged { at: 16 },
         ),
-        (&STORE_OF_A, Status::Accepted),
-        (&twice, Status::Damaged { at: 55 }),
-        (&cut, Status::Damaged { at: 55 }),
+        (
+            b"EMFSTORE\0\0\0\x01\0\0\0\0\xa5\0\0\0\x09\x02\0\0\0\0\0\0\0\0\0",
+            Status::Damaged { at: 16 },
+        ),
+        (&store, Status::Accepted),
+        (&twice, Status::Damaged { at: 378 }),
+        (&abstract_class, Status::Damaged { at: 378 }),
     ];
     for (file, want) in table {
-        let mut host = over(alloc, b"", file.to_vec(alloc)?)?;
+        let mut host = over(alloc, Vec::new(alloc), file.to_vec(alloc)?);
         assert_eq!(&rt; serve(alloc, &mut host), want);
         assert_eq!(&rt; host.said(), b"".as_slice());
     }
@@ -166,12 +270,15 @@ fn a_file_of_no_events_is_damaged_at_its_place(rt: HostRuntime) -> Result<(), Fa
 #[test]
 fn a_reply_is_said_before_the_next_line_is_asked_for(rt: HostRuntime) -> Result<(), Fail> {
     let alloc = rt.alloc();
+    let mut first = b"init\n".to_vec(alloc)?;
+    first.extend_from_slice(METAMODEL)?;
+    first.extend_from_slice(b".\n")?;
     let mut pieces = Vec::new(alloc);
-    pieces.push(A.to_vec(alloc)?)?;
-    pieces.push(b"create 1 Node / b\n".to_vec(alloc)?)?;
+    pieces.push(first)?;
+    pieces.push(b"checkout 0\n".to_vec(alloc)?)?;
     let mut host = TalkHost::new(alloc, pieces, Vec::new(alloc));
     assert_eq!(&rt; serve(alloc, &mut host), Status::Accepted);
-    assert_eq!(&rt; host.said(), b"ok a\nok b\n".as_slice());
+    assert_eq!(&rt; host.said(), OPENED);
     Ok(())
 }
 
@@ -180,7 +287,7 @@ fn words_of_no_form_end_it_at_once(rt: HostRuntime) -> Result<(), Fail> {
     let alloc = rt.alloc();
     let mut words = Vec::new(alloc);
     words.push(String::from_str(alloc, "fly")?)?;
-    let mut host = over(alloc, A, Vec::new(alloc))?;
+    let mut host = over(alloc, opening(alloc, TWO)?, Vec::new(alloc));
     assert_eq!(&rt; run(alloc, words.as_slice(), &mut host), Status::BadWords);
     assert_eq!(&rt; host.file(), b"".as_slice());
     Ok(())

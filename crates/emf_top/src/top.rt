@@ -1,18 +1,19 @@
 //! The top call.
-ghost use Rattle.std.specs.Prelude.{◌≡◌, ◌≢◌, ◌⊎◌, ◌+◌, ◌≤◌, ◌↔◌, ◌++◌, false, ℕ, List, [], ◌∷◌, IsTrue, length, None};
+ghost use Rattle.std.specs.Prelude.{◌≡◌, ◌≢◌, ◌⊎◌, ◌+◌, ◌≤◌, ◌↔◌, ◌++◌, ◌||◌, false, Bool, ℕ, List, [], ◌∷◌, IsTrue, length, None};
 ghost use Rattle.host_port.specs.Host.{disk_now, said_now, Rose, GoesOn, Throughout, AddsPart};
 ghost use Rattle.host_port.specs.Cut.{script_from};
 ghost use Rattle.command_runs.specs.Runs.{played};
 ghost use Rattle.command_runs.specs.Stops.{IsRunning, IsOpenedRunning};
-ghost use Rattle.plain_repository.specs.declared.Event.{Event};
-ghost use Rattle.plain_repository.specs.Commands.{takes_block};
+ghost use Rattle.op_form.specs.declared.event.Event.{Event};
+ghost use Rattle.plain_repository.specs.Lines.{takes_block};
 ghost use Rattle.plain_repository.specs.Repository.{State, empty, play};
 ghost use Rattle.plain_repository.specs.Store.{Stands, StandsForNoEvents, IsDamaged};
-ghost use Rattle.emf_top.specs.Session.{Holds};
+ghost use Rattle.emf_top.specs.Session.{Holds, answered_as};
 ghost use Rattle.emf_top.specs.Headline.{script, said_by, made_by, least_of, outcome, code_of, Ends, input_status, session_status, NothingRose, IsKept, IsFoundDamaged};
 
+use crate::item::next_item;
 use crate::session::{Answered, Session, SessionFault};
-use host_port::{Got, Host, LineFault, Lines};
+use host_port::{Host, LineFault, Lines};
 use std::alloc::Global;
 
 /// How a run ended.
@@ -149,19 +150,26 @@ fn run_store<H: Host>(alloc: Global, host: &mut H) -> Status
     serve(alloc, host, &mut session, &mut lines)
 }
 
+/// Whether a reply was a refusal, once more was answered.
+fn refused_so_far(refused: bool, answered: Answered) -> bool
+    ensures { (last : Bool) → answered ≡ answered_as last → result ≡ (refused || last) }
+{
+    refused || answered == Answered::Refused
+}
+
 /// Answers the lines that are left.
 fn serve<H: Host>(alloc: Global, host: &mut H, session: &mut Session, lines: &mut Lines) -> Status
     requires fresh { lines.old.failed ≡ false }
     requires whole { session.old.journal.broken ≡ false }
-    requires end { session.old.repo.state.end ≡ session.old.journal.end }
-    requires holds { IsTrue (H.told host.old).tells → ((made : List Event) × Holds (disk_now (H.told host.old)) session.old.repo.state session.old.journal.end made) }
-    ensures ends { IsTrue (H.told host.old).tells → (made : List Event) → Holds (disk_now (H.told host.old)) session.old.repo.state session.old.journal.end made
-        → Ends session.old.repo.state (script_from takes_block lines.old.place (lines.old.pending ++ (H.told host.old).left)) made (H.told host.old) (H.told host.new) result }
-    ensures part { (made : List Event) → Holds (disk_now (H.told host.old)) session.old.repo.state session.old.journal.end made
-        → Throughout (H.told host.old) (H.told host.new) (λ _ said. AddsPart (said_now (H.told host.old)) (said_by session.old.repo.state (script_from takes_block lines.old.place (lines.old.pending ++ (H.told host.old).left))) said) }
-    ensures moments { (made : List Event) → Holds (disk_now (H.told host.old)) session.old.repo.state session.old.journal.end made
-        → Throughout (H.told host.old) (H.told host.new) (IsRunning Stands made (made_by session.old.repo.state (script_from takes_block lines.old.place (lines.old.pending ++ (H.told host.old).left)))
-        (least_of session.old.repo.state (script_from takes_block lines.old.place (lines.old.pending ++ (H.told host.old).left))) (said_now (H.told host.old))) }
+    requires end { session.old.repo.end ≡ session.old.journal.end }
+    requires holds { IsTrue (H.told host.old).tells → ((made : List Event) × Holds (disk_now (H.told host.old)) session.old.repo session.old.journal.end made) }
+    ensures ends { IsTrue (H.told host.old).tells → (made : List Event) → Holds (disk_now (H.told host.old)) session.old.repo session.old.journal.end made
+        → Ends session.old.repo (script_from takes_block lines.old.place (lines.old.pending ++ (H.told host.old).left)) made (H.told host.old) (H.told host.new) result }
+    ensures part { (made : List Event) → Holds (disk_now (H.told host.old)) session.old.repo session.old.journal.end made
+        → Throughout (H.told host.old) (H.told host.new) (λ _ said. AddsPart (said_now (H.told host.old)) (said_by session.old.repo (script_from takes_block lines.old.place (lines.old.pending ++ (H.told host.old).left))) said) }
+    ensures moments { (made : List Event) → Holds (disk_now (H.told host.old)) session.old.repo session.old.journal.end made
+        → Throughout (H.told host.old) (H.told host.new) (IsRunning Stands made (made_by session.old.repo (script_from takes_block lines.old.place (lines.old.pending ++ (H.told host.old).left)))
+        (least_of session.old.repo (script_from takes_block lines.old.place (lines.old.pending ++ (H.told host.old).left))) (said_now (H.told host.old))) }
     ensures words { result ≢ Status.BadWords }
     ensures read { result ≡ Status.ReadFault → Rose (H.told host.old).take_faults (H.told host.new).take_faults }
     ensures write { result ≡ Status.WriteFault → Rose (H.told host.old).say_faults (H.told host.new).say_faults }
@@ -171,17 +179,16 @@ fn serve<H: Host>(alloc: Global, host: &mut H, session: &mut Session, lines: &mu
 {
     let mut refused = false;
     'commands: loop {
-        match lines.next_line(host) {
+        match next_item(alloc, lines, host) {
             Err(fault) => return status_of_input(fault),
-            Ok(Got::End) => {
+            Ok(None) => {
                 if refused {
                     return Status::Refused;
                 }
                 return Status::Accepted;
             }
-            Ok(Got::Line) => match session.step(alloc, host, lines.text()) {
-                Ok(Answered::Accepted) => {}
-                Ok(Answered::Refused) => refused = true,
+            Ok(Some(item)) => match session.step(alloc, host, &item) {
+                Ok(answered) => refused = refused_so_far(refused, answered),
                 Err(fault) => return status_of(fault),
             },
         }

@@ -1,19 +1,20 @@
 -- A file stands for one list of events at most, and a damaged one for none.
-use Rattle.std.proofs.Common.{◌≡◌, ◌≢◌, ◌⊎◌, inl, inr, ⊎_elim, ℕ, suc, ◌+◌, ◌<◌, ◌≤◌, List, [], ◌∷◌, ◌++◌, Bool, true, false, ◌&&◌, length, take, drop, get_or, refl, sym, ◌∙◌, ap, subst, arith, append_assoc}
+use Rattle.std.proofs.Common.{◌≡◌, ◌≢◌, inl, inr, ℕ, suc, ◌+◌, List, [], ◌∷◌, ◌++◌, Bool, ◌&&◌, length, drop, get_or, refl, sym, ◌∙◌, ap, subst, arith, append_assoc}
 use Rattle.std.specs.Prelude.{IsTrue, map, All}
 use Rattle.std.proofs.lemmas.List.{get_or-drop}
-use Rattle.commit_journal.specs.Journal.{StandsFor, ReadsTo, EndsAt, IsStuck, IsNoHeader, IsShort, records, be32, new_file, MountedFrom}
+use Rattle.commit_journal.specs.Journal.{StandsFor, ReadsTo, EndsAt, IsShort, records, be32, MountedFrom}
 use Rattle.commit_journal.proofs.Unique.{one_meaning, form_same, rest_same, behind_header}
-use Rattle.commit_journal.proofs.Mounting.{length-new_file, new_ends}
+use Rattle.commit_journal.proofs.Mounting.{length-new_file}
 use Rattle.command_runs.specs.Runs.{played}
-use Rattle.plain_repository.specs.declared.Event.{Event}
-use Rattle.plain_repository.specs.Repository.{State, empty, form, play, playable, are_playable}
-use Rattle.plain_repository.specs.Store.{Stands, StandsForNoEvents, IsBroken, IsDamaged, IsUnplayable, Rests}
+use Rattle.op_form.specs.declared.event.Event.{Event}
+use Rattle.op_form.specs.Events.{event_form}
+use Rattle.plain_repository.specs.Repository.{State, empty, play, playable, are_playable}
+use Rattle.plain_repository.specs.Store.{Stands}
 use Rattle.plain_repository.proofs.Forms.{forms_are, and_left, and_right}
 
 -- a file whose records end at a closed gate stands for their events alone
-pub one_store : (file : List ℕ) (first made : List Event) (end : ℕ) → Stands file first → EndsAt file (map form made) end → IsTrue (are_playable empty made) → first ≡ made
-one_store file first made end stood ends could = forms_are empty first made stood.playable could (one_meaning file (map form first) (map form made) end stood.forms ends)
+pub one_store : (file : List ℕ) (first made : List Event) (end : ℕ) → Stands file first → EndsAt file (map event_form made) end → IsTrue (are_playable empty made) → first ≡ made
+one_store file first made end stood ends could = forms_are empty first made stood.playable could (one_meaning file (map event_form first) (map event_form made) end stood.forms ends)
 
 first_of : (forms : List (List ℕ)) (f : List ℕ) → All IsShort (f ∷ forms) → IsShort f
 first_of forms f all = all 0 [] (omega arith)
@@ -40,28 +41,28 @@ reads_first file a b p q reads ends = first_forms a b (drop p file) (drop q file
     (λ open_. ends.closed (ap (λ (n : ℕ). get_or file n 0) (let same : q ≡ q + 0 = omega arith in same) ∙ sym (get_or-drop q file 0 0) ∙ open_)) reads.sizes ends.reads.sizes
 
 -- the events of a list of forms with one more
-pub split_last : (events : List Event) (forms : List (List ℕ)) (bytes : List ℕ) (more : List (List ℕ)) (s : State) → IsTrue (are_playable s events) → map form events ≡ (forms ++ bytes ∷ []) ++ more
-    → (first : List Event) × (event : Event) × (map form first ≡ forms) × (form event ≡ bytes) × IsTrue (are_playable s first) × IsTrue (playable (played play s first) event)
+pub split_last : (events : List Event) (forms : List (List ℕ)) (bytes : List ℕ) (more : List (List ℕ)) (s : State) → IsTrue (are_playable s events) → map event_form events ≡ (forms ++ bytes ∷ []) ++ more
+    → (first : List Event) × (event : Event) × (map event_form first ≡ forms) × (event_form event ≡ bytes) × IsTrue (are_playable s first) × IsTrue (playable (played play s first) event)
 split_last [] [] bytes more s could is = absurd cc
 split_last [] (f ∷ forms) bytes more s could is = absurd cc
-split_last (e ∷ events) [] bytes more s could is = let same : form e ≡ bytes = cc in ([], e, refl, same, refl, and_left _ _ could)
+split_last (e ∷ events) [] bytes more s could is = let same : event_form e ≡ bytes = cc in ([], e, refl, same, refl, and_left _ _ could)
 split_last (e ∷ events) (f ∷ forms) bytes more s could is =
-    let head : form e ≡ f = cc in
-    let tail : map form events ≡ (forms ++ bytes ∷ []) ++ more = cc in
+    let head : event_form e ≡ f = cc in
+    let tail : map event_form events ≡ (forms ++ bytes ∷ []) ++ more = cc in
     let rest = split_last events forms bytes more (play s e) (and_right _ _ could) tail in (
       e ∷ rest.0,
       rest.1,
-      ap (λ (l : List ℕ). l ∷ map form rest.0) head ∙ ap (λ (l : List (List ℕ)). f ∷ l) rest.2,
+      ap (λ (l : List ℕ). l ∷ map event_form rest.0) head ∙ ap (λ (l : List (List ℕ)). f ∷ l) rest.2,
       rest.3,
       subst (λ (b : Bool). IsTrue (b && are_playable (play s e) rest.0)) (sym (and_left _ _ could)) rest.4,
       rest.5,
     )
 
 -- no events have these forms, where the bytes of the last are no event that can be made
-pub none_has : (made events : List Event) (bytes : List ℕ) (more : List (List ℕ)) → IsTrue (are_playable empty made) → ((event : Event) → IsTrue (playable (played play empty made) event) → bytes ≡ form event → ⊥)
-    → IsTrue (are_playable empty events) → map form events ≡ (map form made ++ bytes ∷ []) ++ more → ⊥
+pub none_has : (made events : List Event) (bytes : List ℕ) (more : List (List ℕ)) → IsTrue (are_playable empty made) → ((event : Event) → IsTrue (playable (played play empty made) event) → bytes ≡ event_form event → ⊥)
+    → IsTrue (are_playable empty events) → map event_form events ≡ (map event_form made ++ bytes ∷ []) ++ more → ⊥
 none_has made events bytes more could none could_all is =
-    let split = split_last events (map form made) bytes more empty could_all is in
+    let split = split_last events (map event_form made) bytes more empty could_all is in
     let same : split.0 ≡ made = forms_are empty split.0 made split.4 could split.2 in
     none split.1 (subst (λ (l : List Event). IsTrue (playable (played play empty l) split.1)) same split.5) (sym split.3)
 

@@ -1,4 +1,3 @@
-pub mod Commands
-pub mod Replies
+pub mod Lines
 pub mod Repository
 pub mod Store

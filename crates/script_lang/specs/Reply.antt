@@ -2,7 +2,7 @@
 use Rattle.std.specs.Prelude.{ℕ, List, [], ◌∷◌, ◌++◌, codes}
 use Rattle.std.specs.Fmt.{decimal}
 use Rattle.script_lang.specs.declared.reply.Refusal.{Refusal}
-use Rattle.script_lang.specs.declared.reply.Refusal.TheVariants.{BadLine, NotInit, AlreadyInit, BadMetamodel, NoWorkspace, NoVersion, NoBranch, IdInUse, BadId, NoClass, Abstract, HistoryFull, JournalFull}
+use Rattle.script_lang.specs.declared.reply.Refusal.TheVariants.{BadLine, NotInit, AlreadyInit, BadMetamodel, NoWorkspace, NoVersion, NoBranch, IdInUse, BadId, NoClass, Abstract, HistoryFull, TooLarge, JournalFull}
 use Rattle.script_lang.specs.declared.reply.Last.{Last}
 use Rattle.script_lang.specs.declared.reply.Last.TheVariants as last
 use Rattle.script_lang.specs.declared.reply.Reply.{Reply}
@@ -21,6 +21,7 @@ refusal_text BadId = codes "12 BadId"
 refusal_text NoClass = codes "13 NoClass"
 refusal_text Abstract = codes "14 Abstract"
 refusal_text HistoryFull = codes "33 HistoryFull"
+refusal_text TooLarge = codes "34 TooLarge"
 refusal_text JournalFull = codes "35 JournalFull"
 
 -- `ok`, with its words where there are any

@@ -33,6 +33,8 @@ pub enum Refusal {
     Abstract,
     /// 33: as many events stand in the history as it can hold.
     HistoryFull,
+    /// 34: the event's record would be longer than a record may be.
+    TooLarge,
     /// 35: the event's record would pass the journal's limit.
     JournalFull,
 }
@@ -58,6 +60,7 @@ impl fmt::Display for Refusal {
             Refusal::NoClass => f.write_str("13 NoClass"),
             Refusal::Abstract => f.write_str("14 Abstract"),
             Refusal::HistoryFull => f.write_str("33 HistoryFull"),
+            Refusal::TooLarge => f.write_str("34 TooLarge"),
             Refusal::JournalFull => f.write_str("35 JournalFull"),
         }
     }

@@ -74,7 +74,7 @@ fn lines_are_read(rt: HostRuntime) -> Result<(), Fail> {
     Ok(())
 }
 
-const REFUSALS: [(Refusal, &[u8]); 13] = [
+const REFUSALS: [(Refusal, &[u8]); 14] = [
     (Refusal::BadLine { column: 10 }, b"no 1 BadLine 10\n"),
     (Refusal::NotInit, b"no 2 NotInit\n"),
     (Refusal::AlreadyInit, b"no 3 AlreadyInit\n"),
@@ -87,6 +87,7 @@ const REFUSALS: [(Refusal, &[u8]); 13] = [
     (Refusal::NoClass, b"no 13 NoClass\n"),
     (Refusal::Abstract, b"no 14 Abstract\n"),
     (Refusal::HistoryFull, b"no 33 HistoryFull\n"),
+    (Refusal::TooLarge, b"no 34 TooLarge\n"),
     (Refusal::JournalFull, b"no 35 JournalFull\n"),
 ];
 

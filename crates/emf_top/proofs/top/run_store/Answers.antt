@@ -43,13 +43,13 @@ pub returns-in_default-clause-damages : goal.returns-in_default-clause-damages
 returns-in_default-clause-damages g c = λ told none. inr (inr refl)
 
 pub returns-clause-ends : goal.returns-clause-ends
-returns-clause-ends g c = λ told first stood. whole_ends (g.H.Host.told c.args.host.now) (g.H.Host.told c.mount.new.host) c.mount.ensures.course c.mount.ensures.said c.mount.ensures.moments first stood (played play empty first) (script (g.H.Host.told c.args.host.now).left) (g.H.Host.told c.serve.new.host) c.mount.ensures.input c.serve.ensures.course c.in-Ok.session.repo.state c.in-Ok.session.journal.end c.in-Ok-new.lines.place c.in-Ok-new.lines.pending c.in-Ok-new.ensures.start.1 c.in-Ok-new.ensures.start.0 refl refl c.in-Ok.ensures.holds c.serve.result c.serve.ensures.ends told
+returns-clause-ends g c = λ told first stood. whole_ends (g.H.Host.told c.args.host.now) (g.H.Host.told c.mount.new.host) c.mount.ensures.course c.mount.ensures.said c.mount.ensures.moments first stood (played play empty first) (script (g.H.Host.told c.args.host.now).left) (g.H.Host.told c.serve.new.host) c.mount.ensures.input c.serve.ensures.course c.in-Ok.session.repo c.in-Ok.session.journal.end c.in-Ok-new.lines.place c.in-Ok-new.lines.pending c.in-Ok-new.ensures.start.1 c.in-Ok-new.ensures.start.0 refl refl c.in-Ok.ensures.holds c.serve.result c.serve.ensures.ends told
 
 pub returns-clause-part : goal.returns-clause-part
-returns-clause-part g c = λ first stood. whole_part (g.H.Host.told c.args.host.now) (g.H.Host.told c.mount.new.host) c.mount.ensures.course c.mount.ensures.said c.mount.ensures.moments first stood (played play empty first) (script (g.H.Host.told c.args.host.now).left) (g.H.Host.told c.serve.new.host) c.mount.ensures.input c.serve.ensures.course c.in-Ok.session.repo.state c.in-Ok.session.journal.end c.in-Ok-new.lines.place c.in-Ok-new.lines.pending c.in-Ok-new.ensures.start.1 c.in-Ok-new.ensures.start.0 refl refl c.in-Ok.ensures.holds c.serve.ensures.part
+returns-clause-part g c = λ first stood. whole_part (g.H.Host.told c.args.host.now) (g.H.Host.told c.mount.new.host) c.mount.ensures.course c.mount.ensures.said c.mount.ensures.moments first stood (played play empty first) (script (g.H.Host.told c.args.host.now).left) (g.H.Host.told c.serve.new.host) c.mount.ensures.input c.serve.ensures.course c.in-Ok.session.repo c.in-Ok.session.journal.end c.in-Ok-new.lines.place c.in-Ok-new.lines.pending c.in-Ok-new.ensures.start.1 c.in-Ok-new.ensures.start.0 refl refl c.in-Ok.ensures.holds c.serve.ensures.part
 
 pub returns-clause-moments : goal.returns-clause-moments
-returns-clause-moments g c = λ first stood. whole_moments (g.H.Host.told c.args.host.now) (g.H.Host.told c.mount.new.host) c.mount.ensures.course c.mount.ensures.said c.mount.ensures.moments first stood (played play empty first) (script (g.H.Host.told c.args.host.now).left) (g.H.Host.told c.serve.new.host) c.mount.ensures.input c.serve.ensures.course c.in-Ok.session.repo.state c.in-Ok.session.journal.end c.in-Ok-new.lines.place c.in-Ok-new.lines.pending c.in-Ok-new.ensures.start.1 c.in-Ok-new.ensures.start.0 refl refl c.in-Ok.ensures.holds c.serve.ensures.moments
+returns-clause-moments g c = λ first stood. whole_moments (g.H.Host.told c.args.host.now) (g.H.Host.told c.mount.new.host) c.mount.ensures.course c.mount.ensures.said c.mount.ensures.moments first stood (played play empty first) (script (g.H.Host.told c.args.host.now).left) (g.H.Host.told c.serve.new.host) c.mount.ensures.input c.serve.ensures.course c.in-Ok.session.repo c.in-Ok.session.journal.end c.in-Ok-new.lines.place c.in-Ok-new.lines.pending c.in-Ok-new.ensures.start.1 c.in-Ok-new.ensures.start.0 refl refl c.in-Ok.ensures.holds c.serve.ensures.moments
 
 pub returns-clause-damages : goal.returns-clause-damages
 returns-clause-damages g c = λ told none. let had = c.in-Ok.ensures.holds told in absurd (none had.0 had.2)

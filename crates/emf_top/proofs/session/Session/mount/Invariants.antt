@@ -3,7 +3,7 @@ use Rattle.emf_top.proofs.Opening.{Replays}
 use Rattle.emf_top.proofs.session.Session.mount.Given as goal
 
 abbrev pub invariant-records : goal.invariant-records
-invariant-records g l = Replays (g.H.Host.told l.fn.host) (g.H.Host.told l.host) l.walk l.repo.state
+invariant-records g l = Replays (g.H.Host.told l.fn.host) (g.H.Host.told l.host) l.walk l.repo
 
 abbrev pub decreases-records : goal.decreases-records
 decreases-records g l = 2 ^ 40 - l.walk.next

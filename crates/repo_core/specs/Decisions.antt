@@ -1,0 +1,33 @@
+-- A decision of the repository in memory, beside the plain repository's.
+use Rattle.std.specs.Prelude.{◌≡◌, ℕ, ◌+◌, ◌≤◌, ◌<◌, ◌-◌, ◌^◌, List, length, Option, Some, None, IsTrue}
+use Rattle.op_form.specs.declared.event.Event.{Event}
+use Rattle.op_form.specs.Events.{event_form}
+use Rattle.plain_repository.specs.Repository.{State, playable}
+use Rattle.plain_repository.specs.Repository as plain
+use Rattle.repo_core.specs.declared.deciding.Decision.{Decision}
+use Rattle.repo_core.specs.declared.deciding.Made.{Made}
+
+-- the event of a decision
+abbrev pub event_of : Option Made → Option Event
+event_of None = None
+event_of (Some made) = Some made.event
+
+-- a decision as the plain repository has it
+abbrev pub seen : Decision → plain.Decision
+seen decision = record { reply = decision.reply; event = event_of decision.made }
+
+-- an event that can be made on a state has its bytes beside it, and the journal has room for them
+pub record CanMake (state : State) (made : Made) : Type 0 where
+  pub form_is : made.form.items ≡ event_form made.event
+  pub playable : IsTrue (playable state made.event)
+  pub short : length (event_form made.event) ≤ 16777211
+  pub fits : state.end + length (event_form made.event) + 6 ≤ 2 ^ 40
+
+abbrev pub CanMakeIt : State → Option Made → Type 0
+CanMakeIt state None = Unit {0}
+CanMakeIt state (Some made) = CanMake state made
+
+-- the text of a block is shorter than the texts that a metamodel is read from may be
+abbrev pub IsShortBlock : Option (List ℕ) → Type 0
+IsShortBlock None = Unit {0}
+IsShortBlock (Some text) = length text < 2 ^ 32 - 1

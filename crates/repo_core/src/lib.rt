@@ -1,0 +1,9 @@
+//! The repository in memory: what a line is answered, the event that it makes, and what an event makes of the repository.
+#![tactic(auto)]
+
+mod deciding;
+mod repo;
+mod workspace;
+
+pub use deciding::{Decision, Made};
+pub use repo::{ReplayFault, Repo};
