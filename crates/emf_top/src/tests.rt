@@ -140,30 +140,35 @@ fn before_there_is_a_metamodel_only_init_is_accepted(rt: HostRuntime) -> Result<
     Ok(())
 }
 
-// The store of the opening and two creations: the header, four records behind open gates, and the closed gate.
-fn store_of_two(alloc: Global) -> Result<Vec<u8>, AllocError> {
+// The store of the opening and creations: the header, a record behind an open gate for each event, and the closed gate. A
+// creation is the id's one byte, the number of the class and the rank over 2^32.
+fn store_of(alloc: Global, creations: &[(u8, u8, u8)]) -> Result<Vec<u8>, AllocError> {
     let mut store = b"EMFSTORE\0\0\0\x01\0\0\0\0\xa5\0\0\x01\x30\x01\0\0\x01\x2b".to_vec(alloc)?;
     store.extend_from_slice(METAMODEL)?;
     store.extend_from_slice(b"\xa5\0\0\0\x09\x02\0\0\0\0\0\0\0\0")?;
-    for (name, rank) in [(b'a', 1), (b'b', 2)] {
+    for (name, class, rank) in creations {
         store.extend_from_slice(
             b"\xa5\0\0\0\x22\x03\0\0\0\x01\0\0\0\x01\x01\x01\0\0\0\x01\x08\0\0\0\x01",
         )?;
-        store.push(name)?;
-        store.extend_from_slice(b"\0\0\0\0\0\0\0\0")?;
-        store.push(rank)?;
+        store.push(*name)?;
+        store.extend_from_slice(b"\0\0\0")?;
+        store.push(*class)?;
+        store.extend_from_slice(b"\0\0\0\0")?;
+        store.push(*rank)?;
         store.extend_from_slice(b"\0\0\0\0")?;
     }
     store.push(0)?;
     Ok(store)
 }
 
+const STORED_TWO: &[(u8, u8, u8)] = &[(b'a', 0, 1), (b'b', 0, 2)];
+
 #[test]
 fn the_store_of_two_creations_is_these_bytes_which_are_read_again(
     rt: HostRuntime,
 ) -> Result<(), Fail> {
     let alloc = rt.alloc();
-    let store = store_of_two(alloc)?;
+    let store = store_of(alloc, STORED_TWO)?;
     let mut host = over(alloc, opening(alloc, TWO)?, Vec::new(alloc));
     assert_eq!(&rt; serve(alloc, &mut host), Status::Accepted);
     assert_eq!(&rt; host.file(), store.as_slice());
@@ -237,13 +242,12 @@ fn a_stop_behind_any_call_leaves_the_first_events_whole(rt: HostRuntime) -> Resu
 #[test]
 fn a_file_of_no_events_is_damaged_at_its_place(rt: HostRuntime) -> Result<(), Fail> {
     let alloc = rt.alloc();
-    let store = store_of_two(alloc)?;
-    assert_eq!(&rt; store.len(), 418);
-    let mut twice = store[..378].to_vec(alloc)?;
-    twice.extend_from_slice(&store[339..])?;
-    let mut abstract_class = store.as_slice().to_vec(alloc)?;
-    abstract_class[407] = 1;
-    let table: [(&[u8], Status); 8] = [
+    let store = store_of(alloc, STORED_TWO)?;
+    let twice = store_of(alloc, &[(b'a', 0, 1), (b'a', 0, 2)])?;
+    let abstract_class = store_of(alloc, &[(b'a', 0, 1), (b'b', 1, 2)])?;
+    let no_class = store_of(alloc, &[(b'a', 0, 1), (b'b', 2, 2)])?;
+    let no_rank = store_of(alloc, &[(b'a', 0, 1), (b'b', 0, 3)])?;
+    let table: [(&[u8], Status); 10] = [
         (&[0; 40], Status::Damaged { at: 0 }),
         (&[0; 10], Status::Accepted),
         (b"EMFSTORE\0\0\0\x01\0\0\0\0\xa5", Status::Accepted),
@@ -258,6 +262,8 @@ fn a_file_of_no_events_is_damaged_at_its_place(rt: HostRuntime) -> Result<(), Fa
         (&store, Status::Accepted),
         (&twice, Status::Damaged { at: 378 }),
         (&abstract_class, Status::Damaged { at: 378 }),
+        (&no_class, Status::Damaged { at: 378 }),
+        (&no_rank, Status::Damaged { at: 378 }),
     ];
     for (file, want) in table {
         let mut host = over(alloc, Vec::new(alloc), file.to_vec(alloc)?);

@@ -3,6 +3,8 @@
 
 mod deciding;
 mod repo;
+#[cfg(test)]
+mod tests;
 mod workspace;
 
 pub use deciding::{Decision, Made};

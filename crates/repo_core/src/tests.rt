@@ -1,0 +1,58 @@
+ghost use Rattle.std.specs.Prelude.{◌<◌, ◌-◌, ◌^◌, length};
+ghost use Rattle.repo_core.specs.Decisions.{IsShortBlock};
+
+use crate::{ReplayFault, Repo};
+use ecore_meta::Text;
+use script_lang::print_reply;
+use std::alloc::Global;
+use std::test::Fail;
+
+// A metamodel with the class Book.
+const METAMODEL: &str =
+    r#"{"eClass":"http://www.eclipse.org/emf/2002/Ecore#//EPackage","name":"lib","nsURI":"http://lib/1","nsPrefix":"lib","eClassifiers":[
+{"eClass":"http://www.eclipse.org/emf/2002/Ecore#//EClass","name":"Book"}]}
+"#;
+
+// The reply to a line, and the bytes of the event that it makes, which is played; none where it makes none.
+fn carried_out(
+    alloc: Global,
+    repo: &mut Repo,
+    line: &str,
+    block: &Option<Text>,
+) -> Result<(Vec<u8>, Vec<u8>), Fail>
+    requires line { length line.now < 2 ^ 32 - 1 }
+    requires block { IsShortBlock block.now }
+{
+    let decision = repo.decide(alloc, line, block)?;
+    let said = print_reply(alloc, &decision.reply)?;
+    let Some(made) = decision.made else {
+        return Ok((said, Vec::new(alloc)));
+    };
+    repo.play(alloc, &made.event, made.form.len())?;
+    Ok((said, made.form))
+}
+
+#[test]
+fn lines_are_answered_and_their_events_are_played_again(rt: HostRuntime) -> Result<(), Fail> {
+    let alloc = rt.alloc();
+    let mut repo = Repo::new(alloc);
+    let text = Text::new(alloc, METAMODEL)?;
+    assert!(&rt; text.as_str().len() < 1000);
+    let (said, init) = carried_out(alloc, &mut repo, "init", &Some(text))?;
+    assert_eq!(&rt; said.as_slice(), b"ok\n".as_slice());
+    let (said, checkout) = carried_out(alloc, &mut repo, "checkout 0", &None)?;
+    assert_eq!(&rt; said.as_slice(), b"[]\nok 1 0 trunk\n".as_slice());
+    assert_eq!(&rt; checkout.as_slice(), b"\x02\0\0\0\0\0\0\0\0".as_slice());
+    let (said, none) = carried_out(alloc, &mut repo, "create 2 Book /", &None)?;
+    assert_eq!(&rt; said.as_slice(), b"no 5 NoWorkspace\n".as_slice());
+    assert_eq!(&rt; none.as_slice(), b"".as_slice());
+    let (said, _) = carried_out(alloc, &mut repo, "create 1 Book /", &None)?;
+    assert_eq!(&rt; said.as_slice(), b"ok w1n1\n".as_slice());
+    assert!(&rt; init.len() < 1000 && checkout.len() < 1000);
+    assert_eq!(&rt; Repo::new(alloc).replay(alloc, &init), Ok(()));
+    assert_eq!(&rt;
+        Repo::new(alloc).replay(alloc, &checkout),
+        Err(ReplayFault::NotPlayable)
+    );
+    Ok(())
+}
