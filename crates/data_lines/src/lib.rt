@@ -1,6 +1,7 @@
 //! Data lines: what the replies to commands show besides their last line. So far the lines of operations and steps.
 #![tactic(auto)]
 
+mod laws;
 mod line;
 mod operation;
 mod step;
@@ -9,5 +10,6 @@ mod tests;
 mod typed;
 mod words;
 
+pub use laws::law_of_taken_steps;
 pub use operation::{open_lines, operation_lines};
 pub use typed::{are_typed, is_typed, is_typed_package};

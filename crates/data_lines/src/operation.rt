@@ -11,7 +11,8 @@ use ecore_meta::{List, Metamodel, Text};
 use model_state::{OpKind, Operation, Package, Step};
 use std::alloc::{AllocError, Global};
 
-/// The lines of a package: for each operation `op N KIND`, with N from 1, and then one line a step.
+/// The lines of a package: for each operation `op N KIND`, with N from 1, and then one line a step. That its steps are of
+/// the metamodel is told by `is_typed_package`, and by `law_of_taken_steps` where they were taken.
 #[tactic(auto, unfolding(crate::specs::Lines::operation_lines))]
 pub fn operation_lines(
     alloc: Global,
@@ -29,7 +30,8 @@ pub fn operation_lines(
     Ok(lines)
 }
 
-/// The lines of an open composite: `open NAME`, and then one line a step.
+/// The lines of an open composite: `open NAME`, and then one line a step, as in the lines of a package. That the steps
+/// are of the metamodel is told by `are_typed`, and by `law_of_taken_steps` where they were taken.
 #[tactic(auto, unfolding(crate::specs::Lines::open_lines))]
 pub fn open_lines(
     alloc: Global,

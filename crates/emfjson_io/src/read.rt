@@ -11,7 +11,11 @@ use std::alloc::{AllocError, Global};
 
 /// The value of the type that a text is. A text type takes a JSON string, EBoolean `true` or `false`, a whole number a
 /// number that is written as a whole one and that its bits hold (so neither `1.0` nor `-0`), and an enum a string that
-/// is a literal's text, or else a literal's name. White space around the value is JSON's.
+/// is a literal's text, or else a literal's name. White space may stand around the value.
+///
+/// # Errors
+///
+/// `Bad` where the text is no JSON or no value of the type; `Memory`.
 #[tactic(auto, using(crate::proofs::Fits::in_type))]
 pub fn read_value(
     alloc: Global,
