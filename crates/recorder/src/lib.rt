@@ -10,6 +10,8 @@ mod laws;
 mod many;
 mod operation;
 mod record;
+#[cfg(test)]
+mod tests;
 
 pub use edit_laws::{Edit, EditFault, Recorded};
 pub use laws::law_of_recording;
