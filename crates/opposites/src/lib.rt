@@ -10,6 +10,8 @@ mod look_up;
 mod openings;
 mod reorder;
 mod set_ref;
+#[cfg(test)]
+mod tests;
 mod there;
 mod unlink;
 
