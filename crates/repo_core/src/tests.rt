@@ -1,7 +1,7 @@
 ghost use Rattle.std.specs.Prelude.{◌<◌, ◌-◌, ◌^◌, length};
 ghost use Rattle.repo_core.specs.Decisions.{IsShortBlock};
 
-use crate::{ReplayFault, Repo};
+use crate::{Decision, ReplayFault, Repo};
 use ecore_meta::Text;
 use script_lang::print_reply;
 use std::alloc::Global;
@@ -23,9 +23,9 @@ fn carried_out(
     requires line { length line.now < 2 ^ 32 - 1 }
     requires block { IsShortBlock block.now }
 {
-    let decision = repo.decide(alloc, line, block)?;
-    let said = print_reply(alloc, &decision.reply)?;
-    let Some(made) = decision.made else {
+    let Decision { reply, made } = repo.decide(alloc, line, block)?;
+    let said = print_reply(alloc, &reply)?;
+    let Some(made) = made else {
         return Ok((said, Vec::new(alloc)));
     };
     repo.play(alloc, &made.event, made.form.len())?;
