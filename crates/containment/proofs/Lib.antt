@@ -1,0 +1,11 @@
+pub mod Containers
+pub mod Refused
+pub mod Members
+pub mod Trees
+pub mod Children
+pub mod Outgoing
+pub mod IncomingRows
+pub mod Slots
+pub mod ValuesGone
+pub mod ElementsGone
+pub mod DeleteLaws
