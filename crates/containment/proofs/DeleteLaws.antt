@@ -21,9 +21,11 @@ use Rattle.model_laws.proofs.Runs.{fold_append}
 use Rattle.edit_laws.specs.Rows.{Rows}
 use Rattle.edit_laws.proofs.Clears.{Leads}
 use Rattle.edit_laws.proofs.Creates.{placed_live}
-use Rattle.containment.specs.Deletes.{delete_after, delete_made, gone_made, incoming_made, is_attribute, is_touched, outgoing_made, slots_of, values_made}
-use Rattle.containment.specs.Subtree.{IsForest, IsSubtree, is_among}
-use Rattle.containment.specs.Laws.{DeleteLeads, SubtreeIsBelow, SubtreeIsLive}
+use Rattle.containment.specs.Deletes.{removal_after, removal_made, gone_made, incoming_made, is_attribute, is_touched, outgoing_made, slots_of, values_made}
+use Rattle.containment.specs.Subtree.{is_among, subtree_of}
+use Rattle.containment.proofs.Forests.{IsForest, IsSubtree}
+use Rattle.containment.proofs.Levels.{in_order, subtree_is}
+use Rattle.containment.specs.Laws.{DeleteLeads, SubtreeIsBelow, SubtreeIsInOrder, SubtreeIsLive}
 use Rattle.containment.proofs.Children.{has_children}
 use Rattle.containment.proofs.ElementsGone.{AllLive, Bare, elements_lead, stripped}
 use Rattle.containment.proofs.IncomingRows.{Fresh, gathered, incoming_leads, is_gone}
@@ -139,14 +141,14 @@ module _ (meta : Meta) (m : State) (good : Good meta m) (e : Name) (xs : List Na
         or_true true = refl
         or_true false = refl
 
-    part_gone : fold meta (record m { row = row_left; attr = attr_left }) (gone_made m xs) ≡ Some (delete_after m xs)
+    part_gone : fold meta (record m { row = row_left; attr = attr_left }) (gone_made m xs) ≡ Some (removal_after m xs)
     part_gone =
         let before : State = record m { row = row_left; attr = attr_left } in
         let same_state : before ≡ stripped m attr_left row_left [] = λ i. record { kind = with_none m.kind i; place = with_none m.place i; prank = with_none m.prank i; attr = attr_left; row = row_left } in
         ap (λ (n : State). fold meta n (gone_made m xs)) same_state
         ∙ elements_lead meta m good known attr_left row_left xs (all_live live xs (λ y h. h)) order bare
 
-    pub delete_leads_to : fold meta m (delete_made meta m xs) ≡ Some (delete_after m xs)
+    pub delete_leads_to : fold meta m (removal_made meta m xs) ≡ Some (removal_after m xs)
     delete_leads_to =
         fold_append meta m (record m { row = row_out }) (outgoing_made meta m.row [] references) _ part_out.run
         ∙ fold_append meta (record m { row = row_out }) (record m { row = row_left }) (incoming_made meta m.row references xs) _ part_in.run
@@ -154,10 +156,13 @@ module _ (meta : Meta) (m : State) (good : Good meta m) (e : Name) (xs : List Na
         ∙ part_gone
 
 pub delete_leads : DeleteLeads
-delete_leads meta sound m good e live steps made = ap (fold meta m) made.made ∙ delete_leads_to meta m good e made.within made.subtree sound live
+delete_leads meta sound m good e live = delete_leads_to meta m good e (subtree_of meta m e) (subtree_is meta m good (has_children meta m good) e) sound live
+
+pub subtree_is_in_order : SubtreeIsInOrder
+subtree_is_in_order meta m good e = in_order meta m good (has_children meta m good) e
 
 pub subtree_is_below : SubtreeIsBelow
-subtree_is_below meta m good e xs subtree y up chain = below_is meta m good e xs subtree y up chain
+subtree_is_below meta m good e y up chain = below_is meta m good e (subtree_of meta m e) (subtree_is meta m good (has_children meta m good) e) y up chain
 
 pub subtree_is_live : SubtreeIsLive
-subtree_is_live meta m good e xs live subtree y is = below_live meta m good e xs subtree live y (among_in y xs is)
+subtree_is_live meta m good e live y is = below_live meta m good e (subtree_of meta m e) (subtree_is meta m good (has_children meta m good) e) live y (among_in y (subtree_of meta m e) is)

@@ -1,7 +1,9 @@
 pub mod Containers
 pub mod Refused
 pub mod Members
+pub mod Forests
 pub mod Trees
+pub mod Levels
 pub mod Children
 pub mod Outgoing
 pub mod IncomingRows

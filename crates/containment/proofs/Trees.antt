@@ -9,7 +9,8 @@ use Rattle.model_state.specs.Keys.{Name, id_cmp}
 use Rattle.model_state.specs.State.{State}
 use Rattle.model_state.specs.Good.{Good}
 use Rattle.model_state.specs.Chains.{IsChain}
-use Rattle.containment.specs.Subtree.{IsForest, children_of}
+use Rattle.containment.specs.Subtree.{children_of}
+use Rattle.containment.proofs.Forests.{IsForest}
 use Rattle.containment.proofs.Members.{In, Distinct, in_left, in_right, in_either}
 use Rattle.containment.proofs.Containers.{one_chain}
 
@@ -110,7 +111,7 @@ pub record HasChildren (meta : Meta) (m : State) : Type 0 where
 
 module _ (meta : Meta) (m : State) (good : Good meta m) where
   -- no element is up from itself
-  no_loop : (n : ℕ) (y : Name) → Up m.place (suc n) y y → ⊥
+  pub no_loop : (n : ℕ) (y : Name) → Up m.place (suc n) y y → ⊥
   no_loop n y up =
       let chain = good.places.ends y (Inside up.0 up.1) up.2 in
       let own = subst (λ o. IsChain m.place o chain.0) (sym up.2) chain.1 in

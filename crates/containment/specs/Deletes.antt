@@ -1,5 +1,5 @@
 -- An element goes, with all that it contains: the steps, and the model after it, said without steps.
-use Rattle.std.specs.Prelude.{◌≡◌, ℕ, Bool, not, cond, ◌||◌, List, [], ◌∷◌, ◌++◌, map, unwrap_or, None}
+use Rattle.std.specs.Prelude.{ℕ, Bool, not, cond, ◌||◌, List, [], ◌∷◌, ◌++◌, map, unwrap_or, None}
 use Rattle.std.specs.List.{filter, list_any}
 use Rattle.std.specs.FinMap.{get}
 use Rattle.finite_maps.specs.Sorts.{without}
@@ -17,7 +17,7 @@ use Rattle.model_state.specs.Typing.{kind_of, opposite_of, is_plain, is_attr, is
 use Rattle.edit_laws.specs.Attributes.{put_made}
 use Rattle.edit_laws.specs.ManyValues.{clear_made}
 use Rattle.edit_laws.specs.Rows.{Rows, around, mirror_rank, unlink_step, unlinks}
-use Rattle.containment.specs.Subtree.{IsSubtree, features_of, is_among}
+use Rattle.containment.specs.Subtree.{features_of, is_among, subtree_of}
 
 -- the features of each element whose kind passes a test, by number
 abbrev pub slots_of : Meta → State → (Kind → Bool) → List Name → List AttrKey
@@ -75,9 +75,9 @@ gone_made m [] = []
 gone_made m (x ∷ xs) = gone_made m xs ++ gone_step m x ∷ []
 
 -- ---- all of it
--- the rows out of the elements of a subtree are unlinked, then what is left of those to them; their values go, and then they go themselves
-abbrev pub delete_made : Meta → State → List Name → List Step
-delete_made meta m xs =
+-- the rows out of the elements are unlinked, then what is left of those to them; their values go, and then they go themselves
+abbrev pub removal_made : Meta → State → List Name → List Step
+removal_made meta m xs =
     let references = slots_of meta m is_plain xs in
     outgoing_made meta m.row [] references
     ++ (incoming_made meta m.row references xs
@@ -85,8 +85,8 @@ delete_made meta m xs =
     ++ gone_made m xs))
 
 -- all maps without the elements; a row stays where both its ends stay
-abbrev pub delete_after : State → List Name → State
-delete_after m xs = record {
+abbrev pub removal_after : State → List Name → State
+removal_after m xs = record {
   kind = without (is_among xs) m.kind;
   place = without (is_among xs) m.place;
   prank = without (is_among xs) m.prank;
@@ -94,8 +94,10 @@ delete_after m xs = record {
   row = without (λ (k : RowKey). is_among xs k.0 || is_among xs k.2) m.row;
 }
 
--- the steps are those of a deletion
-pub record IsDelete (meta : Meta) (m : State) (e : Name) (steps : List Step) : Type 0 where
-  pub within : List Name
-  pub subtree : IsSubtree meta m e within
-  pub made : steps ≡ delete_made meta m within
+-- the steps that delete an element with its subtree
+abbrev pub delete_made : Meta → State → Name → List Step
+delete_made meta m e = removal_made meta m (subtree_of meta m e)
+
+-- the model without the subtree of the element
+abbrev pub delete_after : Meta → State → Name → State
+delete_after meta m e = removal_after m (subtree_of meta m e)

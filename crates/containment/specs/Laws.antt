@@ -11,8 +11,8 @@ use Rattle.model_state.specs.Typing.{is_concrete}
 use Rattle.model_state.specs.Good.{Good, Sound}
 use Rattle.model_state.specs.Chains.{IsChain}
 use Rattle.edit_laws.specs.Places.{create_after, create_made}
-use Rattle.containment.specs.Subtree.{IsSubtree, is_among}
-use Rattle.containment.specs.Deletes.{IsDelete, delete_after}
+use Rattle.containment.specs.Subtree.{children_of, each, is_among, subtree_of}
+use Rattle.containment.specs.Deletes.{delete_after, delete_made}
 use Rattle.containment.specs.Refusals.{IsPlace, create_refusal, move_refusal}
 use Rattle.containment.specs.Moves.{IsMove, move_after}
 
@@ -29,14 +29,19 @@ MoveLeads = (meta : Meta) → Sound meta → (m : State) → Good meta m → (e 
 
 -- an element is deleted, with all that it contains
 abbrev pub DeleteLeads : Type 0
-DeleteLeads = (meta : Meta) → Sound meta → (m : State) → Good meta m → (e : Name) → is_live m e ≡ true → (steps : List Step) → (delete : IsDelete meta m e steps)
-    → fold meta m steps ≡ Some (delete_after m delete.within)
+DeleteLeads = (meta : Meta) → Sound meta → (m : State) → Good meta m → (e : Name) → is_live m e ≡ true
+    → fold meta m (delete_made meta m e) ≡ Some (delete_after meta m e)
 
--- the subtree is the element and all that have it among their containers
+-- the subtree is the element, and then the subtrees of its children in order
+abbrev pub SubtreeIsInOrder : Type 0
+SubtreeIsInOrder = (meta : Meta) (m : State) → Good meta m → (e : Name)
+    → subtree_of meta m e ≡ e ∷ each (subtree_of meta m) (children_of meta m e)
+
+-- it is the element and all that have it among their containers
 abbrev pub SubtreeIsBelow : Type 0
-SubtreeIsBelow = (meta : Meta) (m : State) → Good meta m → (e : Name) (xs : List Name) → IsSubtree meta m e xs → (y : Name) (up : List Name) → IsChain m.place (get m.place y) up
-    → is_among xs y ≡ is_among (y ∷ up) e
+SubtreeIsBelow = (meta : Meta) (m : State) → Good meta m → (e : Name) (y : Name) (up : List Name) → IsChain m.place (get m.place y) up
+    → is_among (subtree_of meta m e) y ≡ is_among (y ∷ up) e
 
--- the elements of a subtree are live
+-- its elements are live
 abbrev pub SubtreeIsLive : Type 0
-SubtreeIsLive = (meta : Meta) (m : State) → Good meta m → (e : Name) (xs : List Name) → is_live m e ≡ true → IsSubtree meta m e xs → (y : Name) → is_among xs y ≡ true → is_live m y ≡ true
+SubtreeIsLive = (meta : Meta) (m : State) → Good meta m → (e : Name) → is_live m e ≡ true → (y : Name) → is_among (subtree_of meta m e) y ≡ true → is_live m y ≡ true

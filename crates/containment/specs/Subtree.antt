@@ -1,5 +1,5 @@
 -- An element with all that it contains, in order.
-use Rattle.std.specs.Prelude.{◌≡◌, ℕ, zero, suc, Bool, ◌&&◌, List, [], ◌∷◌, ◌++◌, length, map, Option}
+use Rattle.std.specs.Prelude.{ℕ, zero, suc, Bool, ◌&&◌, List, [], ◌∷◌, ◌++◌, length, map, Option}
 use Rattle.std.specs.List.{filter, list_any}
 use Rattle.std.specs.FinMap.{get}
 use Rattle.finite_maps.specs.Equal.{text_eq}
@@ -8,7 +8,7 @@ use Rattle.ecore_meta.specs.declared.meta.Kind.{Kind}
 use Rattle.model_state.specs.declared.entry.Entry.{Entry}
 use Rattle.model_state.specs.declared.step.Place.TheVariants.{Inside}
 use Rattle.model_state.specs.Keys.{Name}
-use Rattle.model_state.specs.Listing.{children}
+use Rattle.model_state.specs.Listing.{children, ids}
 use Rattle.model_state.specs.State.{State}
 use Rattle.model_state.specs.Steps.{class_has}
 use Rattle.model_state.specs.Typing.{kind_of, contains_kind}
@@ -35,16 +35,19 @@ children_by m e (f ∷ fs) = ids_of (children m.place m.prank (Inside e f)) ++ c
 abbrev pub children_of : Meta → State → Name → List Name
 children_of meta m e = children_by m e (features_of meta contains_kind (get m.kind e))
 
--- the second list is the first, each of its elements followed by all that it contains
-abbrev pub IsForest : Meta → State → List Name → List Name → Type 0
-IsForest meta m [] [] = Unit {0}
-IsForest meta m [] (x ∷ xs) = ⊥
-IsForest meta m (r ∷ rs) [] = ⊥
-IsForest meta m (r ∷ rs) (x ∷ xs) = (x ≡ r) × IsForest meta m (children_of meta m r ++ rs) xs
+-- what a function gives of each item, one after another
+abbrev pub each : (Name → List Name) → List Name → List Name
+each h [] = []
+each h (x ∷ xs) = h x ++ each h xs
 
--- the list is the element, and then the subtrees of its children
-abbrev pub IsSubtree : Meta → State → Name → List Name → Type 0
-IsSubtree meta m e xs = IsForest meta m (e ∷ []) xs
+-- an element with what it contains down to n levels: the element, and then the same of its children in order, a level less
+abbrev pub levels : Meta → State → ℕ → Name → List Name
+levels meta m zero e = []
+levels meta m (suc n) e = e ∷ each (levels meta m n) (children_of meta m e)
+
+-- the subtree of an element: the element, and then the subtrees of its children in order; it has one level more at most than there are live elements
+abbrev pub subtree_of : Meta → State → Name → List Name
+subtree_of meta m e = levels meta m (suc (length (ids m))) e
 
 -- the element is in the list
 abbrev pub is_among : List Name → Name → Bool

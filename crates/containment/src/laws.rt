@@ -1,4 +1,4 @@
-ghost use Rattle.containment.specs.Laws.{CreateLeads, DeleteLeads, MoveLeads, SubtreeIsBelow, SubtreeIsLive};
+ghost use Rattle.containment.specs.Laws.{CreateLeads, DeleteLeads, MoveLeads, SubtreeIsBelow, SubtreeIsInOrder, SubtreeIsLive};
 
 /// The steps of a creation that is not refused lead to a model in which the element is live, last in its place.
 pub fn law_of_creations()
@@ -16,8 +16,10 @@ pub fn law_of_deletions()
     ensures { DeleteLeads }
 {}
 
-/// The subtree of an element is the element and all that have it among their containers.
+/// The subtree of an element is the element and then the subtrees of its children in order, and these are the element and
+/// all that have it among their containers.
 pub fn law_of_subtrees()
+    ensures in_order { SubtreeIsInOrder }
     ensures below { SubtreeIsBelow }
     ensures live { SubtreeIsLive }
 {}
