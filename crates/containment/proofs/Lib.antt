@@ -1,0 +1,13 @@
+pub mod Containers
+pub mod Refused
+pub mod Members
+pub mod Forests
+pub mod Trees
+pub mod Levels
+pub mod Children
+pub mod Outgoing
+pub mod IncomingRows
+pub mod Slots
+pub mod ValuesGone
+pub mod ElementsGone
+pub mod DeleteLaws

@@ -1,0 +1,47 @@
+-- The steps of a call that is not refused can be taken one by one, and lead to the model that the edit is to leave.
+use Rattle.std.specs.Prelude.{◌≡◌, ℕ, List, ◌∷◌, Option, None, Some, true, false}
+use Rattle.std.specs.FinMap.{get}
+use Rattle.ecore_meta.specs.Meta.{Meta}
+use Rattle.model_state.specs.declared.step.Place.{Place}
+use Rattle.model_state.specs.declared.step.Step.{Step}
+use Rattle.model_state.specs.Keys.{Name}
+use Rattle.model_state.specs.State.{State, is_live}
+use Rattle.model_state.specs.Steps.{fold}
+use Rattle.model_state.specs.Typing.{is_concrete}
+use Rattle.model_state.specs.Good.{Good, Sound}
+use Rattle.model_state.specs.Chains.{IsChain}
+use Rattle.edit_laws.specs.Places.{create_after, create_made}
+use Rattle.containment.specs.Subtree.{children_of, each, is_among, subtree_of}
+use Rattle.containment.specs.Deletes.{delete_after, delete_made}
+use Rattle.containment.specs.Refusals.{IsPlace, create_refusal, move_refusal}
+use Rattle.containment.specs.Moves.{IsMove, move_after}
+
+-- an element is created, last in its place
+abbrev pub CreateLeads : Type 0
+CreateLeads = (meta : Meta) → Sound meta → (m : State) → Good meta m → (e : Name) (c : ℕ) (p : Place) → is_live m e ≡ false → is_concrete meta c ≡ true → IsPlace meta m p → create_refusal meta m c p ≡ None
+    → fold meta m (create_made m e c p) ≡ Some (create_after m e c p)
+
+-- an element moves
+abbrev pub MoveLeads : Type 0
+MoveLeads = (meta : Meta) → Sound meta → (m : State) → Good meta m → (e : Name) (to : Place) (at : Option ℕ) → is_live m e ≡ true → IsPlace meta m to
+    → (down : List Name) → IsChain m.place (Some to) down → move_refusal meta m e to down at ≡ None → (steps : List Step) → IsMove m e to at steps
+    → fold meta m steps ≡ Some (move_after m e to at)
+
+-- an element is deleted, with all that it contains
+abbrev pub DeleteLeads : Type 0
+DeleteLeads = (meta : Meta) → Sound meta → (m : State) → Good meta m → (e : Name) → is_live m e ≡ true
+    → fold meta m (delete_made meta m e) ≡ Some (delete_after meta m e)
+
+-- the subtree is the element, and then the subtrees of its children in order
+abbrev pub SubtreeIsInOrder : Type 0
+SubtreeIsInOrder = (meta : Meta) (m : State) → Good meta m → (e : Name)
+    → subtree_of meta m e ≡ e ∷ each (subtree_of meta m) (children_of meta m e)
+
+-- it is the element and all that have it among their containers
+abbrev pub SubtreeIsBelow : Type 0
+SubtreeIsBelow = (meta : Meta) (m : State) → Good meta m → (e : Name) (y : Name) (up : List Name) → IsChain m.place (get m.place y) up
+    → is_among (subtree_of meta m e) y ≡ is_among (y ∷ up) e
+
+-- its elements are live
+abbrev pub SubtreeIsLive : Type 0
+SubtreeIsLive = (meta : Meta) (m : State) → Good meta m → (e : Name) → is_live m e ≡ true → (y : Name) → is_among (subtree_of meta m e) y ≡ true → is_live m y ≡ true

@@ -1,0 +1,5 @@
+pub mod Subtree
+pub mod Deletes
+pub mod Refusals
+pub mod Moves
+pub mod Laws

@@ -1,0 +1,33 @@
+ghost use Rattle.std.specs.Prelude.{◌≡◌};
+ghost use Rattle.containment.specs.declared.fault.MoveFault.TheVariants.{Memory};
+
+use std::alloc::AllocError;
+use thiserror::Error;
+
+/// Why an element is refused at a place.
+#[derive(Clone, Copy, Debug, PartialEq, Eq, Drop, Error)]
+pub enum MoveFault {
+    /// The element would come inside itself: it is the parent or one of the parent's containers.
+    #[error("a cycle of containers")]
+    WouldCycle,
+    /// The place would get an element more and is at its upper bound, or it has no room at that index and is too long to
+    /// be ranked anew.
+    #[error("the place is full")]
+    Bound,
+    /// The element's class isn't the containment's type or below it.
+    #[error("a wrong type")]
+    WrongType,
+    /// The place has no such index.
+    #[error("no such entry")]
+    NoEntry,
+    #[error("out of memory")]
+    Memory,
+}
+
+impl From<AllocError> for MoveFault {
+    ghost from_gives = { λ _ e. e ≡ Memory };
+
+    fn from(_: AllocError) -> MoveFault {
+        MoveFault::Memory
+    }
+}

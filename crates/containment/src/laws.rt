@@ -1,0 +1,25 @@
+ghost use Rattle.containment.specs.Laws.{CreateLeads, DeleteLeads, MoveLeads, SubtreeIsBelow, SubtreeIsInOrder, SubtreeIsLive};
+
+/// The steps of a creation that is not refused lead to a model in which the element is live, last in its place.
+pub fn law_of_creations()
+    ensures { CreateLeads }
+{}
+
+/// The steps of a move that is not refused lead to a model in which the element stands at that index of that place.
+pub fn law_of_moves()
+    ensures { MoveLeads }
+{}
+
+/// The steps of a deletion lead to the model without the subtree of the element: its maps have none of the subtree's
+/// elements, and a reference stays where both its ends stay.
+pub fn law_of_deletions()
+    ensures { DeleteLeads }
+{}
+
+/// The subtree of an element is the element and then the subtrees of its children in order, and these are the element and
+/// all that have it among their containers.
+pub fn law_of_subtrees()
+    ensures in_order { SubtreeIsInOrder }
+    ensures below { SubtreeIsBelow }
+    ensures live { SubtreeIsLive }
+{}
