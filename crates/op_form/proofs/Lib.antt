@@ -5,4 +5,5 @@ pub mod ValueCodes
 pub mod StepCodes
 pub mod PackageCodes
 pub mod EventCodes
+pub mod FormedLaws
 pub mod Reversals

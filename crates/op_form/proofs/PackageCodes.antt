@@ -89,7 +89,7 @@ names_are_ascii b bs first rest zero = low_letter b first
 names_are_ascii b bs first rest (suc i) = bytes_are_ascii bs rest i
 
 -- a name is a short text
-name_short : (text : List ℕ) → is_name text ≡ true → IsShortText text
+pub name_short : (text : List ℕ) → is_name text ≡ true → IsShortText text
 name_short [] is = cc
 name_short (b ∷ bs) is =
     let k = and_both (is_ascii_alphabetic b && nat_le (length bs) 63) (list_all is_name_byte bs) is in

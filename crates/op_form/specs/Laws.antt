@@ -1,5 +1,5 @@
 -- Which values have a spelling, and the laws of packages and events.
-use Rattle.std.specs.Prelude.{◌≡◌, ℕ, ◌<◌, ◌≤◌, ◌^◌, List, Option, Some, None, Result, Ok, All, FitsSigned, length, true}
+use Rattle.std.specs.Prelude.{◌≡◌, ◌↔◌, IsTrue, ℕ, ◌<◌, ◌≤◌, ◌^◌, List, Option, Some, None, Result, Ok, All, FitsSigned, length, true}
 use Rattle.std.specs.Int.{w64}
 use Rattle.byte_form.specs.Laws.{IsShortText, AreBytes, NoneBeginsAnother}
 use Rattle.ecore_meta.specs.declared.meta.Value.{Value}
@@ -17,6 +17,7 @@ use Rattle.op_form.specs.declared.event.Event.TheVariants.{Init, Checkout, Edit,
 use Rattle.op_form.specs.declared.fault.FormFault.{FormFault}
 use Rattle.op_form.specs.Packages.{package_at, package_form}
 use Rattle.op_form.specs.Events.{event_at, event_form, whole_of}
+use Rattle.op_form.specs.Formed.{is_event}
 
 abbrev pub IsU32 : ℕ → Type 0
 IsU32 n = n < 2 ^ 32
@@ -107,3 +108,7 @@ EventsAreSpelledSo = AreSpelledSo IsEvent event_form (whole_of event_at)
 
 abbrev pub NoEventBeginsAnother : Type 0
 NoEventBeginsAnother = NoneBeginsAnother IsEvent event_form
+
+-- the test of events holds of just those that have a spelling
+abbrev pub EventsAreTested : Type 0
+EventsAreTested = (e : Event) → (IsTrue (is_event e) ↔ IsEvent e)

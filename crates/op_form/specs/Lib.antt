@@ -5,5 +5,6 @@ pub mod Packages
 pub mod Events
 pub mod Given
 pub mod Sizes
+pub mod Formed
 pub mod Reversals
 pub mod Laws

@@ -1,7 +1,8 @@
 ghost use Rattle.op_form.specs.Reversals.{PackageReversalUndoes, PackagesKeepGood, TwiceReversedIsSame, OperationTwiceReversedIsSame};
-ghost use Rattle.op_form.specs.Laws.{PackagesAreReadAgain, PackagesAreSpelledSo, NoPackageBeginsAnother, EventsAreReadAgain, EventsAreSpelledSo, NoEventBeginsAnother};
+ghost use Rattle.op_form.specs.Laws.{PackagesAreReadAgain, PackagesAreSpelledSo, NoPackageBeginsAnother, EventsAreReadAgain, EventsAreSpelledSo, NoEventBeginsAnother, EventsAreTested};
 
-/// The laws of the forms: what is spelled is read again, what is read was spelled so, and no spelling begins another.
+/// The laws of the forms: what is spelled is read again, what is read was spelled so, no spelling begins another, and the test of
+/// `has_form` holds of just the events that have a spelling.
 pub fn law_of_forms()
     ensures packages_again { PackagesAreReadAgain }
     ensures packages_spelled { PackagesAreSpelledSo }
@@ -9,6 +10,7 @@ pub fn law_of_forms()
     ensures events_again { EventsAreReadAgain }
     ensures events_spelled { EventsAreSpelledSo }
     ensures events_apart { NoEventBeginsAnother }
+    ensures events_tested { EventsAreTested }
 {}
 
 /// The laws of reversal: what a package did, its reversal undoes; packages keep the invariant; what is reversed twice is as it was.

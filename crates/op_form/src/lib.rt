@@ -3,6 +3,7 @@
 
 mod event;
 mod fault;
+mod formed;
 mod laws;
 mod read_event;
 mod read_step;
@@ -15,6 +16,7 @@ mod write_step;
 
 pub use event::Event;
 pub use fault::FormFault;
+pub use formed::has_form;
 pub use laws::{law_of_forms, law_of_reversals};
 pub use read_event::{decode, decode_event};
 pub use reversal::{reverse, reverse_op};

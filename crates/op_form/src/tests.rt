@@ -192,3 +192,86 @@ fn packages_reverse(rt: HostRuntime) -> Result<(), Fail> {
     }
     Ok(())
 }
+
+/// An edit of one composite under that name, with one step or none.
+fn composite(alloc: Global, name: &str, has_step: bool) -> Result<Event, Fail> {
+    let mut steps = List::new(alloc);
+    if has_step {
+        steps.push(Step::RerankPlace {
+            e: Id::read(alloc, "a")?,
+            old: 0,
+            new: 1,
+        })?;
+    }
+    let mut package = List::new(alloc);
+    package.push(Operation::Composite {
+        name: Text::new(alloc, name)?,
+        steps,
+    })?;
+    Ok(Event::Edit { ws: 1, package })
+}
+
+// Names of composites: the fourth has 64 bytes, the fifth 65.
+const NAMES: [(&str, bool); 8] = [
+    ("both", true),
+    ("b", true),
+    ("B_1.c-d", true),
+    (
+        "n123456789n123456789n123456789n123456789n123456789n123456789n123",
+        true,
+    ),
+    (
+        "n123456789n123456789n123456789n123456789n123456789n123456789n1234",
+        false,
+    ),
+    ("", false),
+    ("1", false),
+    ("a b", false),
+];
+
+#[test]
+fn events_of_a_form_are_told_from_others(rt: HostRuntime) -> Result<(), Fail> {
+    let alloc = rt.alloc();
+    let text = Text::new(alloc, "{}")?;
+    let name = Text::new(alloc, "any name")?;
+    let package = creation(alloc)?;
+    let other = decode(alloc, SET)?;
+    for event in [
+        Event::Init { text },
+        Event::Checkout {
+            version: u32::MAX,
+            branch: 0,
+        },
+        Event::Edit { ws: 1, package },
+        Event::Edit {
+            ws: 1,
+            package: other,
+        },
+        Event::Edit {
+            ws: 1,
+            package: List::new(alloc),
+        },
+        Event::Begin { ws: 1, name },
+        Event::End { ws: u32::MAX },
+        Event::Undo { ws: 0 },
+        Event::Discard { ws: 2 },
+    ] {
+        if has_form(&event) {
+            let bytes = encode_event(alloc, &event)?;
+            assert!(&rt; decode_event(alloc, bytes.as_slice()).is_ok());
+        } else {
+            assert!(&rt; false);
+        }
+    }
+    for (name, is_one) in NAMES {
+        assert_eq!(&rt; has_form(&composite(alloc, name, true)?), is_one, "{name}");
+        assert!(&rt; !has_form(&composite(alloc, name, false)?), "{name}");
+    }
+    let mut package = creation(alloc)?;
+    package.push(Operation::Simple {
+        kind: OpKind::Move,
+        steps: List::new(alloc),
+    })?;
+    assert!(&rt; !has_form(&Event::Edit { ws: 1, package }));
+    Ok(())
+}

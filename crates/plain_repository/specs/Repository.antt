@@ -1,24 +1,26 @@
 -- The plain repository: its state, what a command is answered on a state, and what an event makes of one.
-use Rattle.std.specs.Prelude.{ℕ, zero, suc, ◌+◌, ◌*◌, ◌^◌, ◌==◌, ◌&&◌, nat_eq, nat_lt, nat_le, not, List, [], ◌∷◌, ◌++◌, Bool, true, false, codes, length, slice_get, Option, Some, None, Result, Ok, Err, is_ok, if◌then◌else◌}
-use Rattle.std.specs.List.{list_any}
+use Rattle.std.specs.Prelude.{ℕ, zero, suc, ◌+◌, ◌-◌, ◌^◌, ◌==◌, ◌&&◌, nat_eq, nat_lt, nat_le, not, List, [], ◌∷◌, ◌++◌, Bool, true, false, codes, length, take, slice_get, Option, Some, None, is_some, unwrap_or, Result, Ok, Err, is_ok, if◌then◌else◌}
 use Rattle.std.specs.Fmt.{decimal}
-use Rattle.std.specs.Str.{is_utf8}
 use Rattle.std.specs.Cmp.Lexicographic.{pointwise}
 use Rattle.host_port.specs.Cut.{Item}
 use Rattle.command_runs.specs.Runs.{Answer}
-use Rattle.ecore_meta.specs.Meta.{Meta, class_named}
+use Rattle.ecore_meta.specs.Meta.{Meta}
 use Rattle.ecore_json.specs.declared.fault.EcoreFault.{EcoreFault}
 use Rattle.ecore_json.specs.Metamodel.{metamodel_of, fault_number}
-use Rattle.model_state.specs.Ident.{is_id}
-use Rattle.model_state.specs.Typing.{is_concrete}
-use Rattle.model_state.specs.declared.step.Place.TheVariants.{Root}
-use Rattle.model_state.specs.declared.step.Step.TheVariants.{New}
-use Rattle.model_state.specs.declared.operation.OpKind.TheVariants as kinds
+use Rattle.model_state.specs.State.{nothing}
+use Rattle.model_state.specs.State as models
+use Rattle.model_state.specs.Packages.{fold_package}
 use Rattle.model_state.specs.declared.operation.Operation.{Operation}
-use Rattle.model_state.specs.declared.operation.Operation.TheVariants.{Simple}
 use Rattle.op_form.specs.declared.event.Event.{Event}
-use Rattle.op_form.specs.declared.event.Event.TheVariants.{Init, Checkout, Edit}
+use Rattle.op_form.specs.declared.event.Event.TheVariants.{Init, Checkout, Edit, Undo, Discard}
 use Rattle.op_form.specs.Events.{event_form}
+use Rattle.op_form.specs.Formed.{is_event}
+use Rattle.edit_laws.specs.declared.edit.Edit as edits
+use Rattle.edit_laws.specs.declared.edit.Recorded.{Recorded}
+use Rattle.edit_laws.specs.declared.fault.EditFault.{EditFault}
+use Rattle.edit_laws.specs.declared.fault.EditFault.TheVariants as faults
+use Rattle.recorder.specs.Recording.{recorded}
+use Rattle.data_lines.specs.Lines.{operation_lines}
 use Rattle.script_lang.specs.declared.command.Spec.{Spec}
 use Rattle.script_lang.specs.declared.command.Spec.TheVariants as specs
 use Rattle.script_lang.specs.declared.command.Command.{Command}
@@ -57,36 +59,33 @@ abbrev pub workspace_of : State → ℕ → Option Workspace
 workspace_of s zero = None
 workspace_of s (suc n) = slice_get s.workspaces n
 
--- does the operation make the element
-abbrev pub makes : List ℕ → Operation → Bool
-makes id (Simple kind (New e class place rank ∷ [])) = pointwise nat_eq e id
-makes id operation = false
+-- what the workspace's operations lead to from the empty project, one by one; None where one of them can't be taken, which comes of no event that could be made
+abbrev pub folded : Meta → Workspace → Option models.State
+folded meta workspace = fold_package meta nothing workspace.operations
 
--- is the element live in the workspace's working model
-unfoldable pub is_live : Workspace → List ℕ → Bool
-is_live workspace id = list_any (makes id) workspace.operations
+-- the working model
+abbrev pub model_of : Meta → Workspace → models.State
+model_of meta workspace = unwrap_or (folded meta workspace) nothing
 
--- the rank behind the last element at the root
-abbrev pub end_rank : Workspace → ℕ
-end_rank workspace = (length workspace.operations + 1) * 2 ^ 32
+-- the workspaces with the one at a place changed
+abbrev pub changed_at : (Workspace → Workspace) → List Workspace → ℕ → List Workspace
+changed_at change [] n = []
+changed_at change (w ∷ ws) zero = change w ∷ ws
+changed_at change (w ∷ ws) (suc n) = w ∷ changed_at change ws n
 
--- A rank is left behind the last element. There is one as long as there are fewer operations than a journal can have events.
-abbrev pub has_rank : Workspace → Bool
-has_rank workspace = nat_lt (length workspace.operations) most_events
+-- the workspaces with the one of a number changed
+abbrev pub changed : (Workspace → Workspace) → List Workspace → ℕ → List Workspace
+changed change ws zero = ws
+changed change ws (suc n) = changed_at change ws n
 
--- the operations of a creation at the root
-abbrev pub creation : List ℕ → ℕ → ℕ → List Operation
-creation id class rank = Simple kinds.Create (New id class Root rank ∷ []) ∷ []
+abbrev pub with_more : List Operation → Workspace → Workspace
+with_more more w = record { operations = w.operations ++ more }
 
--- the workspaces with an operation more in the one at a place
-abbrev pub with_operations : List Workspace → ℕ → List Operation → List Workspace
-with_operations [] n more = []
-with_operations (w ∷ ws) zero more = record { operations = w.operations ++ more } ∷ ws
-with_operations (w ∷ ws) (suc n) more = w ∷ with_operations ws n more
+abbrev pub without_last : Workspace → Workspace
+without_last w = record { operations = take (length w.operations - 1) w.operations }
 
-abbrev pub recorded : List Workspace → ℕ → List Operation → List Workspace
-recorded ws zero more = ws
-recorded ws (suc n) more = with_operations ws n more
+abbrev pub without_any : Workspace → Workspace
+without_any w = record { operations = [] }
 
 abbrev pub meta_of_read : Result Meta EcoreFault → Option Meta
 meta_of_read (Ok meta) = Some meta
@@ -96,32 +95,44 @@ meta_of_read (Err fault) = None
 abbrev pub effect : State → Event → State
 effect s (Init text) = record s { meta = meta_of_read (metamodel_of text) }
 effect s (Checkout version branch) = record s { workspaces = s.workspaces ++ record { operations = [] } ∷ [] }
-effect s (Edit ws operations) = record s { workspaces = recorded s.workspaces ws operations }
+effect s (Edit ws operations) = record s { workspaces = changed (with_more operations) s.workspaces ws }
+effect s (Undo ws) = record s { workspaces = changed without_last s.workspaces ws }
+effect s (Discard ws) = record s { workspaces = changed without_any s.workspaces ws }
 effect s event = s
 
 -- the state that an event makes
 unfoldable pub play : State → Event → State
 play s event = record (effect s event) { events = s.events + 1; end = s.end + 5 + length (event_form event) }
 
--- a creation that a command could make in the workspace: of a class that is not abstract, with an id that is not live, behind the last element
-abbrev pub creates_there : Meta → Option Workspace → List Operation → Bool
-creates_there meta (Some workspace) (Simple kinds.Create (New id class Root rank ∷ []) ∷ []) =
-    is_concrete meta class && nat_lt class (2 ^ 32) && is_id id && not (is_live workspace id) && has_rank workspace && (rank == end_rank workspace)
-creates_there meta workspace operations = false
+-- there are operations, and each can be taken in its turn on the working model
+abbrev pub can_follow : Meta → Option Workspace → List Operation → Bool
+can_follow meta (Some workspace) (o ∷ operations) = is_some (fold_package meta (model_of meta workspace) (o ∷ operations))
+can_follow meta workspace operations = false
+
+-- the workspace is there, and has operations
+abbrev pub has_operations : Option Workspace → Bool
+has_operations (Some workspace) = nat_lt 0 (length workspace.operations)
+has_operations None = false
 
 -- the most bytes of an event, so that its record has at most 2^24 bytes with its gate and its length
 abbrev pub most_bytes : ℕ
 most_bytes = 16777211
 
 abbrev pub playable_with : State → Option Meta → Event → Bool
-playable_with s None (Init text) = is_utf8 text && is_ok (metamodel_of text)
+playable_with s None (Init text) = is_ok (metamodel_of text)
 playable_with s (Some meta) (Checkout version branch) = (version == 0) && (branch == 0)
-playable_with s (Some meta) (Edit ws operations) = nat_lt ws (2 ^ 32) && creates_there meta (workspace_of s ws) operations
+playable_with s (Some meta) (Edit ws operations) = can_follow meta (workspace_of s ws) operations
+playable_with s (Some meta) (Undo ws) = has_operations (workspace_of s ws)
+playable_with s (Some meta) (Discard ws) = has_operations (workspace_of s ws)
 playable_with s meta event = false
+
+-- the event has a form, of no more bytes than a record takes
+abbrev pub fits_record : Event → Bool
+fits_record event = is_event event && nat_le (length (event_form event)) most_bytes
 
 -- is the event one that a command could make on this state
 unfoldable pub playable : State → Event → Bool
-playable s event = nat_lt s.events most_events && nat_le (length (event_form event)) most_bytes && playable_with s s.meta event
+playable s event = nat_lt s.events most_events && fits_record event && playable_with s s.meta event
 
 -- is each event one that a command could make on the state that the events before it leave
 abbrev pub are_playable : State → List Event → Bool
@@ -136,6 +147,10 @@ pub record Decision : Type 0 where
 abbrev pub refused : Refusal → Decision
 refused refusal = record { reply = record { lines = []; last = last.No refusal }; event = None }
 
+-- an answer that changes nothing
+abbrev pub told : List (List ℕ) → List ℕ → Decision
+told lines words = record { reply = record { lines = lines; last = last.Ok words }; event = None }
+
 abbrev pub accepted : List (List ℕ) → List ℕ → Event → Decision
 accepted lines words event = record { reply = record { lines = lines; last = last.Ok words }; event = Some event }
 
@@ -143,7 +158,7 @@ accepted lines words event = record { reply = record { lines = lines; last = las
 unfoldable pub with_room : State → List (List ℕ) → List ℕ → Event → Decision
 with_room s lines words event =
     if nat_le most_events s.events then refused refusals.HistoryFull
-    else if nat_lt most_bytes (length (event_form event)) then refused refusals.TooLarge
+    else if not (fits_record event) then refused refusals.TooLarge
     else if nat_lt (2 ^ 40) (s.end + length (event_form event) + 6) then refused refusals.JournalFull
     else accepted lines words event
 
@@ -171,55 +186,85 @@ checked_out s None = with_room s (codes "[]" ∷ []) (decimal (length s.workspac
 unfoldable pub decide_checkout : State → Spec → Decision
 decide_checkout s spec = checked_out s (unknown spec)
 
--- `w`, the workspace's number, `n` and a number
-abbrev pub numbered : ℕ → ℕ → List ℕ
-numbered ws k = codes "w" ++ (decimal ws ++ (codes "n" ++ decimal k))
+-- the refusal of an edit; want of memory is never due
+abbrev pub refusal_of : EditFault → Refusal
+refusal_of faults.NoElement = refusals.NoElement
+refusal_of faults.IdInUse = refusals.IdInUse
+refusal_of faults.BadId = refusals.BadId
+refusal_of faults.NoClass = refusals.NoClass
+refusal_of faults.Abstract = refusals.Abstract
+refusal_of faults.NoFeature = refusals.NoFeature
+refusal_of faults.WrongKind = refusals.WrongKind
+refusal_of faults.BadValue = refusals.BadValue
+refusal_of faults.Bound = refusals.Bound
+refusal_of faults.AlreadyThere = refusals.AlreadyThere
+refusal_of faults.NoEntry = refusals.NoEntry
+refusal_of faults.Memory = refusals.TooLarge
 
--- the first of these ids, from the number k on, that is not live, or the one behind so many
-abbrev pub first_free : ℕ → Workspace → ℕ → ℕ → List ℕ
-first_free ws workspace zero k = numbered ws k
-first_free ws workspace (suc n) k = if is_live workspace (numbered ws k) then first_free ws workspace n (k + 1) else numbered ws k
+-- the id of a new element, or nothing
+abbrev pub id_words : Option (List ℕ) → List ℕ
+id_words None = []
+id_words (Some id) = id
 
--- the fresh id of a workspace: as many are tried as operations were recorded, so that one is free
-unfoldable pub fresh_id : ℕ → Workspace → List ℕ
-fresh_id ws workspace = first_free ws workspace (length workspace.operations) 1
+-- an edit that changes nothing makes no event
+abbrev pub with_operation : State → ℕ → List ℕ → Option Operation → Decision
+with_operation s ws words None = told [] words
+with_operation s ws words (Some operation) = with_room s [] words (Edit ws (operation ∷ []))
 
-abbrev pub id_or_fresh : ℕ → Workspace → Option (List ℕ) → List ℕ
-id_or_fresh ws workspace (Some id) = id
-id_or_fresh ws workspace None = fresh_id ws workspace
+abbrev pub edited : State → ℕ → Result Recorded EditFault → Decision
+edited s ws (Err fault) = refused (refusal_of fault)
+edited s ws (Ok r) = with_operation s ws (id_words r.id) r.operation
 
--- a new element of a class, with an id
-unfoldable pub create_element : State → ℕ → Workspace → ℕ → List ℕ → Decision
-create_element s ws workspace class id =
-    if not (is_id id) then refused refusals.BadId
-    else if is_live workspace id then refused refusals.IdInUse
-    else if has_rank workspace then with_room s [] id (Edit ws (creation id class (end_rank workspace)))
-    else refused refusals.HistoryFull
+abbrev pub edit_in : State → Meta → ℕ → Option Workspace → edits.Edit → Decision
+edit_in s meta ws None edit = refused refusals.NoWorkspace
+edit_in s meta ws (Some workspace) edit = edited s ws (recorded meta (model_of meta workspace) ws edit)
 
-abbrev pub create_of_class : State → Meta → ℕ → Workspace → Option ℕ → Option (List ℕ) → Decision
-create_of_class s meta ws workspace None id = refused refusals.NoClass
-create_of_class s meta ws workspace (Some class) id =
-    if is_concrete meta class then create_element s ws workspace class (id_or_fresh ws workspace id) else refused refusals.Abstract
+-- an edit of the working model
+unfoldable pub decide_edit : State → Meta → ℕ → edits.Edit → Decision
+decide_edit s meta ws edit = edit_in s meta ws (workspace_of s ws) edit
 
-abbrev pub create_in : State → Meta → ℕ → Option Workspace → List ℕ → Option (List ℕ) → Decision
-create_in s meta ws None class id = refused refusals.NoWorkspace
-create_in s meta ws (Some workspace) class id = create_of_class s meta ws workspace (class_named meta class) id
+abbrev pub undone : State → ℕ → Option Workspace → Decision
+undone s ws None = refused refusals.NoWorkspace
+undone s ws (Some workspace) = if has_operations (Some workspace) then with_room s [] [] (Undo ws) else refused refusals.NothingLocal
 
--- `create WS CLASS / [ID]`
-unfoldable pub decide_create : State → Meta → ℕ → List ℕ → Option (List ℕ) → Decision
-decide_create s meta ws class id = create_in s meta ws (workspace_of s ws) class id
+-- `undo WS`: the last operation goes
+unfoldable pub decide_undo : State → ℕ → Decision
+decide_undo s ws = undone s ws (workspace_of s ws)
+
+abbrev pub discarded : State → ℕ → Option Workspace → Decision
+discarded s ws None = refused refusals.NoWorkspace
+discarded s ws (Some workspace) = if has_operations (Some workspace) then with_room s [] [] (Discard ws) else told [] []
+
+-- `discard WS`: all operations go
+unfoldable pub decide_discard : State → ℕ → Decision
+decide_discard s ws = discarded s ws (workspace_of s ws)
+
+abbrev pub changes_of : Meta → Option Workspace → Decision
+changes_of meta None = refused refusals.NoWorkspace
+changes_of meta (Some workspace) = told (operation_lines meta workspace.operations) []
+
+-- `changes WS`: the operations, line by line
+unfoldable pub decide_changes : State → Meta → ℕ → Decision
+decide_changes s meta ws = changes_of meta (workspace_of s ws)
 
 abbrev pub block_text : Option (List ℕ) → List ℕ
 block_text None = []
 block_text (Some text) = text
 
+-- a command where there is a metamodel
+abbrev pub decide_begun : State → Meta → Option (List ℕ) → Command → Decision
+decide_begun s meta block commands.Init = decide_init s (Some meta) (block_text block)
+decide_begun s meta block (commands.Checkout spec) = decide_checkout s spec
+decide_begun s meta block (commands.Edit ws edit) = decide_edit s meta ws edit
+decide_begun s meta block (commands.Undo ws) = decide_undo s ws
+decide_begun s meta block (commands.Discard ws) = decide_discard s ws
+decide_begun s meta block (commands.Changes ws) = decide_changes s meta ws
+
 -- before there is a metamodel, `init` alone is answered otherwise than so
 abbrev pub decide_with : State → Option Meta → Option (List ℕ) → Command → Decision
-decide_with s meta block commands.Init = decide_init s meta (block_text block)
-decide_with s None block (commands.Checkout spec) = refused refusals.NotInit
-decide_with s None block (commands.Create ws class id) = refused refusals.NotInit
-decide_with s (Some meta) block (commands.Checkout spec) = decide_checkout s spec
-decide_with s (Some meta) block (commands.Create ws class id) = decide_create s meta ws class id
+decide_with s (Some meta) block command = decide_begun s meta block command
+decide_with s None block commands.Init = decide_init s None (block_text block)
+decide_with s None block command = refused refusals.NotInit
 
 unfoldable pub decide_command : State → Option (List ℕ) → Command → Decision
 decide_command s block command = decide_with s s.meta block command

@@ -1,3 +1,4 @@
+pub mod Changing
+pub mod Folding
 pub mod Playable
-pub mod Recording
 pub mod Replaying

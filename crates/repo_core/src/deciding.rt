@@ -1,20 +1,19 @@
 //! What a command is answered, and the event that it makes.
-ghost use Rattle.std.specs.Prelude.{◌≡◌, ◌≢◌, ◌+◌, ◌-◌, ◌≤◌, ◌<◌, ◌^◌, ℕ, List, [], ◌∷◌, IfOk, None, IsTrue, length, true, false, Some, Option, Ok, Err, codes};
+ghost use Rattle.std.specs.Prelude.{◌≡◌, ◌≢◌, ◌+◌, ◌-◌, ◌≤◌, ◌<◌, ◌^◌, ℕ, List, [], ◌∷◌, IfOk, IfNone, IfSome, None, IsTrue, length, true, false, Some, Option, Ok, Err, codes};
 ghost use Rattle.std.specs.Option.{option_copied};
 ghost use Rattle.ecore_json.specs.Metamodel.{metamodel_of};
-ghost use Rattle.model_state.specs.Ident.{is_id};
-ghost use Rattle.model_state.specs.Typing.{is_concrete};
-ghost use Rattle.op_form.specs.declared.event.Event.TheVariants.{Init, Checkout, Edit};
-ghost use Rattle.op_form.specs.Sizes.{FitsEvent};
-ghost use Rattle.plain_repository.specs.Repository.{State, workspace_of, is_live, has_rank, end_rank, creation, playable_with, refused, with_room, decide_init, unknown, decide_checkout, create_element, decide_create, id_or_fresh, decide_command, decide_line, block_text};
+ghost use Rattle.op_form.specs.declared.event.Event.TheVariants.{Init, Checkout, Edit, Undo, Discard};
+ghost use Rattle.plain_repository.specs.Repository.{State, workspace_of, playable_with, refused, told, with_room, decide_init, unknown, decide_checkout, decide_edit, decide_undo, decide_discard, decide_changes, refusal_of, id_words, decide_command, decide_line, block_text};
 ghost use Rattle.repo_core.specs.Decisions.{seen, CanMake, CanMakeIt, IsShortBlock};
 
 use crate::repo::{MOST_BYTES, Repo};
-use crate::workspace::Workspace;
+use data_lines::operation_lines;
 use ecore_json::{EcoreFault, read_metamodel};
 use ecore_meta::{List, Metamodel, Text};
-use model_state::{Id, IdFault, OpKind, Operation, Package, Place, Step, is_concrete};
-use op_form::{Event, encode_event};
+use edit_laws::{Edit, EditFault, Recorded};
+use model_state::Id;
+use op_form::{Event, encode_event, has_form};
+use recorder::take_edit;
 use script_lang::{Command, Last, ParseFault, Refusal, Reply, Spec, parse_line};
 use std::alloc::{AllocError, Global};
 use std::fmt::Write;
@@ -83,23 +82,49 @@ fn unknown(spec: &Spec) -> Option<Refusal>
     }
 }
 
-/// The package of one operation, which makes an element at the root.
-fn creation(alloc: Global, e: Id, class: u32, rank: u64) -> Result<Package, AllocError>
-    ensures { IfOk result (λ made. made ≡ creation e class rank) }
+/// The refusal that an edit's fault is; want of memory is none.
+fn refusal_of(fault: EditFault) -> Option<Refusal>
+    ensures none { IfNone result (fault ≡ EditFault.Memory) }
+    ensures some { IfSome result (λ refusal. (refusal ≡ refusal_of fault) × (fault ≢ EditFault.Memory)) }
 {
-    let mut steps = List::new(alloc);
-    steps.push(Step::New {
-        e,
-        class,
-        place: Place::Root,
-        rank,
-    })?;
-    let mut package = List::new(alloc);
-    package.push(Operation::Simple {
-        kind: OpKind::Create,
-        steps,
-    })?;
-    Ok(package)
+    match fault {
+        EditFault::NoElement => Some(Refusal::NoElement),
+        EditFault::IdInUse => Some(Refusal::IdInUse),
+        EditFault::BadId => Some(Refusal::BadId),
+        EditFault::NoClass => Some(Refusal::NoClass),
+        EditFault::Abstract => Some(Refusal::Abstract),
+        EditFault::NoFeature => Some(Refusal::NoFeature),
+        EditFault::WrongKind => Some(Refusal::WrongKind),
+        EditFault::BadValue => Some(Refusal::BadValue),
+        EditFault::Bound => Some(Refusal::Bound),
+        EditFault::AlreadyThere => Some(Refusal::AlreadyThere),
+        EditFault::NoEntry => Some(Refusal::NoEntry),
+        EditFault::Memory => None,
+    }
+}
+
+/// An answer that changes nothing.
+fn tell(lines: List<Text>, words: Text) -> Decision
+    ensures decision { seen result ≡ told lines words }
+    ensures made { (s : State) → CanMakeIt s result.made }
+{
+    Decision {
+        reply: Reply {
+            lines,
+            last: Last::Ok(words),
+        },
+        made: None,
+    }
+}
+
+/// The id of a new element, or nothing.
+fn id_words(alloc: Global, id: &Option<Id>) -> Result<Text, AllocError>
+    ensures { IfOk result (λ words. words ≡ id_words id.now) }
+{
+    match id {
+        None => Text::new(alloc, ""),
+        Some(id) => Text::new(alloc, id.as_str()),
+    }
 }
 
 impl Repo {
@@ -123,7 +148,7 @@ impl Repo {
         }
     }
 
-    #[tactic(auto, unfolding(plain_repository::specs::Repository::decide_command))]
+    #[tactic(auto, unfolding(plain_repository::specs::Repository::decide_command, plain_repository::specs::Repository::decide_init))]
     fn decide_command(
         &self,
         alloc: Global,
@@ -134,16 +159,19 @@ impl Repo {
         ensures decision { IfOk result (λ d. seen d ≡ decide_command self.now block.now command.now) }
         ensures made { IfOk result (λ d. CanMakeIt self.now d.made) }
     {
+        let Some(meta) = &self.meta else {
+            return match command {
+                Command::Init => self.decide_init(alloc, block_text(block)),
+                _ => Ok(refuse(alloc, Refusal::NotInit)),
+            };
+        };
         match command {
-            Command::Init => self.decide_init(alloc, block_text(block)),
-            Command::Checkout { spec } => match &self.meta {
-                None => Ok(refuse(alloc, Refusal::NotInit)),
-                Some(_) => self.decide_checkout(alloc, spec),
-            },
-            Command::Create { ws, class, id } => match &self.meta {
-                None => Ok(refuse(alloc, Refusal::NotInit)),
-                Some(meta) => self.decide_create(alloc, meta, *ws, class, id),
-            },
+            Command::Init => Ok(refuse(alloc, Refusal::AlreadyInit)),
+            Command::Checkout { spec } => self.decide_checkout(alloc, spec),
+            Command::Edit { ws, edit } => self.decide_edit(alloc, meta, *ws, edit),
+            Command::Undo { ws } => self.decide_undo(alloc, *ws),
+            Command::Discard { ws } => self.decide_discard(alloc, *ws),
+            Command::Changes { ws } => self.decide_changes(alloc, meta, *ws),
         }
     }
 
@@ -188,67 +216,93 @@ impl Repo {
         self.with_room(alloc, lines, Text::new(alloc, words.as_str())?, event)
     }
 
-    #[tactic(auto, unfolding(plain_repository::specs::Repository::decide_create))]
-    fn decide_create(
+    #[tactic(auto, unfolding(plain_repository::specs::Repository::decide_edit))]
+    fn decide_edit(
         &self,
         alloc: Global,
         meta: &Metamodel,
         ws: u32,
-        class: &Text,
-        id: &Option<Text>,
+        edit: &Edit,
     ) -> Result<Decision, AllocError>
         requires begun { self.now.meta ≡ Some meta.now }
-        ensures decision { IfOk result (λ d. seen d ≡ decide_create self.now meta.now ws class.now id.now) }
+        ensures decision { IfOk result (λ d. seen d ≡ decide_edit self.now meta.now ws edit.now) }
         ensures made { IfOk result (λ d. CanMakeIt self.now d.made) }
     {
         let Some(workspace) = self.workspace(ws) else {
             return Ok(refuse(alloc, Refusal::NoWorkspace));
         };
-        let Some(class) = meta.class_named(class.as_str()) else {
-            return Ok(refuse(alloc, Refusal::NoClass));
+        meta.sound();
+        let model = workspace.model(alloc, meta)?;
+        let Recorded { operation, id } = match take_edit(alloc, &model, meta, ws, edit) {
+            Ok(recorded) => recorded,
+            Err(fault) => match refusal_of(fault) {
+                Some(refusal) => return Ok(refuse(alloc, refusal)),
+                None => return Err(AllocError),
+            },
         };
-        if !is_concrete(meta, class) {
-            return Ok(refuse(alloc, Refusal::Abstract));
-        }
-        match id {
-            Some(id) => self.create_element(alloc, meta, ws, workspace, class, id.as_str()),
-            None => {
-                let id = workspace.fresh_id(alloc, ws)?;
-                self.create_element(alloc, meta, ws, workspace, class, id.as_str())
-            }
-        }
+        let words = id_words(alloc, &id)?;
+        let Some(operation) = operation else {
+            return Ok(tell(List::new(alloc), words));
+        };
+        let mut package = List::new(alloc);
+        package.push(operation)?;
+        self.with_room(alloc, List::new(alloc), words, Event::Edit { ws, package })
     }
 
-    #[tactic(auto, unfolding(plain_repository::specs::Repository::create_element))]
-    fn create_element(
+    #[tactic(auto, unfolding(plain_repository::specs::Repository::decide_undo))]
+    fn decide_undo(&self, alloc: Global, ws: u32) -> Result<Decision, AllocError>
+        requires begun { self.now.meta ≢ None }
+        ensures decision { IfOk result (λ d. seen d ≡ decide_undo self.now ws) }
+        ensures made { IfOk result (λ d. CanMakeIt self.now d.made) }
+    {
+        let Some(workspace) = self.workspace(ws) else {
+            return Ok(refuse(alloc, Refusal::NoWorkspace));
+        };
+        if !workspace.has_operations() {
+            return Ok(refuse(alloc, Refusal::NothingLocal));
+        }
+        self.with_room(
+            alloc,
+            List::new(alloc),
+            Text::new(alloc, "")?,
+            Event::Undo { ws },
+        )
+    }
+
+    #[tactic(auto, unfolding(plain_repository::specs::Repository::decide_discard))]
+    fn decide_discard(&self, alloc: Global, ws: u32) -> Result<Decision, AllocError>
+        requires begun { self.now.meta ≢ None }
+        ensures decision { IfOk result (λ d. seen d ≡ decide_discard self.now ws) }
+        ensures made { IfOk result (λ d. CanMakeIt self.now d.made) }
+    {
+        let Some(workspace) = self.workspace(ws) else {
+            return Ok(refuse(alloc, Refusal::NoWorkspace));
+        };
+        let words = Text::new(alloc, "")?;
+        if !workspace.has_operations() {
+            return Ok(tell(List::new(alloc), words));
+        }
+        self.with_room(alloc, List::new(alloc), words, Event::Discard { ws })
+    }
+
+    #[tactic(auto, unfolding(plain_repository::specs::Repository::decide_changes))]
+    fn decide_changes(
         &self,
         alloc: Global,
         meta: &Metamodel,
         ws: u32,
-        workspace: &Workspace,
-        class: u32,
-        id: &str,
     ) -> Result<Decision, AllocError>
         requires begun { self.now.meta ≡ Some meta.now }
-        requires workspace { workspace_of self.now ws ≡ Some workspace.now }
-        requires class { is_concrete meta.now class ≡ true }
-        ensures decision { IfOk result (λ d. seen d ≡ create_element self.now ws workspace.now class id.now) }
+        ensures decision { IfOk result (λ d. seen d ≡ decide_changes self.now meta.now ws) }
         ensures made { IfOk result (λ d. CanMakeIt self.now d.made) }
     {
-        let id = match Id::read(alloc, id) {
-            Ok(id) => id,
-            Err(IdFault::Bad) => return Ok(refuse(alloc, Refusal::BadId)),
-            Err(IdFault::Memory) => return Err(AllocError),
+        let Some(workspace) = self.workspace(ws) else {
+            return Ok(refuse(alloc, Refusal::NoWorkspace));
         };
-        if workspace.is_live(id.as_str()) {
-            return Ok(refuse(alloc, Refusal::IdInUse));
-        }
-        if !workspace.has_rank() {
-            return Ok(refuse(alloc, Refusal::HistoryFull));
-        }
-        let words = Text::new(alloc, id.as_str())?;
-        let package = creation(alloc, id, class, workspace.end_rank())?;
-        self.with_room(alloc, List::new(alloc), words, Event::Edit { ws, package })
+        meta.sound();
+        let _ = &self.meta;
+        let lines = operation_lines(alloc, workspace.operations(), meta)?;
+        Ok(tell(lines, Text::new(alloc, "")?))
     }
 
     /// Makes an event, where the history and the journal have room.
@@ -261,12 +315,14 @@ impl Repo {
         event: Event,
     ) -> Result<Decision, AllocError>
         requires could { playable_with self.now self.now.meta event ≡ true }
-        requires fits { FitsEvent event }
         ensures decision { IfOk result (λ d. seen d ≡ with_room self.now lines words event) }
         ensures made { IfOk result (λ d. CanMakeIt self.now d.made) }
     {
         if self.is_full() {
             return Ok(refuse(alloc, Refusal::HistoryFull));
+        }
+        if !has_form(&event) {
+            return Ok(refuse(alloc, Refusal::TooLarge));
         }
         let form = encode_event(alloc, &event)?;
         if form.len() > MOST_BYTES {

@@ -1,19 +1,19 @@
 //! The repository in memory, and what an event makes of it.
-ghost use Rattle.std.specs.Prelude.{◌≡◌, ◌≢◌, ◌+◌, ◌-◌, ◌*◌, ◌≤◌, ◌<◌, ◌^◌, ℕ, List, [], ◌∷◌, IfOk, OnOk, OnErr, IsErrOf, IsTrue, length, true, false, Some, Option};
+ghost use Rattle.std.specs.Prelude.{◌≡◌, ◌≢◌, ◌+◌, ◌-◌, ◌*◌, ◌≤◌, ◌<◌, ◌^◌, ℕ, List, [], ◌∷◌, IfOk, None, OnOk, OnErr, IsErrOf, IsTrue, length, true, false, Some, Option};
 ghost use Rattle.std.specs.Bool.{OnTrue, OnFalse};
 ghost use Rattle.std.specs.Option.{option_copied};
 ghost use Rattle.ecore_meta.specs.Meta.{Meta};
 ghost use Rattle.ecore_json.specs.Metamodel.{metamodel_of};
 ghost use Rattle.op_form.specs.declared.event.Event.{Event};
-ghost use Rattle.op_form.specs.declared.event.Event.TheVariants.{Init, Edit};
+ghost use Rattle.op_form.specs.declared.event.Event.TheVariants.{Init, Edit, Undo, Discard};
 ghost use Rattle.op_form.specs.Events.{event_form};
-ghost use Rattle.op_form.specs.Laws.{IsEvent};
-ghost use Rattle.plain_repository.specs.Repository.{empty, workspace_of, recorded, creates_there, meta_of_read, play, playable, playable_with, most_bytes};
+ghost use Rattle.op_form.specs.Formed.{is_event};
+ghost use Rattle.plain_repository.specs.Repository.{empty, workspace_of, can_follow, has_operations, effect, meta_of_read, play, playable, playable_with, most_bytes};
 
-use crate::workspace::Workspace;
+use crate::workspace::{Workspace, follow};
 use ecore_json::{EcoreFault, read_metamodel};
 use ecore_meta::{Metamodel, Text};
-use model_state::{OpKind, Operation, Package, Place, Step, is_concrete};
+use model_state::{Package, StepFault};
 use op_form::{Event, FormFault, decode_event};
 use std::alloc::{AllocError, Global};
 use std::marker::Model;
@@ -36,12 +36,13 @@ pub struct Repo {
 impl Model for Repo {
     ghost use Rattle.std.specs.Prelude.{◌^◌, ◌≤◌};
     ghost use Rattle.plain_repository.specs.Repository.{State};
+    ghost use Rattle.repo_core.specs.Decisions.{AreFolded};
 
     ghost Value = { State };
 
     ghost view = { λ r. record { meta = r.meta; workspaces = r.workspaces.items; events = r.events; end = r.end } };
 
-    ghost invariant = { λ r. r.end ≤ 2 ^ 40 };
+    ghost invariant = { λ r. (r.end ≤ 2 ^ 40) × AreFolded r.meta r.workspaces.items };
 }
 
 /// Why the bytes of a record are not played.
@@ -87,7 +88,7 @@ impl Repo {
     }
 
     /// The workspace of that number.
-    pub fn workspace(&self, ws: u32) -> Option<&Workspace>
+    pub(crate) fn workspace(&self, ws: u32) -> Option<&Workspace>
         ensures { option_copied result ≡ workspace_of self.now ws }
     {
         if ws == 0 {
@@ -96,80 +97,98 @@ impl Repo {
         self.workspaces.get(ws as usize - 1)
     }
 
-    /// Whether the operations are those of a creation that a command could make in the workspace.
-    fn creates_there(&self, meta: &Metamodel, ws: u32, package: &Package) -> bool
-        ensures { result ≡ creates_there meta.now (workspace_of self.now ws) «package».now }
+    /// Whether the package can be taken on the workspace's model.
+    fn can_follow(
+        &self,
+        alloc: Global,
+        meta: &Metamodel,
+        ws: u32,
+        package: &Package,
+    ) -> Result<bool, AllocError>
+        ensures { IfOk result (λ b. b ≡ can_follow meta.now (workspace_of self.now ws) «package».now) }
     {
         let Some(workspace) = self.workspace(ws) else {
-            return false;
+            return Ok(false);
         };
-        match package.as_slice() {
-            [Operation::Simple { kind, steps }] => match (kind, steps.as_slice()) {
-                (
-                    OpKind::Create,
-                    [
-                        Step::New {
-                            e,
-                            class,
-                            place,
-                            rank,
-                        },
-                    ],
-                ) => match place {
-                    Place::Root => {
-                        is_concrete(meta, *class)
-                            && !workspace.is_live(e.as_str())
-                            && workspace.has_rank()
-                            && *rank == workspace.end_rank()
-                    }
-                    Place::Inside { .. } => false,
-                },
-                _ => false,
-            },
-            _ => false,
+        if package.len() == 0 {
+            return Ok(false);
+        }
+        meta.sound();
+        let mut model = workspace.model(alloc, meta)?;
+        match follow(&mut model, meta, package) {
+            Ok(()) => Ok(true),
+            Err(StepFault::Memory) => Err(AllocError),
+            Err(_) => Ok(false),
+        }
+    }
+
+    /// Whether the workspace is there and has operations.
+    fn has_operations(&self, ws: u32) -> bool
+        ensures { result ≡ has_operations (workspace_of self.now ws) }
+    {
+        match self.workspace(ws) {
+            None => false,
+            Some(workspace) => workspace.has_operations(),
         }
     }
 
     /// Whether the event is one that a command could make now.
     #[tactic(auto, unfolding(plain_repository::specs::Repository::playable))]
     fn is_playable(&self, alloc: Global, event: &Event, size: usize) -> Result<bool, AllocError>
-        requires event { IsEvent event.now }
+        requires event { is_event event.now ≡ true }
         requires size { size ≡ length (event_form event.now) }
         ensures { IfOk result (λ b. b ≡ playable self.now event.now) }
     {
         if self.is_full() || size > MOST_BYTES {
             return Ok(false);
         }
-        match &self.meta {
-            None => match event {
+        let Some(meta) = &self.meta else {
+            return match event {
                 Event::Init { text } => Ok(metamodel(alloc, text.as_str())?.is_some()),
                 _ => Ok(false),
-            },
-            Some(meta) => match event {
-                Event::Checkout { version, branch } => Ok(*version == 0 && *branch == 0),
-                Event::Edit { ws, package } => Ok(self.creates_there(meta, *ws, package)),
-                _ => Ok(false),
-            },
+            };
+        };
+        match event {
+            Event::Checkout { version, branch } => Ok(*version == 0 && *branch == 0),
+            Event::Edit { ws, package } => self.can_follow(alloc, meta, *ws, package),
+            Event::Undo { ws } => Ok(self.has_operations(*ws)),
+            Event::Discard { ws } => Ok(self.has_operations(*ws)),
+            _ => Ok(false),
         }
     }
 
     /// Takes the metamodel of a text.
     fn begin(&mut self, alloc: Global, text: &Text) -> Result<(), AllocError>
         requires short { length text.now < 2 ^ 32 - 1 }
+        requires none { self.old.meta ≡ None }
         ensures { OnOk result (self.new ≡ record self.old { meta = meta_of_read (metamodel_of text.now) }) }
     {
         self.meta = metamodel(alloc, text.as_str())?;
         Ok(())
     }
 
-    /// Records a package of one operation in a workspace.
+    /// Records a package in a workspace.
     fn record(&mut self, alloc: Global, ws: u32, package: &Package) -> Result<(), AllocError>
-        requires workspace { (1 ≤ ws) × (ws ≤ length self.old.workspaces) }
-        requires one { length «package».now ≡ 1 }
-        ensures { OnOk result (self.new ≡ record self.old { workspaces = recorded self.old.workspaces ws «package».now }) }
+        requires can { IsTrue (playable_with self.old self.old.meta (Edit ws «package».now)) }
+        ensures { OnOk result (self.new ≡ effect self.old (Edit ws «package».now)) }
     {
-        let operation = package.as_slice()[0].copy(alloc)?;
-        self.workspaces[ws as usize - 1].push(operation)
+        self.workspaces[ws as usize - 1].extend(alloc, package)
+    }
+
+    /// Lets the last operation of a workspace go.
+    fn undo(&mut self, alloc: Global, ws: u32) -> Result<(), AllocError>
+        requires can { IsTrue (playable_with self.old self.old.meta (Undo ws)) }
+        ensures { OnOk result (self.new ≡ effect self.old (Undo ws)) }
+    {
+        self.workspaces[ws as usize - 1].pop(alloc)
+    }
+
+    /// Lets all operations of a workspace go.
+    fn discard(&mut self, alloc: Global, ws: u32)
+        requires can { IsTrue (playable_with self.old self.old.meta (Discard ws)) }
+        ensures { self.new ≡ effect self.old (Discard ws) }
+    {
+        self.workspaces[ws as usize - 1].clear(alloc);
     }
 
     /// Makes an event whose bytes are so many.
@@ -184,6 +203,8 @@ impl Repo {
             Event::Init { text } => self.begin(alloc, text)?,
             Event::Checkout { .. } => self.workspaces.push(Workspace::new(alloc))?,
             Event::Edit { ws, package } => self.record(alloc, *ws, package)?,
+            Event::Undo { ws } => self.undo(alloc, *ws)?,
+            Event::Discard { ws } => self.discard(alloc, *ws),
             _ => {}
         }
         self.events += 1;

@@ -1,19 +1,21 @@
 //! A workspace in memory.
-ghost use Rattle.std.specs.Prelude.{◌≡◌, ◌+◌, ◌<◌, ◌≤◌, ◌^◌, ℕ, List, [], ◌∷◌, ◌++◌, IfOk, OnOk, IsTrue, length, string_bytes, true};
-ghost use Rattle.std.specs.Bool.{OnTrue, OnFalse};
-ghost use Rattle.plain_repository.specs.Repository.{makes, is_live, has_rank, end_rank, numbered, first_free, fresh_id};
+ghost use Rattle.std.specs.Prelude.{◌≡◌, ◌≢◌, ◌≤◌, ◌++◌, ◌∷◌, [], length, take, IfOk, OnOk, OnErr, IfErr, None, Some};
+ghost use Rattle.ecore_meta.specs.Sound.{Sound};
+ghost use Rattle.model_state.specs.Good.{Good};
+ghost use Rattle.model_state.specs.Packages.{steps_of, fold_package};
+ghost use Rattle.step_apply.specs.View.{plain_state};
+ghost use Rattle.plain_repository.specs.Repository.{model_of, with_more, without_last, without_any, has_operations};
 
-use ecore_meta::List;
-use model_state::{Operation, Step};
+use ecore_meta::{List, Metamodel};
+use model_laws::replay;
+use model_state::{Operation, Package, Step, StepFault};
 use std::alloc::{AllocError, Global};
-use std::fmt::Write;
 use std::marker::Model;
-
-const MOST_EVENTS: u64 = 4_294_967_295;
+use step_apply::Plain;
 
 /// The operations recorded in a workspace, in their order.
 #[derive(Drop)]
-pub struct Workspace {
+pub(crate) struct Workspace {
     operations: List<Operation>,
 }
 
@@ -25,40 +27,52 @@ impl Model for Workspace {
     ghost view = { λ w. record { operations = w.operations } };
 }
 
-/// Whether the operation makes the element.
-fn makes(id: &str, operation: &Operation) -> bool
-    ensures { result ≡ makes id.now operation.now }
+fn steps_in(operation: &Operation) -> &[Step]
+    ensures { result.now ≡ steps_of operation.now }
 {
     match operation {
-        Operation::Simple { steps, .. } => match steps.as_slice() {
-            [Step::New { e, .. }] => e.as_str() == id,
-            _ => false,
-        },
-        Operation::Composite { .. } => false,
+        Operation::Simple { steps, .. } => steps.as_slice(),
+        Operation::Composite { steps, .. } => steps.as_slice(),
     }
 }
 
-/// A workspace's number and a number, as an id.
-fn numbered(alloc: Global, ws: u32, k: u64) -> Result<String, AllocError>
-    ensures { IfOk result (λ id. string_bytes id ≡ numbered ws k) }
+/// Takes the steps of a package one by one, up to the first that can't be taken. After an error the model is of no use.
+pub(crate) fn follow(
+    model: &mut Plain,
+    meta: &Metamodel,
+    package: &Package,
+) -> Result<(), StepFault>
+    requires sound { Sound meta.now }
+    requires good { Good meta.now (plain_state model.old) }
+    ensures done { OnOk result (fold_package meta.now (plain_state model.old) «package».now ≡ Some (plain_state model.new)) }
+    ensures cannot { IfErr result (λ e. e ≢ StepFault.Memory → fold_package meta.now (plain_state model.old) «package».now ≡ None) }
+    ensures good { Good meta.now (plain_state model.new) }
 {
-    let mut id = String::new(alloc);
-    write!(id, "w{ws}n{k}")?;
-    Ok(id)
+    for operation in package.as_slice() {
+        replay(model, meta, steps_in(operation))?;
+    }
+    Ok(())
 }
 
-/// The number behind another; there are no lists of so many items that there is none.
-fn next(k: u64) -> Result<u64, AllocError>
-    ensures { IfOk result (λ n. n ≡ k + 1) }
+/// Copies of the first operations.
+fn copies(
+    alloc: Global,
+    operations: &[Operation],
+    count: usize,
+) -> Result<List<Operation>, AllocError>
+    requires { count ≤ length operations.now }
+    ensures { IfOk result (λ copies. copies ≡ take count operations.now) }
 {
-    match k.checked_add(1) {
-        Some(n) => Ok(n),
-        None => Err(AllocError),
+    let mut copies = List::new(alloc);
+    for operation in &operations[..count] {
+        copies.push(operation.copy(alloc)?)?;
     }
+    Ok(copies)
 }
 
 impl Workspace {
-    pub fn new(alloc: Global) -> Workspace
+    /// A workspace at the empty project.
+    pub(crate) fn new(alloc: Global) -> Workspace
         ensures { result ≡ record { operations = [] } }
     {
         Workspace {
@@ -66,56 +80,74 @@ impl Workspace {
         }
     }
 
-    /// Whether an element with that id is there.
-    #[tactic(auto, unfolding(plain_repository::specs::Repository::is_live))]
-    pub fn is_live(&self, id: &str) -> bool
-        ensures { result ≡ is_live self.now id.now }
+    /// The operations, in their order.
+    pub(crate) fn operations(&self) -> &Package
+        ensures { result.now ≡ self.now.operations }
     {
-        for operation in self.operations.as_slice() {
-            if makes(id, operation) {
-                return true;
+        &self.operations
+    }
+
+    /// Whether there are operations.
+    pub(crate) fn has_operations(&self) -> bool
+        ensures { result ≡ has_operations (Some self.now) }
+    {
+        self.operations.len() > 0
+    }
+
+    /// The working model: what the operations lead to from the empty project. They are taken one by one each time.
+    pub(crate) fn model(&self, alloc: Global, meta: &Metamodel) -> Result<Plain, AllocError>
+        ensures model { IfOk result (λ m. plain_state m ≡ model_of meta.now self.now) }
+        ensures good { IfOk result (λ m. Good meta.now (plain_state m)) }
+    {
+        meta.sound();
+        let mut model = Plain::new(alloc);
+        match follow(&mut model, meta, &self.operations) {
+            Ok(()) => Ok(model),
+            Err(StepFault::Memory) => Err(AllocError),
+            Err(_) => Ok(Plain::new(alloc)),
+        }
+    }
+
+    /// Records the operations of a package, or has none where there is no memory.
+    pub(crate) fn extend(&mut self, alloc: Global, package: &Package) -> Result<(), AllocError>
+        ensures more { OnOk result (self.new ≡ with_more «package».now self.old) }
+        ensures none { OnErr result (self.new ≡ record { operations = [] }) }
+    {
+        match self.push_all(alloc, package) {
+            Ok(()) => Ok(()),
+            Err(fault) => {
+                self.clear(alloc);
+                Err(fault)
             }
         }
-        false
     }
 
-    /// Whether a rank is left behind the last element.
-    pub fn has_rank(&self) -> bool
-        ensures { result ≡ has_rank self.now }
+    fn push_all(&mut self, alloc: Global, package: &Package) -> Result<(), AllocError>
+        ensures { OnOk result (self.new ≡ with_more «package».now self.old) }
     {
-        (self.operations.len() as u64) < MOST_EVENTS
-    }
-
-    /// The rank behind the last element.
-    pub fn end_rank(&self) -> u64
-        requires { has_rank self.now ≡ true }
-        ensures { result ≡ end_rank self.now }
-    {
-        (self.operations.len() as u64 + 1) * (1 << 32)
-    }
-
-    /// An id that is free: the first of `w`, the workspace's number, `n` and 1, 2, 3 and so on.
-    #[tactic(auto, unfolding(plain_repository::specs::Repository::fresh_id))]
-    pub fn fresh_id(&self, alloc: Global, ws: u32) -> Result<String, AllocError>
-        ensures { IfOk result (λ id. string_bytes id ≡ fresh_id ws self.now) }
-    {
-        let mut left = self.operations.len();
-        let mut k: u64 = 1;
-        'tries: while left > 0 {
-            let id = numbered(alloc, ws, k)?;
-            if !self.is_live(id.as_str()) {
-                return Ok(id);
-            }
-            left -= 1;
-            k = next(k)?;
+        for operation in package.as_slice() {
+            self.operations.push(operation.copy(alloc)?)?;
         }
-        numbered(alloc, ws, k)
+        Ok(())
     }
 
-    /// Records an operation.
-    pub fn push(&mut self, operation: Operation) -> Result<(), AllocError>
-        ensures { OnOk result (self.new ≡ record { operations = self.old.operations ++ operation ∷ [] }) }
+    /// Lets the last operation go.
+    pub(crate) fn pop(&mut self, alloc: Global) -> Result<(), AllocError>
+        ensures fewer { OnOk result (self.new ≡ without_last self.old) }
+        ensures same { OnErr result (self.new ≡ self.old) }
     {
-        self.operations.push(operation)
+        self.operations = copies(
+            alloc,
+            self.operations.as_slice(),
+            self.operations.len().saturating_sub(1),
+        )?;
+        Ok(())
+    }
+
+    /// Lets all operations go.
+    pub(crate) fn clear(&mut self, alloc: Global)
+        ensures { self.new ≡ without_any self.old }
+    {
+        self.operations = List::new(alloc);
     }
 }

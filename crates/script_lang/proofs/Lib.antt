@@ -1,5 +1,9 @@
 pub mod Numbers
 pub mod Tags
 pub mod WordLemmas
+pub mod Readings
 pub mod FieldLemmas
+pub mod SpecLemmas
+pub mod EditLines
+pub mod WorkspaceLines
 pub mod LineLemmas

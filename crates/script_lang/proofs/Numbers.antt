@@ -1,5 +1,5 @@
 -- Words that are numbers, and the words that numbers are written as.
-use Rattle.std.proofs.Common.{◌≡◌, ◌≢◌, ℕ, zero, suc, ◌+◌, ◌<◌, ◌≤◌, ◌^◌, List, [], ◌∷◌, length, refl, sym, ap, subst, ◌∙◌, true, false, Bool, ◌&&◌, ◌||◌, not, cond, Option, None, Some, Result, Ok, Err, arith, get_or, nat_eq, nat_lt, eqb}
+use Rattle.std.proofs.Common.{◌≡◌, ℕ, zero, suc, ◌<◌, ◌≤◌, ◌^◌, List, [], ◌∷◌, length, refl, sym, ap, ◌∙◌, true, false, Bool, ◌&&◌, ◌||◌, not, cond, None, Some, Result, Err, arith, get_or, nat_eq, nat_lt}
 use Rattle.std.specs.List.{list_all, list_any}
 use Rattle.std.specs.Char.{is_ascii_digit}
 use Rattle.std.specs.Fmt.{decimal}

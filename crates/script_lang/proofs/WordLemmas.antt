@@ -1,12 +1,12 @@
 -- Reading a word that stands in front, and what stands in front where a word was read.
-use Rattle.std.proofs.Common.{◌≡◌, ℕ, zero, suc, ◌+◌, ◌<◌, ◌≤◌, List, [], ◌∷◌, ◌++◌, length, refl, sym, ap, subst, ◌∙◌, true, false, Bool, ◌||◌, not, cond, Option, None, Some, Result, Ok, Err, arith, get_or, take, drop, nat_eq, nat_lt, length-append, length-take}
-use Rattle.std.specs.List.{list_any, before_first, after_first, position_or_len, prefix_len}
+use Rattle.std.proofs.Common.{◌≡◌, ℕ, suc, ◌+◌, ◌<◌, ◌≤◌, List, [], ◌∷◌, ◌++◌, length, refl, sym, ap, subst, ◌∙◌, true, false, Bool, ◌||◌, cond, Option, None, Some, Ok, Err, arith, nat_eq, nat_lt, length-append, length-take}
+use Rattle.std.specs.List.{list_any, before_first, after_first, position_or_len}
 use Rattle.std.proofs.lemmas.Bool.{leb-true}
-use Rattle.std.proofs.lemmas.List.Sums.{prefix_len-le-length, passes_at_first, split_at_first}
+use Rattle.std.proofs.lemmas.List.Sums.{passes_at_first, split_at_first}
 use Rattle.std.proofs.lemmas.List.{append-nil, take_all}
 use Rattle.std.proofs.Math.Seq.{take-append_seam, drop-append-add}
 use Rattle.script_lang.specs.Left.{Left}
-use Rattle.script_lang.specs.Words.{is_space, word_at, word_from, word_of}
+use Rattle.script_lang.specs.Words.{is_space, word_at, word_from}
 use Rattle.script_lang.specs.Spelling.{IsWord}
 
 -- what stands behind a word: nothing, or a space and the rest

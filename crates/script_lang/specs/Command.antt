@@ -1,13 +1,14 @@
 -- The command that a line spells, or the column of the first word that does not fit.
-use Rattle.std.specs.Prelude.{◌≡◌, ℕ, ◌==◌, ◌&&◌, Bool, List, [], ◌∷◌, codes, Option, Some, None, Result, Ok, Err, if◌then◌else◌}
+use Rattle.std.specs.Prelude.{◌≡◌, ℕ, ◌==◌, ◌&&◌, List, [], ◌∷◌, codes, Option, Some, None, Result, Ok, Err, if◌then◌else◌}
 use Rattle.script_lang.specs.declared.fault.ParseFault.{ParseFault}
 use Rattle.script_lang.specs.declared.command.Spec.{Spec}
 use Rattle.script_lang.specs.declared.command.Spec.TheVariants.{Number, Branch, Tag}
 use Rattle.script_lang.specs.declared.command.Command.{Command}
-use Rattle.script_lang.specs.declared.command.Command.TheVariants.{Init, Checkout, Create}
+use Rattle.script_lang.specs.declared.command.Command.TheVariants as commands
+use Rattle.edit_laws.specs.declared.edit.Edit.TheVariants.{Create, Set, Unset, Add, Remove, Shift}
 use Rattle.script_lang.specs.Left.{Left}
 use Rattle.model_state.specs.Names.{is_name}
-use Rattle.script_lang.specs.Words.{◌>>=◌, word_at, number_of, number_at, found_at, end_at, root_at, optional_at, is_word, IsBad}
+use Rattle.script_lang.specs.Words.{◌>>=◌, word_at, number_of, number_at, found_at, end_at, root_at, optional_at, rest_at, index_or_end_at, is_word, IsBad}
 
 -- `@` and a name is a tag's
 abbrev pub tag_of : List ℕ → Option Spec
@@ -36,14 +37,14 @@ spec_at left = do
 unfoldable pub init_at : Left → Result Command ℕ
 init_at left = do
   end ← end_at left
-  Ok Init
+  Ok commands.Init
 
 -- behind `checkout`: SPEC
 unfoldable pub checkout_at : Left → Result Command ℕ
 checkout_at left = do
   spec ← spec_at left
   end ← end_at spec.1
-  Ok (Checkout spec.0)
+  Ok (commands.Checkout spec.0)
 
 -- behind `create`: WS CLASS / [ID]
 unfoldable pub create_at : Left → Result Command ℕ
@@ -53,7 +54,77 @@ create_at left = do
   root ← root_at class.1
   id ← optional_at root.1
   end ← end_at id.1
-  Ok (Create ws.0 class.0 id.0)
+  Ok (commands.Edit ws.0 (Create class.0 id.0))
+
+-- behind `set`: WS ID FEATURE VALUE
+unfoldable pub set_at : Left → Result Command ℕ
+set_at left = do
+  ws ← number_at 1 left
+  id ← word_at ws.1
+  feature ← word_at id.1
+  value ← rest_at feature.1
+  Ok (commands.Edit ws.0 (Set id.0 feature.0 value))
+
+-- behind `unset`: WS ID FEATURE
+unfoldable pub unset_at : Left → Result Command ℕ
+unset_at left = do
+  ws ← number_at 1 left
+  id ← word_at ws.1
+  feature ← word_at id.1
+  end ← end_at feature.1
+  Ok (commands.Edit ws.0 (Unset id.0 feature.0))
+
+-- behind `add`: WS ID FEATURE AT VALUE
+unfoldable pub add_at : Left → Result Command ℕ
+add_at left = do
+  ws ← number_at 1 left
+  id ← word_at ws.1
+  feature ← word_at id.1
+  at ← index_or_end_at feature.1
+  value ← rest_at at.1
+  Ok (commands.Edit ws.0 (Add id.0 feature.0 at.0 value))
+
+-- behind `remove`: WS ID FEATURE INDEX
+unfoldable pub remove_at : Left → Result Command ℕ
+remove_at left = do
+  ws ← number_at 1 left
+  id ← word_at ws.1
+  feature ← word_at id.1
+  index ← number_at 0 feature.1
+  end ← end_at index.1
+  Ok (commands.Edit ws.0 (Remove id.0 feature.0 index.0))
+
+-- behind `shift`: WS ID FEATURE FROM TO
+unfoldable pub shift_at : Left → Result Command ℕ
+shift_at left = do
+  ws ← number_at 1 left
+  id ← word_at ws.1
+  feature ← word_at id.1
+  from ← number_at 0 feature.1
+  to ← number_at 0 from.1
+  end ← end_at to.1
+  Ok (commands.Edit ws.0 (Shift id.0 feature.0 from.0 to.0))
+
+-- behind `undo`: WS
+unfoldable pub undo_at : Left → Result Command ℕ
+undo_at left = do
+  ws ← number_at 1 left
+  end ← end_at ws.1
+  Ok (commands.Undo ws.0)
+
+-- behind `discard`: WS
+unfoldable pub discard_at : Left → Result Command ℕ
+discard_at left = do
+  ws ← number_at 1 left
+  end ← end_at ws.1
+  Ok (commands.Discard ws.0)
+
+-- behind `changes`: WS
+unfoldable pub changes_at : Left → Result Command ℕ
+changes_at left = do
+  ws ← number_at 1 left
+  end ← end_at ws.1
+  Ok (commands.Changes ws.0)
 
 -- a whole line: the first word names the command
 unfoldable pub command_of : List ℕ → Result Command ℕ
@@ -62,6 +133,14 @@ command_of line = do
   if is_word first.0 (codes "init") then init_at first.1
       else if is_word first.0 (codes "checkout") then checkout_at first.1
       else if is_word first.0 (codes "create") then create_at first.1
+      else if is_word first.0 (codes "set") then set_at first.1
+      else if is_word first.0 (codes "unset") then unset_at first.1
+      else if is_word first.0 (codes "add") then add_at first.1
+      else if is_word first.0 (codes "remove") then remove_at first.1
+      else if is_word first.0 (codes "shift") then shift_at first.1
+      else if is_word first.0 (codes "undo") then undo_at first.1
+      else if is_word first.0 (codes "discard") then discard_at first.1
+      else if is_word first.0 (codes "changes") then changes_at first.1
       else Err 1
 
 -- a call gave the command that reading gives, or its column

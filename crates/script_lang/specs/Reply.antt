@@ -2,7 +2,7 @@
 use Rattle.std.specs.Prelude.{ℕ, List, [], ◌∷◌, ◌++◌, codes}
 use Rattle.std.specs.Fmt.{decimal}
 use Rattle.script_lang.specs.declared.reply.Refusal.{Refusal}
-use Rattle.script_lang.specs.declared.reply.Refusal.TheVariants.{BadLine, NotInit, AlreadyInit, BadMetamodel, NoWorkspace, NoVersion, NoBranch, IdInUse, BadId, NoClass, Abstract, HistoryFull, TooLarge, JournalFull}
+use Rattle.script_lang.specs.declared.reply.Refusal.TheVariants.{BadLine, NotInit, AlreadyInit, BadMetamodel, NoWorkspace, NoVersion, NoBranch, NoElement, IdInUse, BadId, NoClass, Abstract, NoFeature, WrongKind, BadValue, Bound, AlreadyThere, NoEntry, NothingLocal, HistoryFull, TooLarge, JournalFull}
 use Rattle.script_lang.specs.declared.reply.Last.{Last}
 use Rattle.script_lang.specs.declared.reply.Last.TheVariants as last
 use Rattle.script_lang.specs.declared.reply.Reply.{Reply}
@@ -16,10 +16,18 @@ refusal_text (BadMetamodel n) = codes "4 BadMetamodel " ++ decimal n
 refusal_text NoWorkspace = codes "5 NoWorkspace"
 refusal_text NoVersion = codes "6 NoVersion"
 refusal_text NoBranch = codes "7 NoBranch"
+refusal_text NoElement = codes "10 NoElement"
 refusal_text IdInUse = codes "11 IdInUse"
 refusal_text BadId = codes "12 BadId"
 refusal_text NoClass = codes "13 NoClass"
 refusal_text Abstract = codes "14 Abstract"
+refusal_text NoFeature = codes "15 NoFeature"
+refusal_text WrongKind = codes "16 WrongKind"
+refusal_text BadValue = codes "17 BadValue"
+refusal_text Bound = codes "19 Bound"
+refusal_text AlreadyThere = codes "20 AlreadyThere"
+refusal_text NoEntry = codes "21 NoEntry"
+refusal_text NothingLocal = codes "23 NothingLocal"
 refusal_text HistoryFull = codes "33 HistoryFull"
 refusal_text TooLarge = codes "34 TooLarge"
 refusal_text JournalFull = codes "35 JournalFull"

@@ -1,11 +1,13 @@
 -- How a command is spelled: the words of its line, one after another.
-use Rattle.std.specs.Prelude.{◌≡◌, ℕ, ◌<◌, ◌≤◌, ◌^◌, List, [], ◌∷◌, ◌++◌, codes, IsTrue, Option, Some, None, Result, Ok, All, length, true, false}
-use Rattle.std.specs.List.{list_any, join_with_byte}
+use Rattle.std.specs.Prelude.{◌≡◌, ℕ, ◌<◌, ◌≤◌, ◌^◌, List, [], ◌∷◌, ◌++◌, codes, Option, Some, None, Ok, length, true, false}
+use Rattle.std.specs.List.{list_any}
 use Rattle.std.specs.Fmt.{decimal}
 use Rattle.script_lang.specs.declared.command.Spec.{Spec}
 use Rattle.script_lang.specs.declared.command.Spec.TheVariants.{Number, Branch, Tag}
 use Rattle.script_lang.specs.declared.command.Command.{Command}
-use Rattle.script_lang.specs.declared.command.Command.TheVariants.{Init, Checkout, Create}
+use Rattle.script_lang.specs.declared.command.Command.TheVariants as commands
+use Rattle.edit_laws.specs.declared.edit.Edit.{Edit}
+use Rattle.edit_laws.specs.declared.edit.Edit.TheVariants.{Create, Set, Unset, Add, Remove, Shift}
 use Rattle.model_state.specs.Names.{is_name}
 use Rattle.script_lang.specs.Words.{is_space}
 use Rattle.script_lang.specs.Command.{command_of}
@@ -26,11 +28,35 @@ abbrev pub IsOptionalWord : Option (List ℕ) → Type 0
 IsOptionalWord None = Unit {0}
 IsOptionalWord (Some word) = IsWord word
 
+-- a text that ends its line: at least one byte; it may hold spaces
+abbrev pub IsText : List ℕ → Type 0
+IsText text = 0 < length text
+
+abbrev pub IsOptionalNumber : Option ℕ → Type 0
+IsOptionalNumber None = Unit {0}
+IsOptionalNumber (Some n) = IsNumber n
+
+-- an edit that a line can spell
+abbrev pub IsEdit : Edit → Type 0
+IsEdit (Create class id) = IsWord class × IsOptionalWord id
+IsEdit (Set id feature value) = IsWord id × IsWord feature × IsText value
+IsEdit (Unset id feature) = IsWord id × IsWord feature
+IsEdit (Add id feature at value) = IsWord id × IsWord feature × IsOptionalNumber at × IsText value
+IsEdit (Remove id feature index) = IsWord id × IsWord feature × IsNumber index
+IsEdit (Shift id feature from to) = IsWord id × IsWord feature × IsNumber from × IsNumber to
+
+-- workspaces are counted from 1
+abbrev pub IsWorkspace : ℕ → Type 0
+IsWorkspace ws = (1 ≤ ws) × IsNumber ws
+
 -- a command that a line can spell
 abbrev pub IsCommand : Command → Type 0
-IsCommand Init = Unit {0}
-IsCommand (Checkout spec) = IsSpec spec
-IsCommand (Create ws class id) = (1 ≤ ws) × IsNumber ws × IsWord class × IsOptionalWord id
+IsCommand commands.Init = Unit {0}
+IsCommand (commands.Checkout spec) = IsSpec spec
+IsCommand (commands.Edit ws edit) = IsWorkspace ws × IsEdit edit
+IsCommand (commands.Undo ws) = IsWorkspace ws
+IsCommand (commands.Discard ws) = IsWorkspace ws
+IsCommand (commands.Changes ws) = IsWorkspace ws
 
 abbrev pub spec_word : Spec → List ℕ
 spec_word (Number n) = decimal n
@@ -41,11 +67,37 @@ abbrev pub optional_word : Option (List ℕ) → List (List ℕ)
 optional_word None = []
 optional_word (Some word) = word ∷ []
 
+-- an index, or `end` where there is none
+abbrev pub index_word : Option ℕ → List ℕ
+index_word None = codes "end"
+index_word (Some index) = decimal index
+
+-- the word that names an edit
+abbrev pub edit_word : Edit → List ℕ
+edit_word (Create class id) = codes "create"
+edit_word (Set id feature value) = codes "set"
+edit_word (Unset id feature) = codes "unset"
+edit_word (Add id feature at value) = codes "add"
+edit_word (Remove id feature index) = codes "remove"
+edit_word (Shift id feature from to) = codes "shift"
+
+-- the words of an edit behind the workspace's number; a value is the last
+abbrev pub edit_fields : Edit → List (List ℕ)
+edit_fields (Create class id) = class ∷ codes "/" ∷ optional_word id
+edit_fields (Set id feature value) = id ∷ feature ∷ value ∷ []
+edit_fields (Unset id feature) = id ∷ feature ∷ []
+edit_fields (Add id feature at value) = id ∷ feature ∷ index_word at ∷ value ∷ []
+edit_fields (Remove id feature index) = id ∷ feature ∷ decimal index ∷ []
+edit_fields (Shift id feature from to) = id ∷ feature ∷ decimal from ∷ decimal to ∷ []
+
 -- the words of a command's line
 abbrev pub words_of : Command → List (List ℕ)
-words_of Init = codes "init" ∷ []
-words_of (Checkout spec) = codes "checkout" ∷ spec_word spec ∷ []
-words_of (Create ws class id) = codes "create" ∷ decimal ws ∷ class ∷ codes "/" ∷ optional_word id
+words_of commands.Init = codes "init" ∷ []
+words_of (commands.Checkout spec) = codes "checkout" ∷ spec_word spec ∷ []
+words_of (commands.Edit ws edit) = edit_word edit ∷ decimal ws ∷ edit_fields edit
+words_of (commands.Undo ws) = codes "undo" ∷ decimal ws ∷ []
+words_of (commands.Discard ws) = codes "discard" ∷ decimal ws ∷ []
+words_of (commands.Changes ws) = codes "changes" ∷ decimal ws ∷ []
 
 -- words with single spaces between them
 abbrev pub spaced : List (List ℕ) → List ℕ

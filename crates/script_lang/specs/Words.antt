@@ -90,6 +90,29 @@ optional_from (Some rest) left = word_at left >>= λ word. Ok (Some word.0, word
 unfoldable pub optional_at : Left → Result (Option (List ℕ) × Left) ℕ
 optional_at left = optional_from left.rest left
 
+-- all that is left, not empty; it may hold spaces
+abbrev pub rest_from : Option (List ℕ) → ℕ → Result (List ℕ) ℕ
+rest_from None column = Err (column - 1)
+rest_from (Some []) column = Err column
+rest_from (Some (b ∷ bs)) column = Ok (b ∷ bs)
+
+unfoldable pub rest_at : Left → Result (List ℕ) ℕ
+rest_at left = rest_from left.rest left.column
+
+abbrev pub index_from : Option ℕ → List ℕ → Option (Option ℕ)
+index_from (Some index) word = Some (Some index)
+index_from None word = if is_word word (codes "end") then Some None else None
+
+-- an index, or none for the word `end`
+abbrev pub index_or_end : List ℕ → Option (Option ℕ)
+index_or_end word = index_from (number_of word) word
+
+-- the next word, an index or `end`
+unfoldable pub index_or_end_at : Left → Result (Option ℕ × Left) ℕ
+index_or_end_at left = do
+  word ← word_at left
+  found_at left.column (index_or_end word.0) word.1
+
 -- the fault names the column that reading gives; want of memory says nothing of the line
 abbrev pub IsBad : {X : Type 0} → ParseFault → Result X ℕ → Type 0
 IsBad Memory read = Unit {0}
@@ -111,6 +134,10 @@ GivesEnd (Err e) read = IsBad e read
 abbrev pub GivesOptional : Left → Result (Option (Bor (List ℕ))) ParseFault → Result (Option (List ℕ) × Left) ℕ → Type 0
 GivesOptional new (Ok o) read = read ≡ Ok (left_of o, new)
 GivesOptional new (Err e) read = IsBad e read
+
+abbrev pub GivesRest : Result (Bor (List ℕ)) ParseFault → Result (List ℕ) ℕ → Type 0
+GivesRest (Ok x) read = read ≡ Ok x.now
+GivesRest (Err e) read = IsBad e read
 
 abbrev pub GivesUnit : Left → Result (Unit {0}) ParseFault → Result (Unit {0} × Left) ℕ → Type 0
 GivesUnit new (Ok x) read = read ≡ Ok (tt, new)

@@ -1,4 +1,5 @@
 use ecore_meta::Text;
+use edit_laws::Edit;
 
 /// How a line names a version.
 #[derive(Debug, PartialEq, Drop)]
@@ -11,19 +12,20 @@ pub enum Spec {
     Tag(Text),
 }
 
-/// A command, one variant a first word, with a field for each further word in the order in which they stand.
+/// A command, with a field for each word behind the first, in the order in which they stand.
 #[derive(Debug, PartialEq, Drop)]
 pub enum Command {
     /// `init`: the block behind the line is the metamodel.
     Init,
     /// `checkout SPEC`: a new workspace at that version.
-    Checkout {
-        spec: Spec,
-    },
-    /// `create WS CLASS / [ID]`: a new element of the class, last at the root, with that id or a fresh one.
-    Create {
-        ws: u32,
-        class: Text,
-        id: Option<Text>,
-    },
+    Checkout { spec: Spec },
+    /// An edit of a workspace's model: `create WS CLASS / [ID]`, `set WS ID FEATURE VALUE`, `unset WS ID FEATURE`, `add WS ID FEATURE AT VALUE`,
+    /// `remove WS ID FEATURE INDEX` or `shift WS ID FEATURE FROM TO`.
+    Edit { ws: u32, edit: Edit },
+    /// `undo WS`: the last local operation goes.
+    Undo { ws: u32 },
+    /// `discard WS`: all that is local goes.
+    Discard { ws: u32 },
+    /// `changes WS`: what is local is shown.
+    Changes { ws: u32 },
 }

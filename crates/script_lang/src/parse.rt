@@ -1,11 +1,12 @@
 // A line as a command: one private function a command.
 ghost use Rattle.std.specs.Prelude.{◌≡◌, ◌-◌, ◌<◌, ◌^◌, length, IfOk, IfNone, IfSome, None, Some};
-ghost use Rattle.script_lang.specs.Command.{GivesCommand, GivesSpec, command_of, init_at, checkout_at, create_at, spec_of, spec_at, tag_of};
+ghost use Rattle.script_lang.specs.Command.{GivesCommand, GivesSpec, command_of, init_at, checkout_at, create_at, set_at, unset_at, add_at, remove_at, shift_at, undo_at, discard_at, changes_at, spec_of, spec_at, tag_of};
 ghost use Rattle.script_lang.specs.declared.command.Spec.TheVariants.{Tag};
 
 use crate::words::{Words, bad_line, number_of};
 use crate::{Command, ParseFault, Spec};
 use ecore_meta::Text;
+use edit_laws::Edit;
 use model_state::is_name;
 use std::alloc::{AllocError, Global};
 
@@ -25,6 +26,14 @@ pub fn parse_line(alloc: Global, line: &str) -> Result<Command, ParseFault>
         "init" => init(&words),
         "checkout" => checkout(alloc, &mut words),
         "create" => create(alloc, &mut words),
+        "set" => set(alloc, &mut words),
+        "unset" => unset(alloc, &mut words),
+        "add" => add(alloc, &mut words),
+        "remove" => remove(alloc, &mut words),
+        "shift" => shift(alloc, &mut words),
+        "undo" => undo(&mut words),
+        "discard" => discard(&mut words),
+        "changes" => changes(&mut words),
         _ => Err(ParseFault::BadLine { column: 1 }),
     }
 }
@@ -50,19 +59,143 @@ fn checkout(alloc: Global, words: &mut Words<'_>) -> Result<Command, ParseFault>
 fn create(alloc: Global, words: &mut Words<'_>) -> Result<Command, ParseFault>
     ensures { GivesCommand result (create_at words.old) }
 {
-    let ws = words.number(1)?;
+    let ws = words.workspace()?;
     let class = words.word()?;
     words.root()?;
     let id = words.optional_word()?;
     words.end()?;
-    Ok(Command::Create {
+    Ok(Command::Edit {
         ws,
-        class: Text::new(alloc, class)?,
-        id: match id {
-            None => None,
-            Some(id) => Some(Text::new(alloc, id)?),
+        edit: Edit::Create {
+            class: Text::new(alloc, class)?,
+            id: match id {
+                None => None,
+                Some(id) => Some(Text::new(alloc, id)?),
+            },
         },
     })
+}
+
+#[tactic(auto, unfolding(crate::specs::Command::set_at))]
+fn set(alloc: Global, words: &mut Words<'_>) -> Result<Command, ParseFault>
+    ensures { GivesCommand result (set_at words.old) }
+{
+    let ws = words.workspace()?;
+    let id = words.word()?;
+    let feature = words.word()?;
+    let value = words.rest()?;
+    Ok(Command::Edit {
+        ws,
+        edit: Edit::Set {
+            id: Text::new(alloc, id)?,
+            feature: Text::new(alloc, feature)?,
+            value: Text::new(alloc, value)?,
+        },
+    })
+}
+
+#[tactic(auto, unfolding(crate::specs::Command::unset_at))]
+fn unset(alloc: Global, words: &mut Words<'_>) -> Result<Command, ParseFault>
+    ensures { GivesCommand result (unset_at words.old) }
+{
+    let ws = words.workspace()?;
+    let id = words.word()?;
+    let feature = words.word()?;
+    words.end()?;
+    Ok(Command::Edit {
+        ws,
+        edit: Edit::Unset {
+            id: Text::new(alloc, id)?,
+            feature: Text::new(alloc, feature)?,
+        },
+    })
+}
+
+#[tactic(auto, unfolding(crate::specs::Command::add_at))]
+fn add(alloc: Global, words: &mut Words<'_>) -> Result<Command, ParseFault>
+    ensures { GivesCommand result (add_at words.old) }
+{
+    let ws = words.workspace()?;
+    let id = words.word()?;
+    let feature = words.word()?;
+    let at = words.index_or_end()?;
+    let value = words.rest()?;
+    Ok(Command::Edit {
+        ws,
+        edit: Edit::Add {
+            id: Text::new(alloc, id)?,
+            feature: Text::new(alloc, feature)?,
+            at,
+            value: Text::new(alloc, value)?,
+        },
+    })
+}
+
+#[tactic(auto, unfolding(crate::specs::Command::remove_at))]
+fn remove(alloc: Global, words: &mut Words<'_>) -> Result<Command, ParseFault>
+    ensures { GivesCommand result (remove_at words.old) }
+{
+    let ws = words.workspace()?;
+    let id = words.word()?;
+    let feature = words.word()?;
+    let index = words.number(0)?;
+    words.end()?;
+    Ok(Command::Edit {
+        ws,
+        edit: Edit::Remove {
+            id: Text::new(alloc, id)?,
+            feature: Text::new(alloc, feature)?,
+            index,
+        },
+    })
+}
+
+#[tactic(auto, unfolding(crate::specs::Command::shift_at))]
+fn shift(alloc: Global, words: &mut Words<'_>) -> Result<Command, ParseFault>
+    ensures { GivesCommand result (shift_at words.old) }
+{
+    let ws = words.workspace()?;
+    let id = words.word()?;
+    let feature = words.word()?;
+    let from = words.number(0)?;
+    let to = words.number(0)?;
+    words.end()?;
+    Ok(Command::Edit {
+        ws,
+        edit: Edit::Shift {
+            id: Text::new(alloc, id)?,
+            feature: Text::new(alloc, feature)?,
+            from,
+            to,
+        },
+    })
+}
+
+#[tactic(auto, unfolding(crate::specs::Command::undo_at))]
+fn undo(words: &mut Words<'_>) -> Result<Command, ParseFault>
+    ensures { GivesCommand result (undo_at words.old) }
+{
+    let ws = words.workspace()?;
+    words.end()?;
+    Ok(Command::Undo { ws })
+}
+
+#[tactic(auto, unfolding(crate::specs::Command::discard_at))]
+fn discard(words: &mut Words<'_>) -> Result<Command, ParseFault>
+    ensures { GivesCommand result (discard_at words.old) }
+{
+    let ws = words.workspace()?;
+    words.end()?;
+    Ok(Command::Discard { ws })
+}
+
+#[tactic(auto, unfolding(crate::specs::Command::changes_at))]
+fn changes(words: &mut Words<'_>) -> Result<Command, ParseFault>
+    ensures { GivesCommand result (changes_at words.old) }
+{
+    let ws = words.workspace()?;
+    words.end()?;
+    Ok(Command::Changes { ws })
 }
 
 /// The next word, which names a version.

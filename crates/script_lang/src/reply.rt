@@ -23,6 +23,8 @@ pub enum Refusal {
     NoVersion,
     /// 7: no branch has that name.
     NoBranch,
+    /// 10: no live element has that id.
+    NoElement,
     /// 11: an element with that id is live.
     IdInUse,
     /// 12: the text is no id.
@@ -31,6 +33,20 @@ pub enum Refusal {
     NoClass,
     /// 14: the class is abstract.
     Abstract,
+    /// 15: the element's class has no feature of that name.
+    NoFeature,
+    /// 16: the feature is of a kind that the command does not take.
+    WrongKind,
+    /// 17: the text is no value of the attribute's type.
+    BadValue,
+    /// 19: a list that would get an entry more is full.
+    Bound,
+    /// 20: the feature holds each value once, and holds that one already.
+    AlreadyThere,
+    /// 21: the list has no entry at that index.
+    NoEntry,
+    /// 23: the workspace has no local operation.
+    NothingLocal,
     /// 33: as many events stand in the history as it can hold.
     HistoryFull,
     /// 34: the event's record would be longer than a record may be.
@@ -55,10 +71,18 @@ impl fmt::Display for Refusal {
             Refusal::NoWorkspace => f.write_str("5 NoWorkspace"),
             Refusal::NoVersion => f.write_str("6 NoVersion"),
             Refusal::NoBranch => f.write_str("7 NoBranch"),
+            Refusal::NoElement => f.write_str("10 NoElement"),
             Refusal::IdInUse => f.write_str("11 IdInUse"),
             Refusal::BadId => f.write_str("12 BadId"),
             Refusal::NoClass => f.write_str("13 NoClass"),
             Refusal::Abstract => f.write_str("14 Abstract"),
+            Refusal::NoFeature => f.write_str("15 NoFeature"),
+            Refusal::WrongKind => f.write_str("16 WrongKind"),
+            Refusal::BadValue => f.write_str("17 BadValue"),
+            Refusal::Bound => f.write_str("19 Bound"),
+            Refusal::AlreadyThere => f.write_str("20 AlreadyThere"),
+            Refusal::NoEntry => f.write_str("21 NoEntry"),
+            Refusal::NothingLocal => f.write_str("23 NothingLocal"),
             Refusal::HistoryFull => f.write_str("33 HistoryFull"),
             Refusal::TooLarge => f.write_str("34 TooLarge"),
             Refusal::JournalFull => f.write_str("35 JournalFull"),

@@ -1,17 +1,24 @@
 // The forms of lines and replies, as the language is written down for its users.
 use super::*;
 use ecore_meta::{List, Text};
+use edit_laws::Edit;
 use std::alloc::Global;
+use std::process::Abort;
 use std::test::Fail;
 
-// A line, and the command that it spells in the form of its derived `Debug`, or the column of the first word that does not fit.
-const LINES: [(&str, Result<&str, u32>); 25] = [
+// A line, and the command that it spells as `shown` writes it, or the column of the first word that does not fit.
+type Row = (&'static str, Result<&'static str, u32>);
+
+const FIRST_LINES: [Row; 25] = [
     ("init", Ok("Init")),
     ("init ", Err(6)),
     ("init x", Err(6)),
     (" init", Err(1)),
     ("", Err(1)),
     ("fly", Err(1)),
+    ("Set 1 b title x", Err(1)),
+    ("sets 1 b title x", Err(1)),
+    ("undo1", Err(1)),
     ("checkout 0", Ok("Checkout Number 0")),
     ("checkout 4294967295", Ok("Checkout Number 4294967295")),
     ("checkout 4294967296", Err(10)),
@@ -25,12 +32,133 @@ const LINES: [(&str, Result<&str, u32>); 25] = [
     ("checkout @", Err(10)),
     ("checkout @1", Err(10)),
     ("checkout trunk x", Err(16)),
-    ("create 1 Book /", Ok("Create 1 Book -")),
-    ("create 1 Book / b", Ok("Create 1 Book b")),
+    ("checkout end", Ok("Checkout Branch end")),
+    ("checkout  0", Err(10)),
+    ("checkout 0 ", Err(12)),
+];
+
+const CREATE_LINES: [Row; 14] = [
+    ("create 1 Book /", Ok("1 Create Book -")),
+    ("create 1 Book / b", Ok("1 Create Book b")),
+    ("create 1 Book / /", Ok("1 Create Book /")),
+    ("create", Err(7)),
+    ("create ", Err(8)),
     ("create 0 Book / b", Err(8)),
-    ("create 1 Book l b", Err(15)),
+    ("create 01 Book / b", Err(8)),
+    ("create 1", Err(9)),
     ("create 1  / b", Err(10)),
+    ("create 1 Book", Err(14)),
+    ("create 1 Book ", Err(15)),
+    ("create 1 Book l b", Err(15)),
     ("create 1 Book / b ", Err(19)),
+    ("create 1 Book / b c", Err(19)),
+];
+
+const SET_LINES: [Row; 25] = [
+    ("set 1 b title \"Emma\"", Ok("1 Set b title [\"Emma\"]")),
+    (
+        "set 1 b title \"a  b\" c ",
+        Ok("1 Set b title [\"a  b\" c ]"),
+    ),
+    ("set 1 b title  x", Ok("1 Set b title [ x]")),
+    ("set 1 b title  ", Ok("1 Set b title [ ]")),
+    ("set 4294967295 / / /", Ok("4294967295 Set / / [/]")),
+    ("set", Err(4)),
+    ("set ", Err(5)),
+    ("set 0 b title x", Err(5)),
+    ("set 01 b title x", Err(5)),
+    ("set 4294967296 b title x", Err(5)),
+    ("set b b title x", Err(5)),
+    ("set 1", Err(6)),
+    ("set 1 ", Err(7)),
+    ("set 1  title x", Err(7)),
+    ("set 1 b", Err(8)),
+    ("set 1 b  x", Err(9)),
+    ("set 1 b title", Err(14)),
+    ("set 1 b title ", Err(15)),
+    ("unset 1 b tags", Ok("1 Unset b tags")),
+    ("unset", Err(6)),
+    ("unset x b tags", Err(7)),
+    ("unset 1", Err(8)),
+    ("unset 1  tags", Err(9)),
+    ("unset 1 b", Err(10)),
+    ("unset 1 b tags x", Err(16)),
+];
+
+const ADD_LINES: [Row; 19] = [
+    ("add 1 b tags end \"x  y\"", Ok("1 Add b tags - [\"x  y\"]")),
+    ("add 1 b tags 0 \"x\"", Ok("1 Add b tags 0 [\"x\"]")),
+    (
+        "add 1 b tags 4294967295  ",
+        Ok("1 Add b tags 4294967295 [ ]"),
+    ),
+    ("add 1 b tags end end", Ok("1 Add b tags - [end]")),
+    ("add", Err(4)),
+    ("add 0 b tags end x", Err(5)),
+    ("add 1", Err(6)),
+    ("add 1  tags end x", Err(7)),
+    ("add 1 b", Err(8)),
+    ("add 1 b  end x", Err(9)),
+    ("add 1 b tags", Err(13)),
+    ("add 1 b tags ", Err(14)),
+    ("add 1 b tags  x", Err(14)),
+    ("add 1 b tags 00 x", Err(14)),
+    ("add 1 b tags 4294967296 x", Err(14)),
+    ("add 1 b tags End x", Err(14)),
+    ("add 1 b tags ends x", Err(14)),
+    ("add 1 b tags end", Err(17)),
+    ("add 1 b tags end ", Err(18)),
+];
+
+const PLACE_LINES: [Row; 26] = [
+    ("remove 1 b tags 0", Ok("1 Remove b tags 0")),
+    ("remove", Err(7)),
+    ("remove w b tags 0", Err(8)),
+    ("remove 1", Err(9)),
+    ("remove 1  tags 0", Err(10)),
+    ("remove 1 b", Err(11)),
+    ("remove 1 b  0", Err(12)),
+    ("remove 1 b tags", Err(16)),
+    ("remove 1 b tags end", Err(17)),
+    ("remove 1 b tags -1", Err(17)),
+    ("remove 1 b tags 0 0", Err(19)),
+    ("shift 1 b tags 0 1", Ok("1 Shift b tags 0 1")),
+    (
+        "shift 1 b tags 4294967295 2",
+        Ok("1 Shift b tags 4294967295 2"),
+    ),
+    ("shift", Err(6)),
+    ("shift 0 b tags 0 1", Err(7)),
+    ("shift 1", Err(8)),
+    ("shift 1  tags 0 1", Err(9)),
+    ("shift 1 b", Err(10)),
+    ("shift 1 b  0 1", Err(11)),
+    ("shift 1 b tags", Err(15)),
+    ("shift 1 b tags end 1", Err(16)),
+    ("shift 1 b tags 00 1", Err(16)),
+    ("shift 1 b tags 0", Err(17)),
+    ("shift 1 b tags 0 end", Err(18)),
+    ("shift 1 b tags 0 01", Err(18)),
+    ("shift 1 b tags 0 1 2", Err(20)),
+];
+
+const WORKSPACE_LINES: [Row; 16] = [
+    ("undo 1", Ok("1 Undo")),
+    ("undo", Err(5)),
+    ("undo ", Err(6)),
+    ("undo 0", Err(6)),
+    ("undo one", Err(6)),
+    ("undo 1 ", Err(8)),
+    ("undo 1 1", Err(8)),
+    ("discard 2", Ok("2 Discard")),
+    ("discard", Err(8)),
+    ("discard 0", Err(9)),
+    ("discard 2 x", Err(11)),
+    ("changes 4294967295", Ok("4294967295 Changes")),
+    ("changes", Err(8)),
+    ("changes 0", Err(9)),
+    ("changes 4294967296", Err(9)),
+    ("changes 1 1", Err(11)),
 ];
 
 fn shown(alloc: Global, command: &Command) -> Result<String, Fail> {
@@ -45,36 +173,95 @@ fn shown(alloc: Global, command: &Command) -> Result<String, Fail> {
         Command::Checkout {
             spec: Spec::Tag(name),
         } => format!(in alloc; "Checkout Tag {}", name.as_str())?,
-        Command::Create { ws, class, id } => {
-            let id = match id {
-                Some(id) => id.as_str(),
-                None => "-",
-            };
-            format!(in alloc; "Create {ws} {} {id}", class.as_str())?
+        Command::Edit { ws, edit } => {
+            let edit = shown_edit(alloc, edit)?;
+            format!(in alloc; "{ws} {}", edit.as_str())?
         }
+        Command::Undo { ws } => format!(in alloc; "{ws} Undo")?,
+        Command::Discard { ws } => format!(in alloc; "{ws} Discard")?,
+        Command::Changes { ws } => format!(in alloc; "{ws} Changes")?,
     };
     Ok(text)
 }
 
-#[test]
-fn lines_are_read(rt: HostRuntime) -> Result<(), Fail> {
-    let alloc = rt.alloc();
-    for (line, wanted) in LINES {
-        assert!(&rt; line.len() < 100);
+// An edit's fields in their order, a value between brackets, and `-` for what is not given.
+fn shown_edit(alloc: Global, edit: &Edit) -> Result<String, Fail> {
+    let text = match edit {
+        Edit::Create { class, id: None } => format!(in alloc; "Create {} -", class.as_str())?,
+        Edit::Create {
+            class,
+            id: Some(id),
+        } => format!(in alloc; "Create {} {}", class.as_str(), id.as_str())?,
+        Edit::Set { id, feature, value } => {
+            format!(in alloc;
+                "Set {} {} [{}]",
+                id.as_str(),
+                feature.as_str(),
+                value.as_str()
+            )?
+        }
+        Edit::Unset { id, feature } => {
+            format!(in alloc; "Unset {} {}", id.as_str(), feature.as_str())?
+        }
+        Edit::Add {
+            id,
+            feature,
+            at,
+            value,
+        } => {
+            let at = match at {
+                Some(index) => format!(in alloc; "{index}")?,
+                None => String::from_str(alloc, "-")?,
+            };
+            format!(in alloc;
+                "Add {} {} {} [{}]",
+                id.as_str(),
+                feature.as_str(),
+                at.as_str(),
+                value.as_str()
+            )?
+        }
+        Edit::Remove { id, feature, index } => {
+            format!(in alloc; "Remove {} {} {index}", id.as_str(), feature.as_str())?
+        }
+        Edit::Shift {
+            id,
+            feature,
+            from,
+            to,
+        } => format!(in alloc; "Shift {} {} {from} {to}", id.as_str(), feature.as_str())?,
+    };
+    Ok(text)
+}
+
+fn are_read(rt: &impl Abort, alloc: Global, rows: &[Row]) -> Result<(), Fail> {
+    for (line, wanted) in rows {
+        assert!(rt; line.len() < 100);
         match (parse_line(alloc, line), wanted) {
             (Ok(command), Ok(text)) => {
-                assert_eq!(&rt; shown(alloc, &command)?.as_str(), text, "{line}");
+                assert_eq!(rt; shown(alloc, &command)?.as_str(), *text, "{line}");
             }
             (Err(ParseFault::BadLine { column }), Err(at)) => {
-                assert_eq!(&rt; column, at, "{line}");
+                assert_eq!(rt; column, *at, "{line}");
             }
-            _ => assert!(&rt; false, "{line}"),
+            _ => assert!(rt; false, "{line}"),
         }
     }
     Ok(())
 }
 
-const REFUSALS: [(Refusal, &[u8]); 14] = [
+#[test]
+fn lines_are_read(rt: HostRuntime) -> Result<(), Fail> {
+    let alloc = rt.alloc();
+    are_read(&rt, alloc, &FIRST_LINES)?;
+    are_read(&rt, alloc, &CREATE_LINES)?;
+    are_read(&rt, alloc, &SET_LINES)?;
+    are_read(&rt, alloc, &ADD_LINES)?;
+    are_read(&rt, alloc, &PLACE_LINES)?;
+    are_read(&rt, alloc, &WORKSPACE_LINES)
+}
+
+const REFUSALS: [(Refusal, &[u8]); 22] = [
     (Refusal::BadLine { column: 10 }, b"no 1 BadLine 10\n"),
     (Refusal::NotInit, b"no 2 NotInit\n"),
     (Refusal::AlreadyInit, b"no 3 AlreadyInit\n"),
@@ -82,10 +269,18 @@ const REFUSALS: [(Refusal, &[u8]); 14] = [
     (Refusal::NoWorkspace, b"no 5 NoWorkspace\n"),
     (Refusal::NoVersion, b"no 6 NoVersion\n"),
     (Refusal::NoBranch, b"no 7 NoBranch\n"),
+    (Refusal::NoElement, b"no 10 NoElement\n"),
     (Refusal::IdInUse, b"no 11 IdInUse\n"),
     (Refusal::BadId, b"no 12 BadId\n"),
     (Refusal::NoClass, b"no 13 NoClass\n"),
     (Refusal::Abstract, b"no 14 Abstract\n"),
+    (Refusal::NoFeature, b"no 15 NoFeature\n"),
+    (Refusal::WrongKind, b"no 16 WrongKind\n"),
+    (Refusal::BadValue, b"no 17 BadValue\n"),
+    (Refusal::Bound, b"no 19 Bound\n"),
+    (Refusal::AlreadyThere, b"no 20 AlreadyThere\n"),
+    (Refusal::NoEntry, b"no 21 NoEntry\n"),
+    (Refusal::NothingLocal, b"no 23 NothingLocal\n"),
     (Refusal::HistoryFull, b"no 33 HistoryFull\n"),
     (Refusal::TooLarge, b"no 34 TooLarge\n"),
     (Refusal::JournalFull, b"no 35 JournalFull\n"),

@@ -1,7 +1,7 @@
 // The words of a line, one after another.
 ghost use Rattle.std.specs.Prelude.{◌≡◌, ◌-◌, ◌<◌, ◌^◌, length, OnOk, Some};
 ghost use Rattle.std.specs.List.{list_all};
-ghost use Rattle.script_lang.specs.Words.{Gives, GivesText, GivesEnd, GivesUnit, GivesOptional, root_at, optional_at, word_at, number_at, number_of, is_numeral, end_at};
+ghost use Rattle.script_lang.specs.Words.{Gives, GivesText, GivesEnd, GivesUnit, GivesOptional, GivesRest, root_at, optional_at, rest_at, index_or_end_at, word_at, number_at, number_of, is_numeral, end_at};
 ghost use Rattle.std.specs.Char.{is_ascii_digit};
 
 use crate::ParseFault;
@@ -46,15 +46,13 @@ impl<'a> Words<'a> {
     }
 
     /// The next word.
-    #[tactic(auto, unfolding(crate::specs::Words::word_at))]
+    #[tactic(auto, unfolding(crate::specs::Words::word_at, crate::specs::Words::rest_at))]
     pub(crate) fn word(&mut self) -> Result<&'a str, ParseFault>
         ensures word { GivesText self.new result (word_at self.old) }
         ensures column { OnOk result (self.old.column < 2 ^ 32) }
     {
-        let Some(rest) = self.rest else {
-            return Err(bad_line(self.column - 1));
-        };
-        match rest.split_once(' ') {
+        let left = self.rest()?;
+        match left.split_once(' ') {
             Some((word, after)) => {
                 if word.is_empty() {
                     return Err(bad_line(self.column));
@@ -64,12 +62,9 @@ impl<'a> Words<'a> {
                 Ok(word)
             }
             None => {
-                if rest.is_empty() {
-                    return Err(bad_line(self.column));
-                }
                 self.rest = None;
-                self.column = self.column + rest.len() + 1;
-                Ok(rest)
+                self.column = self.column + left.len() + 1;
+                Ok(left)
             }
         }
     }
@@ -85,6 +80,13 @@ impl<'a> Words<'a> {
             Some(n) if n >= least => Ok(n),
             _ => Err(bad_line(column)),
         }
+    }
+
+    /// The next word, a workspace's number: they are counted from 1.
+    pub(crate) fn workspace(&mut self) -> Result<u32, ParseFault>
+        ensures { Gives self.new result (number_at 1 self.old) }
+    {
+        self.number(1)
     }
 
     /// The word `/`.
@@ -111,6 +113,34 @@ impl<'a> Words<'a> {
         }
         let word = self.word()?;
         Ok(Some(word))
+    }
+
+    /// All that is left of the line, with its spaces; it is not empty.
+    #[tactic(auto, unfolding(crate::specs::Words::rest_at))]
+    pub(crate) fn rest(&self) -> Result<&'a str, ParseFault>
+        ensures { GivesRest result (rest_at self.now) }
+    {
+        let Some(rest) = self.rest else {
+            return Err(bad_line(self.column - 1));
+        };
+        if rest.is_empty() {
+            return Err(bad_line(self.column));
+        }
+        Ok(rest)
+    }
+
+    /// The next word: an index, or None for `end`.
+    #[tactic(auto, unfolding(crate::specs::Words::index_or_end_at))]
+    pub(crate) fn index_or_end(&mut self) -> Result<Option<u32>, ParseFault>
+        ensures { Gives self.new result (index_or_end_at self.old) }
+    {
+        let column = self.column;
+        let word = self.word()?;
+        match number_of(word) {
+            Some(index) => Ok(Some(index)),
+            None if word == "end" => Ok(None),
+            None => Err(bad_line(column)),
+        }
     }
 
     /// That no word is left.

@@ -5,6 +5,7 @@ use Rattle.op_form.specs.Laws.{IsPackage, IsEvent}
 use Rattle.op_form.proofs.Codes.{whole_again, whole_spelled}
 use Rattle.op_form.proofs.PackageCodes.{package_codes}
 use Rattle.op_form.proofs.EventCodes.{event_codes}
+use Rattle.op_form.proofs.FormedLaws.{events_tested}
 use Rattle.op_form.proofs.laws.law_of_forms.Goals as goal
 
 pub returns-clause-packages_again : goal.returns-clause-packages_again
@@ -24,3 +25,6 @@ returns-clause-events_spelled c = whole_spelled event_codes
 
 pub returns-clause-events_apart : goal.returns-clause-events_apart
 returns-clause-events_apart c = apart IsEvent event_form event_at event_codes.again
+
+pub returns-clause-events_tested : goal.returns-clause-events_tested
+returns-clause-events_tested c = events_tested

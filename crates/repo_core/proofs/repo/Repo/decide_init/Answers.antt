@@ -1,6 +1,4 @@
 use Rattle.std.proofs.Common.{ap, ◌∙◌, sym, Option}
-use Rattle.std.proofs.lemmas.Str.{is_utf8-from_IsUtf8}
-use Rattle.std.specs.Str.{is_utf8}
 use Rattle.ecore_meta.specs.Meta.{Meta}
 use Rattle.ecore_json.specs.Metamodel.{metamodel_of}
 use Rattle.plain_repository.specs.Repository.{State}
@@ -10,7 +8,9 @@ use Rattle.repo_core.proofs.repo.Repo.decide_init.Goals as goal
 abbrev meta_in : State → Option Meta
 meta_in s = s.meta
 
-pub with_room-requires-clause-could : goal.with_room-requires-clause-could
-with_room-requires-clause-could c =
-    init_could c.args.self.now c.args.self.now.meta c.in_ok-new-in-Ok.field-0 c.in-Ok.field-0 (sym (ap meta_in c.self.view_is) ∙ none_of c.self.inside.meta (sym c.is_some.ensures ∙ c.if-is_some.false))
-    (ap is_utf8 c.in_ok-new-in-Ok.ensures ∙ is_utf8-from_IsUtf8 c.args.text.now c.utf8.text) (ap metamodel_of c.in_ok-new-in-Ok.ensures ∙ c.in-Ok.ensures.read)
+pub with_room-requires : goal.with_room-requires
+with_room-requires c =
+    record {
+      could = init_could c.args.self.now c.args.self.now.meta c.in_ok-new-in-Ok.field-0 c.in-Ok.field-0 (sym (ap meta_in c.self.view_is) ∙ none_of c.self.inside.meta (sym c.is_some.ensures ∙ c.if-is_some.false))
+          (ap metamodel_of c.in_ok-new-in-Ok.ensures ∙ c.in-Ok.ensures.read);
+    }

@@ -1,4 +1,5 @@
 use Rattle.std.proofs.Common.{◌∙◌, sym, ap, length, arith}
+use Rattle.op_form.proofs.FormedLaws.{is_event_holds}
 use Rattle.repo_core.proofs.Replaying.{decoded, none_spelled, other_spelled}
 use Rattle.repo_core.proofs.repo.Repo.replay.Goals as goal
 
@@ -6,7 +7,7 @@ pub returns-in-Err-NotForm-clause-refused : goal.returns-in-Err-NotForm-clause-r
 returns-in-Err-NotForm-clause-refused c = λ is event could bytes_are. none_spelled c.args.self.now c.args.bytes.now c.in-Err-NotForm.field-0 (rw c.in-Err-NotForm.field-0-is (rw c.in-Err-NotForm.field-0-is at c.in-Err-NotForm.ensures.read)) event could bytes_are
 
 pub is_playable-requires-clause-event : goal.is_playable-requires-clause-event
-is_playable-requires-clause-event c = (decoded c.args.bytes.now c.in-Ok.event (λ i. omega (arith, c.type_inv.bytes i)) c.in-Ok.ensures.read).0
+is_playable-requires-clause-event c = is_event_holds c.in-Ok.event (decoded c.args.bytes.now c.in-Ok.event (λ i. omega (arith, c.type_inv.bytes i)) c.in-Ok.ensures.read).0
 
 pub is_playable-requires-clause-size : goal.is_playable-requires-clause-size
 is_playable-requires-clause-size c = ap length (decoded c.args.bytes.now c.in-Ok.event (λ i. omega (arith, c.type_inv.bytes i)) c.in-Ok.ensures.read).1
