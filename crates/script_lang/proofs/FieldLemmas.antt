@@ -4,8 +4,8 @@ use Rattle.std.specs.Fmt.{decimal}
 use Rattle.std.proofs.lemmas.Bool.{leb-true, le-leb, eqb-true}
 use Rattle.std.proofs.lemmas.List.{append-nil}
 use Rattle.script_lang.specs.Left.{Left}
-use Rattle.script_lang.specs.Words.{◌>>=◌, is_word, word_at, number_of, number_at, not_below, root_at, optional_at, rest_at, rest_from, index_or_end, index_from, index_or_end_at, end_at}
-use Rattle.script_lang.specs.Spelling.{IsWord, IsNumber, IsText, IsOptionalNumber, IsOptionalWord, optional_word, index_word}
+use Rattle.script_lang.specs.Words.{◌>>=◌, is_word, word_at, number_of, number_at, not_below, root_at, optional_at, optional_number_at, rest_at, rest_from, index_or_end, index_from, index_or_end_at, end_at}
+use Rattle.script_lang.specs.Spelling.{IsWord, IsNumber, IsText, IsOptionalNumber, IsOptionalWord, optional_word, index_word, index_if_any}
 use Rattle.script_lang.proofs.Numbers.{both, number_decimal, number_back, decimal_word}
 use Rattle.script_lang.proofs.WordLemmas.{behind, word_last, word_back}
 use Rattle.script_lang.proofs.Readings.{Kind, named_kind, joined, ok_is, some_is, reached}
@@ -152,4 +152,34 @@ optional_out left id next e = by left.rest left.column e
         let last : k.0.1.rest ≡ None = ap (λ p. p.1.rest) pair ∙ ends in (
           subst IsOptionalWord word w.0,
           w.1 ∙ (λ i. Some (k.0.0 ++ behind (last i))) ∙ ap (λ o. joined (optional_word o)) word,
+        )
+
+-- a last index, where there is one
+pub last_index_in : (at : Option ℕ) → IsOptionalNumber at → (column : ℕ)
+    → (next : Left) × (optional_number_at (record { rest = joined (index_if_any at); column = column }) ≡ Ok (at, next)) × (next.rest ≡ None)
+unfolding optional_number_at
+last_index_in None is column = (record { rest = None; column = column }, refl, refl)
+last_index_in (Some n) is column =
+    let k = index_kind.read n is None column in
+    (record { rest = None; column = k.0 }, rw k.1 refl, refl)
+
+pub last_index_out : (left : Left) (at : Option ℕ) (next : Left) → optional_number_at left ≡ Ok (at, next) → next.rest ≡ None
+    → IsOptionalNumber at × (left.rest ≡ joined (index_if_any at))
+unfolding optional_number_at
+last_index_out left at next e = by left.rest left.column e
+  where
+    by : (rest : Option (List ℕ)) (column : ℕ) → optional_number_at (record { rest = rest; column = column }) ≡ Ok (at, next) → next.rest ≡ None
+        → IsOptionalNumber at × (rest ≡ joined (index_if_any at))
+    by None column e ends =
+        let pair = ok_is (None, record { rest = None; column = column }) (at, next) e in
+        let none = ap (λ p. p.0) pair in
+        (subst IsOptionalNumber none tt, ap (λ o. joined (index_if_any o)) none)
+    by (Some rest) column e ends =
+        let k = reached (number_at 0 (record { rest = Some rest; column = column })) (λ number. Ok (Some number.0, number.1)) (at, next) e in
+        let t = index_kind.told (record { rest = Some rest; column = column }) k.0.0 k.0.1 k.1 in
+        let pair = ok_is (Some k.0.0, k.0.1) (at, next) k.2 in
+        let number : Some k.0.0 ≡ at = ap (λ p. p.0) pair in
+        let last : k.0.1.rest ≡ None = ap (λ p. p.1.rest) pair ∙ ends in (
+          subst IsOptionalNumber number t.0,
+          t.1 ∙ (λ i. Some (decimal k.0.0 ++ behind (last i))) ∙ ap (λ o. joined (index_if_any o)) number,
         )

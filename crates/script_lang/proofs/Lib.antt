@@ -2,6 +2,7 @@ pub mod Numbers
 pub mod Tags
 pub mod WordLemmas
 pub mod Readings
+pub mod ReferenceLines
 pub mod FieldLemmas
 pub mod SpecLemmas
 pub mod EditLines

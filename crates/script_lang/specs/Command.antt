@@ -5,10 +5,10 @@ use Rattle.script_lang.specs.declared.command.Spec.{Spec}
 use Rattle.script_lang.specs.declared.command.Spec.TheVariants.{Number, Branch, Tag}
 use Rattle.script_lang.specs.declared.command.Command.{Command}
 use Rattle.script_lang.specs.declared.command.Command.TheVariants as commands
-use Rattle.edit_laws.specs.declared.edit.Edit.TheVariants.{Create, Set, Unset, Add, Remove, Shift}
+use Rattle.edit_laws.specs.declared.edit.Edit.TheVariants.{Create, Set, Unset, Add, Remove, Shift, Link, Unlink, Reorder}
 use Rattle.script_lang.specs.Left.{Left}
 use Rattle.model_state.specs.Names.{is_name}
-use Rattle.script_lang.specs.Words.{◌>>=◌, word_at, number_of, number_at, found_at, end_at, root_at, optional_at, rest_at, index_or_end_at, is_word, IsBad}
+use Rattle.script_lang.specs.Words.{◌>>=◌, word_at, number_of, number_at, found_at, end_at, root_at, name_at, optional_at, optional_number_at, rest_at, index_or_end_at, is_word, IsBad}
 
 -- `@` and a name is a tag's
 abbrev pub tag_of : List ℕ → Option Spec
@@ -105,6 +105,53 @@ shift_at left = do
   end ← end_at to.1
   Ok (commands.Edit ws.0 (Shift id.0 feature.0 from.0 to.0))
 
+-- behind `link`: WS ID FEATURE TARGET [INDEX]
+unfoldable pub link_at : Left → Result Command ℕ
+link_at left = do
+  ws ← number_at 1 left
+  id ← word_at ws.1
+  feature ← word_at id.1
+  target ← word_at feature.1
+  index ← optional_number_at target.1
+  end ← end_at index.1
+  Ok (commands.Edit ws.0 (Link id.0 feature.0 target.0 index.0))
+
+-- behind `unlink`: WS ID FEATURE TARGET
+unfoldable pub unlink_at : Left → Result Command ℕ
+unlink_at left = do
+  ws ← number_at 1 left
+  id ← word_at ws.1
+  feature ← word_at id.1
+  target ← word_at feature.1
+  end ← end_at target.1
+  Ok (commands.Edit ws.0 (Unlink id.0 feature.0 target.0))
+
+-- behind `reorder`: WS ID FEATURE TARGET INDEX
+unfoldable pub reorder_at : Left → Result Command ℕ
+reorder_at left = do
+  ws ← number_at 1 left
+  id ← word_at ws.1
+  feature ← word_at id.1
+  target ← word_at feature.1
+  index ← number_at 0 target.1
+  end ← end_at index.1
+  Ok (commands.Edit ws.0 (Reorder id.0 feature.0 target.0 index.0))
+
+-- behind `begin`: WS NAME
+unfoldable pub begin_at : Left → Result Command ℕ
+begin_at left = do
+  ws ← number_at 1 left
+  name ← name_at ws.1
+  end ← end_at name.1
+  Ok (commands.Begin ws.0 name.0)
+
+-- behind `end`: WS
+unfoldable pub end_line_at : Left → Result Command ℕ
+end_line_at left = do
+  ws ← number_at 1 left
+  end ← end_at ws.1
+  Ok (commands.End ws.0)
+
 -- behind `undo`: WS
 unfoldable pub undo_at : Left → Result Command ℕ
 undo_at left = do
@@ -138,6 +185,11 @@ command_of line = do
       else if is_word first.0 (codes "add") then add_at first.1
       else if is_word first.0 (codes "remove") then remove_at first.1
       else if is_word first.0 (codes "shift") then shift_at first.1
+      else if is_word first.0 (codes "link") then link_at first.1
+      else if is_word first.0 (codes "unlink") then unlink_at first.1
+      else if is_word first.0 (codes "reorder") then reorder_at first.1
+      else if is_word first.0 (codes "begin") then begin_at first.1
+      else if is_word first.0 (codes "end") then end_line_at first.1
       else if is_word first.0 (codes "undo") then undo_at first.1
       else if is_word first.0 (codes "discard") then discard_at first.1
       else if is_word first.0 (codes "changes") then changes_at first.1

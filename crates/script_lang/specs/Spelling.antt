@@ -7,7 +7,7 @@ use Rattle.script_lang.specs.declared.command.Spec.TheVariants.{Number, Branch, 
 use Rattle.script_lang.specs.declared.command.Command.{Command}
 use Rattle.script_lang.specs.declared.command.Command.TheVariants as commands
 use Rattle.edit_laws.specs.declared.edit.Edit.{Edit}
-use Rattle.edit_laws.specs.declared.edit.Edit.TheVariants.{Create, Set, Unset, Add, Remove, Shift}
+use Rattle.edit_laws.specs.declared.edit.Edit.TheVariants.{Create, Set, Unset, Add, Remove, Shift, Link, Unlink, Reorder}
 use Rattle.model_state.specs.Names.{is_name}
 use Rattle.script_lang.specs.Words.{is_space}
 use Rattle.script_lang.specs.Command.{command_of}
@@ -44,6 +44,9 @@ IsEdit (Unset id feature) = IsWord id × IsWord feature
 IsEdit (Add id feature at value) = IsWord id × IsWord feature × IsOptionalNumber at × IsText value
 IsEdit (Remove id feature index) = IsWord id × IsWord feature × IsNumber index
 IsEdit (Shift id feature from to) = IsWord id × IsWord feature × IsNumber from × IsNumber to
+IsEdit (Link id feature target index) = IsWord id × IsWord feature × IsWord target × IsOptionalNumber index
+IsEdit (Unlink id feature target) = IsWord id × IsWord feature × IsWord target
+IsEdit (Reorder id feature target index) = IsWord id × IsWord feature × IsWord target × IsNumber index
 
 -- workspaces are counted from 1
 abbrev pub IsWorkspace : ℕ → Type 0
@@ -54,6 +57,8 @@ abbrev pub IsCommand : Command → Type 0
 IsCommand commands.Init = Unit {0}
 IsCommand (commands.Checkout spec) = IsSpec spec
 IsCommand (commands.Edit ws edit) = IsWorkspace ws × IsEdit edit
+IsCommand (commands.Begin ws name) = IsWorkspace ws × (is_name name ≡ true)
+IsCommand (commands.End ws) = IsWorkspace ws
 IsCommand (commands.Undo ws) = IsWorkspace ws
 IsCommand (commands.Discard ws) = IsWorkspace ws
 IsCommand (commands.Changes ws) = IsWorkspace ws
@@ -72,6 +77,11 @@ abbrev pub index_word : Option ℕ → List ℕ
 index_word None = codes "end"
 index_word (Some index) = decimal index
 
+-- an index, where there is one
+abbrev pub index_if_any : Option ℕ → List (List ℕ)
+index_if_any None = []
+index_if_any (Some index) = decimal index ∷ []
+
 -- the word that names an edit
 abbrev pub edit_word : Edit → List ℕ
 edit_word (Create class id) = codes "create"
@@ -80,6 +90,9 @@ edit_word (Unset id feature) = codes "unset"
 edit_word (Add id feature at value) = codes "add"
 edit_word (Remove id feature index) = codes "remove"
 edit_word (Shift id feature from to) = codes "shift"
+edit_word (Link id feature target index) = codes "link"
+edit_word (Unlink id feature target) = codes "unlink"
+edit_word (Reorder id feature target index) = codes "reorder"
 
 -- the words of an edit behind the workspace's number; a value is the last
 abbrev pub edit_fields : Edit → List (List ℕ)
@@ -89,12 +102,17 @@ edit_fields (Unset id feature) = id ∷ feature ∷ []
 edit_fields (Add id feature at value) = id ∷ feature ∷ index_word at ∷ value ∷ []
 edit_fields (Remove id feature index) = id ∷ feature ∷ decimal index ∷ []
 edit_fields (Shift id feature from to) = id ∷ feature ∷ decimal from ∷ decimal to ∷ []
+edit_fields (Link id feature target index) = id ∷ feature ∷ target ∷ index_if_any index
+edit_fields (Unlink id feature target) = id ∷ feature ∷ target ∷ []
+edit_fields (Reorder id feature target index) = id ∷ feature ∷ target ∷ decimal index ∷ []
 
 -- the words of a command's line
 abbrev pub words_of : Command → List (List ℕ)
 words_of commands.Init = codes "init" ∷ []
 words_of (commands.Checkout spec) = codes "checkout" ∷ spec_word spec ∷ []
 words_of (commands.Edit ws edit) = edit_word edit ∷ decimal ws ∷ edit_fields edit
+words_of (commands.Begin ws name) = codes "begin" ∷ decimal ws ∷ name ∷ []
+words_of (commands.End ws) = codes "end" ∷ decimal ws ∷ []
 words_of (commands.Undo ws) = codes "undo" ∷ decimal ws ∷ []
 words_of (commands.Discard ws) = codes "discard" ∷ decimal ws ∷ []
 words_of (commands.Changes ws) = codes "changes" ∷ decimal ws ∷ []

@@ -7,6 +7,7 @@ use Rattle.std.specs.Borrow.{Bor}
 use Rattle.std.specs.Cmp.Lexicographic.{pointwise}
 use Rattle.script_lang.specs.declared.fault.ParseFault.{ParseFault}
 use Rattle.script_lang.specs.declared.fault.ParseFault.TheVariants.{BadLine, Memory}
+use Rattle.model_state.specs.Names.{is_name}
 use Rattle.script_lang.specs.Left.{Left, left_of}
 
 -- one reading after another; the first that does not fit gives its column
@@ -82,6 +83,12 @@ root_at left = do
   word ← word_at left
   found_at left.column (if is_word word.0 (codes "/") then Some tt else None) word.1
 
+-- the next word, a name
+unfoldable pub name_at : Left → Result (List ℕ × Left) ℕ
+name_at left = do
+  word ← word_at left
+  found_at left.column (if is_name word.0 then Some word.0 else None) word.1
+
 abbrev pub optional_from : Option (List ℕ) → Left → Result (Option (List ℕ) × Left) ℕ
 optional_from None left = Ok (None, left)
 optional_from (Some rest) left = word_at left >>= λ word. Ok (Some word.0, word.1)
@@ -89,6 +96,14 @@ optional_from (Some rest) left = word_at left >>= λ word. Ok (Some word.0, word
 -- the next word, where there is one
 unfoldable pub optional_at : Left → Result (Option (List ℕ) × Left) ℕ
 optional_at left = optional_from left.rest left
+
+abbrev pub optional_number_from : Option (List ℕ) → Left → Result (Option ℕ × Left) ℕ
+optional_number_from None left = Ok (None, left)
+optional_number_from (Some rest) left = number_at 0 left >>= λ number. Ok (Some number.0, number.1)
+
+-- the next word, an index, where there is one
+unfoldable pub optional_number_at : Left → Result (Option ℕ × Left) ℕ
+optional_number_at left = optional_number_from left.rest left
 
 -- all that is left, not empty; it may hold spaces
 abbrev pub rest_from : Option (List ℕ) → ℕ → Result (List ℕ) ℕ

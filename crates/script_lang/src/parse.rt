@@ -1,6 +1,6 @@
 // A line as a command: one private function a command.
 ghost use Rattle.std.specs.Prelude.{◌≡◌, ◌-◌, ◌<◌, ◌^◌, length, IfOk, IfNone, IfSome, None, Some};
-ghost use Rattle.script_lang.specs.Command.{GivesCommand, GivesSpec, command_of, init_at, checkout_at, create_at, set_at, unset_at, add_at, remove_at, shift_at, undo_at, discard_at, changes_at, spec_of, spec_at, tag_of};
+ghost use Rattle.script_lang.specs.Command.{GivesCommand, GivesSpec, command_of, init_at, checkout_at, create_at, set_at, unset_at, add_at, remove_at, shift_at, link_at, unlink_at, reorder_at, begin_at, end_line_at, undo_at, discard_at, changes_at, spec_of, spec_at, tag_of};
 ghost use Rattle.script_lang.specs.declared.command.Spec.TheVariants.{Tag};
 
 use crate::words::{Words, bad_line, number_of};
@@ -31,6 +31,11 @@ pub fn parse_line(alloc: Global, line: &str) -> Result<Command, ParseFault>
         "add" => add(alloc, &mut words),
         "remove" => remove(alloc, &mut words),
         "shift" => shift(alloc, &mut words),
+        "link" => link(alloc, &mut words),
+        "unlink" => unlink(alloc, &mut words),
+        "reorder" => reorder(alloc, &mut words),
+        "begin" => begin(alloc, &mut words),
+        "end" => end(&mut words),
         "undo" => undo(&mut words),
         "discard" => discard(&mut words),
         "changes" => changes(&mut words),
@@ -169,6 +174,89 @@ fn shift(alloc: Global, words: &mut Words<'_>) -> Result<Command, ParseFault>
             to,
         },
     })
+}
+
+#[tactic(auto, unfolding(crate::specs::Command::link_at))]
+fn link(alloc: Global, words: &mut Words<'_>) -> Result<Command, ParseFault>
+    ensures { GivesCommand result (link_at words.old) }
+{
+    let ws = words.workspace()?;
+    let id = words.word()?;
+    let feature = words.word()?;
+    let target = words.word()?;
+    let index = words.optional_number()?;
+    words.end()?;
+    Ok(Command::Edit {
+        ws,
+        edit: Edit::Link {
+            id: Text::new(alloc, id)?,
+            feature: Text::new(alloc, feature)?,
+            target: Text::new(alloc, target)?,
+            index,
+        },
+    })
+}
+
+#[tactic(auto, unfolding(crate::specs::Command::unlink_at))]
+fn unlink(alloc: Global, words: &mut Words<'_>) -> Result<Command, ParseFault>
+    ensures { GivesCommand result (unlink_at words.old) }
+{
+    let ws = words.workspace()?;
+    let id = words.word()?;
+    let feature = words.word()?;
+    let target = words.word()?;
+    words.end()?;
+    Ok(Command::Edit {
+        ws,
+        edit: Edit::Unlink {
+            id: Text::new(alloc, id)?,
+            feature: Text::new(alloc, feature)?,
+            target: Text::new(alloc, target)?,
+        },
+    })
+}
+
+#[tactic(auto, unfolding(crate::specs::Command::reorder_at))]
+fn reorder(alloc: Global, words: &mut Words<'_>) -> Result<Command, ParseFault>
+    ensures { GivesCommand result (reorder_at words.old) }
+{
+    let ws = words.workspace()?;
+    let id = words.word()?;
+    let feature = words.word()?;
+    let target = words.word()?;
+    let index = words.number(0)?;
+    words.end()?;
+    Ok(Command::Edit {
+        ws,
+        edit: Edit::Reorder {
+            id: Text::new(alloc, id)?,
+            feature: Text::new(alloc, feature)?,
+            target: Text::new(alloc, target)?,
+            index,
+        },
+    })
+}
+
+#[tactic(auto, unfolding(crate::specs::Command::begin_at))]
+fn begin(alloc: Global, words: &mut Words<'_>) -> Result<Command, ParseFault>
+    ensures { GivesCommand result (begin_at words.old) }
+{
+    let ws = words.workspace()?;
+    let name = words.name()?;
+    words.end()?;
+    Ok(Command::Begin {
+        ws,
+        name: Text::new(alloc, name)?,
+    })
+}
+
+#[tactic(auto, unfolding(crate::specs::Command::end_line_at))]
+fn end(words: &mut Words<'_>) -> Result<Command, ParseFault>
+    ensures { GivesCommand result (end_line_at words.old) }
+{
+    let ws = words.workspace()?;
+    words.end()?;
+    Ok(Command::End { ws })
 }
 
 #[tactic(auto, unfolding(crate::specs::Command::undo_at))]

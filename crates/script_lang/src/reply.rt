@@ -39,14 +39,22 @@ pub enum Refusal {
     WrongKind,
     /// 17: the text is no value of the attribute's type.
     BadValue,
+    /// 18: the class of what would be linked or contained is not the feature's type, nor below it.
+    WrongType,
     /// 19: a list that would get an entry more is full.
     Bound,
     /// 20: the feature holds each value once, and holds that one already.
     AlreadyThere,
     /// 21: the list has no entry at that index.
     NoEntry,
+    /// 22: the element would come to lie in itself.
+    WouldCycle,
     /// 23: the workspace has no local operation.
     NothingLocal,
+    /// 27: a composite is open in the workspace.
+    CompositeOpen,
+    /// 28: no composite is open in the workspace.
+    NoComposite,
     /// 33: as many events stand in the history as it can hold.
     HistoryFull,
     /// 34: the event's record would be longer than a record may be.
@@ -79,10 +87,14 @@ impl fmt::Display for Refusal {
             Refusal::NoFeature => f.write_str("15 NoFeature"),
             Refusal::WrongKind => f.write_str("16 WrongKind"),
             Refusal::BadValue => f.write_str("17 BadValue"),
+            Refusal::WrongType => f.write_str("18 WrongType"),
             Refusal::Bound => f.write_str("19 Bound"),
             Refusal::AlreadyThere => f.write_str("20 AlreadyThere"),
             Refusal::NoEntry => f.write_str("21 NoEntry"),
+            Refusal::WouldCycle => f.write_str("22 WouldCycle"),
             Refusal::NothingLocal => f.write_str("23 NothingLocal"),
+            Refusal::CompositeOpen => f.write_str("27 CompositeOpen"),
+            Refusal::NoComposite => f.write_str("28 NoComposite"),
             Refusal::HistoryFull => f.write_str("33 HistoryFull"),
             Refusal::TooLarge => f.write_str("34 TooLarge"),
             Refusal::JournalFull => f.write_str("35 JournalFull"),

@@ -142,7 +142,46 @@ const PLACE_LINES: [Row; 26] = [
     ("shift 1 b tags 0 1 2", Err(20)),
 ];
 
-const WORKSPACE_LINES: [Row; 16] = [
+const REFERENCE_LINES: [Row; 24] = [
+    ("link 1 b authors w", Ok("1 Link b authors w -")),
+    ("link 1 b authors w 0", Ok("1 Link b authors w 0")),
+    ("link 4294967295 / / / 4294967295", Ok("4294967295 Link / / / 4294967295")),
+    ("link", Err(5)),
+    ("link 0 b authors w", Err(6)),
+    ("link 1 b", Err(9)),
+    ("link 1 b authors", Err(17)),
+    ("link 1 b authors ", Err(18)),
+    ("link 1 b authors w ", Err(20)),
+    ("link 1 b authors w end", Err(20)),
+    ("link 1 b authors w 4294967296", Err(20)),
+    ("link 1 b authors w 0 0", Err(22)),
+    ("unlink 1 b authors w", Ok("1 Unlink b authors w")),
+    ("unlink 1", Err(9)),
+    ("unlink 1 b authors", Err(19)),
+    ("unlink 1 b authors w 0", Err(22)),
+    ("unlink 1 b authors w ", Err(22)),
+    ("reorder 1 b authors w 3", Ok("1 Reorder b authors w 3")),
+    ("reorder x b authors w 3", Err(9)),
+    ("reorder 1 b authors w", Err(22)),
+    ("reorder 1 b authors w end", Err(23)),
+    ("reorder 1 b authors w 03", Err(23)),
+    ("reorder 1 b authors  3", Err(21)),
+    ("reorder 1 b authors w 3 3", Err(25)),
+];
+
+const WORKSPACE_LINES: [Row; 28] = [
+    ("begin 1 both", Ok("1 Begin both")),
+    ("begin 1 a.b-c_9", Ok("1 Begin a.b-c_9")),
+    ("begin", Err(6)),
+    ("begin 0 both", Err(7)),
+    ("begin 1", Err(8)),
+    ("begin 1 ", Err(9)),
+    ("begin 1 9", Err(9)),
+    ("begin 1 both ends", Err(14)),
+    ("end 3", Ok("3 End")),
+    ("end", Err(4)),
+    ("end 0", Err(5)),
+    ("end 3 both", Err(7)),
     ("undo 1", Ok("1 Undo")),
     ("undo", Err(5)),
     ("undo ", Err(6)),
@@ -177,6 +216,8 @@ fn shown(alloc: Global, command: &Command) -> Result<String, Fail> {
             let edit = shown_edit(alloc, edit)?;
             format!(in alloc; "{ws} {}", edit.as_str())?
         }
+        Command::Begin { ws, name } => format!(in alloc; "{ws} Begin {}", name.as_str())?,
+        Command::End { ws } => format!(in alloc; "{ws} End")?,
         Command::Undo { ws } => format!(in alloc; "{ws} Undo")?,
         Command::Discard { ws } => format!(in alloc; "{ws} Discard")?,
         Command::Changes { ws } => format!(in alloc; "{ws} Changes")?,
@@ -230,8 +271,47 @@ fn shown_edit(alloc: Global, edit: &Edit) -> Result<String, Fail> {
             from,
             to,
         } => format!(in alloc; "Shift {} {} {from} {to}", id.as_str(), feature.as_str())?,
+        Edit::Link { .. } | Edit::Unlink { .. } | Edit::Reorder { .. } => {
+            return shown_edit_of_reference(alloc, edit);
+        }
     };
     Ok(text)
+}
+
+fn shown_edit_of_reference(alloc: Global, edit: &Edit) -> Result<String, Fail> {
+    let (word, id, feature, target, index) = match edit {
+        Edit::Link {
+            id,
+            feature,
+            target,
+            index: None,
+        } => ("Link", id, feature, target, String::from_str(alloc, " -")?),
+        Edit::Link {
+            id,
+            feature,
+            target,
+            index: Some(index),
+        } => ("Link", id, feature, target, format!(in alloc; " {index}")?),
+        Edit::Unlink {
+            id,
+            feature,
+            target,
+        } => ("Unlink", id, feature, target, String::new(alloc)),
+        Edit::Reorder {
+            id,
+            feature,
+            target,
+            index,
+        } => ("Reorder", id, feature, target, format!(in alloc; " {index}")?),
+        _ => return Ok(String::new(alloc)),
+    };
+    Ok(format!(in alloc;
+        "{word} {} {} {}{}",
+        id.as_str(),
+        feature.as_str(),
+        target.as_str(),
+        index.as_str()
+    )?)
 }
 
 fn are_read(rt: &impl Abort, alloc: Global, rows: &[Row]) -> Result<(), Fail> {
@@ -258,10 +338,11 @@ fn lines_are_read(rt: HostRuntime) -> Result<(), Fail> {
     are_read(&rt, alloc, &SET_LINES)?;
     are_read(&rt, alloc, &ADD_LINES)?;
     are_read(&rt, alloc, &PLACE_LINES)?;
+    are_read(&rt, alloc, &REFERENCE_LINES)?;
     are_read(&rt, alloc, &WORKSPACE_LINES)
 }
 
-const REFUSALS: [(Refusal, &[u8]); 22] = [
+const REFUSALS: [(Refusal, &[u8]); 26] = [
     (Refusal::BadLine { column: 10 }, b"no 1 BadLine 10\n"),
     (Refusal::NotInit, b"no 2 NotInit\n"),
     (Refusal::AlreadyInit, b"no 3 AlreadyInit\n"),
@@ -277,10 +358,14 @@ const REFUSALS: [(Refusal, &[u8]); 22] = [
     (Refusal::NoFeature, b"no 15 NoFeature\n"),
     (Refusal::WrongKind, b"no 16 WrongKind\n"),
     (Refusal::BadValue, b"no 17 BadValue\n"),
+    (Refusal::WrongType, b"no 18 WrongType\n"),
     (Refusal::Bound, b"no 19 Bound\n"),
     (Refusal::AlreadyThere, b"no 20 AlreadyThere\n"),
     (Refusal::NoEntry, b"no 21 NoEntry\n"),
+    (Refusal::WouldCycle, b"no 22 WouldCycle\n"),
     (Refusal::NothingLocal, b"no 23 NothingLocal\n"),
+    (Refusal::CompositeOpen, b"no 27 CompositeOpen\n"),
+    (Refusal::NoComposite, b"no 28 NoComposite\n"),
     (Refusal::HistoryFull, b"no 33 HistoryFull\n"),
     (Refusal::TooLarge, b"no 34 TooLarge\n"),
     (Refusal::JournalFull, b"no 35 JournalFull\n"),
