@@ -136,7 +136,7 @@ module _ (meta : Meta) (sound : Sound meta) (a : Name) (f : ℕ) where
   none_stays o [] row q none = none
   none_stays o (x ∷ xs) row q none = none_stays o xs (set_pair row a f x.id o None None) q (none_pair o row x.id q none)
 
-  pair_row : (o : Option ℕ) (row : Rows) (x : Name) → get (set_pair row a f x o None None) (a, f, x) ≡ None
+  pub pair_row : (o : Option ℕ) (row : Rows) (x : Name) → get (set_pair row a f x o None None) (a, f, x) ≡ None
   pair_row None row x = get-set_same row_order row (a, f, x) None
   pair_row (Some g) row x = none_set (set row (a, f, x) None) (x, g, a) (a, f, x) (get-set_same row_order row (a, f, x) None)
 

@@ -8,6 +8,7 @@ pub mod Creates
 pub mod AttributeEdits
 pub mod MoveEdits
 pub mod Idle
+pub mod Refused
 pub mod ManyEdits
 pub mod Fresh
 pub mod Taken

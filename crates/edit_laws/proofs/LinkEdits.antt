@@ -45,8 +45,8 @@ module _ (meta : Meta) (sound : Sound meta) (m : State) (good : Good meta m) (a 
     xs : List Entry
     xs = targets (left o) a f
 
-    lists : targets (left o) a f ≡ targets m.row a f
-    lists = targets_alike (left o) m.row a f (a_kept o is)
+    pub left_targets : targets (left o) a f ≡ targets m.row a f
+    left_targets = targets_alike (left o) m.row a f (a_kept o is)
 
     abbrev next : Rows
     next = ranked a f (targets (left o) a f) (spot (targets (left o) a f) k).ranks (left o)
@@ -100,12 +100,12 @@ module _ (meta : Meta) (sound : Sound meta) (m : State) (good : Good meta m) (a 
       let first : Leads meta m (displace meta m.row o f b) (left o) = displace_leads meta sound m good f b o is in
       let n : State = record m { row = left o } in
       let second : Leads meta n (reranks a f (targets m.row a f) (spot (targets m.row a f) k).ranks) (next o is) =
-      subst (λ xs. Leads meta n (reranks a f xs (spot xs k).ranks) (next o is)) (lists o is) (reranks_lead meta sound a f (targets (left o) a f) (spot (targets (left o) a f) k).ranks n first.good (held o is)) in
+      subst (λ xs. Leads meta n (reranks a f xs (spot xs k).ranks) (next o is)) (left_targets o is) (reranks_lead meta sound a f (targets (left o) a f) (spot (targets (left o) a f) k).ranks n first.good (held o is)) in
       let l : State = record m { row = next o is } in
       let room : room_there meta m o b ≡ true = ap (λ o. room_there meta m o b) (sym is) ∙ may.room in
       let rank : is_some (rank_there meta m.row o b) ≡ true = ap (λ o. is_some (rank_there meta m.row o b)) (sym is) ∙ may.ranked_there in
       let third = join_leads meta sound l second.good a f ra b may.typed (next_none o is) (next_free o is) o is (can_join o is room rank) in
-      let ranked_so : Some ra ≡ (spot (targets (left o) a f) k).rank = sym (some_of (spot (targets m.row a f) k).rank may.ranked) ∙ ap (λ xs. (spot xs k).rank) (sym (lists o is)) in
+      let ranked_so : Some ra ≡ (spot (targets (left o) a f) k).rank = sym (some_of (spot (targets m.row a f) k).rank may.ranked) ∙ ap (λ xs. (spot xs k).rank) (sym (left_targets o is)) in
       leads_on meta m _ _ (left o) _ first
       (leads_on meta n _ _ (next o is) _ second
       (subst (λ w. Leads meta l (reranks_there meta m.row o b ++ link_step o a f ra b (unwrap_or (rank_there meta m.row o b) 0) ∷ []) (join o a f w b (next o is))) ranked_so
@@ -188,7 +188,7 @@ none_without b (x ∷ xs) =
       | false ↦ λ is. ap (λ t. t || list_any (λ (x : Entry). text_eq b x.id) (without_entry b xs)) is ∙ none_without b xs
     ] refl
 
-ranked_missing : (a : Name) (f : ℕ) (b : Name) (xs : List Entry) (rs : List ℕ) (row : Rows) → list_any (λ (x : Entry). text_eq b x.id) xs ≡ false → get (ranked a f xs rs row) (a, f, b) ≡ get row (a, f, b)
+pub ranked_missing : (a : Name) (f : ℕ) (b : Name) (xs : List Entry) (rs : List ℕ) (row : Rows) → list_any (λ (x : Entry). text_eq b x.id) xs ≡ false → get (ranked a f xs rs row) (a, f, b) ≡ get row (a, f, b)
 ranked_missing a f b [] rs row h = refl
 ranked_missing a f b (x ∷ _) [] row h = refl
 ranked_missing a f b (x ∷ xs) (r ∷ rs) row h =
@@ -211,7 +211,7 @@ module _ (meta : Meta) (sound : Sound meta) (m : State) (good : Good meta m) (a 
   abbrev moved_row : Rows
   moved_row = set (ranked a f others (spot others k).ranks m.row) (a, f, b) (spot others k).rank
 
-  others_held : Held m.row m.row None a f others
+  pub others_held : Held m.row m.row None a f others
   others_held = held_from m.row None a f others (all_filter (λ (x : Entry). get m.row (a, f, x.id) ≡ Some x.rank) (λ x. not (text_eq b x.id)) (targets m.row a f) (targets_held m.row a f))
       (apart_from others (λ i. at_most _ _ (fewer (λ x. not (text_eq b x.id)) (λ x. text_eq i x.id) (targets m.row a f)) (one_passes m.row a f i)))
 

@@ -12,8 +12,9 @@ use Rattle.ecore_meta.specs.Typing.{fits}
 use Rattle.ecore_meta.specs.declared.meta.Class.{Class}
 use Rattle.ecore_meta.specs.declared.meta.Feature.{Feature}
 use Rattle.ecore_meta.specs.declared.meta.Kind.{Kind}
-use Rattle.ecore_meta.specs.declared.meta.Kind.TheVariants.{Attr, AttrMany}
+use Rattle.ecore_meta.specs.declared.meta.Kind.TheVariants.{Attr, AttrMany, Bounded, Free}
 use Rattle.ecore_meta.specs.declared.meta.Scalar.{Scalar}
+use Rattle.ecore_meta.specs.declared.meta.Scalar.TheVariants as types
 use Rattle.ecore_meta.specs.declared.meta.Value.{Value}
 use Rattle.model_state.specs.declared.entry.Entry.{Entry}
 use Rattle.model_state.specs.declared.step.Place.TheVariants.{Root}
@@ -25,16 +26,22 @@ use Rattle.model_state.specs.Steps.{fold, class_has, value_fits, not_default}
 use Rattle.model_state.specs.Typing.{value_eq, kind_of, upper_of, is_concrete, is_attr, is_many, is_unique, attr_fits, many_fits}
 use Rattle.model_state.specs.Good.{Good, Sound}
 use Rattle.edit_laws.specs.declared.edit.Edit.{Edit}
-use Rattle.edit_laws.specs.declared.edit.Edit.TheVariants.{Create, Set, Unset, Add, Remove, Shift}
+use Rattle.edit_laws.specs.declared.edit.Edit.TheVariants.{Create, Set, Unset, Add, Remove, Shift, Link, Unlink, Reorder}
 use Rattle.edit_laws.specs.declared.fault.EditFault.{EditFault}
 use Rattle.edit_laws.specs.declared.fault.EditFault.TheVariants.{NoFeature}
+use Rattle.edit_laws.specs.References.{is_one, MaySet, MayLink, MayReorder}
+use Rattle.edit_laws.specs.Refusals.{set_ref_refusal, link_index, link_refusal, unlink_refusal, reorder_refusal}
 use Rattle.edit_laws.specs.Spot.{rank_for, ranks_of, spot_by}
 use Rattle.edit_laws.specs.Places.{MayCreate}
 use Rattle.edit_laws.specs.Attributes.{IsAttribute, taken}
 use Rattle.edit_laws.specs.ManyValues.{values_in}
 use Rattle.edit_laws.specs.FreshIds.{id_or_fresh}
-use Rattle.edit_laws.specs.Edits.{Reading, Effect, Creates, Puts, Clears, Inserts, Removes, Shifts, class_at, feature_at, end_rank, create_effect, put_effect, set_effect, unset_effect, insert_effect, add_effect, remove_effect, shift_effect, of_feature, effect_of, made, after}
-use Rattle.edit_laws.specs.Laws.{IsTyped, EditsMeet}
+use Rattle.edit_laws.specs.Edits.{Reading, Effect, Creates, Puts, Clears, Inserts, Removes, Shifts, Refers, Forgets, Links, Unlinks, Reorders, class_at, feature_at, end_rank, create_effect, put_effect, unless_refused, target_in, refer_effect, set_effect, unset_effect, insert_effect, add_effect, remove_effect, shift_effect, is_listed, link_effect, unlink_effect, reorder_effect, of_feature, effect_of, made, after}
+use Rattle.edit_laws.specs.Laws.{IsTyped, EditsMeet, EditsKeepGood}
+use Rattle.model_laws.proofs.Runs.{steps_keep_good}
+use Rattle.edit_laws.proofs.Refused.{may_set, may_link, may_unlink, may_reorder}
+use Rattle.edit_laws.proofs.Sets.{set_ref_meets}
+use Rattle.edit_laws.proofs.LinkEdits.{link_meets, unlink_meets, unset_meets, reorder_meets}
 use Rattle.edit_laws.proofs.Creates.{create_meets}
 use Rattle.edit_laws.proofs.AttributeEdits.{put_meets, taken_fits, taken_differs}
 use Rattle.edit_laws.proofs.ManyEdits.{IsMany, MayInsert, insert_meets, remove_meets, shift_meets, clear_meets}
@@ -47,6 +54,11 @@ Allowed meta m (Clears e f) = IsMany meta m e f
 Allowed meta m (Inserts e f k v) = MayInsert meta m e f k v
 Allowed meta m (Removes e f k) = IsMany meta m e f × (nat_lt k (length (values_in m e f)) ≡ true)
 Allowed meta m (Shifts e f from to) = IsMany meta m e f × (nat_lt from (length (values_in m e f)) ≡ true) × (nat_lt to (length (values_in m e f)) ≡ true)
+Allowed meta m (Refers a f b) = MaySet meta m a f b
+Allowed meta m (Forgets a f) = Unit {0}
+Allowed meta m (Links a f b k) = MayLink meta m a f b k
+Allowed meta m (Unlinks a f b) = is_some (get m.row (a, f, b)) ≡ true
+Allowed meta m (Reorders a f b k) = MayReorder m a f b k
 
 -- ---- the tests of a row
 passed : {A : Type 0} (b : Bool) (e : EditFault) (r : Result A EditFault) (x : A) → (if not b then Err e else r) ≡ Ok x → (b ≡ true) × (r ≡ Ok x)
@@ -56,6 +68,10 @@ passed false e r x h = cc
 missed : {A : Type 0} (b : Bool) (e : EditFault) (r : Result A EditFault) (x : A) → (if b then Err e else r) ≡ Ok x → (b ≡ false) × (r ≡ Ok x)
 missed true e r x h = cc
 missed false e r x h = (refl, h)
+
+not_refused : (o : Option EditFault) (x y : Effect) → unless_refused o x ≡ Ok y → (o ≡ None) × ◌≡◌ {A = Result Effect EditFault} (Ok x) (Ok y)
+not_refused None x y h = (refl, h)
+not_refused (Some e) x y h = cc
 
 same_effect : (x y : Effect) → ◌≡◌ {A = Result Effect EditFault} (Ok x) (Ok y) → x ≡ y
 same_effect x y h = cc
@@ -133,13 +149,25 @@ module _ (meta : Meta) (m : State) (e : Name) (f : ℕ) (has : class_has meta (g
   put_allowed None is fit h = cc
   put_allowed (Some v) is fit h = allowed_as meta m (Puts e f (taken meta f v)) effect h ((has, is), taken_fits meta f v (fit v refl), taken_differs meta f v)
 
-  set_allowed : (reading : Reading) → IsTyped meta reading → (text : List ℕ) (k : Kind) → kind_of meta f ≡ k → set_effect reading meta e f k text ≡ Ok effect → Allowed meta m effect
+  refer_allowed : is_one meta f ≡ true → (o : Option Name) → refer_effect meta m e f o ≡ Ok effect → Allowed meta m effect
+  refer_allowed one None h = cc
+  refer_allowed one (Some b) h =
+      let live = passed (is_some (class_at m b)) _ _ effect h in
+      let open_ = not_refused (set_ref_refusal meta m e f b) (Refers e f b) effect live.1 in
+      allowed_as meta m (Refers e f b) effect open_.1 (may_set meta m e f b one open_.0)
+
+  set_allowed : (reading : Reading) → IsTyped meta reading → (text : List ℕ) (k : Kind) → kind_of meta f ≡ k → set_effect reading meta m e f k text ≡ Ok effect → Allowed meta m effect
   set_allowed reading typed text (Attr scalar default) is h = put_allowed (reading scalar text) (ap is_attr is) (λ v read. ap (λ k. attr_fits meta k v) is ∙ typed scalar text v read) h
+  set_allowed reading typed text (Bounded target opposite) is h =
+      let one = passed (is_one meta f) _ _ effect h in
+      refer_allowed one.0 (target_in (reading types.Text text)) one.1
   set_allowed reading typed text k is h = cc
 
   unset_allowed : (k : Kind) → kind_of meta f ≡ k → unset_effect e f k ≡ Ok effect → Allowed meta m effect
   unset_allowed (Attr scalar default) is h = allowed_as meta m (Puts e f None) effect h ((has, ap is_attr is), refl, refl)
   unset_allowed (AttrMany scalar unique) is h = allowed_as meta m (Clears e f) effect h (has, ap is_many is)
+  unset_allowed (Bounded target opposite) is h = allowed_as meta m (Forgets e f) effect h tt
+  unset_allowed (Free target opposite) is h = allowed_as meta m (Forgets e f) effect h tt
   unset_allowed k is h = cc
 
   insert_allowed : (scalar : Scalar) (unique : Bool) → kind_of meta f ≡ AttrMany scalar unique → (k : ℕ) → nat_le k (length (values_in m e f)) ≡ true → (o : Option Value) → ((v : Value) → o ≡ Some v → fits meta scalar v ≡ true)
@@ -179,12 +207,33 @@ module _ (meta : Meta) (m : State) (e : Name) (f : ℕ) (has : class_has meta (g
       allowed_as meta m (Shifts e f from to) effect within_to.1 ((has, ap is_many is), within.0, within_to.0)
   shift_allowed from to k is h = cc
 
+  link_allowed : (b : Name) (at : Option ℕ) (k : Kind) → link_effect meta m e f k b at ≡ Ok effect → Allowed meta m effect
+  link_allowed b at k h =
+      let listed = passed (is_listed meta f k) _ _ effect h in
+      let live = passed (is_some (class_at m b)) _ _ effect listed.1 in
+      let open_ = not_refused (link_refusal meta m e f b at) (Links e f b (link_index m e f at)) effect live.1 in
+      allowed_as meta m (Links e f b (link_index m e f at)) effect open_.1 (may_link meta m e f b at open_.0)
+
+  unlink_allowed : (b : Name) (k : Kind) → unlink_effect meta m e f k b ≡ Ok effect → Allowed meta m effect
+  unlink_allowed b k h =
+      let listed = passed (is_listed meta f k) _ _ effect h in
+      let formed = passed (is_id b) _ _ effect listed.1 in
+      let open_ = not_refused (unlink_refusal m e f b) (Unlinks e f b) effect formed.1 in
+      allowed_as meta m (Unlinks e f b) effect open_.1 (may_unlink m e f b open_.0)
+
+  reorder_allowed : (b : Name) (i : ℕ) (k : Kind) → reorder_effect meta m e f k b i ≡ Ok effect → Allowed meta m effect
+  reorder_allowed b i k h =
+      let listed = passed (is_listed meta f k) _ _ effect h in
+      let formed = passed (is_id b) _ _ effect listed.1 in
+      let open_ = not_refused (reorder_refusal m e f b i) (Reorders e f b i) effect formed.1 in
+      allowed_as meta m (Reorders e f b i) effect open_.1 (may_reorder m e f b i open_.0)
+
 -- the effect of an edit that is not refused is possible
 pub allowed : (meta : Meta) (m : State) (reading : Reading) → IsTyped meta reading → (ws : ℕ) (edit : Edit) (effect : Effect) → effect_of reading meta m ws edit ≡ Ok effect → Allowed meta m effect
 unfolding effect_of
 allowed meta m reading typed ws (Create class id) effect h = create_allowed meta m (class_named meta class) (id_or_fresh m ws id) effect h
 allowed meta m reading typed ws (Set e name value) effect h =
-    let w = with_feature meta (feature_at meta (class_at m e) name) (λ f k. set_effect reading meta e f k value) effect h in
+    let w = with_feature meta (feature_at meta (class_at m e) name) (λ f k. set_effect reading meta m e f k value) effect h in
     set_allowed meta m e w.feature (feature_held meta m e name w.feature w.named) effect reading typed value (kind_of meta w.feature) refl w.comes
 allowed meta m reading typed ws (Unset e name) effect h =
     let w = with_feature meta (feature_at meta (class_at m e) name) (λ f k. unset_effect e f k) effect h in
@@ -198,15 +247,33 @@ allowed meta m reading typed ws (Remove e name index) effect h =
 allowed meta m reading typed ws (Shift e name from to) effect h =
     let w = with_feature meta (feature_at meta (class_at m e) name) (λ f k. shift_effect m e f k from to) effect h in
     shift_allowed meta m e w.feature (feature_held meta m e name w.feature w.named) effect from to (kind_of meta w.feature) refl w.comes
+allowed meta m reading typed ws (Link e name target index) effect h =
+    let w = with_feature meta (feature_at meta (class_at m e) name) (λ f k. link_effect meta m e f k target index) effect h in
+    link_allowed meta m e w.feature (feature_held meta m e name w.feature w.named) effect target index (kind_of meta w.feature) w.comes
+allowed meta m reading typed ws (Unlink e name target) effect h =
+    let w = with_feature meta (feature_at meta (class_at m e) name) (λ f k. unlink_effect meta m e f k target) effect h in
+    unlink_allowed meta m e w.feature (feature_held meta m e name w.feature w.named) effect target (kind_of meta w.feature) w.comes
+allowed meta m reading typed ws (Reorder e name target index) effect h =
+    let w = with_feature meta (feature_at meta (class_at m e) name) (λ f k. reorder_effect meta m e f k target index) effect h in
+    reorder_allowed meta m e w.feature (feature_held meta m e name w.feature w.named) effect target index (kind_of meta w.feature) w.comes
 
 -- ---- the steps
-pub made_leads : (meta : Meta) → Sound meta → (m : State) → Good meta m → (effect : Effect) → Allowed meta m effect → fold meta m (made m effect) ≡ Some (after m effect)
+pub made_leads : (meta : Meta) → Sound meta → (m : State) → Good meta m → (effect : Effect) → Allowed meta m effect → fold meta m (made meta m effect) ≡ Some (after meta m effect)
 made_leads meta sound m good (Creates e class) may = create_meets meta sound m good e class Root may
 made_leads meta sound m good (Puts e f v) may = put_meets meta m good e f v may.0 may.1 may.2
 made_leads meta sound m good (Clears e f) may = clear_meets meta m good e f may
 made_leads meta sound m good (Inserts e f k v) may = insert_meets meta m e f k v may
 made_leads meta sound m good (Removes e f k) may = remove_meets meta m good e f k may.0 may.1
 made_leads meta sound m good (Shifts e f from to) may = shift_meets meta m good e f from to may.0 may.1 may.2
+made_leads meta sound m good (Refers a f b) may = set_ref_meets meta sound m good a f b may
+made_leads meta sound m good (Forgets a f) may = unset_meets meta sound m good a f
+made_leads meta sound m good (Links a f b k) may = link_meets meta sound m good a f b k may
+made_leads meta sound m good (Unlinks a f b) may = unlink_meets meta sound m good a f b may
+made_leads meta sound m good (Reorders a f b k) may = reorder_meets meta sound m good a f b k may
 
 pub edits_meet : EditsMeet
 edits_meet meta sound m good reading typed ws edit effect comes = made_leads meta sound m good effect (allowed meta m reading typed ws edit effect comes)
+
+pub edits_keep_good : EditsKeepGood
+edits_keep_good meta sound m good reading typed ws edit effect comes =
+    steps_keep_good meta sound m (after meta m effect) good (made meta m effect) (edits_meet meta sound m good reading typed ws edit effect comes)

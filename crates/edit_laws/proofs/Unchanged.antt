@@ -16,12 +16,16 @@ use Rattle.model_state.specs.Keys.{Name}
 use Rattle.model_state.specs.Lists.{shifted}
 use Rattle.model_state.specs.State.{State}
 use Rattle.model_state.specs.Steps.{fold, single}
+use Rattle.model_state.specs.Good.{Good, Sound}
 use Rattle.model_state.specs.Typing.{value_eq}
 use Rattle.model_state.proofs.Orders.{id_order, attr_order}
 use Rattle.edit_laws.specs.Attributes.{held}
+use Rattle.edit_laws.specs.Rows.{Rows}
+use Rattle.edit_laws.specs.References.{set_ref_after, link_after, unlink_after, unset_after, reorder_after}
 use Rattle.edit_laws.specs.ManyValues.{values_in, with_values, dels}
-use Rattle.edit_laws.specs.Edits.{Effect, Creates, Puts, Clears, Inserts, Removes, Shifts, made, after}
+use Rattle.edit_laws.specs.Edits.{Effect, Creates, Puts, Clears, Inserts, Removes, Shifts, Refers, Forgets, Links, Unlinks, Reorders, made, after}
 use Rattle.edit_laws.specs.Laws.{EditsIdle}
+use Rattle.edit_laws.proofs.Idle.{set_ref_still, link_still, unlink_still, unset_still, reorder_still}
 use Rattle.edit_laws.proofs.ManyEdits.{value_test, values_test, values_now}
 use Rattle.edit_laws.proofs.Taken.{Allowed, allowed, made_leads}
 
@@ -52,24 +56,33 @@ shorter vs k within same = omega (arith, length-remove vs k (lt k (length vs) wi
     lt : (k n : ℕ) → nat_lt k n ≡ true → k < n
     lt k n h = grind (arith, nat_tests)
 
-still : (meta : Meta) (m : State) (effect : Effect) → Allowed meta m effect → after m effect ≡ m → made m effect ≡ []
-still meta m (Creates e class) may same =
+-- rows that change nothing
+same_rows : (m : State) (row : Rows) → ◌≡◌ {A = State} (record m { row = row }) m → row ≡ m.row
+same_rows m row same = ap (λ (x : State). x.row) same
+
+still : (meta : Meta) → Sound meta → (m : State) → Good meta m → (effect : Effect) → Allowed meta m effect → after meta m effect ≡ m → made meta m effect ≡ []
+still meta sound m good (Creates e class) may same =
     absurd (some_none (get m.kind e) class
     (ap (λ (x : State). get x.kind e) (sym same) ∙ get-set_same id_order m.kind e (Some class))
     (no_some (get m.kind e) may.fresh))
-still meta m (Puts e f v) may same =
+still meta sound m good (Puts e f v) may same =
     let here : get m.attr (e, f) ≡ single v = ap (λ (x : State). get x.attr (e, f)) (sym same) ∙ get-set_same attr_order m.attr (e, f) (single v) in
     let equal : option_eq value_eq (held (get m.attr (e, f))) v ≡ true = ap (λ o. option_eq value_eq (held o) v) here ∙ ap (λ o. option_eq value_eq o v) (held_single v) ∙ value_test.own v in
     ap (λ b. cond {A = List Step} b [] (Put e f (held (get m.attr (e, f))) v ∷ [])) equal
-still meta m (Clears e f) may same = ap (dels e f 0) (sym (same_values m e f [] same))
-still meta m (Inserts e f k v) may same = absurd (longer (values_in m e f) k v may.within (same_values m e f (insert (values_in m e f) k v) same))
-still meta m (Removes e f k) may same = absurd (shorter (values_in m e f) k may.1 (same_values m e f (remove (values_in m e f) k) same))
-still meta m (Shifts e f from to) may same =
+still meta sound m good (Clears e f) may same = ap (dels e f 0) (sym (same_values m e f [] same))
+still meta sound m good (Inserts e f k v) may same = absurd (longer (values_in m e f) k v may.within (same_values m e f (insert (values_in m e f) k v) same))
+still meta sound m good (Removes e f k) may same = absurd (shorter (values_in m e f) k may.1 (same_values m e f (remove (values_in m e f) k) same))
+still meta sound m good (Shifts e f from to) may same =
     let vs = values_in m e f in
     let equal : list_eq value_eq (shifted vs from to) vs ≡ true = ap (λ ws. list_eq value_eq ws vs) (same_values m e f (shifted vs from to) same) ∙ values_test.own vs in
     ap (λ b. cond {A = List Step} b [] (Shift e f from to ∷ [])) equal
+still meta sound m good (Refers a f b) may same = set_ref_still meta sound m a f b (same_rows m (set_ref_after meta a f b m.row) same)
+still meta sound m good (Forgets a f) may same = unset_still meta sound m good a f (same_rows m (unset_after meta a f m.row) same)
+still meta sound m good (Links a f b k) may same = link_still meta sound m good a f b k may (same_rows m (link_after meta a f b k m.row) same)
+still meta sound m good (Unlinks a f b) may same = unlink_still meta sound m good a f b may (same_rows m (unlink_after meta a f b m.row) same)
+still meta sound m good (Reorders a f b k) may same = reorder_still meta sound m good a f b k may (same_rows m (reorder_after a f b k m.row) same)
 
 pub edits_idle : EditsIdle
 edits_idle meta sound m good reading typed ws edit effect comes =
     let may = allowed meta m reading typed ws edit effect comes in
-    (nothing_made meta m (after m effect) (made m effect) (made_leads meta sound m good effect may), still meta m effect may)
+    (nothing_made meta m (after meta m effect) (made meta m effect) (made_leads meta sound m good effect may), still meta sound m good effect may)

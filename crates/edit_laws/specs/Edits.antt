@@ -5,9 +5,11 @@ use Rattle.std.specs.FinMap.{get}
 use Rattle.finite_maps.specs.Maps.{is_below}
 use Rattle.ecore_meta.specs.Meta.{Meta, class_named, feature_named}
 use Rattle.ecore_meta.specs.declared.meta.Kind.{Kind}
-use Rattle.ecore_meta.specs.declared.meta.Kind.TheVariants.{Attr, AttrMany}
+use Rattle.ecore_meta.specs.declared.meta.Kind.TheVariants.{Attr, AttrMany, Bounded, Free}
 use Rattle.ecore_meta.specs.declared.meta.Scalar.{Scalar}
+use Rattle.ecore_meta.specs.declared.meta.Scalar.TheVariants as types
 use Rattle.ecore_meta.specs.declared.meta.Value.{Value}
+use Rattle.ecore_meta.specs.declared.meta.Value.TheVariants.{Text}
 use Rattle.model_state.specs.declared.operation.OpKind.{OpKind}
 use Rattle.model_state.specs.declared.operation.OpKind.TheVariants as kinds
 use Rattle.model_state.specs.declared.operation.Operation.{Operation}
@@ -18,13 +20,15 @@ use Rattle.model_state.specs.Ident.{is_id}
 use Rattle.model_state.specs.Keys.{Name}
 use Rattle.model_state.specs.Listing.{children}
 use Rattle.model_state.specs.State.{State, is_live}
-use Rattle.model_state.specs.Typing.{value_eq, kind_of, upper_of, is_concrete}
+use Rattle.model_state.specs.Typing.{value_eq, kind_of, upper_of, is_concrete, is_plain}
 use Rattle.edit_laws.specs.declared.edit.Edit.{Edit}
-use Rattle.edit_laws.specs.declared.edit.Edit.TheVariants.{Create, Set, Unset, Add, Remove, Shift}
+use Rattle.edit_laws.specs.declared.edit.Edit.TheVariants.{Create, Set, Unset, Add, Remove, Shift, Link, Unlink, Reorder}
 use Rattle.edit_laws.specs.declared.edit.Recorded.{Recorded}
 use Rattle.edit_laws.specs.declared.fault.EditFault.{EditFault}
 use Rattle.edit_laws.specs.declared.fault.EditFault.TheVariants.{NoElement, IdInUse, BadId, NoClass, Abstract, NoFeature, WrongKind, BadValue, Bound, AlreadyThere, NoEntry}
 use Rattle.edit_laws.specs.Spot.{rank_for, ranks_of}
+use Rattle.edit_laws.specs.References.{is_one, set_ref_after, set_ref_made, link_after, link_made, unlink_after, unlink_made, unset_after, unset_made, reorder_after, reorder_made}
+use Rattle.edit_laws.specs.Refusals.{set_ref_refusal, link_index, link_refusal, unlink_refusal, reorder_refusal}
 use Rattle.edit_laws.specs.Places.{create_after, create_made}
 use Rattle.edit_laws.specs.Attributes.{taken, put_after, put_made}
 use Rattle.edit_laws.specs.ManyValues.{values_in, insert_after, insert_made, remove_after, remove_made, shift_after, shift_made, clear_after, clear_made}
@@ -36,7 +40,8 @@ Reading = Scalar → List ℕ → Option Value
 
 -- The effect of an edit, with its names looked up and its value read. Creates: an element of a class comes, last at the root. Puts: a single attribute has
 -- the value, or none. Clears: a many-valued attribute has no value. Inserts: a value comes into it at an index. Removes: the value at an index goes. Shifts:
--- the value at an index is taken out and put at another.
+-- the value at an index is taken out and put at another. Of a plain reference: Refers: it has the target alone. Forgets: it has no target. Links: the target
+-- comes at an index. Unlinks: the target goes. Reorders: the target stands at an index.
 pub data Effect : Type 0 where
   Creates : Name → ℕ → Effect
   Puts : Name → ℕ → Option Value → Effect
@@ -44,6 +49,11 @@ pub data Effect : Type 0 where
   Inserts : Name → ℕ → ℕ → Value → Effect
   Removes : Name → ℕ → ℕ → Effect
   Shifts : Name → ℕ → ℕ → ℕ → Effect
+  Refers : Name → ℕ → Name → Effect
+  Forgets : Name → ℕ → Effect
+  Links : Name → ℕ → Name → ℕ → Effect
+  Unlinks : Name → ℕ → Name → Effect
+  Reorders : Name → ℕ → Name → ℕ → Effect
 
 -- ---- the effect of an edit, or its first refusal
 -- the class of the live element of that id; a word that is no id names no element
@@ -74,15 +84,35 @@ abbrev pub put_effect : Meta → Name → ℕ → Option Value → Result Effect
 put_effect meta e f None = Err BadValue
 put_effect meta e f (Some v) = Ok (Puts e f (taken meta f v))
 
--- the feature is a single attribute, and the text a value of its type
-abbrev pub set_effect : Reading → Meta → Name → ℕ → Kind → List ℕ → Result Effect EditFault
-set_effect reading meta e f (Attr scalar default) text = put_effect meta e f (reading scalar text)
-set_effect reading meta e f kind text = Err WrongKind
+-- the effect where no test refuses it
+abbrev pub unless_refused : Option EditFault → Effect → Result Effect EditFault
+unless_refused None effect = Ok effect
+unless_refused (Some fault) effect = Err fault
 
--- the feature is an attribute
+-- the id that a value names a target by: a text
+abbrev pub target_in : Option Value → Option Name
+target_in (Some (Text id)) = Some id
+target_in value = None
+
+-- the value is a text, the id of a live element, which the reference may have
+abbrev pub refer_effect : Meta → State → Name → ℕ → Option Name → Result Effect EditFault
+refer_effect meta m a f None = Err BadValue
+refer_effect meta m a f (Some b) =
+    if not (is_some (class_at m b)) then Err NoElement
+    else unless_refused (set_ref_refusal meta m a f b) (Refers a f b)
+
+-- the feature is a single attribute, and the text a value of its type; or it is a plain reference of upper bound 1, and the text names its target
+abbrev pub set_effect : Reading → Meta → State → Name → ℕ → Kind → List ℕ → Result Effect EditFault
+set_effect reading meta m e f (Attr scalar default) text = put_effect meta e f (reading scalar text)
+set_effect reading meta m e f (Bounded target opposite) text = if not (is_one meta f) then Err WrongKind else refer_effect meta m e f (target_in (reading types.Text text))
+set_effect reading meta m e f kind text = Err WrongKind
+
+-- the feature is an attribute or a plain reference
 abbrev pub unset_effect : Name → ℕ → Kind → Result Effect EditFault
 unset_effect e f (Attr scalar default) = Ok (Puts e f None)
 unset_effect e f (AttrMany scalar unique) = Ok (Clears e f)
+unset_effect e f (Bounded target opposite) = Ok (Forgets e f)
+unset_effect e f (Free target opposite) = Ok (Forgets e f)
 unset_effect e f kind = Err WrongKind
 
 -- there is a value, which is not held yet where each is held once, and room for it under the upper bound and under 2^32 values
@@ -116,6 +146,31 @@ shift_effect m e f (AttrMany scalar unique) from to =
     else Ok (Shifts e f from to)
 shift_effect m e f kind from to = Err WrongKind
 
+-- a plain reference whose upper bound isn't 1
+abbrev pub is_listed : Meta → ℕ → Kind → Bool
+is_listed meta f kind = is_plain kind && not (is_one meta f)
+
+-- the feature is such a reference, the target a live element, and the list takes it at the index, None for the end
+abbrev pub link_effect : Meta → State → Name → ℕ → Kind → Name → Option ℕ → Result Effect EditFault
+link_effect meta m a f kind b at =
+    if not (is_listed meta f kind) then Err WrongKind
+    else if not (is_some (class_at m b)) then Err NoElement
+    else unless_refused (link_refusal meta m a f b at) (Links a f b (link_index m a f at))
+
+-- the feature is such a reference, and has the target; a word that is no id names no target
+abbrev pub unlink_effect : Meta → State → Name → ℕ → Kind → Name → Result Effect EditFault
+unlink_effect meta m a f kind b =
+    if not (is_listed meta f kind) then Err WrongKind
+    else if not (is_id b) then Err NoEntry
+    else unless_refused (unlink_refusal m a f b) (Unlinks a f b)
+
+-- the feature is such a reference, has the target, and the index is one of its list
+abbrev pub reorder_effect : Meta → State → Name → ℕ → Kind → Name → ℕ → Result Effect EditFault
+reorder_effect meta m a f kind b k =
+    if not (is_listed meta f kind) then Err WrongKind
+    else if not (is_id b) then Err NoEntry
+    else unless_refused (reorder_refusal m a f b k) (Reorders a f b k)
+
 -- what comes of the feature, where there is one
 abbrev pub of_feature : Meta → Result ℕ EditFault → (ℕ → Kind → Result Effect EditFault) → Result Effect EditFault
 of_feature meta (Err fault) effect = Err fault
@@ -124,35 +179,52 @@ of_feature meta (Ok f) effect = effect f (kind_of meta f)
 -- the effect of an edit in a workspace of that number, or the first of its refusals
 unfoldable pub effect_of : Reading → Meta → State → ℕ → Edit → Result Effect EditFault
 effect_of reading meta m ws (Create class id) = create_effect meta m (class_named meta class) (id_or_fresh m ws id)
-effect_of reading meta m ws (Set id feature value) = of_feature meta (feature_at meta (class_at m id) feature) (λ f kind. set_effect reading meta id f kind value)
+effect_of reading meta m ws (Set id feature value) = of_feature meta (feature_at meta (class_at m id) feature) (λ f kind. set_effect reading meta m id f kind value)
 effect_of reading meta m ws (Unset id feature) = of_feature meta (feature_at meta (class_at m id) feature) (λ f kind. unset_effect id f kind)
 effect_of reading meta m ws (Add id feature at value) = of_feature meta (feature_at meta (class_at m id) feature) (λ f kind. add_effect reading meta m id f kind at value)
 effect_of reading meta m ws (Remove id feature index) = of_feature meta (feature_at meta (class_at m id) feature) (λ f kind. remove_effect m id f kind index)
 effect_of reading meta m ws (Shift id feature from to) = of_feature meta (feature_at meta (class_at m id) feature) (λ f kind. shift_effect m id f kind from to)
+effect_of reading meta m ws (Link id feature target index) = of_feature meta (feature_at meta (class_at m id) feature) (λ f kind. link_effect meta m id f kind target index)
+effect_of reading meta m ws (Unlink id feature target) = of_feature meta (feature_at meta (class_at m id) feature) (λ f kind. unlink_effect meta m id f kind target)
+effect_of reading meta m ws (Reorder id feature target index) = of_feature meta (feature_at meta (class_at m id) feature) (λ f kind. reorder_effect meta m id f kind target index)
 
 -- ---- the model after an effect, said without steps
-abbrev pub after : State → Effect → State
-after m (Creates e class) = create_after m e class Root
-after m (Puts e f v) = put_after m e f v
-after m (Clears e f) = clear_after m e f
-after m (Inserts e f k v) = insert_after m e f k v
-after m (Removes e f k) = remove_after m e f k
-after m (Shifts e f from to) = shift_after m e f from to
+abbrev pub after : Meta → State → Effect → State
+after meta m (Creates e class) = create_after m e class Root
+after meta m (Puts e f v) = put_after m e f v
+after meta m (Clears e f) = clear_after m e f
+after meta m (Inserts e f k v) = insert_after m e f k v
+after meta m (Removes e f k) = remove_after m e f k
+after meta m (Shifts e f from to) = shift_after m e f from to
+after meta m (Refers a f b) = record m { row = set_ref_after meta a f b m.row }
+after meta m (Forgets a f) = record m { row = unset_after meta a f m.row }
+after meta m (Links a f b k) = record m { row = link_after meta a f b k m.row }
+after meta m (Unlinks a f b) = record m { row = unlink_after meta a f b m.row }
+after meta m (Reorders a f b k) = record m { row = reorder_after a f b k m.row }
 
 -- ---- the steps of an effect, and what is recorded
-abbrev pub made : State → Effect → List Step
-made m (Creates e class) = create_made m e class Root
-made m (Puts e f v) = put_made m e f v
-made m (Clears e f) = clear_made m e f
-made m (Inserts e f k v) = insert_made e f k v
-made m (Removes e f k) = remove_made m e f k
-made m (Shifts e f from to) = shift_made m e f from to
+abbrev pub made : Meta → State → Effect → List Step
+made meta m (Creates e class) = create_made m e class Root
+made meta m (Puts e f v) = put_made m e f v
+made meta m (Clears e f) = clear_made m e f
+made meta m (Inserts e f k v) = insert_made e f k v
+made meta m (Removes e f k) = remove_made m e f k
+made meta m (Shifts e f from to) = shift_made m e f from to
+made meta m (Refers a f b) = set_ref_made meta m.row a f b
+made meta m (Forgets a f) = unset_made meta m.row a f
+made meta m (Links a f b k) = link_made meta m.row a f b k
+made meta m (Unlinks a f b) = unlink_made meta m.row a f b
+made meta m (Reorders a f b k) = reorder_made m.row a f b k
 
 -- the kind of its operation
 abbrev pub operation_kind : Effect → OpKind
 operation_kind (Creates e class) = kinds.Create
 operation_kind (Puts e f v) = kinds.Attribute
-operation_kind effect = kinds.ManyAttribute
+operation_kind (Clears e f) = kinds.ManyAttribute
+operation_kind (Inserts e f k v) = kinds.ManyAttribute
+operation_kind (Removes e f k) = kinds.ManyAttribute
+operation_kind (Shifts e f from to) = kinds.ManyAttribute
+operation_kind effect = kinds.Reference
 
 -- the id of the element that comes
 abbrev pub new_id : Effect → Option Name
@@ -165,13 +237,13 @@ operation_of kind [] = None
 operation_of kind (s ∷ ss) = Some (Simple kind (s ∷ ss))
 
 -- an operation of the steps, and the id
-abbrev pub recording : State → Effect → Recorded
-recording m effect = record { operation = operation_of (operation_kind effect) (made m effect); id = new_id effect }
+abbrev pub recording : Meta → State → Effect → Recorded
+recording meta m effect = record { operation = operation_of (operation_kind effect) (made meta m effect); id = new_id effect }
 
-abbrev pub recording_of : State → Result Effect EditFault → Result Recorded EditFault
-recording_of m (Err fault) = Err fault
-recording_of m (Ok effect) = Ok (recording m effect)
+abbrev pub recording_of : Meta → State → Result Effect EditFault → Result Recorded EditFault
+recording_of meta m (Err fault) = Err fault
+recording_of meta m (Ok effect) = Ok (recording meta m effect)
 
 -- what is recorded of an edit in a workspace of that number, or the first of its refusals
 unfoldable pub recorded_of : Reading → Meta → State → ℕ → Edit → Result Recorded EditFault
-recorded_of reading meta m ws edit = recording_of m (effect_of reading meta m ws edit)
+recorded_of reading meta m ws edit = recording_of meta m (effect_of reading meta m ws edit)

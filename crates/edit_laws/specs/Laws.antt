@@ -81,12 +81,17 @@ IsTyped meta reading = (scalar : Scalar) (text : List ℕ) (v : Value) → readi
 -- an edit that is not refused leads to the model after it
 abbrev pub EditsMeet : Type 0
 EditsMeet = (meta : Meta) → Sound meta → (m : State) → Good meta m → (reading : Reading) → IsTyped meta reading → (ws : ℕ) (edit : Edit) (effect : Effect) → effect_of reading meta m ws edit ≡ Ok effect
-    → fold meta m (made m effect) ≡ Some (after m effect)
+    → fold meta m (made meta m effect) ≡ Some (after meta m effect)
 
 -- no step is made for it exactly where it changes nothing
 abbrev pub EditsIdle : Type 0
 EditsIdle = (meta : Meta) → Sound meta → (m : State) → Good meta m → (reading : Reading) → IsTyped meta reading → (ws : ℕ) (edit : Edit) (effect : Effect) → effect_of reading meta m ws edit ≡ Ok effect
-    → (made m effect ≡ [] → after m effect ≡ m) × (after m effect ≡ m → made m effect ≡ [])
+    → (made meta m effect ≡ [] → after meta m effect ≡ m) × (after meta m effect ≡ m → made meta m effect ≡ [])
+
+-- the model after it is good: among other things, each row of a reference and its mirror stand together, and no list is over its bound
+abbrev pub EditsKeepGood : Type 0
+EditsKeepGood = (meta : Meta) → Sound meta → (m : State) → Good meta m → (reading : Reading) → IsTyped meta reading → (ws : ℕ) (edit : Edit) (effect : Effect) → effect_of reading meta m ws edit ≡ Ok effect
+    → Good meta (after meta m effect)
 
 -- the first number whose id is not live gives the fresh id
 abbrev pub FirstIsFresh : Type 0

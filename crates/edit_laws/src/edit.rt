@@ -10,13 +10,13 @@ pub enum Edit {
         class: Text,
         id: Option<Text>,
     },
-    /// A single attribute gets a value.
+    /// A single attribute gets a value, or a plain reference of upper bound 1 the element whose id the value is.
     Set {
         id: Text,
         feature: Text,
         value: Text,
     },
-    /// All values of an attribute go.
+    /// All values of an attribute go, or all targets of a plain reference with their opposites.
     Unset {
         id: Text,
         feature: Text,
@@ -40,6 +40,26 @@ pub enum Edit {
         feature: Text,
         from: u32,
         to: u32,
+    },
+    /// A target comes into a plain reference whose upper bound isn't 1, at an index of the others, or last where there is none.
+    Link {
+        id: Text,
+        feature: Text,
+        target: Text,
+        index: Option<u32>,
+    },
+    /// A target of a plain reference whose upper bound isn't 1 goes, and its opposite with it.
+    Unlink {
+        id: Text,
+        feature: Text,
+        target: Text,
+    },
+    /// A target of a plain reference whose upper bound isn't 1 comes to stand at an index of its list.
+    Reorder {
+        id: Text,
+        feature: Text,
+        target: Text,
+        index: u32,
     },
 }
 

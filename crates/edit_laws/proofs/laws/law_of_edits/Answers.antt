@@ -1,4 +1,4 @@
-use Rattle.edit_laws.proofs.Taken.{edits_meet}
+use Rattle.edit_laws.proofs.Taken.{edits_meet, edits_keep_good}
 use Rattle.edit_laws.proofs.Unchanged.{edits_idle}
 use Rattle.edit_laws.proofs.laws.law_of_edits.Goals as goal
 
@@ -7,3 +7,6 @@ returns-clause-meets c = edits_meet
 
 pub returns-clause-idle : goal.returns-clause-idle
 returns-clause-idle c = edits_idle
+
+pub returns-clause-good : goal.returns-clause-good
+returns-clause-good c = edits_keep_good
