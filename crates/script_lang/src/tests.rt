@@ -145,7 +145,10 @@ const PLACE_LINES: [Row; 26] = [
 const REFERENCE_LINES: [Row; 24] = [
     ("link 1 b authors w", Ok("1 Link b authors w -")),
     ("link 1 b authors w 0", Ok("1 Link b authors w 0")),
-    ("link 4294967295 / / / 4294967295", Ok("4294967295 Link / / / 4294967295")),
+    (
+        "link 4294967295 / / / 4294967295",
+        Ok("4294967295 Link / / / 4294967295"),
+    ),
     ("link", Err(5)),
     ("link 0 b authors w", Err(6)),
     ("link 1 b", Err(9)),
@@ -302,7 +305,13 @@ fn shown_edit_of_reference(alloc: Global, edit: &Edit) -> Result<String, Fail> {
             feature,
             target,
             index,
-        } => ("Reorder", id, feature, target, format!(in alloc; " {index}")?),
+        } => (
+            "Reorder",
+            id,
+            feature,
+            target,
+            format!(in alloc; " {index}")?,
+        ),
         _ => return Ok(String::new(alloc)),
     };
     Ok(format!(in alloc;
