@@ -258,6 +258,7 @@ refusal_of faults.Abstract = refusals.Abstract
 refusal_of faults.NoFeature = refusals.NoFeature
 refusal_of faults.WrongKind = refusals.WrongKind
 refusal_of faults.BadValue = refusals.BadValue
+refusal_of faults.WrongType = refusals.WrongType
 refusal_of faults.Bound = refusals.Bound
 refusal_of faults.AlreadyThere = refusals.AlreadyThere
 refusal_of faults.NoEntry = refusals.NoEntry

@@ -96,6 +96,7 @@ fn refusal_of(fault: EditFault) -> Option<Refusal>
         EditFault::NoFeature => Some(Refusal::NoFeature),
         EditFault::WrongKind => Some(Refusal::WrongKind),
         EditFault::BadValue => Some(Refusal::BadValue),
+        EditFault::WrongType => Some(Refusal::WrongType),
         EditFault::Bound => Some(Refusal::Bound),
         EditFault::AlreadyThere => Some(Refusal::AlreadyThere),
         EditFault::NoEntry => Some(Refusal::NoEntry),
