@@ -33,4 +33,10 @@ pub enum Command {
     Discard { ws: u32 },
     /// `changes WS`: what is local is shown.
     Changes { ws: u32 },
+    /// `show WS`: the text of the workspace's model.
+    Show { ws: u32 },
+    /// `cat SPEC`: the text of that version.
+    Cat { spec: Spec },
+    /// `validate WS`: the features of the workspace's model that are below their lower bounds.
+    Validate { ws: u32 },
 }

@@ -172,7 +172,19 @@ const REFERENCE_LINES: [Row; 24] = [
     ("reorder 1 b authors w 3 3", Err(25)),
 ];
 
-const WORKSPACE_LINES: [Row; 28] = [
+const WORKSPACE_LINES: [Row; 40] = [
+    ("show 7", Ok("7 Show")),
+    ("show", Err(5)),
+    ("show 0", Err(6)),
+    ("show 7 7", Err(8)),
+    ("cat trunk", Ok("Cat Branch trunk")),
+    ("cat 0", Ok("Cat Number 0")),
+    ("cat", Err(4)),
+    ("cat 0 1", Err(7)),
+    ("validate 1", Ok("1 Validate")),
+    ("validate", Err(9)),
+    ("validate x", Err(10)),
+    ("validate 1 ", Err(12)),
     ("begin 1 both", Ok("1 Begin both")),
     ("begin 1 a.b-c_9", Ok("1 Begin a.b-c_9")),
     ("begin", Err(6)),
@@ -203,18 +215,22 @@ const WORKSPACE_LINES: [Row; 28] = [
     ("changes 1 1", Err(11)),
 ];
 
+fn shown_spec(alloc: Global, word: &str, spec: &Spec) -> Result<String, Fail> {
+    let text = match spec {
+        Spec::Number(n) => format!(in alloc; "{word} Number {n}")?,
+        Spec::Branch(name) => format!(in alloc; "{word} Branch {}", name.as_str())?,
+        Spec::Tag(name) => format!(in alloc; "{word} Tag {}", name.as_str())?,
+    };
+    Ok(text)
+}
+
 fn shown(alloc: Global, command: &Command) -> Result<String, Fail> {
     let text = match command {
         Command::Init => String::from_str(alloc, "Init")?,
-        Command::Checkout {
-            spec: Spec::Number(n),
-        } => format!(in alloc; "Checkout Number {n}")?,
-        Command::Checkout {
-            spec: Spec::Branch(name),
-        } => format!(in alloc; "Checkout Branch {}", name.as_str())?,
-        Command::Checkout {
-            spec: Spec::Tag(name),
-        } => format!(in alloc; "Checkout Tag {}", name.as_str())?,
+        Command::Checkout { spec } => shown_spec(alloc, "Checkout", spec)?,
+        Command::Cat { spec } => shown_spec(alloc, "Cat", spec)?,
+        Command::Show { ws } => format!(in alloc; "{ws} Show")?,
+        Command::Validate { ws } => format!(in alloc; "{ws} Validate")?,
         Command::Edit { ws, edit } => {
             let edit = shown_edit(alloc, edit)?;
             format!(in alloc; "{ws} {}", edit.as_str())?
