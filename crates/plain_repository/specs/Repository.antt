@@ -25,6 +25,8 @@ use Rattle.edit_laws.specs.declared.fault.EditFault.{EditFault}
 use Rattle.edit_laws.specs.declared.fault.EditFault.TheVariants as faults
 use Rattle.recorder.specs.Recording.{recorded}
 use Rattle.data_lines.specs.Lines.{operation_lines, open_lines}
+use Rattle.data_lines.specs.Validation.{validate_lines}
+use Rattle.emfjson_text.specs.Tree.{text}
 use Rattle.script_lang.specs.declared.command.Spec.{Spec}
 use Rattle.script_lang.specs.declared.command.Spec.TheVariants as specs
 use Rattle.script_lang.specs.declared.command.Command.{Command}
@@ -240,13 +242,25 @@ unknown (specs.Number n) = if n == 0 then None else Some refusals.NoVersion
 unknown (specs.Branch name) = if pointwise nat_eq name (codes "trunk") then None else Some refusals.NoBranch
 unknown (specs.Tag name) = Some refusals.NoVersion
 
-abbrev pub checked_out : State → Option Refusal → Decision
-checked_out s (Some refusal) = refused refusal
-checked_out s None = with_room s (codes "[]" ∷ []) (decimal (length s.workspaces + 1) ++ codes " 0 trunk") (Checkout 0 0)
+-- the text of version 0, the empty project
+abbrev pub first_text : Meta → List ℕ
+first_text meta = text meta nothing
 
--- `checkout SPEC`: the text of version 0 is `[]`
-unfoldable pub decide_checkout : State → Spec → Decision
-decide_checkout s spec = checked_out s (unknown spec)
+abbrev pub checked_out : State → Meta → Option Refusal → Decision
+checked_out s meta (Some refusal) = refused refusal
+checked_out s meta None = with_room s (first_text meta ∷ []) (decimal (length s.workspaces + 1) ++ codes " 0 trunk") (Checkout 0 0)
+
+-- `checkout SPEC`: a workspace at the version, whose text is told
+unfoldable pub decide_checkout : State → Meta → Spec → Decision
+decide_checkout s meta spec = checked_out s meta (unknown spec)
+
+abbrev pub text_of : Meta → Option Refusal → Decision
+text_of meta (Some refusal) = refused refusal
+text_of meta None = told (first_text meta ∷ []) []
+
+-- `cat SPEC`: the text of the version
+unfoldable pub decide_cat : Meta → Spec → Decision
+decide_cat meta spec = text_of meta (unknown spec)
 
 -- the refusal of an edit; want of memory is never due
 abbrev pub refusal_of : EditFault → Refusal
@@ -333,6 +347,22 @@ changes_of meta (Some workspace) = told (operation_lines meta workspace.operatio
 unfoldable pub decide_changes : State → Meta → ℕ → Decision
 decide_changes s meta ws = changes_of meta (workspace_of s ws)
 
+abbrev pub shown : Meta → Option Workspace → Decision
+shown meta None = refused refusals.NoWorkspace
+shown meta (Some workspace) = told (text meta (model_of meta workspace) ∷ []) []
+
+-- `show WS`: the text of the working model
+unfoldable pub decide_show : State → Meta → ℕ → Decision
+decide_show s meta ws = shown meta (workspace_of s ws)
+
+abbrev pub validated : Meta → Option Workspace → Decision
+validated meta None = refused refusals.NoWorkspace
+validated meta (Some workspace) = told (validate_lines meta (model_of meta workspace)) []
+
+-- `validate WS`: the features of the working model that are below their lower bounds
+unfoldable pub decide_validate : State → Meta → ℕ → Decision
+decide_validate s meta ws = validated meta (workspace_of s ws)
+
 abbrev pub block_text : Option (List ℕ) → List ℕ
 block_text None = []
 block_text (Some text) = text
@@ -340,13 +370,16 @@ block_text (Some text) = text
 -- a command where there is a metamodel
 abbrev pub decide_begun : State → Meta → Option (List ℕ) → Command → Decision
 decide_begun s meta block commands.Init = decide_init s (Some meta) (block_text block)
-decide_begun s meta block (commands.Checkout spec) = decide_checkout s spec
+decide_begun s meta block (commands.Checkout spec) = decide_checkout s meta spec
 decide_begun s meta block (commands.Edit ws edit) = decide_edit s meta ws edit
 decide_begun s meta block (commands.Begin ws name) = decide_begin s ws name
 decide_begun s meta block (commands.End ws) = decide_end s ws
 decide_begun s meta block (commands.Undo ws) = decide_undo s ws
 decide_begun s meta block (commands.Discard ws) = decide_discard s ws
 decide_begun s meta block (commands.Changes ws) = decide_changes s meta ws
+decide_begun s meta block (commands.Show ws) = decide_show s meta ws
+decide_begun s meta block (commands.Cat spec) = decide_cat meta spec
+decide_begun s meta block (commands.Validate ws) = decide_validate s meta ws
 
 -- before there is a metamodel, `init` alone is answered otherwise than so
 abbrev pub decide_with : State → Option Meta → Option (List ℕ) → Command → Decision
