@@ -122,11 +122,12 @@ there_is : (o : Option ℕ) (e : EditFault) (f : ℕ) → ok_or o e ≡ Ok f →
 there_is None e f h = cc
 there_is (Some g) e f h = cc
 
-feature_of : (meta : Meta) (o : Option ℕ) (name : Name) (f : ℕ) → feature_at meta o name ≡ Ok f → class_has meta o f ≡ true
+-- what a name names is a feature of the class
+pub feature_of : (meta : Meta) (o : Option ℕ) (name : Name) (f : ℕ) → feature_at meta o name ≡ Ok f → class_has meta o f ≡ true
 feature_of meta None name f h = cc
 feature_of meta (Some c) name f h = held_by meta.features (slice_get meta.classes c) name f (there_is (feature_named meta c name) NoFeature f h)
 
--- what a name names is a feature of the element's class
+-- and of the class of an element
 pub feature_held : (meta : Meta) (m : State) (e name : Name) (f : ℕ) → feature_at meta (class_at m e) name ≡ Ok f → class_has meta (get m.kind e) f ≡ true
 feature_held meta m e name f h =
     elim (is_id e) as (λ b. feature_at meta (if b then get m.kind e else None) name ≡ Ok f → class_has meta (get m.kind e) f ≡ true) [

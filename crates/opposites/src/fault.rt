@@ -1,6 +1,8 @@
 ghost use Rattle.std.specs.Prelude.{◌≡◌};
+ghost use Rattle.opposites.specs.Refusals.{edit_fault};
 ghost use Rattle.opposites.specs.declared.fault.LinkFault.TheVariants.{Memory};
 
+use edit_laws::EditFault;
 use std::alloc::AllocError;
 use thiserror::Error;
 
@@ -29,5 +31,19 @@ impl From<AllocError> for LinkFault {
 
     fn from(_: AllocError) -> LinkFault {
         LinkFault::Memory
+    }
+}
+
+impl From<LinkFault> for EditFault {
+    ghost from_gives = { λ fault e. e ≡ edit_fault fault };
+
+    fn from(fault: LinkFault) -> EditFault {
+        match fault {
+            LinkFault::Bound => EditFault::Bound,
+            LinkFault::AlreadyThere => EditFault::AlreadyThere,
+            LinkFault::NoEntry => EditFault::NoEntry,
+            LinkFault::WrongType => EditFault::WrongType,
+            LinkFault::Memory => EditFault::Memory,
+        }
     }
 }

@@ -14,10 +14,13 @@ mod set_ref;
 mod tests;
 mod there;
 mod unlink;
+mod unset_ref;
 
+pub use bounds::is_one;
 pub use fault::LinkFault;
 pub use laws::law_of_calls;
 pub use link::link_steps;
 pub use reorder::reorder_steps;
 pub use set_ref::set_ref_steps;
 pub use unlink::unlink_steps;
+pub use unset_ref::unset_ref_steps;

@@ -8,7 +8,8 @@ ghost use Rattle.model_state.specs.Listing.{targets};
 ghost use Rattle.edit_laws.specs.Spot.{rank_for, ranks_of, spot};
 ghost use Rattle.edit_laws.specs.Rows.{link_step, reranks};
 ghost use Rattle.edit_laws.specs.References.{is_one, link_made, displace};
-ghost use Rattle.opposites.specs.Refusals.{IsReference, IsRefusal, link_refusal};
+ghost use Rattle.edit_laws.specs.Refusals.{link_refusal};
+ghost use Rattle.opposites.specs.Refusals.{IsReference, IsRefusal};
 ghost use Rattle.opposites.specs.Ends.{reranks_by};
 
 use crate::LinkFault;

@@ -4,7 +4,8 @@ ghost use Rattle.model_state.specs.Good.{Good, Sound};
 ghost use Rattle.edit_laws.specs.Spot.{rank_for, ranks_of, spot};
 ghost use Rattle.edit_laws.specs.Rows.{reranks};
 ghost use Rattle.edit_laws.specs.References.{reorder_made, stands_at, without_entry};
-ghost use Rattle.opposites.specs.Refusals.{IsReference, IsRefusal, reorder_refusal};
+ghost use Rattle.edit_laws.specs.Refusals.{reorder_refusal};
+ghost use Rattle.opposites.specs.Refusals.{IsReference, IsRefusal};
 
 use crate::LinkFault;
 use crate::look_up::rank_of;

@@ -6,7 +6,8 @@ ghost use Rattle.model_state.specs.Listing.{targets};
 ghost use Rattle.edit_laws.specs.Spot.{rank_for, ranks_of};
 ghost use Rattle.edit_laws.specs.Rows.{link_step, unlinks};
 ghost use Rattle.edit_laws.specs.References.{is_one, set_ref_made, displace};
-ghost use Rattle.opposites.specs.Refusals.{IsReference, IsRefusal, set_ref_refusal};
+ghost use Rattle.edit_laws.specs.Refusals.{set_ref_refusal};
+ghost use Rattle.opposites.specs.Refusals.{IsReference, IsRefusal};
 ghost use Rattle.opposites.specs.Ends.{reranks_by};
 
 use crate::LinkFault;

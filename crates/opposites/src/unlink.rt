@@ -3,7 +3,8 @@ ghost use Rattle.model_state.specs.Typing.{opposite_of};
 ghost use Rattle.model_state.specs.Good.{Good, Sound};
 ghost use Rattle.edit_laws.specs.Rows.{unlink_step, unlinks};
 ghost use Rattle.edit_laws.specs.References.{unlink_made};
-ghost use Rattle.opposites.specs.Refusals.{IsReference, IsRefusal, unlink_refusal};
+ghost use Rattle.edit_laws.specs.Refusals.{unlink_refusal};
+ghost use Rattle.opposites.specs.Refusals.{IsReference, IsRefusal};
 
 use crate::LinkFault;
 use crate::look_up::{rank_of, rank_of_mirror};

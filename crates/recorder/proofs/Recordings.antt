@@ -1,6 +1,6 @@
 -- The steps that are recorded.
 use Rattle.std.proofs.Common.{◌≡◌, ℕ, List, [], ◌∷◌, refl, sym, ap, ◌∙◌}
-use Rattle.std.specs.Prelude.{None, Result, Ok, Err}
+use Rattle.std.specs.Prelude.{None, Result, Ok, Err, IfOk}
 use Rattle.ecore_meta.specs.Meta.{Meta}
 use Rattle.model_state.specs.declared.operation.OpKind.{OpKind}
 use Rattle.model_state.specs.declared.step.Step.{Step}
@@ -12,10 +12,12 @@ use Rattle.emfjson_io.proofs.Fits.{read_fits}
 use Rattle.edit_laws.specs.declared.edit.Edit.{Edit}
 use Rattle.edit_laws.specs.declared.edit.Recorded.{Recorded}
 use Rattle.edit_laws.specs.declared.fault.EditFault.{EditFault}
-use Rattle.edit_laws.specs.Edits.{Effect, effect_of, made, operation_kind, operation_of, recording, recording_of, recorded_of}
-use Rattle.edit_laws.proofs.Taken.{edits_meet}
+use Rattle.edit_laws.specs.Edits.{Effect, effect_of, made, after, operation_kind, operation_of, recording, recording_of, recorded_of}
+use Rattle.edit_laws.proofs.Taken.{edits_meet, edits_keep_good}
 use Rattle.edit_laws.proofs.Unchanged.{edits_idle}
-use Rattle.recorder.specs.Laws.{steps_in, LeadsOn, RecordingLeads}
+use Rattle.recorder.specs.Answers.{Answers}
+use Rattle.recorder.specs.Recording.{recorded}
+use Rattle.recorder.specs.Laws.{steps_in, LeadsOn, RecordingLeads, KeepsGood}
 
 steps_in-operation : (kind : OpKind) (ss : List Step) → steps_in (operation_of kind ss) ≡ ss
 steps_in-operation kind [] = refl
@@ -29,12 +31,12 @@ same_recorded : (r s : Recorded) → ◌≡◌ {A = Result Recorded EditFault} (
 same_recorded r s h = cc
 
 module _ (meta : Meta) (sound : Sound meta) (m : State) (good : Good meta m) (ws : ℕ) (edit : Edit) (r : Recorded) where
-  leads_by : (answer : Result Effect EditFault) → effect_of (value_of meta) meta m ws edit ≡ answer → recording_of m answer ≡ Ok r → LeadsOn meta m ws edit r
+  leads_by : (answer : Result Effect EditFault) → effect_of (value_of meta) meta m ws edit ≡ answer → recording_of meta m answer ≡ Ok r → LeadsOn meta m ws edit r
   leads_by (Err fault) is h = cc
   leads_by (Ok effect) is h =
       let kind = operation_kind effect in
-      let ss = made m effect in
-      let operation : operation_of kind ss ≡ r.operation = ap (λ (x : Recorded). x.operation) (same_recorded (recording m effect) r h) in
+      let ss = made meta m effect in
+      let operation : operation_of kind ss ≡ r.operation = ap (λ (x : Recorded). x.operation) (same_recorded (recording meta m effect) r h) in
       let idle = edits_idle meta sound m good (value_of meta) (read_fits meta) ws edit effect is in
       record {
         effect = effect;
@@ -44,8 +46,16 @@ module _ (meta : Meta) (sound : Sound meta) (m : State) (good : Good meta m) (ws
           λ none. idle.0 (none_made kind ss (operation ∙ none)),
           λ same. sym operation ∙ ap (operation_of kind) (idle.1 same),
         );
+        good = edits_keep_good meta sound m good (value_of meta) (read_fits meta) ws edit effect is;
       }
 
 pub recording_leads : RecordingLeads
 unfolding recorded_of
 recording_leads meta sound m good ws edit r h = leads_by meta sound m good ws edit r (effect_of (value_of meta) meta m ws edit) refl h
+
+-- so an answer that is what is recorded leaves a good model
+pub keeps_good : (meta : Meta) → Sound meta → (m : State) → Good meta m → (ws : ℕ) (edit : Edit) (answer : Result Recorded EditFault) → Answers answer (recorded meta m ws edit) → IfOk answer (KeepsGood meta m)
+keeps_good meta sound m good ws edit (Ok r) is =
+    let leads = recording_leads meta sound m good ws edit r is in
+    record { left = after meta m leads.effect; run = leads.run; good = leads.good; paired = leads.good.rows.mirrored }
+keeps_good meta sound m good ws edit (Err fault) is = tt

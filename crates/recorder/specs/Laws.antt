@@ -1,12 +1,15 @@
 -- What is recorded leads to the model that the edit is to leave.
-use Rattle.std.specs.Prelude.{◌≡◌, ◌↔◌, ℕ, List, [], Option, None, Some, Ok}
+use Rattle.std.specs.Prelude.{◌≡◌, ◌↔◌, ℕ, List, [], Option, None, Some, is_some, Ok}
+use Rattle.std.specs.FinMap.{get}
 use Rattle.ecore_meta.specs.Meta.{Meta}
 use Rattle.model_state.specs.declared.operation.Operation.{Operation}
 use Rattle.model_state.specs.declared.step.Step.{Step}
+use Rattle.model_state.specs.Keys.{Name}
 use Rattle.model_state.specs.Packages.{steps_of}
 use Rattle.model_state.specs.State.{State}
 use Rattle.model_state.specs.Steps.{fold}
 use Rattle.model_state.specs.Good.{Good, Sound}
+use Rattle.model_state.specs.Typing.{opposite_of}
 use Rattle.emfjson_io.specs.Values.{value_of}
 use Rattle.edit_laws.specs.declared.edit.Edit.{Edit}
 use Rattle.edit_laws.specs.declared.edit.Recorded.{Recorded}
@@ -18,13 +21,25 @@ abbrev pub steps_in : Option Operation → List Step
 steps_in None = []
 steps_in (Some operation) = steps_of operation
 
--- the steps lead from the model to the one after the effect of the edit, and there is no operation exactly where that changes nothing
+-- the steps lead from the model to the one after the effect of the edit, there is no operation exactly where that changes nothing, and the model after it is good
 pub record LeadsOn (meta : Meta) (m : State) (ws : ℕ) (edit : Edit) (r : Recorded) : Type 0 where
   pub effect : Effect
   pub is : effect_of (value_of meta) meta m ws edit ≡ Ok effect
-  pub run : fold meta m (steps_in r.operation) ≡ Some (after m effect)
-  pub idle : (r.operation ≡ None) ↔ (after m effect ≡ m)
+  pub run : fold meta m (steps_in r.operation) ≡ Some (after meta m effect)
+  pub idle : (r.operation ≡ None) ↔ (after meta m effect ≡ m)
+  pub good : Good meta (after meta m effect)
 
 -- so does what is recorded of an edit that is not refused
 abbrev pub RecordingLeads : Type 0
 RecordingLeads = (meta : Meta) → Sound meta → (m : State) → Good meta m → (ws : ℕ) (edit : Edit) (r : Recorded) → recorded meta m ws edit ≡ Ok r → LeadsOn meta m ws edit r
+
+-- each row of a reference that has an opposite stands exactly where its mirror does
+abbrev pub Paired : Meta → State → Type 0
+Paired meta m = (a : Name) (f : ℕ) (b : Name) (g : ℕ) → opposite_of meta f ≡ Some g → is_some (get m.row (a, f, b)) ≡ is_some (get m.row (b, g, a))
+
+-- the steps can be taken one by one, and leave a good model, in which each reference stands with its opposite
+pub record KeepsGood (meta : Meta) (m : State) (r : Recorded) : Type 0 where
+  pub left : State
+  pub run : fold meta m (steps_in r.operation) ≡ Some left
+  pub good : Good meta left
+  pub paired : Paired meta left

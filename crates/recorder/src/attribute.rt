@@ -1,17 +1,22 @@
-ghost use Rattle.std.specs.Prelude.{◌≡◌, IfOk};
+ghost use Rattle.std.specs.Prelude.{◌≡◌, IfOk, None, true};
 ghost use Rattle.std.specs.FinMap.{get};
 ghost use Rattle.finite_maps.specs.Equal.{option_eq};
+ghost use Rattle.model_state.specs.Good.{Good};
+ghost use Rattle.model_state.specs.Steps.{class_has};
 ghost use Rattle.model_state.specs.Typing.{kind_of, value_eq};
+ghost use Rattle.model_state.specs.declared.operation.OpKind.TheVariants.{Attribute};
 ghost use Rattle.emfjson_io.specs.Values.{value_of};
 ghost use Rattle.edit_laws.specs.Attributes.{held, put_made, taken};
-ghost use Rattle.edit_laws.specs.Edits.{Puts, recording, recording_of, set_effect};
+ghost use Rattle.edit_laws.specs.Edits.{operation_of, recording_of, set_effect};
 ghost use Rattle.recorder.specs.Answers.{Answers};
 
 use crate::feature::{Named, feature, read};
 use crate::operation::operation;
+use crate::reference;
 use ecore_meta::{Kind, List, Metamodel, Text, Value};
 use edit_laws::{EditFault, Recorded};
 use model_state::{Id, Look, OpKind, Step, is_default, is_same_value};
+use opposites::is_one;
 use std::alloc::{AllocError, Global};
 
 /// Whether both are the same value, or none.
@@ -74,7 +79,7 @@ pub fn put<L: Look>(
     named: &Named,
     new: Option<Value>,
 ) -> Result<Recorded, AllocError>
-    ensures { IfOk result (λ r. r ≡ recording (L.state look.now) (Puts named.now.id named.now.feature new)) }
+    ensures { IfOk result (λ r. r ≡ record { operation = operation_of Attribute (put_made (L.state look.now) named.now.id named.now.feature new); id = None }) }
 {
     let steps = put_steps(alloc, look, &named.id, named.feature, new)?;
     Ok(Recorded {
@@ -83,7 +88,10 @@ pub fn put<L: Look>(
     })
 }
 
-/// Records that an attribute gets a value: of the attribute's type, and not held where it is the default.
+/// Records that a single attribute gets a value, which is not held where it is the default, or that a plain reference of
+/// upper bound 1 gets the element whose id the value is.
+///
+/// Refused with WrongKind and BadValue, and for a reference then with NoElement, WrongType and Bound, in this order.
 pub fn set<L: Look>(
     alloc: Global,
     look: &L,
@@ -91,7 +99,9 @@ pub fn set<L: Look>(
     named: &Named,
     text: &Text,
 ) -> Result<Recorded, EditFault>
-    ensures { Answers result (recording_of (L.state look.now) (set_effect (value_of meta.now) meta.now named.now.id named.now.feature (kind_of meta.now named.now.feature) text.now)) }
+    requires good { Good meta.now (L.state look.now) }
+    requires held { class_has meta.now (get (L.state look.now).kind named.now.id) named.now.feature ≡ true }
+    ensures { Answers result (recording_of meta.now (L.state look.now) (set_effect (value_of meta.now) meta.now (L.state look.now) named.now.id named.now.feature (kind_of meta.now named.now.feature) text.now)) }
 {
     match feature(meta, named.feature) {
         None => Err(EditFault::WrongKind),
@@ -99,6 +109,12 @@ pub fn set<L: Look>(
             Kind::Attr { scalar, .. } => {
                 let value = read(alloc, meta, scalar, text)?;
                 Ok(put(alloc, look, named, taken(meta, named.feature, value))?)
+            }
+            Kind::Bounded { .. } => {
+                if !is_one(meta, named.feature) {
+                    return Err(EditFault::WrongKind);
+                }
+                reference::set(alloc, look, meta, named, text)
             }
             _ => Err(EditFault::WrongKind),
         },

@@ -1,8 +1,11 @@
 ghost use Rattle.std.specs.Prelude.{◌≡◌, IfOk, Some, length};
 ghost use Rattle.ecore_meta.specs.Meta.{class_named};
+ghost use Rattle.model_state.specs.declared.operation.OpKind.TheVariants.{Create};
+ghost use Rattle.model_state.specs.declared.step.Place.TheVariants.{Root};
 ghost use Rattle.edit_laws.specs.Spot.{rank_for, ranks_of};
 ghost use Rattle.edit_laws.specs.FreshIds.{id_or_fresh};
-ghost use Rattle.edit_laws.specs.Edits.{Creates, create_effect, end_rank, recording, recording_of};
+ghost use Rattle.edit_laws.specs.Places.{create_made};
+ghost use Rattle.edit_laws.specs.Edits.{create_effect, end_rank, operation_of, recording_of};
 ghost use Rattle.recorder.specs.Answers.{Answers, AnswersId};
 
 use crate::fresh::fresh_id;
@@ -58,7 +61,7 @@ fn new_at_root<L: Look>(
     rank: u64,
 ) -> Result<Recorded, AllocError>
     requires { end_rank (L.state look.now) ≡ Some rank }
-    ensures { IfOk result (λ r. r ≡ recording (L.state look.now) (Creates e class)) }
+    ensures { IfOk result (λ r. r ≡ record { operation = operation_of Create (create_made (L.state look.now) e class Root); id = Some e }) }
 {
     let _look = look;
     let mut steps = List::new(alloc);
@@ -85,7 +88,7 @@ pub fn create<L: Look>(
     class: &Text,
     id: &Option<Text>,
 ) -> Result<Recorded, EditFault>
-    ensures { Answers result (recording_of (L.state look.now) (create_effect meta.now (L.state look.now) (class_named meta.now class.now) (id_or_fresh (L.state look.now) ws id.now))) }
+    ensures { Answers result (recording_of meta.now (L.state look.now) (create_effect meta.now (L.state look.now) (class_named meta.now class.now) (id_or_fresh (L.state look.now) ws id.now))) }
 {
     let Some(class) = meta.class_named(class.as_str()) else {
         return Err(EditFault::NoClass);

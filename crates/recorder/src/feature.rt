@@ -1,6 +1,8 @@
-ghost use Rattle.std.specs.Prelude.{◌≡◌, IfOk, slice_get};
+ghost use Rattle.std.specs.Prelude.{◌≡◌, IfOk, slice_get, true};
+ghost use Rattle.std.specs.FinMap.{get};
 ghost use Rattle.std.specs.Option.{option_copied};
 ghost use Rattle.model_state.specs.Good.{Good};
+ghost use Rattle.model_state.specs.Steps.{class_has};
 ghost use Rattle.emfjson_io.specs.Values.{value_of};
 ghost use Rattle.edit_laws.specs.Edits.{class_at, feature_at};
 ghost use Rattle.recorder.specs.Answers.{AnswersFeature, AnswersValue};
@@ -28,6 +30,7 @@ impl Named {
         feature: &Text,
     ) -> Result<Named, EditFault>
         requires good { Good meta.now (L.state look.now) }
+        ensures held { IfOk result (λ named. class_has meta.now (get (L.state look.now).kind named.id) named.feature ≡ true) }
         ensures id { IfOk result (λ named. named.id ≡ id.now) }
         ensures feature { AnswersFeature result (feature_at meta.now (class_at (L.state look.now) id.now) feature.now) }
     {

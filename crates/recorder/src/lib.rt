@@ -10,6 +10,7 @@ mod laws;
 mod many;
 mod operation;
 mod record;
+mod reference;
 #[cfg(test)]
 mod tests;
 

@@ -83,7 +83,7 @@ pub fn clear<L: Look>(
 ) -> Result<Recorded, AllocError>
     requires good { Good meta.now (L.state look.now) }
     requires many { is_many (kind_of meta.now named.now.feature) ≡ true }
-    ensures { IfOk result (λ r. r ≡ recording (L.state look.now) (Clears named.now.id named.now.feature)) }
+    ensures { IfOk result (λ r. r ≡ recording meta.now (L.state look.now) (Clears named.now.id named.now.feature)) }
 {
     let _meta = meta;
     let values = look.attr(&named.id, named.feature);
@@ -105,7 +105,7 @@ fn add_value<L: Look>(
     at: u32,
     value: Value,
 ) -> Result<Recorded, EditFault>
-    ensures { Answers result (recording_of (L.state look.now) (insert_effect named.now.id named.now.feature unique (upper_of meta.now named.now.feature) (values_in (L.state look.now) named.now.id named.now.feature) at (Some value))) }
+    ensures { Answers result (recording_of meta.now (L.state look.now) (insert_effect named.now.id named.now.feature unique (upper_of meta.now named.now.feature) (values_in (L.state look.now) named.now.id named.now.feature) at (Some value))) }
 {
     let values = look.attr(&named.id, named.feature);
     if unique && contains(values, &value) {
@@ -138,7 +138,7 @@ pub fn add<L: Look>(
     text: &Text,
 ) -> Result<Recorded, EditFault>
     requires good { Good meta.now (L.state look.now) }
-    ensures { Answers result (recording_of (L.state look.now) (add_effect (value_of meta.now) meta.now (L.state look.now) named.now.id named.now.feature (kind_of meta.now named.now.feature) at text.now)) }
+    ensures { Answers result (recording_of meta.now (L.state look.now) (add_effect (value_of meta.now) meta.now (L.state look.now) named.now.id named.now.feature (kind_of meta.now named.now.feature) at text.now)) }
 {
     match feature(meta, named.feature) {
         None => Err(EditFault::WrongKind),
@@ -165,7 +165,7 @@ pub fn remove<L: Look>(
     named: &Named,
     index: u32,
 ) -> Result<Recorded, EditFault>
-    ensures { Answers result (recording_of (L.state look.now) (remove_effect (L.state look.now) named.now.id named.now.feature (kind_of meta.now named.now.feature) index)) }
+    ensures { Answers result (recording_of meta.now (L.state look.now) (remove_effect (L.state look.now) named.now.id named.now.feature (kind_of meta.now named.now.feature) index)) }
 {
     if !is_many(meta, named.feature) {
         return Err(EditFault::WrongKind);
@@ -215,7 +215,7 @@ pub fn shift<L: Look>(
     from: u32,
     to: u32,
 ) -> Result<Recorded, EditFault>
-    ensures { Answers result (recording_of (L.state look.now) (shift_effect (L.state look.now) named.now.id named.now.feature (kind_of meta.now named.now.feature) from to)) }
+    ensures { Answers result (recording_of meta.now (L.state look.now) (shift_effect (L.state look.now) named.now.id named.now.feature (kind_of meta.now named.now.feature) from to)) }
 {
     if !is_many(meta, named.feature) {
         return Err(EditFault::WrongKind);

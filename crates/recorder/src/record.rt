@@ -1,17 +1,19 @@
+ghost use Rattle.std.specs.Prelude.{IfOk};
 ghost use Rattle.model_state.specs.Good.{Good};
 ghost use Rattle.model_state.specs.Typing.{kind_of};
 ghost use Rattle.edit_laws.specs.Edits.{recording_of, unset_effect};
 ghost use Rattle.recorder.specs.Answers.{Answers};
+ghost use Rattle.recorder.specs.Laws.{KeepsGood};
 ghost use Rattle.recorder.specs.Recording.{recorded};
 
 use crate::feature::Named;
-use crate::{attribute, create, many};
+use crate::{attribute, create, many, reference};
 use ecore_meta::Metamodel;
 use edit_laws::{Edit, EditFault, Recorded};
-use model_state::{Look, is_attr, is_many};
+use model_state::{Look, is_attr, is_many, is_plain};
 use std::alloc::Global;
 
-/// Records that all values of an attribute go. Refused with WrongKind.
+/// Records that all values of an attribute go, or all targets of a plain reference. Refused with WrongKind.
 fn unset<L: Look>(
     alloc: Global,
     look: &L,
@@ -19,26 +21,21 @@ fn unset<L: Look>(
     named: &Named,
 ) -> Result<Recorded, EditFault>
     requires good { Good meta.now (L.state look.now) }
-    ensures { Answers result (recording_of (L.state look.now) (unset_effect named.now.id named.now.feature (kind_of meta.now named.now.feature))) }
+    ensures { Answers result (recording_of meta.now (L.state look.now) (unset_effect named.now.id named.now.feature (kind_of meta.now named.now.feature))) }
 {
     if is_attr(meta, named.feature) {
         Ok(attribute::put(alloc, look, named, None)?)
     } else if is_many(meta, named.feature) {
         Ok(many::clear(alloc, look, meta, named)?)
+    } else if is_plain(meta, named.feature) {
+        Ok(reference::unset(alloc, look, meta, named)?)
     } else {
         Err(EditFault::WrongKind)
     }
 }
 
-/// What is recorded of an edit in the workspace of that number: one operation, or none where the edit changes nothing, and
-/// the id of an element that it creates.
-///
-/// The edit is refused with the first of its tests that fails. For `Create` these are NoClass, Abstract, Bound, BadId and
-/// IdInUse; for all others NoElement, NoFeature and WrongKind, and then for `Set` BadValue, for `Add` NoEntry, BadValue,
-/// AlreadyThere and Bound, and for `Remove` and `Shift` NoEntry. While references are not edited, each is of a wrong
-/// kind; while lists of elements are not ranked anew, Bound comes for `Create` where no rank is left behind the last one.
 #[tactic(auto, unfolding(edit_laws::specs::Edits::recorded_of, edit_laws::specs::Edits::effect_of))]
-pub fn take_edit<L: Look>(
+fn record<L: Look>(
     alloc: Global,
     look: &L,
     meta: &Metamodel,
@@ -46,7 +43,7 @@ pub fn take_edit<L: Look>(
     edit: &Edit,
 ) -> Result<Recorded, EditFault>
     requires good { Good meta.now (L.state look.now) }
-    ensures recorded { Answers result (recorded meta.now (L.state look.now) ws edit.now) }
+    ensures { Answers result (recorded meta.now (L.state look.now) ws edit.now) }
 {
     match edit {
         Edit::Create { class, id } => create::create(alloc, look, meta, ws, class, id),
@@ -80,5 +77,62 @@ pub fn take_edit<L: Look>(
             let named = Named::find(alloc, look, meta, id, feature)?;
             many::shift(alloc, look, meta, &named, *from, *to)
         }
+        Edit::Link {
+            id,
+            feature,
+            target,
+            index,
+        } => {
+            let named = Named::find(alloc, look, meta, id, feature)?;
+            reference::link(alloc, look, meta, &named, target, *index)
+        }
+        Edit::Unlink {
+            id,
+            feature,
+            target,
+        } => {
+            let named = Named::find(alloc, look, meta, id, feature)?;
+            reference::unlink(alloc, look, meta, &named, target)
+        }
+        Edit::Reorder {
+            id,
+            feature,
+            target,
+            index,
+        } => {
+            let named = Named::find(alloc, look, meta, id, feature)?;
+            reference::reorder(alloc, look, meta, &named, target, *index)
+        }
     }
+}
+
+/// What is recorded of an edit in the workspace of that number: one operation, or none where the edit changes nothing, and
+/// the id of an element that it creates. Its steps lead to a good model again: each reference stands with its opposite.
+///
+/// The edit is refused with the first of its tests that fails. For `Create` these are NoClass, Abstract, Bound, BadId and
+/// IdInUse; for all others NoElement, NoFeature and WrongKind, and then:
+///
+/// | Edit | Refusals in order |
+/// |---|---|
+/// | `Set` of an attribute | BadValue |
+/// | `Set` of a plain reference of upper bound 1 | BadValue, NoElement, WrongType, Bound |
+/// | `Add` | NoEntry, BadValue, AlreadyThere, Bound |
+/// | `Remove`, `Shift`, `Unlink` | NoEntry |
+/// | `Link` | NoElement, WrongType, AlreadyThere, NoEntry, Bound |
+/// | `Reorder` | NoEntry, Bound |
+///
+/// While lists of elements are not ranked anew, Bound comes for `Create` where no rank is left behind the last one.
+pub fn take_edit<L: Look>(
+    alloc: Global,
+    look: &L,
+    meta: &Metamodel,
+    ws: u32,
+    edit: &Edit,
+) -> Result<Recorded, EditFault>
+    requires good { Good meta.now (L.state look.now) }
+    ensures recorded { Answers result (recorded meta.now (L.state look.now) ws edit.now) }
+    ensures keeps { IfOk result (KeepsGood meta.now (L.state look.now)) }
+{
+    meta.sound();
+    record(alloc, look, meta, ws, edit)
 }

@@ -1,4 +1,5 @@
 use Rattle.opposites.proofs.Refused.{set_ref_leads, link_leads, unlink_leads, reorder_leads}
+use Rattle.edit_laws.proofs.LinkEdits.{unset_meets}
 use Rattle.opposites.proofs.laws.law_of_calls.Goals as goal
 
 pub returns-clause-set_ref : goal.returns-clause-set_ref
@@ -12,3 +13,6 @@ returns-clause-unlink c = unlink_leads
 
 pub returns-clause-reorder : goal.returns-clause-reorder
 returns-clause-reorder c = reorder_leads
+
+pub returns-clause-unset_ref : goal.returns-clause-unset_ref
+returns-clause-unset_ref c = unset_meets
