@@ -1,0 +1,7 @@
+pub mod Children
+pub mod Objects
+pub mod Alike
+pub mod Nested
+pub mod Stacks
+pub mod Listing
+pub mod Order

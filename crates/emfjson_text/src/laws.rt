@@ -1,0 +1,7 @@
+ghost use Rattle.emfjson_text.specs.Laws.{TextIsOfLists, TextIsWhole};
+
+/// The laws of texts: the text of a model depends on the classes, the values and the order of the lists alone, and it has every element, however deep it stands.
+pub fn law_of_texts()
+    ensures lists { TextIsOfLists }
+    ensures whole { TextIsWhole }
+{}

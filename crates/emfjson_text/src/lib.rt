@@ -1,0 +1,14 @@
+//! The text of a model: JSON in the form of emfjson, without spaces.
+#![tactic(auto)]
+
+mod frame;
+mod key;
+mod laws;
+mod leaf;
+mod part;
+#[cfg(test)]
+mod tests;
+mod write;
+
+pub use laws::law_of_texts;
+pub use write::write_model;
