@@ -9,5 +9,5 @@ mod write;
 
 pub use ecore_meta::ValueFault;
 pub use laws::law_of_values;
-pub use read::read_value;
+pub use read::{read_value, value_in};
 pub use write::write_value;

@@ -92,8 +92,8 @@ fn text_in(alloc: Global, json: &Json) -> Result<Option<Value>, AllocError>
     }
 }
 
-/// The value of the type that a JSON value is.
-fn value_in(
+/// The value of the type that a JSON value is, if it is one.
+pub fn value_in(
     alloc: Global,
     json: &Json,
     scalar: &Scalar,

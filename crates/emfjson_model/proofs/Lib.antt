@@ -1,0 +1,5 @@
+pub mod Lists
+pub mod Reading
+pub mod Digits
+pub mod Features
+pub mod Walking

@@ -1,0 +1,59 @@
+-- The class and the id that an object has.
+use Rattle.std.specs.Prelude.{ℕ, Bool, true, not, List, [], codes, Option, None, Some, Ok, Err, option_and_then, slice_get}
+use Rattle.std.specs.List.{list_any}
+use Rattle.std.specs.Option.{option_map_or}
+use Rattle.serde_json.specs.Data.{Data, null, boolean, number, string, array, object}
+use Rattle.finite_maps.specs.Equal.{option_eq, text_eq}
+use Rattle.ecore_meta.specs.Meta.{Meta, class_named, is_a}
+use Rattle.ecore_json.specs.References.{behind, or_else}
+use Rattle.model_state.specs.Ident.{is_id}
+use Rattle.model_state.specs.Keys.{Name}
+use Rattle.model_state.specs.Typing.{is_concrete}
+use Rattle.emfjson_model.specs.declared.fault.ModelFault.TheVariants.{NoClass, Abstract, WrongType, DupId, BadId}
+use Rattle.emfjson_model.specs.Parts.{Ids}
+use Rattle.emfjson_model.specs.Reads.{Read, «then», unless, found}
+
+-- the class named behind the prefix
+abbrev pub class_behind : Meta → Name → Name → Option ℕ
+class_behind meta prefix t = option_and_then (class_named meta) (behind prefix t)
+
+-- the class that `//Name`, `#//Name` or `#//Name` behind the package's URI names
+abbrev pub class_spelt : Meta → Name → Option ℕ
+class_spelt meta t =
+    or_else (class_behind meta (codes "//") t)
+    (or_else (class_behind meta (codes "#//") t)
+    (option_and_then (class_behind meta (codes "#//")) (behind meta.uri t)))
+
+-- the class that an object names; without `eClass` it is the default, which a root has not
+abbrev pub class_said : Meta → Option ℕ → Option Data → Read ℕ
+class_said meta default None = found NoClass default
+class_said meta default (Some (string s)) = found NoClass (class_spelt meta s)
+class_said meta default (Some null) = Err NoClass
+class_said meta default (Some (boolean b)) = Err NoClass
+class_said meta default (Some (number n)) = Err NoClass
+class_said meta default (Some (array ds)) = Err NoClass
+class_said meta default (Some (object ms)) = Err NoClass
+
+-- the class may stand where elements of that one are due; anything may be a root
+abbrev pub may_stand : Meta → Option ℕ → ℕ → Bool
+may_stand meta None c = true
+may_stand meta (Some target) c = is_a meta c target
+
+-- a class with elements of its own, which may stand there
+abbrev pub class_of : Meta → Option ℕ → Option Data → Read ℕ
+class_of meta default said =
+    «then» (class_said meta default said) (λ c. unless (is_concrete meta c) Abstract (unless (may_stand meta default c) WrongType (Ok c)))
+
+-- the id that an object has, which no object before has
+abbrev pub id_of : Ids → Option Data → Read (Option Name)
+id_of ids None = Ok None
+id_of ids (Some (string s)) = unless (not (list_any (option_eq text_eq (Some s)) ids)) DupId (unless (is_id s) BadId (Ok (Some s)))
+id_of ids (Some null) = Err BadId
+id_of ids (Some (boolean b)) = Err BadId
+id_of ids (Some (number n)) = Err BadId
+id_of ids (Some (array ds)) = Err BadId
+id_of ids (Some (object ms)) = Err BadId
+
+-- the features of a class, its own and inherited, by number
+abbrev pub features_of : Meta → ℕ → List ℕ
+features_of meta c = option_map_or (λ class. class.features) (slice_get meta.classes c) []

@@ -1,0 +1,39 @@
+-- The elements that a text says, or its first fault.
+use Rattle.std.specs.Prelude.{ℕ, List, Option, None, Some, Err}
+use Rattle.serde_json.specs.Data.{Data}
+use Rattle.serde_json.specs.Read.{read}
+use Rattle.ecore_meta.specs.Meta.{Meta}
+use Rattle.emfjson_model.specs.declared.doc.DocRow.{DocRow}
+use Rattle.emfjson_model.specs.declared.draft.Draft.{Draft}
+use Rattle.emfjson_model.specs.declared.fault.ModelFault.{ModelFault}
+use Rattle.emfjson_model.specs.declared.fault.ModelFault.TheVariants.{NotJson, NoClass, Abstract, NoFeature, BadValue, BadRef, DupId, BadId, Bound, WrongType, Memory}
+use Rattle.emfjson_model.specs.Reads.{Read, «then»}
+use Rattle.emfjson_model.specs.Walk.{walked}
+use Rattle.emfjson_model.specs.References.{given_by}
+use Rattle.emfjson_model.specs.Merged.{rows_by}
+
+-- the references of the elements are looked up, and then merged
+abbrev pub resolved : Meta → List Draft → Read (List DocRow)
+resolved meta drafts = «then» (given_by meta drafts) (λ given. rows_by meta given drafts)
+
+abbrev pub of_json : Meta → Option Data → Read (List DocRow)
+of_json meta None = Err NotJson
+of_json meta (Some d) = «then» (walked meta d) (resolved meta)
+
+-- the elements that a text says, or its first fault
+unfoldable pub doc_of : Meta → List ℕ → Read (List DocRow)
+doc_of meta text = of_json meta (read text)
+
+-- the number of a fault in a reply
+abbrev pub fault_number : ModelFault → ℕ
+fault_number NotJson = 1
+fault_number NoClass = 2
+fault_number Abstract = 3
+fault_number NoFeature = 4
+fault_number BadValue = 5
+fault_number BadRef = 6
+fault_number DupId = 7
+fault_number BadId = 8
+fault_number Bound = 9
+fault_number WrongType = 10
+fault_number Memory = 11

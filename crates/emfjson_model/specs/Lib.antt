@@ -1,0 +1,10 @@
+pub mod Reads
+pub mod Parts
+pub mod Classes
+pub mod Attributes
+pub mod Links
+pub mod Walk
+pub mod References
+pub mod Merged
+pub mod Document
+pub mod Answers

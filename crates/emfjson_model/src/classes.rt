@@ -1,0 +1,161 @@
+ghost use Rattle.std.specs.Prelude.{◌≡◌, option_copied, option_map, slice_get, map};
+ghost use Rattle.serde_json.specs.View.{view};
+ghost use Rattle.ecore_meta.specs.Meta.{feature_named};
+ghost use Rattle.ecore_json.specs.References.{behind};
+ghost use Rattle.emfjson_model.specs.Classes.{class_behind, class_of, class_said, class_spelt, features_of, may_stand};
+ghost use Rattle.emfjson_model.specs.Walk.{key_named};
+ghost use Rattle.emfjson_model.specs.Answers.{Gives};
+
+use crate::fault::ModelFault;
+use ecore_meta::{Class, Feature, Metamodel};
+use model_state::is_concrete;
+use serde_json::Value;
+
+/// What a key of an object is.
+#[derive(Clone, Copy, Debug, PartialEq, Eq)]
+pub(crate) enum Key {
+    /// One that is read before the others: `eClass` or `_id`.
+    Own,
+    /// The feature of that number.
+    Of(u32),
+    /// No feature of the class.
+    Unknown,
+}
+
+/// What stands behind the prefix of a text.
+pub(crate) fn behind<'a>(prefix: &str, text: &'a str) -> Option<&'a str>
+    ensures { option_copied result ≡ behind prefix.now text.now }
+{
+    text.strip_prefix(prefix)
+}
+
+fn class_behind(meta: &Metamodel, prefix: &str, text: &str) -> Option<u32>
+    ensures { result ≡ class_behind meta.now prefix.now text.now }
+{
+    match behind(prefix, text) {
+        None => None,
+        Some(name) => meta.class_named(name),
+    }
+}
+
+/// The class that a text names: `//Name`, `#//Name`, or the latter behind the package's URI.
+fn class_spelt(meta: &Metamodel, text: &str) -> Option<u32>
+    ensures { result ≡ class_spelt meta.now text.now }
+{
+    if let Some(class) = class_behind(meta, "//", text) {
+        return Some(class);
+    }
+    if let Some(class) = class_behind(meta, "#//", text) {
+        return Some(class);
+    }
+    match behind(meta.uri(), text) {
+        None => None,
+        Some(rest) => class_behind(meta, "#//", rest),
+    }
+}
+
+fn class_said(
+    meta: &Metamodel,
+    default: Option<u32>,
+    said: Option<&Value>,
+) -> Result<u32, ModelFault>
+    ensures { Gives result (class_said meta.now default (option_map (λ v. view v.now) said.entry)) }
+{
+    match said {
+        None => match default {
+            None => Err(ModelFault::NoClass),
+            Some(class) => Ok(class),
+        },
+        Some(Value::String(text)) => match class_spelt(meta, text.as_str()) {
+            None => Err(ModelFault::NoClass),
+            Some(class) => Ok(class),
+        },
+        Some(_) => Err(ModelFault::NoClass),
+    }
+}
+
+fn may_stand(meta: &Metamodel, default: Option<u32>, class: u32) -> bool
+    ensures { result ≡ may_stand meta.now default class }
+{
+    match default {
+        None => true,
+        Some(target) => meta.is_a(class, target),
+    }
+}
+
+/// The class of an object that says this of its class, where elements of the default are due; a root has none.
+pub(crate) fn class_of(
+    meta: &Metamodel,
+    default: Option<u32>,
+    said: Option<&Value>,
+) -> Result<u32, ModelFault>
+    ensures { Gives result (class_of meta.now default (option_map (λ v. view v.now) said.entry)) }
+{
+    match class_said(meta, default, said) {
+        Err(fault) => Err(fault),
+        Ok(class) => {
+            if !is_concrete(meta, class) {
+                return Err(ModelFault::Abstract);
+            }
+            if !may_stand(meta, default, class) {
+                return Err(ModelFault::WrongType);
+            }
+            Ok(class)
+        }
+    }
+}
+
+fn class_numbered(meta: &Metamodel, class: u32) -> Option<&Class>
+    ensures { option_copied result ≡ slice_get meta.now.classes class }
+{
+    if class < meta.class_count() {
+        Some(meta.class(class))
+    } else {
+        None
+    }
+}
+
+/// The feature of that number, where there is one.
+pub(crate) fn feature(meta: &Metamodel, f: u32) -> Option<&Feature>
+    ensures { option_copied result ≡ slice_get meta.now.features f }
+{
+    if f < meta.feature_count() {
+        Some(meta.feature(f))
+    } else {
+        None
+    }
+}
+
+/// The features of a class, its own and inherited, by number.
+pub(crate) fn features_of(meta: &Metamodel, class: u32) -> &[u32]
+    ensures { result.now ≡ features_of meta.now class }
+{
+    match class_numbered(meta, class) {
+        None => &[],
+        Some(class) => class.features.as_slice(),
+    }
+}
+
+/// The feature of that name of a class.
+pub(crate) fn feature_named(meta: &Metamodel, class: u32, name: &str) -> Option<u32>
+    ensures { result ≡ feature_named meta.now class name.now }
+{
+    if class < meta.class_count() {
+        meta.feature_named(class, name)
+    } else {
+        None
+    }
+}
+
+/// What a key of an object of the class is.
+pub(crate) fn key_named(meta: &Metamodel, class: u32, name: &str) -> Key
+    ensures { result ≡ key_named meta.now class name.now }
+{
+    if name == "eClass" || name == "_id" {
+        return Key::Own;
+    }
+    match feature_named(meta, class, name) {
+        None => Key::Unknown,
+        Some(f) => Key::Of(f),
+    }
+}

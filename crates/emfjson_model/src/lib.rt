@@ -1,0 +1,21 @@
+//! Models in emfjson: a text is read as the elements that it says, or refused with its first fault.
+#![tactic(auto)]
+
+mod attributes;
+mod classes;
+mod doc;
+mod draft;
+mod fault;
+mod identity;
+mod links;
+mod merged;
+mod paths;
+mod read;
+mod references;
+#[cfg(test)]
+mod tests;
+mod walk;
+
+pub use doc::{Doc, DocAttr, DocParent, DocRefs, DocRow};
+pub use fault::ModelFault;
+pub use read::read_model;

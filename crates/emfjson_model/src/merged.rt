@@ -1,0 +1,266 @@
+ghost use Rattle.std.specs.Prelude.{◌≡◌, IfOk, [], ◌++◌, option_to_list};
+ghost use Rattle.emfjson_model.specs.Answers.{Gives};
+ghost use Rattle.emfjson_model.specs.Merged.{attr_at, attrs_by, given_at, merged, merged_all, merged_at, merged_within, naming, next_row, others, row_of, rows_by, targets_at};
+
+use crate::attributes::is_within;
+use crate::classes::features_of;
+use crate::doc::{DocAttr, DocRefs, DocRow};
+use crate::draft::Draft;
+use crate::fault::ModelFault;
+use crate::references::has;
+use ecore_meta::{List, Metamodel, Value};
+use model_state::{Id, opposite_of, row_upper};
+use std::alloc::{AllocError, Global};
+
+fn targets_at(refs: &[DocRefs], f: u32) -> &[usize]
+    ensures { result.now ≡ targets_at f refs.now }
+{
+    for r in refs {
+        if f == r.feature {
+            return r.targets.as_slice();
+        }
+    }
+    &[]
+}
+
+/// The elements that name `row` by the feature `g` and are not among the targets.
+fn naming(
+    alloc: Global,
+    given: &[List<DocRefs>],
+    row: usize,
+    g: u32,
+    targets: &[usize],
+) -> Result<List<usize>, AllocError>
+    ensures { IfOk result (λ ns. ns ≡ naming g row targets.now 0 given.now) }
+{
+    let mut numbers = List::new(alloc);
+    for (n, refs) in given.iter().enumerate() {
+        if has(targets_at(refs.as_slice(), g), row) && !has(targets, n) {
+            numbers.push(n)?;
+        }
+    }
+    Ok(numbers)
+}
+
+fn others(
+    alloc: Global,
+    given: &[List<DocRefs>],
+    row: usize,
+    opposite: Option<u32>,
+    targets: &[usize],
+) -> Result<List<usize>, AllocError>
+    ensures { IfOk result (λ ns. ns ≡ others opposite row targets.now given.now) }
+{
+    match opposite {
+        None => Ok(List::new(alloc)),
+        Some(g) => naming(alloc, given, row, g, targets),
+    }
+}
+
+fn joined(alloc: Global, xs: &[usize], ys: &[usize]) -> Result<List<usize>, AllocError>
+    ensures { IfOk result (λ zs. zs ≡ xs.now ++ ys.now) }
+{
+    let mut all = List::new(alloc);
+    for x in xs {
+        all.push(*x)?;
+    }
+    for y in ys {
+        all.push(*y)?;
+    }
+    Ok(all)
+}
+
+/// The targets that an element gives, and then those that name it by the opposite.
+fn merged(
+    alloc: Global,
+    meta: &Metamodel,
+    given: &[List<DocRefs>],
+    row: usize,
+    refs: &DocRefs,
+) -> Result<List<usize>, AllocError>
+    ensures { IfOk result (λ ns. ns ≡ merged meta.now given.now row refs.now) }
+{
+    let targets = refs.targets.as_slice();
+    let opposite = opposite_of(meta, refs.feature);
+    let others = others(alloc, given, row, opposite, targets)?;
+    joined(alloc, targets, others.as_slice())
+}
+
+fn merged_within(
+    alloc: Global,
+    meta: &Metamodel,
+    given: &[List<DocRefs>],
+    row: usize,
+    refs: &DocRefs,
+) -> Result<List<usize>, ModelFault>
+    ensures { Gives result (merged_within meta.now given.now row refs.now) }
+{
+    match merged(alloc, meta, given, row, refs) {
+        Err(_) => Err(ModelFault::Memory),
+        Ok(targets) => {
+            if !is_within(targets.len(), row_upper(meta, refs.feature)) {
+                return Err(ModelFault::Bound);
+            }
+            Ok(targets)
+        }
+    }
+}
+
+fn merged_at(
+    alloc: Global,
+    meta: &Metamodel,
+    given: &[List<DocRefs>],
+    row: usize,
+    refs: &DocRefs,
+) -> Result<DocRefs, ModelFault>
+    ensures { Gives result (merged_at meta.now given.now row [] refs.now) }
+{
+    match merged_within(alloc, meta, given, row, refs) {
+        Err(fault) => Err(fault),
+        Ok(targets) => Ok(DocRefs {
+            feature: refs.feature,
+            targets,
+        }),
+    }
+}
+
+/// The lists of an element.
+fn merged_all(
+    alloc: Global,
+    meta: &Metamodel,
+    given: &[List<DocRefs>],
+    row: usize,
+    refs: &[DocRefs],
+) -> Result<List<DocRefs>, ModelFault>
+    ensures { Gives result (merged_all meta.now given.now row refs.now) }
+{
+    let mut all = List::new(alloc);
+    for list in refs {
+        match merged_at(alloc, meta, given, row, list) {
+            Err(fault) => return Err(fault),
+            Ok(list) => {
+                if all.push(list).is_err() {
+                    return Err(ModelFault::Memory);
+                }
+            }
+        }
+    }
+    Ok(all)
+}
+
+fn copy_values(alloc: Global, values: &[Value]) -> Result<List<Value>, AllocError>
+    ensures { IfOk result (λ vs. vs ≡ values.now) }
+{
+    let mut copied = List::new(alloc);
+    for value in values {
+        copied.push(value.copy(alloc)?)?;
+    }
+    Ok(copied)
+}
+
+fn attr_at(alloc: Global, attrs: &[DocAttr], f: u32) -> Result<Option<DocAttr>, AllocError>
+    ensures { IfOk result (λ a. option_to_list a ≡ attr_at f attrs.now) }
+{
+    for attr in attrs {
+        if f == attr.feature {
+            let values = copy_values(alloc, attr.values.as_slice())?;
+            return Ok(Some(DocAttr { feature: f, values }));
+        }
+    }
+    Ok(None)
+}
+
+/// The attributes by number.
+fn attrs_by(alloc: Global, features: &[u32], attrs: &[DocAttr]) -> Result<List<DocAttr>, AllocError>
+    ensures { IfOk result (λ all. all ≡ attrs_by features.now attrs.now) }
+{
+    let mut all = List::new(alloc);
+    for f in features {
+        if let Some(attr) = attr_at(alloc, attrs, *f)? {
+            all.push(attr)?;
+        }
+    }
+    Ok(all)
+}
+
+fn copy_id(alloc: Global, id: &Option<Id>) -> Result<Option<Id>, AllocError>
+    ensures { IfOk result (λ copied. copied ≡ id.now) }
+{
+    match id {
+        None => Ok(None),
+        Some(id) => Ok(Some(id.copy(alloc)?)),
+    }
+}
+
+fn row_of(
+    alloc: Global,
+    meta: &Metamodel,
+    draft: &Draft,
+    refs: List<DocRefs>,
+) -> Result<DocRow, AllocError>
+    ensures { IfOk result (λ row. row ≡ row_of meta.now draft.now refs) }
+{
+    Ok(DocRow {
+        id: copy_id(alloc, &draft.id)?,
+        class: draft.class,
+        parent: draft.parent,
+        attrs: attrs_by(
+            alloc,
+            features_of(meta, draft.class),
+            draft.attrs.as_slice(),
+        )?,
+        refs,
+    })
+}
+
+fn given_at(given: &[List<DocRefs>], n: usize) -> &[DocRefs]
+    ensures { result.now ≡ given_at given.now n }
+{
+    match given.get(n) {
+        None => &[],
+        Some(refs) => refs.as_slice(),
+    }
+}
+
+/// The next row with its lists, behind those before it.
+fn next_row(
+    alloc: Global,
+    meta: &Metamodel,
+    given: &[List<DocRefs>],
+    rows: &[DocRow],
+    draft: &Draft,
+) -> Result<DocRow, ModelFault>
+    ensures { Gives result (next_row meta.now given.now rows.now draft.now) }
+{
+    let n = rows.len();
+    match merged_all(alloc, meta, given, n, given_at(given, n)) {
+        Err(fault) => Err(fault),
+        Ok(refs) => match row_of(alloc, meta, draft, refs) {
+            Err(_) => Err(ModelFault::Memory),
+            Ok(row) => Ok(row),
+        },
+    }
+}
+
+/// The rows of the elements, with the targets that either side gives.
+pub(crate) fn rows_by(
+    alloc: Global,
+    meta: &Metamodel,
+    given: &[List<DocRefs>],
+    drafts: &[Draft],
+) -> Result<List<DocRow>, ModelFault>
+    ensures { Gives result (rows_by meta.now given.now drafts.now) }
+{
+    let mut rows = List::new(alloc);
+    for draft in drafts {
+        match next_row(alloc, meta, given, rows.as_slice(), draft) {
+            Err(fault) => return Err(fault),
+            Ok(row) => {
+                if rows.push(row).is_err() {
+                    return Err(ModelFault::Memory);
+                }
+            }
+        }
+    }
+    Ok(rows)
+}

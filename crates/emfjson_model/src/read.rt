@@ -1,0 +1,51 @@
+ghost use Rattle.std.specs.Prelude.{◌≡◌};
+ghost use Rattle.serde_json.specs.View.{view};
+ghost use Rattle.emfjson_model.specs.Answers.{Gives, GivesDoc};
+ghost use Rattle.emfjson_model.specs.Document.{doc_of, resolved};
+
+use crate::doc::{Doc, DocRow};
+use crate::draft::Draft;
+use crate::fault::ModelFault;
+use crate::merged::rows_by;
+use crate::references::given_by;
+use crate::walk::walk;
+use ecore_meta::{List, Metamodel};
+use serde_json::Value;
+use std::alloc::Global;
+
+/// The references of the elements are looked up, and then merged.
+fn resolved(alloc: Global, meta: &Metamodel, drafts: &[Draft]) -> Result<List<DocRow>, ModelFault>
+    ensures { Gives result (resolved meta.now drafts.now) }
+{
+    match given_by(alloc, meta, drafts) {
+        Err(fault) => Err(fault),
+        Ok(given) => rows_by(alloc, meta, given.as_slice(), drafts),
+    }
+}
+
+/// The elements that a text in emfjson says, by a metamodel.
+///
+/// # Errors
+///
+/// The first fault, in the order of [`ModelFault`]; `Memory`.
+#[tactic(auto, unfolding(crate::specs::Document::doc_of))]
+pub fn read_model(alloc: Global, text: &str, meta: &Metamodel) -> Result<Doc, ModelFault>
+    ensures read { GivesDoc result (doc_of meta.now text.now) }
+{
+    match Value::from_str(alloc, text) {
+        Err(error) => {
+            if error.is_memory() {
+                Err(ModelFault::Memory)
+            } else {
+                Err(ModelFault::NotJson)
+            }
+        }
+        Ok(document) => match walk(alloc, meta, &document) {
+            Err(fault) => Err(fault),
+            Ok(drafts) => match resolved(alloc, meta, drafts.as_slice()) {
+                Err(fault) => Err(fault),
+                Ok(rows) => Ok(Doc { rows }),
+            },
+        },
+    }
+}

@@ -1,0 +1,220 @@
+ghost use Rattle.std.specs.Prelude.{◌≡◌, IfOk, [], nat_eq, option_and_then};
+ghost use Rattle.std.specs.List.{list_any};
+ghost use Rattle.model_state.specs.Typing.{is_plain, kind_of, plain_to};
+ghost use Rattle.emfjson_model.specs.Answers.{Gives};
+ghost use Rattle.emfjson_model.specs.Reads.{collected};
+ghost use Rattle.emfjson_model.specs.References.{entries_at, given_by, located, new_target, plain_features, refs_at, refs_of, target_of, targets_of};
+
+use crate::classes::{feature, features_of};
+use crate::doc::DocRefs;
+use crate::draft::{Draft, Links};
+use crate::fault::ModelFault;
+use crate::paths::{class_at, located};
+use ecore_meta::{Kind, List, Metamodel, Text};
+use model_state::is_plain;
+use std::alloc::{AllocError, Global};
+
+/// Whether a plain reference may have a target of the class.
+fn is_plain_to(meta: &Metamodel, f: u32, class: u32) -> bool
+    ensures { result ≡ plain_to meta.now (kind_of meta.now f) class }
+{
+    match feature(meta, f) {
+        None => false,
+        Some(feature) => match &feature.kind {
+            Kind::Bounded { target, .. } => meta.is_a(class, *target),
+            Kind::Free { target, .. } => meta.is_a(class, *target),
+            _ => false,
+        },
+    }
+}
+
+/// Whether the number is in the list.
+pub(crate) fn has(numbers: &[usize], n: usize) -> bool
+    ensures { result ≡ list_any (nat_eq n) numbers.now }
+{
+    numbers.iter().any(|other| n == *other)
+}
+
+fn new_target(
+    meta: &Metamodel,
+    rows: &[Draft],
+    f: u32,
+    targets: &[usize],
+    found: Option<usize>,
+) -> Result<usize, ModelFault>
+    ensures { Gives result (new_target meta.now rows.now f targets.now found) }
+{
+    match found {
+        None => Err(ModelFault::BadRef),
+        Some(n) => {
+            if has(targets, n) {
+                return Err(ModelFault::BadRef);
+            }
+            if !is_plain_to(meta, f, class_at(rows, n)) {
+                return Err(ModelFault::WrongType);
+            }
+            Ok(n)
+        }
+    }
+}
+
+/// The row that an entry finds, if it finds one.
+fn found(
+    alloc: Global,
+    meta: &Metamodel,
+    rows: &[Draft],
+    entry: &Option<Text>,
+) -> Result<Option<usize>, AllocError>
+    ensures { IfOk result (λ n. n ≡ option_and_then (located meta.now rows.now) entry.now) }
+{
+    match entry {
+        None => Ok(None),
+        Some(text) => located(alloc, meta, rows, text.as_str()),
+    }
+}
+
+/// The target of an entry behind those before it.
+fn target_of(
+    alloc: Global,
+    meta: &Metamodel,
+    rows: &[Draft],
+    f: u32,
+    targets: &[usize],
+    entry: &Option<Text>,
+) -> Result<usize, ModelFault>
+    ensures { Gives result (target_of meta.now rows.now f targets.now entry.now) }
+{
+    match found(alloc, meta, rows, entry) {
+        Err(_) => Err(ModelFault::Memory),
+        Ok(found) => new_target(meta, rows, f, targets, found),
+    }
+}
+
+fn targets_of(
+    alloc: Global,
+    meta: &Metamodel,
+    rows: &[Draft],
+    f: u32,
+    entries: &[Option<Text>],
+) -> Result<List<usize>, ModelFault>
+    ensures { Gives result (targets_of meta.now rows.now f entries.now) }
+{
+    let mut targets = List::new(alloc);
+    for entry in entries {
+        match target_of(alloc, meta, rows, f, targets.as_slice(), entry) {
+            Err(fault) => return Err(fault),
+            Ok(n) => {
+                if targets.push(n).is_err() {
+                    return Err(ModelFault::Memory);
+                }
+            }
+        }
+    }
+    Ok(targets)
+}
+
+/// The entries of a feature, none where its key is not there.
+fn entries_at(links: &[Links], f: u32) -> &[Option<Text>]
+    ensures { result.now ≡ entries_at f links.now }
+{
+    for link in links {
+        if f == link.feature {
+            return link.entries.as_slice();
+        }
+    }
+    &[]
+}
+
+fn plain_features(
+    alloc: Global,
+    meta: &Metamodel,
+    features: &[u32],
+) -> Result<List<u32>, AllocError>
+    ensures { IfOk result (λ fs. fs ≡ plain_features meta.now features.now) }
+{
+    let mut plain = List::new(alloc);
+    for f in features {
+        if is_plain(meta, *f) {
+            plain.push(*f)?;
+        }
+    }
+    Ok(plain)
+}
+
+fn refs_at(
+    alloc: Global,
+    meta: &Metamodel,
+    rows: &[Draft],
+    links: &[Links],
+    f: u32,
+) -> Result<DocRefs, ModelFault>
+    ensures { Gives result (refs_at meta.now rows.now links.now [] f) }
+{
+    match targets_of(alloc, meta, rows, f, entries_at(links, f)) {
+        Err(fault) => Err(fault),
+        Ok(targets) => Ok(DocRefs {
+            feature: f,
+            targets,
+        }),
+    }
+}
+
+fn refs_by(
+    alloc: Global,
+    meta: &Metamodel,
+    rows: &[Draft],
+    links: &[Links],
+    features: &[u32],
+) -> Result<List<DocRefs>, ModelFault>
+    ensures { Gives result (collected (refs_at meta.now rows.now links.now) [] features.now) }
+{
+    let mut refs = List::new(alloc);
+    for f in features {
+        match refs_at(alloc, meta, rows, links, *f) {
+            Err(fault) => return Err(fault),
+            Ok(given) => {
+                if refs.push(given).is_err() {
+                    return Err(ModelFault::Memory);
+                }
+            }
+        }
+    }
+    Ok(refs)
+}
+
+/// What an element gives of its plain references, by number.
+fn refs_of(
+    alloc: Global,
+    meta: &Metamodel,
+    rows: &[Draft],
+    row: &Draft,
+) -> Result<List<DocRefs>, ModelFault>
+    ensures { Gives result (refs_of meta.now rows.now [] row.now) }
+{
+    match plain_features(alloc, meta, features_of(meta, row.class)) {
+        Err(_) => Err(ModelFault::Memory),
+        Ok(features) => refs_by(alloc, meta, rows, row.links.as_slice(), features.as_slice()),
+    }
+}
+
+/// What each element gives of its plain references.
+pub(crate) fn given_by(
+    alloc: Global,
+    meta: &Metamodel,
+    rows: &[Draft],
+) -> Result<List<List<DocRefs>>, ModelFault>
+    ensures { Gives result (given_by meta.now rows.now) }
+{
+    let mut given = List::new(alloc);
+    for row in rows {
+        match refs_of(alloc, meta, rows, row) {
+            Err(fault) => return Err(fault),
+            Ok(refs) => {
+                if given.push(refs).is_err() {
+                    return Err(ModelFault::Memory);
+                }
+            }
+        }
+    }
+    Ok(given)
+}
