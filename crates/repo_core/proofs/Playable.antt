@@ -17,6 +17,10 @@ pub checkout_could : (s : State) (meta : Option Meta) → meta ≢ None → play
 checkout_could s None begun = absurd (begun refl)
 checkout_could s (Some meta) begun = refl
 
+pub begun_of : (m : Option Meta) (meta : Meta) → m ≡ Some meta → m ≢ None
+begun_of None meta is = cc
+begun_of (Some m) meta is = λ none. absurd cc
+
 pub init_could : (s : State) (meta : Option Meta) (text : List ℕ) (read : Meta) → meta ≡ None → metamodel_of text ≡ Ok read → playable_with s meta (Init text) ≡ true
 init_could s meta text read none is = rw (none, is) refl
 

@@ -3,20 +3,22 @@ ghost use Rattle.std.specs.Prelude.{◌≡◌, ◌≢◌, ◌+◌, ◌-◌, ◌�
 ghost use Rattle.std.specs.Option.{option_copied};
 ghost use Rattle.ecore_json.specs.Metamodel.{metamodel_of};
 ghost use Rattle.op_form.specs.declared.event.Event.TheVariants.{Init, Checkout, Edit, Undo, Discard};
-ghost use Rattle.plain_repository.specs.Repository.{State, workspace_of, playable_with, refused, told, with_room, decide_init, unknown, decide_checkout, decide_edit, decide_undo, decide_discard, decide_changes, refusal_of, id_words, decide_command, decide_line, block_text};
+ghost use Rattle.plain_repository.specs.Repository.{State, workspace_of, playable_with, refused, told, first_text, with_room, decide_init, unknown, decide_checkout, decide_edit, decide_undo, decide_discard, decide_changes, decide_show, decide_cat, decide_validate, refusal_of, id_words, decide_command, decide_line, block_text};
 ghost use Rattle.repo_core.specs.Decisions.{seen, CanMake, CanMakeIt, IsShortBlock};
 
 use crate::repo::{MOST_BYTES, Repo};
-use data_lines::operation_lines;
+use data_lines::{operation_lines, validate_lines};
 use ecore_json::{EcoreFault, read_metamodel};
 use ecore_meta::{List, Metamodel, Text};
 use edit_laws::{Edit, EditFault, Recorded};
+use emfjson_text::write_model;
 use model_state::Id;
 use op_form::{Event, encode_event, has_form};
 use recorder::take_edit;
 use script_lang::{Command, Last, ParseFault, Refusal, Reply, Spec, parse_line};
 use std::alloc::{AllocError, Global};
 use std::fmt::Write;
+use step_apply::Plain;
 
 const JOURNAL_LIMIT: u64 = 1 << 40;
 
@@ -128,6 +130,27 @@ fn id_words(alloc: Global, id: &Option<Id>) -> Result<Text, AllocError>
     }
 }
 
+/// The text of version 0.
+fn first_text(alloc: Global, meta: &Metamodel) -> Result<List<Text>, AllocError>
+    ensures { IfOk result (λ lines. lines ≡ first_text meta.now ∷ []) }
+{
+    let mut lines = List::new(alloc);
+    lines.push(write_model(alloc, &Plain::new(alloc), meta)?)?;
+    Ok(lines)
+}
+
+#[tactic(auto, unfolding(plain_repository::specs::Repository::decide_cat))]
+fn decide_cat(alloc: Global, meta: &Metamodel, spec: &Spec) -> Result<Decision, AllocError>
+    ensures decision { IfOk result (λ d. seen d ≡ decide_cat meta.now spec.now) }
+    ensures made { IfOk result (λ d. (s : State) → CanMakeIt s d.made) }
+{
+    if let Some(refusal) = unknown(spec) {
+        return Ok(refuse(alloc, refusal));
+    }
+    let lines = first_text(alloc, meta)?;
+    Ok(tell(lines, Text::new(alloc, "")?))
+}
+
 impl Repo {
     /// The answer to a line that gets one, and to the block behind it. It takes nothing of the repository.
     #[tactic(auto, unfolding(plain_repository::specs::Repository::decide_line))]
@@ -168,11 +191,14 @@ impl Repo {
         };
         match command {
             Command::Init => Ok(refuse(alloc, Refusal::AlreadyInit)),
-            Command::Checkout { spec } => self.decide_checkout(alloc, spec),
+            Command::Checkout { spec } => self.decide_checkout(alloc, meta, spec),
             Command::Edit { ws, edit } => self.decide_edit(alloc, meta, *ws, edit),
             Command::Undo { ws } => self.decide_undo(alloc, *ws),
             Command::Discard { ws } => self.decide_discard(alloc, *ws),
             Command::Changes { ws } => self.decide_changes(alloc, meta, *ws),
+            Command::Show { ws } => self.decide_show(alloc, meta, *ws),
+            Command::Cat { spec } => decide_cat(alloc, meta, spec),
+            Command::Validate { ws } => self.decide_validate(alloc, meta, *ws),
         }
     }
 
@@ -198,16 +224,20 @@ impl Repo {
     }
 
     #[tactic(auto, unfolding(plain_repository::specs::Repository::decide_checkout))]
-    fn decide_checkout(&self, alloc: Global, spec: &Spec) -> Result<Decision, AllocError>
-        requires begun { self.now.meta ≢ None }
-        ensures decision { IfOk result (λ d. seen d ≡ decide_checkout self.now spec.now) }
+    fn decide_checkout(
+        &self,
+        alloc: Global,
+        meta: &Metamodel,
+        spec: &Spec,
+    ) -> Result<Decision, AllocError>
+        requires begun { self.now.meta ≡ Some meta.now }
+        ensures decision { IfOk result (λ d. seen d ≡ decide_checkout self.now meta.now spec.now) }
         ensures made { IfOk result (λ d. CanMakeIt self.now d.made) }
     {
         if let Some(refusal) = unknown(spec) {
             return Ok(refuse(alloc, refusal));
         }
-        let mut lines = List::new(alloc);
-        lines.push(Text::new(alloc, "[]")?)?;
+        let lines = first_text(alloc, meta)?;
         let mut words = String::new(alloc);
         write!(words, "{} 0 trunk", self.workspaces.len() as u64 + 1)?;
         let event = Event::Checkout {
@@ -303,6 +333,40 @@ impl Repo {
         meta.sound();
         let _ = &self.meta;
         let lines = operation_lines(alloc, workspace.operations(), meta)?;
+        Ok(tell(lines, Text::new(alloc, "")?))
+    }
+
+    #[tactic(auto, unfolding(plain_repository::specs::Repository::decide_show))]
+    fn decide_show(&self, alloc: Global, meta: &Metamodel, ws: u32) -> Result<Decision, AllocError>
+        requires begun { self.now.meta ≡ Some meta.now }
+        ensures decision { IfOk result (λ d. seen d ≡ decide_show self.now meta.now ws) }
+        ensures made { IfOk result (λ d. CanMakeIt self.now d.made) }
+    {
+        let Some(workspace) = self.workspace(ws) else {
+            return Ok(refuse(alloc, Refusal::NoWorkspace));
+        };
+        let model = workspace.model(alloc, meta)?;
+        let mut lines = List::new(alloc);
+        lines.push(write_model(alloc, &model, meta)?)?;
+        Ok(tell(lines, Text::new(alloc, "")?))
+    }
+
+    #[tactic(auto, unfolding(plain_repository::specs::Repository::decide_validate))]
+    fn decide_validate(
+        &self,
+        alloc: Global,
+        meta: &Metamodel,
+        ws: u32,
+    ) -> Result<Decision, AllocError>
+        requires begun { self.now.meta ≡ Some meta.now }
+        ensures decision { IfOk result (λ d. seen d ≡ decide_validate self.now meta.now ws) }
+        ensures made { IfOk result (λ d. CanMakeIt self.now d.made) }
+    {
+        let Some(workspace) = self.workspace(ws) else {
+            return Ok(refuse(alloc, Refusal::NoWorkspace));
+        };
+        let model = workspace.model(alloc, meta)?;
+        let lines = validate_lines(alloc, &model, meta)?;
         Ok(tell(lines, Text::new(alloc, "")?))
     }
 
