@@ -26,6 +26,24 @@ const COMPOSITE: &[u8] =
 
 const COMPOSITE_FIELDS: &[usize] = &[0, 4, 5, 13, 17, 18, 23, 27, 31, 32];
 
+/// A reference and its opposite linked: a Link of the elements a and b by the feature 5, with both ranks.
+const LINK: &[u8] =
+    b"\0\0\0\x01\x01\x05\0\0\0\x01\x05\0\0\0\x01a\0\0\0\x05\0\0\0\x01\0\0\0\0\0\0\0\x01b\x01\0\0\0\x02\0\0\0\0";
+
+const LINK_FIELDS: &[usize] = &[0, 4, 5, 6, 10, 11, 16, 20, 28, 33, 34];
+
+/// A reference without an opposite unlinked: no rank of a mirror.
+const UNLINK: &[u8] =
+    b"\0\0\0\x01\x01\x05\0\0\0\x01\x06\0\0\0\x01a\0\0\0\x0a\0\0\0\0\0\0\0\x07\0\0\0\x01b\0";
+
+const UNLINK_FIELDS: &[usize] = &[0, 4, 5, 6, 10, 11, 16, 20, 28, 33];
+
+/// An entry of a list ranked anew.
+const RERANK: &[u8] =
+    b"\0\0\0\x01\x01\x05\0\0\0\x01\x07\0\0\0\x01a\0\0\0\x04\0\0\0\x01b\0\0\0\0\0\0\0\x07\0\0\0\x01\0\0\0\0";
+
+const RERANK_FIELDS: &[usize] = &[0, 4, 5, 6, 10, 11, 16, 20, 25, 33];
+
 /// The last field that begins at or before a place.
 fn field_of(fields: &[usize], place: usize) -> usize {
     let mut found = 0;
@@ -73,12 +91,48 @@ fn packages_are_spelled(rt: HostRuntime) -> Result<(), Fail> {
 }
 
 #[test]
+fn references_are_spelled(rt: HostRuntime) -> Result<(), Fail> {
+    let alloc = rt.alloc();
+    let step = Step::Link {
+        a: Id::read(alloc, "a")?,
+        f: 5,
+        ra: 4_294_967_296,
+        b: Id::read(alloc, "b")?,
+        rb: Some(8_589_934_592),
+    };
+    let link = one_step(alloc, OpKind::Reference, step)?;
+    assert_eq!(&rt; encode(alloc, &link)?.as_slice(), LINK);
+    let step = Step::Unlink {
+        a: Id::read(alloc, "a")?,
+        f: 10,
+        ra: 7,
+        b: Id::read(alloc, "b")?,
+        rb: None,
+    };
+    let unlink = one_step(alloc, OpKind::Reference, step)?;
+    assert_eq!(&rt; encode(alloc, &unlink)?.as_slice(), UNLINK);
+    let step = Step::RerankRow {
+        a: Id::read(alloc, "a")?,
+        f: 4,
+        b: Id::read(alloc, "b")?,
+        old: 7,
+        new: 4_294_967_296,
+    };
+    let rerank = one_step(alloc, OpKind::Reference, step)?;
+    assert_eq!(&rt; encode(alloc, &rerank)?.as_slice(), RERANK);
+    Ok(())
+}
+
+#[test]
 fn every_prefix_is_no_form_at_the_field_that_it_cuts(rt: HostRuntime) -> Result<(), Fail> {
     let alloc = rt.alloc();
     for (bytes, fields) in [
         (SET, SET_FIELDS),
         (CREATE, CREATE_FIELDS),
         (COMPOSITE, COMPOSITE_FIELDS),
+        (LINK, LINK_FIELDS),
+        (UNLINK, UNLINK_FIELDS),
+        (RERANK, RERANK_FIELDS),
     ] {
         assert!(&rt; decode(alloc, bytes).is_ok());
         for len in 0..bytes.len() {

@@ -73,7 +73,6 @@ const IN_THE_LIBRARY: &[Case] = &[
     (BOOK, "set b name \"Emma\"", "NoFeature"),
     (BOOK, "set b tags x", "WrongKind"),
     (BOOK, "set b authors \"b\"", "WrongKind"),
-    (BOOK, "set b sequel \"b\"", "WrongKind"),
     (BOOK, "set b library \"b\"", "WrongKind"),
     (&["create Library / l"], "set l books \"l\"", "WrongKind"),
     (BOOK, "set b title Emma", "BadValue"),
@@ -111,8 +110,6 @@ const IN_THE_LIBRARY: &[Case] = &[
     // unset: refusals in order
     (BOOK, "unset c paper", "NoElement"),
     (BOOK, "unset b paper", "NoFeature"),
-    (BOOK, "unset b sequel", "WrongKind"),
-    (BOOK, "unset b authors", "WrongKind"),
     (BOOK, "unset b library", "WrongKind"),
     (&["create Library / l"], "unset l books", "WrongKind"),
     // unset
@@ -174,6 +171,145 @@ const IN_THE_LIBRARY: &[Case] = &[
     (TAGS, "shift b tags 1 1", "nothing"),
 ];
 
+// Two books and two writers, of which the book b has both and the book c the second.
+const AUTHORS: &[&str] = &[
+    "create Book / b",
+    "create Book / c",
+    "create Writer / w",
+    "create Writer / v",
+    "link b authors w",
+    "link b authors v",
+    "link c authors v",
+];
+
+// The sequel of a is x, that of c is b.
+const SEQUELS: &[&str] = &[
+    "create Book / a",
+    "create Book / b",
+    "create Book / c",
+    "create Book / x",
+    "create Writer / w",
+    "set a sequel \"x\"",
+    "set c sequel \"b\"",
+];
+
+const REFERENCES: &[Case] = &[
+    // set of a reference: refusals in order
+    (SEQUELS, "set d paper 5", "NoElement"),
+    (SEQUELS, "set a paper 5", "NoFeature"),
+    (SEQUELS, "set a authors 5", "WrongKind"),
+    (SEQUELS, "set a sequel b", "BadValue"),
+    (SEQUELS, "set a sequel 5", "BadValue"),
+    (SEQUELS, "set a sequel null", "BadValue"),
+    (SEQUELS, "set a sequel \"d\"", "NoElement"),
+    (SEQUELS, "set a sequel \"/b\"", "NoElement"),
+    (SEQUELS, "set a sequel \"w\"", "WrongType"),
+    // set of a reference
+    (
+        SEQUELS,
+        "set a sequel \"b\"",
+        "Reference: unlink a 5 4294967296 x 4294967296; unlink c 5 4294967296 b 4294967296; link a 5 4294967296 b 4294967296",
+    ),
+    (
+        SEQUELS,
+        "set b prequel \"a\"",
+        "Reference: unlink c 5 4294967296 b 4294967296; unlink a 5 4294967296 x 4294967296; link a 5 4294967296 b 4294967296",
+    ),
+    (
+        SEQUELS,
+        "set b sequel \"b\"",
+        "Reference: unlink c 5 4294967296 b 4294967296; link b 5 4294967296 b 4294967296",
+    ),
+    (SEQUELS, "set a sequel \"x\"", "nothing"),
+    (SEQUELS, "set x prequel \"a\"", "nothing"),
+    // unset of references
+    (SEQUELS, "unset b sequel", "nothing"),
+    (SEQUELS, "unset w books", "nothing"),
+    (
+        SEQUELS,
+        "unset b prequel",
+        "Reference: unlink c 5 4294967296 b 4294967296",
+    ),
+    (
+        AUTHORS,
+        "unset b authors",
+        "Reference: unlink b 4 8589934592 v 4294967296; unlink b 4 4294967296 w 4294967296",
+    ),
+    // link: refusals in order
+    (AUTHORS, "link d paper x 9", "NoElement"),
+    (AUTHORS, "link b paper x 9", "NoFeature"),
+    (AUTHORS, "link b title x 9", "WrongKind"),
+    (AUTHORS, "link b sequel x 9", "WrongKind"),
+    (AUTHORS, "link b library x 9", "WrongKind"),
+    (AUTHORS, "link b authors x 9", "NoElement"),
+    (AUTHORS, "link b authors #w 9", "NoElement"),
+    (AUTHORS, "link b authors c 9", "WrongType"),
+    (AUTHORS, "link b authors w 9", "AlreadyThere"),
+    (AUTHORS, "link c authors w 2", "NoEntry"),
+    // link
+    (
+        AUTHORS,
+        "link c authors w",
+        "Reference: link c 4 8589934592 w 8589934592",
+    ),
+    (
+        AUTHORS,
+        "link c authors w 0",
+        "Reference: link c 4 2147483648 w 8589934592",
+    ),
+    (
+        AUTHORS,
+        "link w books c 0",
+        "Reference: link c 4 8589934592 w 2147483648",
+    ),
+    (
+        AUTHORS,
+        "link w pair v",
+        "Reference: link w 10 4294967296 v -",
+    ),
+    // unlink: refusals in order
+    (AUTHORS, "unlink d paper x", "NoElement"),
+    (AUTHORS, "unlink b paper x", "NoFeature"),
+    (AUTHORS, "unlink b tags x", "WrongKind"),
+    (SEQUELS, "unlink a sequel x", "WrongKind"),
+    (AUTHORS, "unlink b authors x", "NoEntry"),
+    (AUTHORS, "unlink b authors c", "NoEntry"),
+    (AUTHORS, "unlink b authors #w", "NoEntry"),
+    (AUTHORS, "unlink c authors w", "NoEntry"),
+    // unlink
+    (
+        AUTHORS,
+        "unlink b authors v",
+        "Reference: unlink b 4 8589934592 v 4294967296",
+    ),
+    (
+        AUTHORS,
+        "unlink v books b",
+        "Reference: unlink b 4 8589934592 v 4294967296",
+    ),
+    // reorder: refusals in order
+    (AUTHORS, "reorder d paper x 9", "NoElement"),
+    (AUTHORS, "reorder b paper x 9", "NoFeature"),
+    (AUTHORS, "reorder b pages x 9", "WrongKind"),
+    (SEQUELS, "reorder a sequel x 0", "WrongKind"),
+    (AUTHORS, "reorder b authors x 0", "NoEntry"),
+    (AUTHORS, "reorder b authors #w 0", "NoEntry"),
+    (AUTHORS, "reorder c authors w 0", "NoEntry"),
+    (AUTHORS, "reorder b authors v 2", "NoEntry"),
+    // reorder
+    (
+        AUTHORS,
+        "reorder b authors v 0",
+        "Reference: rerank b 4 v 8589934592 2147483648",
+    ),
+    (
+        AUTHORS,
+        "reorder b authors w 1",
+        "Reference: rerank b 4 w 4294967296 12884901888",
+    ),
+    (AUTHORS, "reorder b authors v 1", "nothing"),
+];
+
 const BOX: &[&str] = &["create Box / b"];
 
 const MARKS: &[&str] = &[
@@ -189,6 +325,18 @@ const WORDS: &[&str] = &[
     "create Box / b",
     "add b words end \"x\"",
     "add b words end \"y\"",
+];
+
+// Two boxes stand on b, and c on d.
+const TOPS: &[&str] = &[
+    "create Box / a",
+    "create Box / b",
+    "create Box / c",
+    "create Box / d",
+    "create Box / e",
+    "link b tops a",
+    "set d base \"b\"",
+    "set c base \"d\"",
 ];
 
 const IN_BOXES: &[Case] = &[
@@ -226,6 +374,28 @@ const IN_BOXES: &[Case] = &[
     (MARKS, "shift b marks 0 4", "ManyAttribute: shift b 3 0 4"),
     (MARKS, "shift b marks 4 2", "ManyAttribute: shift b 3 4 2"),
     (MARKS, "shift b marks 2 2", "nothing"),
+    // a list of references that is full; what an edit displaces isn't counted
+    (TOPS, "set e base \"b\"", "Bound"),
+    (TOPS, "set c base \"b\"", "Bound"),
+    (TOPS, "link b tops e 3", "NoEntry"),
+    (TOPS, "link b tops e 2", "Bound"),
+    (TOPS, "link b tops c", "Bound"),
+    (TOPS, "set a base \"b\"", "nothing"),
+    (
+        TOPS,
+        "set d base \"d\"",
+        "Reference: unlink d 6 4294967296 b 8589934592; link d 6 4294967296 d 8589934592",
+    ),
+    (
+        TOPS,
+        "link e tops a",
+        "Reference: unlink a 6 4294967296 b 4294967296; link a 6 4294967296 e 4294967296",
+    ),
+    (
+        TOPS,
+        "reorder b tops d 0",
+        "Reference: rerank b 7 d 8589934592 2147483648",
+    ),
 ];
 
 // Takes the steps of an operation, if there is one.
@@ -289,6 +459,17 @@ fn edits_of_the_library_are_recorded_or_refused(rt: HostRuntime) -> Result<(), F
     let alloc = rt.alloc();
     let meta = library(alloc)?;
     for (before, last, want) in IN_THE_LIBRARY {
+        let got = answer(alloc, &meta, before, last)?;
+        assert_eq!(rt; got.as_str(), *want, "{last} after {before:?}");
+    }
+    Ok(())
+}
+
+#[test]
+fn edits_of_references_are_recorded_or_refused(rt: HostRuntime) -> Result<(), Fail> {
+    let alloc = rt.alloc();
+    let meta = library(alloc)?;
+    for (before, last, want) in REFERENCES {
         let got = answer(alloc, &meta, before, last)?;
         assert_eq!(rt; got.as_str(), *want, "{last} after {before:?}");
     }

@@ -31,7 +31,8 @@ const LIBRARY: &str =
 ]}"##;
 
 // Classes: 0 Thing, which is abstract, 1 Box, below it. Features: 0 Thing.label, 1 open, true by default, 2 color, red by
-// default, 3 marks, which may repeat, 4 words, two at most, 5 cache, which is derived.
+// default, 3 marks, which may repeat, 4 words, two at most, 5 cache, which is derived, 6 base, one Box, whose opposite is
+// 7 tops, two at most.
 const BOXES: &str =
     r##"{"eClass":"E#//EPackage","name":"boxes","nsURI":"http://boxes/1","eClassifiers":[
 {"eClass":"E#//EClass","name":"Thing","abstract":true,"eStructuralFeatures":[
@@ -41,7 +42,9 @@ const BOXES: &str =
 {"eClass":"E#//EAttribute","name":"color","eType":{"$ref":"//Color"}},
 {"eClass":"E#//EAttribute","name":"marks","upperBound":-1,"unique":false,"eType":{"$ref":"E#//EByte"}},
 {"eClass":"E#//EAttribute","name":"words","upperBound":2,"eType":{"$ref":"E#//EString"}},
-{"eClass":"E#//EAttribute","name":"cache","eType":{"$ref":"E#//EString"},"derived":true}]},
+{"eClass":"E#//EAttribute","name":"cache","eType":{"$ref":"E#//EString"},"derived":true},
+{"eClass":"E#//EReference","name":"base","eType":{"$ref":"//Box"},"eOpposite":{"$ref":"//Box/tops"}},
+{"eClass":"E#//EReference","name":"tops","upperBound":2,"eType":{"$ref":"//Box"},"eOpposite":{"$ref":"//Box/base"}}]},
 {"eClass":"E#//EEnum","name":"Color","eLiterals":[{"name":"red","literal":"R"},{"name":"green","literal":"G"}]}
 ]}"##;
 

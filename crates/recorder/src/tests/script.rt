@@ -2,7 +2,7 @@
 // step with its fields, and the new id.
 use crate::{Edit, EditFault, Recorded};
 use ecore_meta::{List, Text, Value};
-use model_state::{Operation, Step};
+use model_state::{Id, Operation, Step};
 use std::alloc::Global;
 use std::str::SplitWhitespace;
 use std::test::Fail;
@@ -40,6 +40,13 @@ impl<'a> Words<'a> {
             return Ok(None);
         }
         Ok(Some(word.parse::<u32>()?))
+    }
+
+    fn index(&mut self) -> Result<Option<u32>, Fail> {
+        match self.rest.next() {
+            None => Ok(None),
+            Some(word) => Ok(Some(word.parse::<u32>()?)),
+        }
     }
 
     fn create(&mut self) -> Result<Edit, Fail> {
@@ -91,6 +98,34 @@ impl<'a> Words<'a> {
                     to,
                 })
             }
+            "link" => {
+                let target = self.text()?;
+                let index = self.index()?;
+                Ok(Edit::Link {
+                    id,
+                    feature,
+                    target,
+                    index,
+                })
+            }
+            "unlink" => {
+                let target = self.text()?;
+                Ok(Edit::Unlink {
+                    id,
+                    feature,
+                    target,
+                })
+            }
+            "reorder" => {
+                let target = self.text()?;
+                let index = self.number()?;
+                Ok(Edit::Reorder {
+                    id,
+                    feature,
+                    target,
+                    index,
+                })
+            }
             _ => Err("no edit")?,
         }
     }
@@ -112,8 +147,29 @@ fn optional(alloc: Global, v: &Option<Value>) -> Result<String, Fail> {
     }
 }
 
+// The words of a link or an unlink; a mirror's rank is `-` where there is none.
+fn row(alloc: Global, a: &Id, f: u32, ra: u64, b: &Id, rb: Option<u64>) -> Result<String, Fail> {
+    let (a, b) = (a.as_str(), b.as_str());
+    match rb {
+        None => Ok(format!(in alloc; "{a} {f} {ra} {b} -")?),
+        Some(rb) => Ok(format!(in alloc; "{a} {f} {ra} {b} {rb}")?),
+    }
+}
+
 fn line(alloc: Global, step: &Step) -> Result<String, Fail> {
     match step {
+        Step::Link { a, f, ra, b, rb } => {
+            let row = row(alloc, a, *f, *ra, b, *rb)?;
+            Ok(format!(in alloc; "link {row}")?)
+        }
+        Step::Unlink { a, f, ra, b, rb } => {
+            let row = row(alloc, a, *f, *ra, b, *rb)?;
+            Ok(format!(in alloc; "unlink {row}")?)
+        }
+        Step::RerankRow { a, f, b, old, new } => {
+            let (a, b) = (a.as_str(), b.as_str());
+            Ok(format!(in alloc; "rerank {a} {f} {b} {old} {new}")?)
+        }
         Step::New {
             e,
             class,
