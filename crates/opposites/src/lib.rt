@@ -17,7 +17,9 @@ mod unlink;
 
 pub use fault::LinkFault;
 pub use laws::law_of_calls;
-pub use link::link_steps;
-pub use reorder::reorder_steps;
+pub use link::{index_or_end, link_steps};
+pub use look_up::rank_of_mirror;
+pub use openings::Opening;
+pub use reorder::{reorder_steps, stands_at, without_entry};
 pub use set_ref::set_ref_steps;
-pub use unlink::unlink_steps;
+pub use unlink::{unlink_step, unlink_steps, unlinks};
