@@ -11,3 +11,6 @@ pub mod Slots
 pub mod ValuesGone
 pub mod ElementsGone
 pub mod DeleteLaws
+pub mod Reranks
+pub mod PlaceRefusals
+pub mod Walks

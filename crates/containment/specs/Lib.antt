@@ -1,5 +1,6 @@
 pub mod Subtree
 pub mod Deletes
+pub mod Sorts
 pub mod Refusals
 pub mod Moves
 pub mod Laws

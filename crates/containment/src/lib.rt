@@ -1,9 +1,26 @@
-//! Containment: the subtree of an element, and its creation, its moves and its deletion, as definitions and laws. A law is
-//! the contract of a function that does nothing.
+//! Containment: an element is created in a place, moves, or goes with all that it contains. The calls make the steps of
+//! each, by definitions of the steps and of the model after them; a law is the contract of a function that does nothing.
 #![tactic(auto)]
 
+mod create;
+mod delete;
 mod fault;
+mod features;
 mod laws;
+mod moves;
+mod place;
+mod rows;
+mod spots;
+#[cfg(test)]
+mod tests;
+mod values;
+mod walk;
 
+pub use create::create_steps;
+pub use delete::delete_steps;
 pub use fault::MoveFault;
 pub use laws::{law_of_creations, law_of_deletions, law_of_moves, law_of_subtrees};
+pub use moves::move_steps;
+pub use place::is_place;
+pub use spots::{Spot, spot_steps};
+pub use walk::subtree;

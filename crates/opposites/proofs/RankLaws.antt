@@ -41,11 +41,11 @@ module _ (row : FinMap row_cmp ℕ) (a : Name) (f : ℕ) (b : Name) where
       ends none false is = none_any b (targets row a f) is ∙ sym none
 
 -- as many targets as rows
-length_tally : {X : Type 0} (xs : List X) → length xs ≡ tally (λ _. true) xs
+pub length_tally : {X : Type 0} (xs : List X) → length xs ≡ tally (λ _. true) xs
 length_tally [] = refl
 length_tally (x ∷ xs) = let h = length_tally xs in omega (arith, h)
 
-true_too : (b : Bool) → b && true ≡ b
+pub true_too : (b : Bool) → b && true ≡ b
 true_too true = refl
 true_too false = refl
 

@@ -65,7 +65,8 @@ pub fn link_step(
     }
 }
 
-fn index_or_end(at: Option<u32>, n: usize) -> usize
+/// The index, that behind the last of n entries where none is given.
+pub fn index_or_end(at: Option<u32>, n: usize) -> usize
     ensures { result ≡ unwrap_or at n }
 {
     match at {

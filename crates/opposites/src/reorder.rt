@@ -15,7 +15,7 @@ use model_state::{Entry, Id, Look, Step};
 use std::alloc::{AllocError, Global};
 
 /// Whether the element stands at the index.
-fn stands_at(list: &[Entry], at: usize, b: &Id) -> bool
+pub fn stands_at(list: &[Entry], at: usize, b: &Id) -> bool
     ensures { result ≡ stands_at b.now at list.now }
 {
     match list.get(at) {
@@ -25,7 +25,7 @@ fn stands_at(list: &[Entry], at: usize, b: &Id) -> bool
 }
 
 /// The entries but that of the element.
-fn without_entry(alloc: Global, list: &[Entry], b: &Id) -> Result<List<Entry>, AllocError>
+pub fn without_entry(alloc: Global, list: &[Entry], b: &Id) -> Result<List<Entry>, AllocError>
     ensures { IfOk result (λ l. l ≡ without_entry b.now list.now) }
 {
     let mut others = List::new(alloc);

@@ -1,0 +1,70 @@
+-- Refusals at a place.
+use Rattle.std.proofs.lemmas.Bool.Decides.{nat_tests}
+use Rattle.std.proofs.Common.{◌≡◌, ℕ, Bool, true, false, cond, not, List, [], ◌∷◌, refl, sym, ap, ◌∙◌, ◌||◌, arith, nat_le, length}
+use Rattle.std.specs.Prelude.{Option, None, Some, is_some, unwrap_or}
+use Rattle.std.specs.FinMap.{FinMap, get, entries}
+use Rattle.finite_maps.specs.Maps.{count, tally}
+use Rattle.finite_maps.specs.Sorts.{picked}
+use Rattle.finite_maps.proofs.SortLaws.{tally-in_order, tally-map}
+use Rattle.ecore_meta.specs.Meta.{Meta}
+use Rattle.model_state.specs.declared.entry.Entry.{Entry}
+use Rattle.model_state.specs.declared.step.Place.{Place}
+use Rattle.model_state.specs.Keys.{Name, id_cmp}
+use Rattle.model_state.specs.Listing.{children, entry_cmp}
+use Rattle.model_state.specs.State.{State, place_eq}
+use Rattle.model_state.specs.Steps.{may_move}
+use Rattle.edit_laws.specs.Spot.{spot, end_spot}
+use Rattle.edit_laws.proofs.Lists.{tally-filter}
+use Rattle.edit_laws.proofs.Creates.{spot_of}
+use Rattle.opposites.proofs.RankLaws.{length_tally, true_too}
+use Rattle.containment.specs.declared.fault.MoveFault.{MoveFault}
+use Rattle.containment.specs.declared.fault.MoveFault.TheVariants.{Bound, NoEntry, WrongType, WouldCycle}
+use Rattle.containment.specs.Subtree.{is_among}
+use Rattle.containment.specs.Refusals.{first_refusal, spot_refusal, within_tests, arrival_tests, move_refusal, place_of}
+
+-- as many children as elements that stand there
+pub length_children : (place : FinMap id_cmp Place) (prank : FinMap id_cmp ℕ) (p : Place) → length (children place prank p) ≡ count (λ (e : Name × Place). place_eq p e.1) place
+length_children place prank p =
+    length_tally (children place prank p)
+    ∙ tally-in_order entry_cmp (λ _. true) _
+    ∙ tally-map (λ _. true) (spot_of prank) (picked (λ (e : Name × Place). place_eq p e.1) place)
+    ∙ tally-filter (λ (e : Name × Place). place_eq p e.1) (λ _. true) (entries place)
+    ∙ (λ i. tally (λ (e : Name × Place). true_too (place_eq p e.1) i) (entries place))
+
+-- the end is an index
+own_le : (n : ℕ) → nat_le n n ≡ true
+own_le n = grind (arith, nat_tests)
+
+-- at the end only the rank is asked for
+pub end_refused : (xs : List Entry) → spot_refusal xs None ≡ cond (is_some (end_spot xs).rank) None (Some Bound)
+end_refused xs = ap (λ b. cond b (cond (is_some (end_spot xs).rank) None (Some Bound)) (Some NoEntry)) (own_le (length xs))
+
+-- ---- the three tests of an arrival, by those of its spot
+pub arrival_refused : (a b c : Bool) (e : MoveFault) → cond a (cond c None (Some Bound)) (Some NoEntry) ≡ Some e → cond a (cond b (cond c None (Some Bound)) (Some Bound)) (Some NoEntry) ≡ Some e
+arrival_refused true true c e h = h
+arrival_refused true false true e h = cc
+arrival_refused true false false e h = h
+arrival_refused false b c e h = h
+
+pub arrival_full : (a b c : Bool) → b ≡ false → cond a (cond c None (Some Bound)) (Some NoEntry) ≡ None → cond a (cond b (cond c None (Some Bound)) (Some Bound)) (Some NoEntry) ≡ Some Bound
+arrival_full true true c f h = cc
+arrival_full true false c f h = refl
+arrival_full false b c f h = cc
+
+pub arrival_open : (a b c : Bool) → b ≡ true → cond a (cond c None (Some Bound)) (Some NoEntry) ≡ None → cond a (cond b (cond c None (Some Bound)) (Some Bound)) (Some NoEntry) ≡ None
+arrival_open true true c f h = h
+arrival_open true false c f h = cc
+arrival_open false b c f h = cc
+
+-- ---- a move whose element may stand there and is no container
+pub move_first : (meta : Meta) (m : State) (e : Name) (to : Place) (above : List Name) (at : Option ℕ) (same : Bool) → may_move meta m (get m.kind e) to ≡ true → is_among above e ≡ false → place_eq (place_of m e) to ≡ same
+    → let xs = children m.place m.prank to in move_refusal meta m e to above at ≡ first_refusal (cond same (within_tests e xs at) (arrival_tests meta m to xs at))
+move_first meta m e to above at same may none is =
+    let xs = children m.place m.prank to in
+    λ i. cond (may i) (cond (not (none i)) (first_refusal (cond (is i) (within_tests e xs at) (arrival_tests meta m to xs at))) (Some WouldCycle)) (Some WrongType)
+
+-- an element that may not stand there is of a wrong type
+pub no_class : (meta : Meta) (m : State) (e : Name) (to : Place) (above : List Name) (at : Option ℕ) → may_move meta m (get m.kind e) to ≡ false → move_refusal meta m e to above at ≡ Some WrongType
+no_class meta m e to above at h =
+    let xs = children m.place m.prank to in
+    ap (λ b. cond b (cond (not (is_among above e)) (first_refusal (cond (place_eq (place_of m e) to) (within_tests e xs at) (arrival_tests meta m to xs at))) (Some WouldCycle)) (Some WrongType)) h

@@ -1,0 +1,87 @@
+ghost use Rattle.std.specs.Prelude.{◌≡◌, ◌++◌, IfOk, OnOk, map};
+ghost use Rattle.model_state.specs.Typing.{kind_of, opposite_of};
+ghost use Rattle.edit_laws.specs.Rows.{around};
+ghost use Rattle.containment.specs.Subtree.{features_of};
+ghost use Rattle.containment.specs.Deletes.{is_touched, slots_of};
+ghost use Rattle.containment.specs.Sorts.{passes};
+
+use ecore_meta::{List, Metamodel};
+use model_state::{Id, Look, class_has, is_attr, is_many, is_plain, opposite_of};
+use std::alloc::{AllocError, Global};
+
+/// A feature of an element.
+pub type Slot = (Id, u32);
+
+/// Which features are looked for.
+#[derive(Clone, Copy, Debug, PartialEq, Eq, Drop)]
+pub enum Sort {
+    /// Plain references.
+    Reference,
+    /// Attributes, single and many-valued.
+    Attribute,
+}
+
+/// Whether the feature is of the sort.
+fn passes(meta: &Metamodel, sort: Sort, f: u32) -> bool
+    ensures { result ≡ passes sort (kind_of meta.now f) }
+{
+    match sort {
+        Sort::Reference => is_plain(meta, f),
+        Sort::Attribute => is_attr(meta, f) || is_many(meta, f),
+    }
+}
+
+/// The features of a sort that the class has, by number, as slots of an element.
+fn push_slots(
+    alloc: Global,
+    meta: &Metamodel,
+    sort: Sort,
+    e: &Id,
+    class: Option<u32>,
+    slots: &mut List<Slot>,
+) -> Result<(), AllocError>
+    ensures { OnOk result (slots.new ≡ slots.old ++ map (λ f. (e.now, f)) (features_of meta.now (passes sort) class)) }
+{
+    for f in 0..meta.feature_count() {
+        if class_has(meta, class, f) && passes(meta, sort, f) {
+            slots.push((e.copy(alloc)?, f))?;
+        }
+    }
+    Ok(())
+}
+
+/// The features of a sort of each element, by number.
+pub fn slots_of<L: Look>(
+    alloc: Global,
+    look: &L,
+    meta: &Metamodel,
+    sort: Sort,
+    elements: &[Id],
+) -> Result<List<Slot>, AllocError>
+    ensures { IfOk result (λ l. l ≡ slots_of meta.now (L.state look.now) (passes sort) elements.now) }
+{
+    let mut slots = List::new(alloc);
+    for x in elements {
+        push_slots(alloc, meta, sort, x, look.class(x), &mut slots)?;
+    }
+    Ok(slots)
+}
+
+/// Whether a row from a to b by f is one of the slot, or the mirror of one.
+fn is_around(meta: &Metamodel, slot: &Slot, a: &Id, f: u32, b: &Id) -> bool
+    ensures { result ≡ around (opposite_of meta.now slot.now.1) slot.now.0 slot.now.1 (a.now, f, b.now) }
+{
+    let is_own = slot.0 == *a && slot.1 == f;
+    let is_mirror = match opposite_of(meta, slot.1) {
+        None => false,
+        Some(g) => g == f && slot.0 == *b,
+    };
+    is_own || is_mirror
+}
+
+/// Whether a row from a to b by f is one of these slots, or the mirror of one.
+pub fn is_touched(meta: &Metamodel, slots: &[Slot], a: &Id, f: u32, b: &Id) -> bool
+    ensures { result ≡ is_touched meta.now slots.now (a.now, f, b.now) }
+{
+    slots.iter().any(|slot| is_around(meta, slot, a, f, b))
+}

@@ -1,0 +1,78 @@
+ghost use Rattle.std.specs.Prelude.{◌≡◌};
+ghost use Rattle.finite_maps.specs.Maps.{is_below};
+ghost use Rattle.model_state.specs.Listing.{children};
+ghost use Rattle.model_state.specs.Steps.{has_room, may_move, may_stand};
+ghost use Rattle.model_state.specs.Typing.{child_upper, contains_kind, kind_of};
+ghost use Rattle.containment.specs.Refusals.{is_place};
+
+use ecore_meta::{Kind, Metamodel};
+use model_state::{Entry, Look, Place, child_upper, class_has, may_contain};
+
+/// Whether the feature is a containment.
+pub fn is_containment(meta: &Metamodel, f: u32) -> bool
+    ensures { result ≡ contains_kind (kind_of meta.now f) }
+{
+    if f < meta.feature_count() {
+        match &meta.feature(f).kind {
+            Kind::Contains { .. } => true,
+            _ => false,
+        }
+    } else {
+        false
+    }
+}
+
+/// Whether the place is the root, or a containment of a live element's class.
+pub fn is_place<L: Look>(look: &L, meta: &Metamodel, place: &Place) -> bool
+    ensures { result ≡ is_place meta.now (L.state look.now) place.now }
+{
+    match place {
+        Place::Root => true,
+        Place::Inside { parent, feature } => {
+            class_has(meta, look.class(parent), *feature) && is_containment(meta, *feature)
+        }
+    }
+}
+
+/// Whether an element of the class may stand in the place.
+pub fn may_stand<L: Look>(look: &L, meta: &Metamodel, class: u32, place: &Place) -> bool
+    ensures { result ≡ may_stand meta.now (L.state look.now) class place.now }
+{
+    match place {
+        Place::Root => true,
+        Place::Inside { parent, feature } => {
+            class_has(meta, look.class(parent), *feature) && may_contain(meta, *feature, class)
+        }
+    }
+}
+
+/// Whether an element of the class, where it has one, may stand in the place.
+pub fn may_move<L: Look>(look: &L, meta: &Metamodel, class: Option<u32>, place: &Place) -> bool
+    ensures { result ≡ may_move meta.now (L.state look.now) class place.now }
+{
+    match class {
+        None => false,
+        Some(class) => may_stand(look, meta, class, place),
+    }
+}
+
+/// Whether a containment has room for one more than n elements.
+fn is_roomy(meta: &Metamodel, f: u32, n: usize) -> bool
+    ensures { result ≡ is_below n (child_upper meta.now f) }
+{
+    match child_upper(meta, f) {
+        None => true,
+        Some(upper) => n < upper as usize,
+    }
+}
+
+/// Whether the place has room for one more than the elements there.
+pub fn has_room<L: Look>(look: &L, meta: &Metamodel, place: &Place, there: &[Entry]) -> bool
+    requires { there.now ≡ children (L.state look.now).place (L.state look.now).prank place.now }
+    ensures { result ≡ has_room meta.now (L.state look.now) place.now }
+{
+    match place {
+        Place::Root => true,
+        Place::Inside { feature, .. } => is_roomy(meta, *feature, there.len()),
+    }
+}

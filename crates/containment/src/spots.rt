@@ -1,0 +1,108 @@
+ghost use Rattle.std.specs.Prelude.{◌≡◌, ◌<◌, true, not, IfOk, IfErr, OnOk, None, Some, is_some, length, unwrap_or};
+ghost use Rattle.std.specs.Option.{option_copied};
+ghost use Rattle.edit_laws.specs.Spot.{evened, rank_for, ranks_of, spot};
+ghost use Rattle.edit_laws.specs.Places.{rerank_places};
+ghost use Rattle.containment.specs.Refusals.{IsRefusal, others_in, spot_refusal};
+
+use crate::MoveFault;
+use ecore_meta::List;
+use model_state::{Entry, Id, Look, Place, Step};
+use opposites::{Opening, index_or_end, without_entry};
+use std::alloc::{AllocError, Global};
+
+/// The spot of an element among others.
+#[derive(Debug, Drop)]
+pub struct Spot {
+    /// The reranks of the others, where there is no room between its neighbours.
+    pub steps: List<Step>,
+    /// Its rank.
+    pub rank: u64,
+}
+
+/// A step for each element whose rank changes, where all are spread evenly.
+fn even_reranks(alloc: Global, list: &[Entry]) -> Result<List<Step>, AllocError>
+    requires { length list.now < 4294967295 }
+    ensures { IfOk result (λ s. s ≡ rerank_places list.now (evened 1 list.now)) }
+{
+    let mut steps = List::new(alloc);
+    for (i, x) in list.iter().enumerate() {
+        let new = (i as u64 + 1) * 4294967296;
+        if x.rank != new {
+            steps.push(Step::RerankPlace {
+                e: x.id.copy(alloc)?,
+                old: x.rank,
+                new,
+            })?;
+        }
+    }
+    Ok(steps)
+}
+
+/// The reranks of the others, where there is no room.
+fn reranks(alloc: Global, opening: &Opening) -> Result<List<Step>, AllocError>
+    requires reranks { opening.now.reranks ≡ not (is_some (rank_for (ranks_of opening.now.others) opening.now.index)) }
+    requires small { opening.now.reranks ≡ true → length opening.now.others < 4294967295 }
+    ensures { IfOk result (λ s. s ≡ rerank_places opening.now.others (spot opening.now.others opening.now.index).ranks) }
+{
+    if opening.reranks {
+        even_reranks(alloc, opening.others.as_slice())
+    } else {
+        Ok(List::new(alloc))
+    }
+}
+
+/// The spot at an index of the others, None for their end. Refused with NoEntry before Bound.
+pub fn find_spot(alloc: Global, others: List<Entry>, at: Option<u32>) -> Result<Spot, MoveFault>
+    ensures steps { IfOk result (λ s. s.steps ≡ rerank_places others (spot others (unwrap_or at (length others))).ranks) }
+    ensures rank { IfOk result (λ s. (spot others (unwrap_or at (length others))).rank ≡ Some s.rank) }
+    ensures taken { OnOk result (spot_refusal others at ≡ None) }
+    ensures refused { IfErr result (λ e. IsRefusal (spot_refusal others at) e) }
+{
+    let index = index_or_end(at, others.len());
+    if index > others.len() {
+        return Err(MoveFault::NoEntry);
+    }
+    let Some(opening) = Opening::find(others, index) else {
+        return Err(MoveFault::Bound);
+    };
+    Ok(Spot {
+        steps: reranks(alloc, &opening)?,
+        rank: opening.rank,
+    })
+}
+
+/// The elements of the place, but for the one that is skipped.
+fn others_in<L: Look>(
+    alloc: Global,
+    look: &L,
+    place: &Place,
+    skip: Option<&Id>,
+) -> Result<List<Entry>, AllocError>
+    ensures { IfOk result (λ l. l ≡ others_in (L.state look.now) place.now (option_copied skip.entry)) }
+{
+    let there = look.children(alloc, place)?;
+    match skip {
+        None => Ok(there),
+        Some(e) => without_entry(alloc, there.as_slice(), e),
+    }
+}
+
+/// The spot of an element at an index of a place, None for its end, where the element that is skipped doesn't count.
+///
+/// Refused with NoEntry where the index is behind the end, and then with Bound where there is no rank and the place is too
+/// long to be ranked anew. The upper bound of the place isn't looked at.
+pub fn spot_steps<L: Look>(
+    alloc: Global,
+    look: &L,
+    place: &Place,
+    skip: Option<&Id>,
+    at: Option<u32>,
+) -> Result<Spot, MoveFault>
+    ensures steps { IfOk result (λ s. let others = others_in (L.state look.now) place.now (option_copied skip.entry) in s.steps ≡ rerank_places others (spot others (unwrap_or at (length others))).ranks) }
+    ensures rank { IfOk result (λ s. let others = others_in (L.state look.now) place.now (option_copied skip.entry) in (spot others (unwrap_or at (length others))).rank ≡ Some s.rank) }
+    ensures taken { OnOk result (spot_refusal (others_in (L.state look.now) place.now (option_copied skip.entry)) at ≡ None) }
+    ensures refused { IfErr result (λ e. IsRefusal (spot_refusal (others_in (L.state look.now) place.now (option_copied skip.entry)) at) e) }
+{
+    let others = others_in(alloc, look, place, skip)?;
+    find_spot(alloc, others, at)
+}

@@ -1,0 +1,343 @@
+// The steps of each call. 4294967296 is 2^32, the rank of the first element of a place and the distance at which a place is
+// ranked anew; 18446744073709551615 is the last rank. A place too long to be ranked anew has 2^32 - 1 elements, which no
+// test makes.
+mod deep;
+mod lines;
+mod parts;
+mod reading;
+
+ghost use Rattle.std.specs.Prelude.{◌≡◌, IfOk, true};
+ghost use Rattle.ecore_meta.specs.Sound.{Sound};
+ghost use Rattle.model_state.specs.Good.{Good};
+ghost use Rattle.step_apply.specs.View.{plain_state};
+
+use super::*;
+use crate::tests::lines::{ids, lines};
+use crate::tests::parts::parts;
+use crate::tests::reading::{id, number, place, step};
+use ecore_meta::{List, Metamodel};
+use model_laws::replay;
+use model_state::{Id, Look, Place, Step};
+use std::alloc::Global;
+use std::str::SplitWhitespace;
+use std::test::Fail;
+use step_apply::Plain;
+
+// Part a at the root has b and c, b has d; part e and o, which is no part, stand at the root.
+const TREE: &str =
+    "New a 0 / 10; New e 0 / 20; New o 1 / 30; New b 0 a.5 10; New c 0 a.5 20; New d 0 b.4 10";
+
+// What stands beside the tree, the edit, and its steps or the name of its refusal.
+type Case = (&'static str, &'static str, &'static str);
+
+const CREATIONS: &[Case] = &[
+    ("", "create x 1 /", "New x 1 / 4294967326"),
+    ("", "create x 0 a.3", "New x 0 a.3 4294967296"),
+    ("", "create x 0 b.4", "New x 0 b.4 4294967306"),
+    ("", "create x 2 a.5", "New x 2 a.5 4294967316"),
+    // a bound of 1 and one of 2
+    ("New y 0 a.3 5", "create x 0 a.3", "Bound"),
+    ("New y 0 b.4 5", "create x 0 b.4", "Bound"),
+    ("", "create x 1 a.3", "WrongType"),
+    ("New y 0 b.4 5", "create x 1 b.4", "WrongType"),
+    // the last rank that is still found, and the first that isn't
+    (
+        "New y 0 / 18446744069414584319",
+        "create x 0 /",
+        "New x 0 / 18446744073709551615",
+    ),
+    (
+        "New y 0 / 18446744069414584320",
+        "create x 0 /",
+        "RerankPlace a 10 4294967296; RerankPlace e 20 8589934592; RerankPlace o 30 12884901888; RerankPlace y 18446744069414584320 17179869184; New x 0 / 21474836480",
+    ),
+    // an element that has its new rank already has no step
+    (
+        "New y 0 e.5 4294967296; New z 0 e.5 18446744073709551615",
+        "create x 0 e.5",
+        "RerankPlace z 18446744073709551615 8589934592; New x 0 e.5 12884901888",
+    ),
+];
+
+const MOVES_WITHIN: &[Case] = &[
+    ("", "move b a.5", "RerankPlace b 10 4294967316"),
+    ("", "move b a.5 1", "RerankPlace b 10 4294967316"),
+    ("", "move c a.5 0", "RerankPlace c 20 5"),
+    ("", "move o / 1", "RerankPlace o 30 15"),
+    ("", "move a /", "RerankPlace a 10 4294967326"),
+    // where it stands
+    ("", "move c a.5", ""),
+    ("", "move b a.5 0", ""),
+    ("New y 0 a.3 5", "move y a.3", ""),
+    // behind the end of the others
+    ("", "move c a.5 2", "NoEntry"),
+    ("New y 0 a.3 5", "move y a.3 1", "NoEntry"),
+    // a full place gets no element more
+    (
+        "New y 0 b.4 20",
+        "move d b.4 1",
+        "RerankPlace d 10 4294967316",
+    ),
+    // no room between the neighbours
+    (
+        "New y 0 e.5 1; New z 0 e.5 2",
+        "move z e.5 0",
+        "RerankPlace y 1 4294967296; RerankPlace z 2 2147483648",
+    ),
+    // the element has its new rank already
+    (
+        "New y 0 e.5 1; New z 0 e.5 2147483648",
+        "move z e.5 0",
+        "RerankPlace y 1 4294967296",
+    ),
+];
+
+const MOVES: &[Case] = &[
+    ("", "move e a.5", "Move e / 20 a.5 4294967316 - a"),
+    ("", "move e a.5 1", "Move e / 20 a.5 15 - a"),
+    ("", "move d /", "Move d b.4 10 / 4294967326 b,a -"),
+    ("", "move d a.5 0", "Move d b.4 10 a.5 5 b,a a"),
+    ("", "move b a.4", "Move b a.5 10 a.4 4294967296 a a"),
+    ("", "move d e.3", "Move d b.4 10 e.3 4294967296 b,a e"),
+    (
+        "New y 0 e.4 5",
+        "move d e.4",
+        "Move d b.4 10 e.4 4294967301 b,a e",
+    ),
+    // no room between the neighbours
+    (
+        "New y 0 e.5 1; New z 0 e.5 2",
+        "move d e.5 1",
+        "RerankPlace y 1 4294967296; RerankPlace z 2 8589934592; Move d b.4 10 e.5 6442450944 b,a e",
+    ),
+    // each refusal, and before those behind it
+    ("", "move o e.5", "WrongType"),
+    ("", "move o b.4 7", "WrongType"),
+    ("", "move a a.5", "WouldCycle"),
+    ("", "move a d.5 7", "WouldCycle"),
+    ("New y 0 d.3 5", "move b d.3", "WouldCycle"),
+    ("", "move e a.5 3", "NoEntry"),
+    ("New y 0 e.3 5", "move d e.3 2", "NoEntry"),
+    ("New y 0 e.3 5", "move d e.3", "Bound"),
+    ("New y 0 e.4 5; New z 0 e.4 6", "move d e.4", "Bound"),
+];
+
+const DELETIONS: &[Case] = &[
+    ("", "delete o", "Gone o 1 / 30"),
+    (
+        "",
+        "delete a",
+        "Gone c 0 a.5 20; Gone d 0 b.4 10; Gone b 0 a.5 10; Gone a 0 / 10",
+    ),
+    // references out of the subtree: without an opposite, from the lesser feature of the two, and from the greater
+    (
+        "Link d 10 7 e -",
+        "delete b",
+        "Unlink d 10 7 e -; Gone d 0 b.4 10; Gone b 0 a.5 10",
+    ),
+    (
+        "Link d 8 7 e 9",
+        "delete b",
+        "Unlink d 8 7 e 9; Gone d 0 b.4 10; Gone b 0 a.5 10",
+    ),
+    (
+        "Link e 8 7 d 9",
+        "delete b",
+        "Unlink e 8 7 d 9; Gone d 0 b.4 10; Gone b 0 a.5 10",
+    ),
+    (
+        "Link e 6 7 d 9",
+        "delete d",
+        "Unlink e 6 7 d 9; Gone d 0 b.4 10",
+    ),
+    // references inside the subtree go once
+    (
+        "Link d 10 7 b -; Link b 11 5 b -",
+        "delete b",
+        "Unlink b 11 5 b -; Unlink d 10 7 b -; Gone d 0 b.4 10; Gone b 0 a.5 10",
+    ),
+    (
+        "Link b 8 7 d 9; Link d 6 5 b 6",
+        "delete b",
+        "Unlink d 6 5 b 6; Unlink b 8 7 d 9; Gone d 0 b.4 10; Gone b 0 a.5 10",
+    ),
+    (
+        "Link d 8 7 d 9",
+        "delete d",
+        "Unlink d 8 7 d 9; Gone d 0 b.4 10",
+    ),
+    // by number, and then in the list's order
+    (
+        "Link d 10 1 a -; Link d 8 7 e 9; Link d 8 3 c 5",
+        "delete d",
+        "Unlink d 8 3 c 5; Unlink d 8 7 e 9; Unlink d 10 1 a -; Gone d 0 b.4 10",
+    ),
+    // references to the subtree, by source and then by feature
+    (
+        "Link e 10 7 d -; Link c 11 9 d -; Link c 10 8 d -",
+        "delete d",
+        "Unlink c 10 8 d -; Unlink c 11 9 d -; Unlink e 10 7 d -; Gone d 0 b.4 10",
+    ),
+    (
+        "Link e 10 7 b -; Link b 10 5 c -",
+        "delete b",
+        "Unlink b 10 5 c -; Unlink e 10 7 b -; Gone d 0 b.4 10; Gone b 0 a.5 10",
+    ),
+    // values go behind the references, the last of a list first
+    (
+        "Put d 0 x; Ins d 2 0 u; Ins d 2 1 v; Put b 1 3; Link e 10 7 b -",
+        "delete b",
+        "Unlink e 10 7 b -; Put b 1 3 -; Put d 0 x -; Del d 2 1 v; Del d 2 0 u; Gone d 0 b.4 10; Gone b 0 a.5 10",
+    ),
+];
+
+const SUBTREES: &[Case] = &[
+    ("", "subtree o", "o"),
+    ("", "subtree a", "a b d c"),
+    // containments by number, then by rank, then by id
+    (
+        "New x 0 e.5 1; New y 0 e.4 2; New z 0 e.3 3",
+        "subtree e",
+        "e z y x",
+    ),
+    ("New x 0 e.5 2; New y 0 e.5 1", "subtree e", "e y x"),
+    ("New y 0 e.5 1; New x 0 e.5 1", "subtree e", "e x y"),
+];
+
+const SPOTS: &[Case] = &[
+    ("", "spot a.5 - 1", "15"),
+    ("", "spot a.5 b 0", "10"),
+    ("", "spot a.5 b 2", "NoEntry"),
+    (
+        "New y 0 e.5 1; New z 0 e.5 2",
+        "spot e.5 - 0",
+        "RerankPlace y 1 4294967296; RerankPlace z 2 8589934592; 2147483648",
+    ),
+];
+
+fn push_steps(alloc: Global, text: &str, steps: &mut Vec<Step>) -> Result<(), Fail> {
+    for line in text.split("; ") {
+        if !line.is_empty() {
+            steps.push(step(alloc, line)?)?;
+        }
+    }
+    Ok(())
+}
+
+// The tree, and what stands beside it.
+fn model(alloc: Global, meta: &Metamodel, beside: &str) -> Result<Plain, Fail>
+    requires { Sound meta.now }
+    ensures { IfOk result (λ p. Good meta.now (plain_state p)) }
+{
+    let mut steps = Vec::new(alloc);
+    push_steps(alloc, TREE, &mut steps)?;
+    push_steps(alloc, beside, &mut steps)?;
+    let mut plain = Plain::new(alloc);
+    replay(&mut plain, meta, steps.as_slice())?;
+    Ok(plain)
+}
+
+fn told(alloc: Global, answer: Result<List<Step>, MoveFault>) -> Result<String, Fail> {
+    match answer {
+        Ok(steps) => lines(alloc, &steps),
+        Err(fault) => Ok(format!(in alloc; "{fault:?}")?),
+    }
+}
+
+fn told_spot(alloc: Global, answer: Result<Spot, MoveFault>) -> Result<String, Fail> {
+    match answer {
+        Ok(spot) => {
+            let mut text = lines(alloc, &spot.steps)?;
+            if !text.is_empty() {
+                text.push_str("; ")?;
+            }
+            text.push_str(format!(in alloc; "{}", spot.rank)?.as_str())?;
+            Ok(text)
+        }
+        Err(fault) => Ok(format!(in alloc; "{fault:?}")?),
+    }
+}
+
+// The index, None for the end.
+fn index(word: Option<&str>) -> Result<Option<u32>, Fail> {
+    match word {
+        None => Ok(None),
+        Some(word) => Ok(Some(word.parse::<u32>()?)),
+    }
+}
+
+fn create(
+    alloc: Global,
+    meta: &Metamodel,
+    plain: &Plain,
+    words: &mut SplitWhitespace,
+) -> Result<String, Fail> {
+    let e = id(alloc, words)?;
+    let class = number(words)?;
+    let place = place(alloc, words)?;
+    told(alloc, create_steps(alloc, plain, meta, &e, class, &place))
+}
+
+fn move_element(
+    alloc: Global,
+    meta: &Metamodel,
+    plain: &Plain,
+    words: &mut SplitWhitespace,
+) -> Result<String, Fail>
+    requires { Good meta.now (plain_state plain.now) }
+{
+    let e = id(alloc, words)?;
+    let to = place(alloc, words)?;
+    let at = index(words.next())?;
+    if plain.class(&e).is_none() || !is_place(plain, meta, &to) {
+        return Err("no element, or no place")?;
+    }
+    told(alloc, move_steps(alloc, plain, meta, &e, &to, at))
+}
+
+// `-` skips no element.
+fn spot(alloc: Global, plain: &Plain, words: &mut SplitWhitespace) -> Result<String, Fail> {
+    let place = place(alloc, words)?;
+    let skip = words.next().unwrap_or("");
+    let at = index(words.next())?;
+    if skip == "-" {
+        return told_spot(alloc, spot_steps(alloc, plain, &place, None, at));
+    }
+    let skip = Id::read(alloc, skip)?;
+    told_spot(alloc, spot_steps(alloc, plain, &place, Some(&skip), at))
+}
+
+// What the edit's call answers.
+fn answer(alloc: Global, meta: &Metamodel, plain: &Plain, edit: &str) -> Result<String, Fail>
+    requires { Good meta.now (plain_state plain.now) }
+{
+    let mut words = edit.split_whitespace();
+    match words.next().unwrap_or("") {
+        "create" => create(alloc, meta, plain, &mut words),
+        "move" => move_element(alloc, meta, plain, &mut words),
+        "spot" => spot(alloc, plain, &mut words),
+        "delete" => {
+            let e = id(alloc, &mut words)?;
+            lines(alloc, &delete_steps(alloc, plain, meta, &e)?)
+        }
+        "subtree" => {
+            let e = id(alloc, &mut words)?;
+            ids(alloc, &subtree(alloc, plain, meta, &e)?, " ")
+        }
+        _ => Err("no such call")?,
+    }
+}
+
+#[test]
+fn edits_make_their_steps(rt: HostRuntime) -> Result<(), Fail> {
+    let alloc = rt.alloc();
+    let meta = parts(alloc)?;
+    for cases in [CREATIONS, MOVES_WITHIN, MOVES, DELETIONS, SUBTREES, SPOTS] {
+        for (beside, edit, want) in cases {
+            let plain = model(alloc, &meta, beside)?;
+            let got = answer(alloc, &meta, &plain, edit)?;
+            assert_eq!(rt; got.as_str(), *want, "{edit} beside {beside}");
+        }
+    }
+    Ok(())
+}
