@@ -21,7 +21,6 @@ use Rattle.edit_laws.specs.declared.fault.EditFault.{EditFault}
 use Rattle.edit_laws.specs.declared.fault.EditFault.TheVariants as faults
 use Rattle.recorder.specs.Recording.{recorded}
 use Rattle.data_lines.specs.Lines.{operation_lines}
-use Rattle.data_lines.specs.Validation.{validate_lines}
 use Rattle.emfjson_text.specs.Tree.{text}
 use Rattle.script_lang.specs.declared.command.Spec.{Spec}
 use Rattle.script_lang.specs.declared.command.Spec.TheVariants as specs
@@ -270,14 +269,6 @@ shown meta (Some workspace) = told (text meta (model_of meta workspace) ∷ []) 
 unfoldable pub decide_show : State → Meta → ℕ → Decision
 decide_show s meta ws = shown meta (workspace_of s ws)
 
-abbrev pub validated : Meta → Option Workspace → Decision
-validated meta None = refused refusals.NoWorkspace
-validated meta (Some workspace) = told (validate_lines meta (model_of meta workspace)) []
-
--- `validate WS`: the features of the working model that are below their lower bounds
-unfoldable pub decide_validate : State → Meta → ℕ → Decision
-decide_validate s meta ws = validated meta (workspace_of s ws)
-
 abbrev pub block_text : Option (List ℕ) → List ℕ
 block_text None = []
 block_text (Some text) = text
@@ -292,7 +283,6 @@ decide_begun s meta block (commands.Discard ws) = decide_discard s ws
 decide_begun s meta block (commands.Changes ws) = decide_changes s meta ws
 decide_begun s meta block (commands.Show ws) = decide_show s meta ws
 decide_begun s meta block (commands.Cat spec) = decide_cat meta spec
-decide_begun s meta block (commands.Validate ws) = decide_validate s meta ws
 
 -- before there is a metamodel, `init` alone is answered otherwise than so
 abbrev pub decide_with : State → Option Meta → Option (List ℕ) → Command → Decision

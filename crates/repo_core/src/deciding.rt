@@ -3,11 +3,11 @@ ghost use Rattle.std.specs.Prelude.{◌≡◌, ◌≢◌, ◌+◌, ◌-◌, ◌�
 ghost use Rattle.std.specs.Option.{option_copied};
 ghost use Rattle.ecore_json.specs.Metamodel.{metamodel_of};
 ghost use Rattle.op_form.specs.declared.event.Event.TheVariants.{Init, Checkout, Edit, Undo, Discard};
-ghost use Rattle.plain_repository.specs.Repository.{State, workspace_of, playable_with, refused, told, first_text, with_room, decide_init, unknown, decide_checkout, decide_edit, decide_undo, decide_discard, decide_changes, decide_show, decide_cat, decide_validate, refusal_of, id_words, decide_command, decide_line, block_text};
+ghost use Rattle.plain_repository.specs.Repository.{State, workspace_of, playable_with, refused, told, first_text, with_room, decide_init, unknown, decide_checkout, decide_edit, decide_undo, decide_discard, decide_changes, decide_show, decide_cat, refusal_of, id_words, decide_command, decide_line, block_text};
 ghost use Rattle.repo_core.specs.Decisions.{seen, CanMake, CanMakeIt, IsShortBlock};
 
 use crate::repo::{MOST_BYTES, Repo};
-use data_lines::{operation_lines, validate_lines};
+use data_lines::operation_lines;
 use ecore_json::{EcoreFault, read_metamodel};
 use ecore_meta::{List, Metamodel, Text};
 use edit_laws::{Edit, EditFault, Recorded};
@@ -198,7 +198,6 @@ impl Repo {
             Command::Changes { ws } => self.decide_changes(alloc, meta, *ws),
             Command::Show { ws } => self.decide_show(alloc, meta, *ws),
             Command::Cat { spec } => decide_cat(alloc, meta, spec),
-            Command::Validate { ws } => self.decide_validate(alloc, meta, *ws),
         }
     }
 
@@ -348,25 +347,6 @@ impl Repo {
         let model = workspace.model(alloc, meta)?;
         let mut lines = List::new(alloc);
         lines.push(write_model(alloc, &model, meta)?)?;
-        Ok(tell(lines, Text::new(alloc, "")?))
-    }
-
-    #[tactic(auto, unfolding(plain_repository::specs::Repository::decide_validate))]
-    fn decide_validate(
-        &self,
-        alloc: Global,
-        meta: &Metamodel,
-        ws: u32,
-    ) -> Result<Decision, AllocError>
-        requires begun { self.now.meta ≡ Some meta.now }
-        ensures decision { IfOk result (λ d. seen d ≡ decide_validate self.now meta.now ws) }
-        ensures made { IfOk result (λ d. CanMakeIt self.now d.made) }
-    {
-        let Some(workspace) = self.workspace(ws) else {
-            return Ok(refuse(alloc, Refusal::NoWorkspace));
-        };
-        let model = workspace.model(alloc, meta)?;
-        let lines = validate_lines(alloc, &model, meta)?;
         Ok(tell(lines, Text::new(alloc, "")?))
     }
 

@@ -5,7 +5,7 @@ use Rattle.script_lang.specs.declared.command.Spec.{Spec}
 use Rattle.script_lang.specs.declared.command.Command.{Command}
 use Rattle.script_lang.specs.declared.command.Command.TheVariants as commands
 use Rattle.script_lang.specs.Left.{Left}
-use Rattle.script_lang.specs.Command.{init_at, checkout_at, undo_at, discard_at, changes_at, show_at, cat_at, validate_at}
+use Rattle.script_lang.specs.Command.{init_at, checkout_at, undo_at, discard_at, changes_at, show_at, cat_at}
 use Rattle.script_lang.specs.Spelling.{IsCommand, spec_word}
 use Rattle.script_lang.proofs.Readings.{reads, tells, joined, Tells, told_as}
 use Rattle.script_lang.proofs.FieldLemmas.{number_kind, end_tells}
@@ -75,17 +75,6 @@ show_spelled left command e =
     tells (number_kind 1) left _ command e (λ ws a is_ws at_ws e1.
     let end = end_tells a _ command e1 in
     told_as (codes "show") left (commands.Show ws) command (decimal ws ∷ []) is_ws (at_ws [] end.0) refl end.1)
-
-pub validate_read : (ws : ℕ) → IsCommand (commands.Validate ws) → (column : ℕ) → validate_at (record { rest = joined (decimal ws ∷ []); column = column }) ≡ Ok (commands.Validate ws)
-unfolding validate_at
-validate_read ws is column = reads (number_kind 1) ws is [] column _ _ (λ a. refl)
-
-pub validate_spelled : (left : Left) (command : Command) → validate_at left ≡ Ok command → Tells (codes "validate") left command
-unfolding validate_at
-validate_spelled left command e =
-    tells (number_kind 1) left _ command e (λ ws a is_ws at_ws e1.
-    let end = end_tells a _ command e1 in
-    told_as (codes "validate") left (commands.Validate ws) command (decimal ws ∷ []) is_ws (at_ws [] end.0) refl end.1)
 
 pub cat_read : (spec : Spec) → IsCommand (commands.Cat spec) → (column : ℕ) → cat_at (record { rest = joined (spec_word spec ∷ []); column = column }) ≡ Ok (commands.Cat spec)
 unfolding cat_at

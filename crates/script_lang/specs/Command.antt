@@ -172,13 +172,6 @@ cat_at left = do
   end ← end_at spec.1
   Ok (commands.Cat spec.0)
 
--- behind `validate`: WS
-unfoldable pub validate_at : Left → Result Command ℕ
-validate_at left = do
-  ws ← number_at 1 left
-  end ← end_at ws.1
-  Ok (commands.Validate ws.0)
-
 -- a whole line: the first word names the command
 unfoldable pub command_of : List ℕ → Result Command ℕ
 command_of line = do
@@ -199,7 +192,6 @@ command_of line = do
       else if is_word first.0 (codes "changes") then changes_at first.1
       else if is_word first.0 (codes "show") then show_at first.1
       else if is_word first.0 (codes "cat") then cat_at first.1
-      else if is_word first.0 (codes "validate") then validate_at first.1
       else Err 1
 
 -- a call gave the command that reading gives, or its column

@@ -62,7 +62,6 @@ IsCommand (commands.Discard ws) = IsWorkspace ws
 IsCommand (commands.Changes ws) = IsWorkspace ws
 IsCommand (commands.Show ws) = IsWorkspace ws
 IsCommand (commands.Cat spec) = IsSpec spec
-IsCommand (commands.Validate ws) = IsWorkspace ws
 
 abbrev pub spec_word : Spec → List ℕ
 spec_word (Number n) = decimal n
@@ -117,7 +116,6 @@ words_of (commands.Discard ws) = codes "discard" ∷ decimal ws ∷ []
 words_of (commands.Changes ws) = codes "changes" ∷ decimal ws ∷ []
 words_of (commands.Show ws) = codes "show" ∷ decimal ws ∷ []
 words_of (commands.Cat spec) = codes "cat" ∷ spec_word spec ∷ []
-words_of (commands.Validate ws) = codes "validate" ∷ decimal ws ∷ []
 
 -- words with single spaces between them
 abbrev pub spaced : List (List ℕ) → List ℕ

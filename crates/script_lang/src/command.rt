@@ -33,6 +33,4 @@ pub enum Command {
     Show { ws: u32 },
     /// `cat SPEC`: the text of that version.
     Cat { spec: Spec },
-    /// `validate WS`: the features of the workspace's model that are below their lower bounds.
-    Validate { ws: u32 },
 }

@@ -1,6 +1,6 @@
 // A line as a command: one private function a command.
 ghost use Rattle.std.specs.Prelude.{◌≡◌, ◌-◌, ◌<◌, ◌^◌, length, IfOk, IfNone, IfSome, None, Some};
-ghost use Rattle.script_lang.specs.Command.{GivesCommand, GivesSpec, command_of, init_at, checkout_at, create_at, set_at, unset_at, add_at, remove_at, shift_at, link_at, unlink_at, reorder_at, undo_at, discard_at, changes_at, show_at, cat_at, validate_at, spec_of, spec_at, tag_of};
+ghost use Rattle.script_lang.specs.Command.{GivesCommand, GivesSpec, command_of, init_at, checkout_at, create_at, set_at, unset_at, add_at, remove_at, shift_at, link_at, unlink_at, reorder_at, undo_at, discard_at, changes_at, show_at, cat_at, spec_of, spec_at, tag_of};
 ghost use Rattle.script_lang.specs.declared.command.Spec.TheVariants.{Tag};
 
 use crate::words::{Words, bad_line, number_of};
@@ -39,7 +39,6 @@ pub fn parse_line(alloc: Global, line: &str) -> Result<Command, ParseFault>
         "changes" => changes(&mut words),
         "show" => show(&mut words),
         "cat" => cat(alloc, &mut words),
-        "validate" => validate(&mut words),
         _ => Err(ParseFault::BadLine { column: 1 }),
     }
 }
@@ -281,15 +280,6 @@ fn cat(alloc: Global, words: &mut Words<'_>) -> Result<Command, ParseFault>
     let spec = spec(alloc, words)?;
     words.end()?;
     Ok(Command::Cat { spec })
-}
-
-#[tactic(auto, unfolding(crate::specs::Command::validate_at))]
-fn validate(words: &mut Words<'_>) -> Result<Command, ParseFault>
-    ensures { GivesCommand result (validate_at words.old) }
-{
-    let ws = words.workspace()?;
-    words.end()?;
-    Ok(Command::Validate { ws })
 }
 
 /// The next word, which names a version.

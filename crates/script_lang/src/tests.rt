@@ -172,7 +172,7 @@ const REFERENCE_LINES: [Row; 24] = [
     ("reorder 1 b authors w 3 3", Err(25)),
 ];
 
-const WORKSPACE_LINES: [Row; 28] = [
+const WORKSPACE_LINES: [Row; 24] = [
     ("show 7", Ok("7 Show")),
     ("show", Err(5)),
     ("show 0", Err(6)),
@@ -181,10 +181,6 @@ const WORKSPACE_LINES: [Row; 28] = [
     ("cat 0", Ok("Cat Number 0")),
     ("cat", Err(4)),
     ("cat 0 1", Err(7)),
-    ("validate 1", Ok("1 Validate")),
-    ("validate", Err(9)),
-    ("validate x", Err(10)),
-    ("validate 1 ", Err(12)),
     ("undo 1", Ok("1 Undo")),
     ("undo", Err(5)),
     ("undo ", Err(6)),
@@ -218,7 +214,6 @@ fn shown(alloc: Global, command: &Command) -> Result<String, Fail> {
         Command::Checkout { spec } => shown_spec(alloc, "Checkout", spec)?,
         Command::Cat { spec } => shown_spec(alloc, "Cat", spec)?,
         Command::Show { ws } => format!(in alloc; "{ws} Show")?,
-        Command::Validate { ws } => format!(in alloc; "{ws} Validate")?,
         Command::Edit { ws, edit } => {
             let edit = shown_edit(alloc, edit)?;
             format!(in alloc; "{ws} {}", edit.as_str())?

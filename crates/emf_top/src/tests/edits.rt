@@ -59,6 +59,26 @@ op 3 many-attribute\n ins n tags 0 \"b\"\nop 4 many-attribute\n shift n tags 1 0
     ),
 ];
 
+const TEXTS: &[Session] = &[
+    (
+        b"show 1\ncreate 1 Note / n\nshow 1\nset 1 n title \"a \\\"b\\\" \\u0001\\n\xc3\xa9\"\nset 1 n stars 12\nadd 1 n tags end \"y\"\nadd 1 n tags 0 \"x\"\nshow 1\ncreate 1 Note / m\nunset 1 n title\nset 1 n stars 3\nshow 1\nshow 2\n",
+        b"[]\nok\nok n\n{\"_id\":\"n\",\"eClass\":\"http://notes/1#//Note\"}\nok\nok\nok\nok\nok\n\
+{\"_id\":\"n\",\"eClass\":\"http://notes/1#//Note\",\"stars\":12,\"tags\":[\"x\",\"y\"],\"title\":\"a \\\"b\\\" \\u0001\\n\xc3\xa9\"}\nok\nok m\nok\nok\n\
+[{\"_id\":\"n\",\"eClass\":\"http://notes/1#//Note\",\"tags\":[\"x\",\"y\"]},{\"_id\":\"m\",\"eClass\":\"http://notes/1#//Note\"}]\nok\nno 5 NoWorkspace\n",
+        Status::Refused,
+    ),
+    (
+        b"create 1 Note / n\ncat 0\ncat trunk\ncat 1\ncat main\ncat @n\nundo 1\nshow 1\n",
+        b"ok n\n[]\nok\n[]\nok\nno 6 NoVersion\nno 7 NoBranch\nno 6 NoVersion\nok\n[]\nok\n",
+        Status::Refused,
+    ),
+];
+
+#[test]
+fn a_model_is_told_as_its_text(rt: HostRuntime) -> Result<(), Fail> {
+    are_answered(&rt, rt.alloc(), NOTES, TEXTS)
+}
+
 #[test]
 fn edits_of_attributes_are_recorded_told_and_undone(rt: HostRuntime) -> Result<(), Fail> {
     are_answered(&rt, rt.alloc(), NOTES, EDITS)

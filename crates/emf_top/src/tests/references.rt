@@ -29,6 +29,17 @@ no 16 WrongKind\nok\nok\nok\nok\nok\nno 10 NoElement\nno 17 BadValue\n",
         Status::Refused,
     ),
     (
+        b"create 1 Book / a\ncreate 1 Book / b\ncreate 1 Book / c\ncreate 1 Book / x\nset 1 a sequel \"x\"\nset 1 c sequel \"b\"\nshow 1\nset 1 a sequel \"b\"\nshow 1\nundo 1\nshow 1\n",
+        b"ok a\nok b\nok c\nok x\nok\nok\n\
+[{\"_id\":\"a\",\"eClass\":\"http://shelf/1#//Book\",\"sequel\":{\"$ref\":\"x\"}},{\"_id\":\"b\",\"eClass\":\"http://shelf/1#//Book\",\"prequel\":{\"$ref\":\"c\"}},\
+{\"_id\":\"c\",\"eClass\":\"http://shelf/1#//Book\",\"sequel\":{\"$ref\":\"b\"}},{\"_id\":\"x\",\"eClass\":\"http://shelf/1#//Book\",\"prequel\":{\"$ref\":\"a\"}}]\nok\nok\n\
+[{\"_id\":\"a\",\"eClass\":\"http://shelf/1#//Book\",\"sequel\":{\"$ref\":\"b\"}},{\"_id\":\"b\",\"eClass\":\"http://shelf/1#//Book\",\"prequel\":{\"$ref\":\"a\"}},\
+{\"_id\":\"c\",\"eClass\":\"http://shelf/1#//Book\"},{\"_id\":\"x\",\"eClass\":\"http://shelf/1#//Book\"}]\nok\nok\n\
+[{\"_id\":\"a\",\"eClass\":\"http://shelf/1#//Book\",\"sequel\":{\"$ref\":\"x\"}},{\"_id\":\"b\",\"eClass\":\"http://shelf/1#//Book\",\"prequel\":{\"$ref\":\"c\"}},\
+{\"_id\":\"c\",\"eClass\":\"http://shelf/1#//Book\",\"sequel\":{\"$ref\":\"b\"}},{\"_id\":\"x\",\"eClass\":\"http://shelf/1#//Book\",\"prequel\":{\"$ref\":\"a\"}}]\nok\n",
+        Status::Accepted,
+    ),
+    (
         b"create 1 Writer / p\ncreate 1 Writer / q\ncreate 1 Writer / r\ncreate 1 Writer / s\nlink 1 p friends q\nlink 1 p friends r\nlink 1 p friends s\nlink 1 p friends q\n\
 unlink 1 p friends s\nunlink 1 p friends q\nlink 1 p friends s 0\nreorder 1 p friends r 0\nreorder 1 p friends r 2\nset 1 p friends \"q\"\n",
         b"ok p\nok q\nok r\nok s\nok\nok\nno 19 Bound\nno 20 AlreadyThere\nno 21 NoEntry\nok\nok\nok\nno 21 NoEntry\nno 16 WrongKind\n",
