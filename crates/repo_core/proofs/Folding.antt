@@ -110,7 +110,7 @@ cannot_fold meta start m os i d e (Err f) is_err is below same cannot = λ not_m
 pub recorded_follows : (meta : Meta) → Sound meta → (m : State) → Good meta m → (ws : ℕ) (edit : Edit) (r : Recorded) (o : Operation) → recorded meta m ws edit ≡ Ok r → r.operation ≡ Some o → is_some (fold_package meta m (o ∷ [])) ≡ true
 recorded_follows meta sound m good ws edit r o is operation_is =
     let leads = recording_leads meta sound m good ws edit r is in
-    one_follows meta m (after m leads.effect) o (subst (λ (x : Option Operation). fold meta m (steps_in x) ≡ Some (after m leads.effect)) operation_is leads.run)
+    one_follows meta m (after meta m leads.effect) o (subst (λ (x : Option Operation). fold meta m (steps_in x) ≡ Some (after meta m leads.effect)) operation_is leads.run)
 
 -- a workspace that lost its last operation, or stayed
 pub popped_folds : (meta : Meta) (old new : Workspace) (r : Result (Unit {0}) AllocError) → OnOk r (new ≡ without_last old) → OnErr r (new ≡ old) → is_some (folded meta old) ≡ true → is_some (folded meta new) ≡ true

@@ -139,18 +139,6 @@ fn first_text(alloc: Global, meta: &Metamodel) -> Result<List<Text>, AllocError>
     Ok(lines)
 }
 
-#[tactic(auto, unfolding(plain_repository::specs::Repository::decide_cat))]
-fn decide_cat(alloc: Global, meta: &Metamodel, spec: &Spec) -> Result<Decision, AllocError>
-    ensures decision { IfOk result (λ d. seen d ≡ decide_cat meta.now spec.now) }
-    ensures made { IfOk result (λ d. (s : State) → CanMakeIt s d.made) }
-{
-    if let Some(refusal) = unknown(spec) {
-        return Ok(refuse(alloc, refusal));
-    }
-    let lines = first_text(alloc, meta)?;
-    Ok(tell(lines, Text::new(alloc, "")?))
-}
-
 impl Repo {
     /// The answer to a line that gets one, and to the block behind it. It takes nothing of the repository.
     #[tactic(auto, unfolding(plain_repository::specs::Repository::decide_line))]
@@ -197,7 +185,7 @@ impl Repo {
             Command::Discard { ws } => self.decide_discard(alloc, *ws),
             Command::Changes { ws } => self.decide_changes(alloc, meta, *ws),
             Command::Show { ws } => self.decide_show(alloc, meta, *ws),
-            Command::Cat { spec } => decide_cat(alloc, meta, spec),
+            Command::Cat { spec } => self.decide_cat(alloc, meta, spec),
         }
     }
 
@@ -348,6 +336,26 @@ impl Repo {
         let mut lines = List::new(alloc);
         lines.push(write_model(alloc, &model, meta)?)?;
         Ok(tell(lines, Text::new(alloc, "")?))
+    }
+
+    #[tactic(auto, unfolding(plain_repository::specs::Repository::decide_cat))]
+    fn decide_cat(
+        &self,
+        alloc: Global,
+        meta: &Metamodel,
+        spec: &Spec,
+    ) -> Result<Decision, AllocError>
+        ensures decision { IfOk result (λ d. seen d ≡ decide_cat meta.now spec.now) }
+        ensures made { IfOk result (λ d. CanMakeIt self.now d.made) }
+    {
+        let _ = self;
+        match unknown(spec) {
+            Some(refusal) => Ok(refuse(alloc, refusal)),
+            None => {
+                let lines = first_text(alloc, meta)?;
+                Ok(tell(lines, Text::new(alloc, "")?))
+            }
+        }
     }
 
     /// Makes an event, where the history and the journal have room.
