@@ -1,3 +1,4 @@
 pub mod Lines
 pub mod Typed
+pub mod Validation
 pub mod Laws

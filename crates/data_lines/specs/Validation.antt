@@ -1,0 +1,76 @@
+-- Which features of which elements hold less than their lower bounds ask, and the lines that say so.
+use Rattle.std.specs.Prelude.{ℕ, Bool, false, ◌||◌, List, [], ◌∷◌, ◌++◌, Option, None, Some, cond, is_some, length, nat_eq, nat_lt, slice_get, unwrap_or}
+use Rattle.std.specs.FinMap.{get}
+use Rattle.std.specs.Fmt.{decimal}
+use Rattle.std.specs.Option.{option_map_or}
+use Rattle.ecore_meta.specs.Meta.{Meta}
+use Rattle.ecore_meta.specs.Typing.{kind_of}
+use Rattle.ecore_meta.specs.declared.meta.Kind.{Kind}
+use Rattle.ecore_meta.specs.declared.meta.Kind.TheVariants.{Attr, AttrMany, Bounded, Free, Contains, Container, Skip}
+use Rattle.ecore_meta.specs.declared.meta.Value.{Value}
+use Rattle.model_state.specs.declared.step.Place.{Place}
+use Rattle.model_state.specs.declared.step.Place.TheVariants.{Root, Inside}
+use Rattle.model_state.specs.Keys.{Name}
+use Rattle.model_state.specs.Listing.{children, ids, targets}
+use Rattle.model_state.specs.State.{State}
+use Rattle.data_lines.specs.Lines.{feature_name, spaced}
+
+-- the values of an attribute, none where it is not set
+abbrev pub values_at : State → Name → ℕ → List Value
+values_at m e f = unwrap_or (get m.attr (e, f)) []
+
+-- the element stands in that feature of the element around
+abbrev pub stands_in : ℕ → Option Place → Bool
+stands_in f None = false
+stands_in f (Some Root) = false
+stands_in f (Some (Inside a g)) = nat_eq f g
+
+abbrev pub one_if : Bool → ℕ
+one_if b = cond b 1 0
+
+-- how much a feature of an element holds: a single attribute one value where it is set or has a default, a container one
+-- where the element stands in its opposite, the others their entries
+abbrev pub held : State → Name → ℕ → Kind → ℕ
+held m e f (Attr scalar default) = one_if (is_some default || nat_lt 0 (length (values_at m e f)))
+held m e f (AttrMany scalar unique) = length (values_at m e f)
+held m e f (Bounded target opposite) = length (targets m.row e f)
+held m e f (Free target opposite) = length (targets m.row e f)
+held m e f (Contains target opposite) = length (children m.place m.prank (Inside e f))
+held m e f (Container target opposite) = one_if (stands_in opposite (get m.place e))
+held m e f Skip = 0
+
+abbrev pub held_in : Meta → State → Name → ℕ → ℕ
+held_in meta m e f = held m e f (kind_of meta f)
+
+-- the lower bound of a feature; 0 for those that are skipped, so that they are never short
+abbrev pub lower_in : Kind → ℕ → ℕ
+lower_in Skip lower = 0
+lower_in k lower = lower
+
+abbrev pub lower_of : Meta → ℕ → ℕ
+lower_of meta f = lower_in (kind_of meta f) (option_map_or (λ feature. feature.lower) (slice_get meta.features f) 0)
+
+-- the element, its feature, what it holds and what it has to hold
+abbrev pub shortage_line : Meta → State → Name → ℕ → List ℕ
+shortage_line meta m e f = e ++ spaced (feature_name meta f ∷ decimal (held_in meta m e f) ∷ decimal (lower_of meta f) ∷ [])
+
+abbrev pub line_if_short : Meta → State → Name → ℕ → List (List ℕ)
+line_if_short meta m e f = cond (nat_lt (held_in meta m e f) (lower_of meta f)) (shortage_line meta m e f ∷ []) []
+
+-- a line for each of the features that is short
+abbrev pub feature_lines : Meta → State → Name → List ℕ → List (List ℕ)
+feature_lines meta m e [] = []
+feature_lines meta m e (f ∷ fs) = line_if_short meta m e f ++ feature_lines meta m e fs
+
+-- the features of an element, by number
+abbrev pub features_at : Meta → Option ℕ → List ℕ
+features_at meta None = []
+features_at meta (Some c) = option_map_or (λ class. class.features) (slice_get meta.classes c) []
+
+abbrev pub element_lines : Meta → State → List Name → List (List ℕ)
+element_lines meta m [] = []
+element_lines meta m (e ∷ es) = feature_lines meta m e (features_at meta (get m.kind e)) ++ element_lines meta m es
+
+-- the elements in the order of their ids, and the features of each by number
+unfoldable pub validate_lines : Meta → State → List (List ℕ)
+validate_lines meta m = element_lines meta m (ids m)

@@ -1,0 +1,166 @@
+// The lines of features that are below their lower bounds.
+ghost use Rattle.std.specs.Prelude.{◌≡◌, ◌++◌, ◌∷◌, [], IfOk, OnOk, length, slice_get};
+ghost use Rattle.std.specs.Fmt.{decimal};
+ghost use Rattle.std.specs.Option.{option_copied, option_map};
+ghost use Rattle.std.specs.FinMap.{get};
+ghost use Rattle.model_state.specs.Listing.{children};
+ghost use Rattle.model_state.specs.declared.step.Place.TheVariants.{Inside};
+ghost use Rattle.data_lines.specs.Lines.{spaced};
+ghost use Rattle.data_lines.specs.Validation.{feature_lines, features_at, held, line_if_short, lower_in, stands_in, validate_lines};
+
+use crate::line::Line;
+use ecore_meta::{Feature, Kind, List, Metamodel, Text};
+use model_state::{Id, Look, Place, Placed};
+use std::alloc::{AllocError, Global};
+
+/// The lines of the features that are below their lower bounds, `ID FEATURE COUNT LOWER`: the elements in the order of their
+/// ids, and the features of each by number. A single attribute counts 1 where it is set or has a default, the reference to
+/// the element around 1 where the element stands in its opposite; the others count their entries. Skipped features
+/// aren't tested.
+#[tactic(auto, unfolding(crate::specs::Validation::validate_lines))]
+pub fn validate_lines<L: Look>(
+    alloc: Global,
+    look: &L,
+    meta: &Metamodel,
+) -> Result<List<Text>, AllocError>
+    ensures lines { IfOk result (λ lines. lines ≡ validate_lines meta.now (L.state look.now)) }
+{
+    let mut lines = List::new(alloc);
+    let ids = look.ids(alloc)?;
+    for e in ids.as_slice() {
+        push_shortages(alloc, &mut lines, look, meta, e)?;
+    }
+    Ok(lines)
+}
+
+/// The feature of that number, where there is one.
+fn feature(meta: &Metamodel, f: u32) -> Option<&Feature>
+    ensures { option_copied result ≡ slice_get meta.now.features f }
+{
+    if f < meta.feature_count() {
+        Some(meta.feature(f))
+    } else {
+        None
+    }
+}
+
+/// The numbers of the features of a class, none where there is no such class.
+fn features_at(meta: &Metamodel, class: Option<u32>) -> &[u32]
+    ensures { result.now ≡ features_at meta.now class }
+{
+    match class {
+        None => &[],
+        Some(class) => {
+            if class < meta.class_count() {
+                meta.class(class).features.as_slice()
+            } else {
+                &[]
+            }
+        }
+    }
+}
+
+/// The lines of an element.
+fn push_shortages<L: Look>(
+    alloc: Global,
+    lines: &mut List<Text>,
+    look: &L,
+    meta: &Metamodel,
+    e: &Id,
+) -> Result<(), AllocError>
+    ensures { OnOk result (lines.new ≡ lines.old ++ feature_lines meta.now (L.state look.now) e.now (features_at meta.now (get (L.state look.now).kind e.now))) }
+{
+    let features = features_at(meta, look.class(e));
+    for f in features {
+        push_if_short(alloc, lines, look, meta, e, *f)?;
+    }
+    Ok(())
+}
+
+/// The line of a feature, where it is short.
+fn push_if_short<L: Look>(
+    alloc: Global,
+    lines: &mut List<Text>,
+    look: &L,
+    meta: &Metamodel,
+    e: &Id,
+    f: u32,
+) -> Result<(), AllocError>
+    ensures { OnOk result (lines.new ≡ lines.old ++ line_if_short meta.now (L.state look.now) e.now f) }
+{
+    let Some(feature) = feature(meta, f) else {
+        return Ok(());
+    };
+    let count = held(alloc, look, e, f, &feature.kind)?;
+    let lower = lower_in(feature);
+    if count < lower {
+        lines.push(shortage_line(alloc, e, feature, count, lower)?)?;
+    }
+    Ok(())
+}
+
+fn shortage_line(
+    alloc: Global,
+    e: &Id,
+    feature: &Feature,
+    count: u64,
+    lower: u64,
+) -> Result<Text, AllocError>
+    ensures { IfOk result (λ t. t ≡ e.now ++ spaced (feature.now.name ∷ decimal count ∷ decimal lower ∷ [])) }
+{
+    let mut line = Line::new(alloc);
+    line.push(e.as_str())?;
+    line.push_word(feature.name.as_str())?;
+    line.push_number(count)?;
+    line.push_number(lower)?;
+    line.into_text()
+}
+
+fn lower_in(feature: &Feature) -> u64
+    ensures { result ≡ lower_in feature.now.kind feature.now.lower }
+{
+    match &feature.kind {
+        Kind::Skip => 0,
+        _ => feature.lower as u64,
+    }
+}
+
+fn stands_in(feature: u32, placed: Option<&Placed>) -> bool
+    ensures { result ≡ stands_in feature (option_map (λ p. p.place) (option_copied placed.entry)) }
+{
+    match placed {
+        None => false,
+        Some(placed) => match &placed.place {
+            Place::Root => false,
+            Place::Inside { feature: at, .. } => feature == *at,
+        },
+    }
+}
+
+fn children_in<L: Look>(alloc: Global, look: &L, e: &Id, f: u32) -> Result<u64, AllocError>
+    ensures { IfOk result (λ n. n ≡ length (children (L.state look.now).place (L.state look.now).prank (Inside e.now f))) }
+{
+    let place = Place::Inside {
+        parent: e.copy(alloc)?,
+        feature: f,
+    };
+    Ok(look.children(alloc, &place)?.len() as u64)
+}
+
+/// How much the feature of the element holds.
+fn held<L: Look>(alloc: Global, look: &L, e: &Id, f: u32, kind: &Kind) -> Result<u64, AllocError>
+    ensures { IfOk result (λ n. n ≡ held (L.state look.now) e.now f kind.now) }
+{
+    match kind {
+        Kind::Attr { default, .. } => {
+            let is_held = default.is_some() || look.attr(e, f).len() > 0;
+            Ok(is_held as u64)
+        }
+        Kind::AttrMany { .. } => Ok(look.attr(e, f).len() as u64),
+        Kind::Bounded { .. } => Ok(look.targets(alloc, e, f)?.len() as u64),
+        Kind::Free { .. } => Ok(look.targets(alloc, e, f)?.len() as u64),
+        Kind::Contains { .. } => children_in(alloc, look, e, f),
+        Kind::Container { opposite, .. } => Ok(stands_in(*opposite, look.placed(e)) as u64),
+        Kind::Skip => Ok(0),
+    }
+}
