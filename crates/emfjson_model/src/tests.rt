@@ -347,3 +347,37 @@ fn rows_stand_in_the_order_of_a_walk(rt: HostRuntime) -> Result<(), Fail> {
     }
     Ok(())
 }
+
+// A root with one fault, the fault's number, and when it is looked for: 0 on the walk, 1 with the references, 2 with the bounds of merged lists.
+const FAULTY: [(&str, u32, u32); 11] = [
+    (r#"{"eClass":"//Page"}"#, 2, 0),
+    (r#"{"eClass":"//Thing"}"#, 3, 0),
+    (r#"{"eClass":"//Book","x":1}"#, 4, 0),
+    (r#"{"eClass":"//Book","pages":"7"}"#, 5, 0),
+    (r#"{"eClass":"//Shelf","_id":"d","parts":[{"_id":"d"}]}"#, 7, 0),
+    (r#"{"eClass":"//Book","_id":"a b"}"#, 8, 0),
+    (r#"{"eClass":"//Shelf","parts":[{},{},{}]}"#, 9, 0),
+    (r#"{"eClass":"//Shelf","parts":[5]}"#, 10, 0),
+    (r#"{"eClass":"//Book","sequel":{"$ref":"none"}}"#, 6, 1),
+    (r#"{"eClass":"//Book","_id":"t","authors":[{"$ref":"t"}]}"#, 10, 1),
+    (r#"{"eClass":"//Library","books":[{"_id":"m"},{"sequel":{"$ref":"m"}},{"sequel":{"$ref":"m"}}]}"#, 9, 2),
+];
+
+#[test]
+fn of_two_faults_the_first_is_told(rt: HostRuntime) -> Result<(), Fail> {
+    let alloc = rt.alloc();
+    let meta = library(alloc)?;
+    for (i, (one, first, sooner)) in FAULTY.iter().enumerate() {
+        for (j, (other, second, later)) in FAULTY.iter().enumerate() {
+            if i != j {
+                let text = format!(in alloc; "[{one},{other}]")?;
+                let wanted = if *sooner <= *later { *first } else { *second };
+                match read_model(alloc, text.as_str(), &meta) {
+                    Ok(_) => assert!(&rt; false, "{text}"),
+                    Err(fault) => assert_eq!(&rt; fault.number(), wanted, "{text}"),
+                }
+            }
+        }
+    }
+    Ok(())
+}

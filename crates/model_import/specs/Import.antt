@@ -1,0 +1,48 @@
+-- What is recorded of a document that is brought in.
+use Rattle.std.specs.Prelude.{◌≡◌, ◌⊎◌, ℕ, true, List, [], ◌∷◌, ◌++◌, Option, None, Some, Result, Ok, Err, codes, if◌then◌else◌}
+use Rattle.ecore_meta.specs.Meta.{Meta}
+use Rattle.model_state.specs.declared.operation.Operation.{Operation}
+use Rattle.model_state.specs.declared.operation.Operation.TheVariants.{Composite}
+use Rattle.model_state.specs.declared.step.Place.TheVariants.{Root}
+use Rattle.model_state.specs.declared.step.Step.{Step}
+use Rattle.model_state.specs.Keys.{Name}
+use Rattle.model_state.specs.Listing.{children}
+use Rattle.model_state.specs.State.{State}
+use Rattle.edit_laws.specs.declared.fault.EditFault.{EditFault}
+use Rattle.edit_laws.specs.declared.fault.EditFault.TheVariants.{IdInUse, Memory}
+use Rattle.emfjson_model.specs.declared.doc.DocRow.{DocRow}
+use Rattle.model_import.specs.Names.{AreNames, any_in_use}
+use Rattle.model_import.specs.News.{news_made}
+use Rattle.model_import.specs.Values.{values_made}
+use Rattle.model_import.specs.Links.{links_made}
+
+-- the answer is the one that is due, or want of memory
+abbrev pub Answers : {A : Type 0} → Result A EditFault → Result A EditFault → Type 0
+Answers (Ok x) due = due ≡ Ok x
+Answers (Err fault) due = (fault ≡ Memory) ⊎ (due ≡ Err fault)
+
+-- the elements come, then they get their values, then they are linked
+abbrev pub and_then : Result (List Step) EditFault → List Step → Result (List Step) EditFault
+and_then (Err fault) more = Err fault
+and_then (Ok steps) more = Ok (steps ++ more)
+
+abbrev pub steps_made : Meta → State → List Name → List DocRow → Result (List Step) EditFault
+steps_made meta m names rows = and_then (news_made (children m.place m.prank Root) names rows) (values_made meta names rows ++ links_made meta names rows)
+
+-- one composite of the name `import`, none where there is no element
+abbrev pub composite : List DocRow → List Step → Option Operation
+composite [] steps = None
+composite (r ∷ rows) steps = Some (Composite (codes "import") steps)
+
+abbrev pub of_steps : List DocRow → Result (List Step) EditFault → Result (Option Operation) EditFault
+of_steps rows (Err fault) = Err fault
+of_steps rows (Ok steps) = Ok (composite rows steps)
+
+-- no id that the document gives is live
+abbrev pub import_of : Meta → State → List Name → List DocRow → Result (Option Operation) EditFault
+import_of meta m names rows = if any_in_use m rows then Err IdInUse else of_steps rows (steps_made meta m names rows)
+
+-- the answer is what is recorded of the document with the ids that its elements get, or want of memory, or why it is refused
+abbrev pub Imports : Meta → State → ℕ → List DocRow → Result (Option Operation) EditFault → Type 0
+Imports meta m ws rows (Ok operation) = (names : List Name) × AreNames m rows ws 1 rows names × (import_of meta m names rows ≡ Ok operation)
+Imports meta m ws rows (Err fault) = (fault ≡ Memory) ⊎ ((any_in_use m rows ≡ true) × (fault ≡ IdInUse)) ⊎ ((names : List Name) × AreNames m rows ws 1 rows names × (import_of meta m names rows ≡ Err fault))

@@ -1,0 +1,6 @@
+pub mod Names
+pub mod Roots
+pub mod News
+pub mod Values
+pub mod Links
+pub mod Import

@@ -1,0 +1,45 @@
+-- The ids that the elements of a document get.
+use Rattle.std.specs.Prelude.{◌≡◌, ℕ, ◌+◌, ◌<◌, ◌≤◌, Bool, true, false, ◌||◌, List, [], ◌∷◌, Option, None, Some, slice_get, unwrap_or}
+use Rattle.std.specs.List.{list_any}
+use Rattle.finite_maps.specs.Equal.{option_eq, text_eq}
+use Rattle.model_state.specs.Keys.{Name}
+use Rattle.model_state.specs.State.{State, is_live}
+use Rattle.edit_laws.specs.FreshIds.{numbered}
+use Rattle.emfjson_model.specs.declared.doc.DocRow.{DocRow}
+
+abbrev pub has_id : Name → DocRow → Bool
+has_id e r = option_eq text_eq r.id (Some e)
+
+-- the id is live, or the document gives it
+abbrev pub is_taken : State → List DocRow → Name → Bool
+is_taken m rows e = is_live m e || list_any (has_id e) rows
+
+-- the number is the first from the given one on whose id is not taken
+pub record IsNext (m : State) (rows : List DocRow) (ws from k : ℕ) : Type 0 where
+  pub from_there : from ≤ k
+  pub free : is_taken m rows (numbered ws k) ≡ false
+  pub before : (j : ℕ) → from ≤ j → j < k → is_taken m rows (numbered ws j) ≡ true
+
+-- the id of a row is the one that the document gives, or else the fresh one of the next number; the numbers go on from next
+abbrev pub IsName : State → List DocRow → ℕ → ℕ → Option Name → Name → ℕ → Type 0
+IsName m rows ws from (Some id) x next = (x ≡ id) × (next ≡ from)
+IsName m rows ws from None x next = (k : ℕ) × (x ≡ numbered ws k) × IsNext m rows ws from k × (next ≡ k + 1)
+
+-- the ids of some rows in order, where fresh numbers go on from the given one
+abbrev pub AreNames : State → List DocRow → ℕ → ℕ → List DocRow → List Name → Type 0
+AreNames m rows ws from [] [] = Unit {0}
+AreNames m rows ws from [] (x ∷ xs) = ⊥
+AreNames m rows ws from (r ∷ rest) [] = ⊥
+AreNames m rows ws from (r ∷ rest) (x ∷ xs) = (next : ℕ) × IsName m rows ws from r.id x next × AreNames m rows ws next rest xs
+
+-- the id of the n-th element
+abbrev pub name_at : List Name → ℕ → Name
+name_at names n = unwrap_or (slice_get names n) []
+
+-- the document gives an id that is live
+abbrev pub in_use : State → Option Name → Bool
+in_use m None = false
+in_use m (Some id) = is_live m id
+
+abbrev pub any_in_use : State → List DocRow → Bool
+any_in_use m rows = list_any (λ (r : DocRow). in_use m r.id) rows

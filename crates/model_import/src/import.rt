@@ -1,0 +1,100 @@
+ghost use Rattle.std.specs.Prelude.{◌≡◌, IfOk, length};
+ghost use Rattle.model_import.specs.Import.{Answers, Imports, composite, of_steps, steps_made};
+
+use crate::links::add_links;
+use crate::names::{any_in_use, names};
+use crate::news::news;
+use crate::values::add_values;
+use ecore_meta::{List, Metamodel, Text};
+use edit_laws::EditFault;
+use emfjson_model::{Doc, DocRow};
+use model_state::{Id, Look, Operation, Step};
+use std::alloc::{AllocError, Global};
+
+/// The steps: the elements come, then they get their values, then they are linked.
+fn steps<L: Look>(
+    alloc: Global,
+    look: &L,
+    meta: &Metamodel,
+    names: &[Id],
+    rows: &[DocRow],
+) -> Result<List<Step>, EditFault>
+    requires { length names.now ≡ length rows.now }
+    ensures { Answers result (steps_made meta.now (L.state look.now) names.now rows.now) }
+{
+    match news(alloc, look, names, rows) {
+        Err(fault) => Err(fault),
+        Ok(news) => {
+            let mut steps = news;
+            if add_values(alloc, meta, names, rows, &mut steps).is_err() {
+                return Err(EditFault::Memory);
+            }
+            if add_links(alloc, meta, names, rows, &mut steps).is_err() {
+                return Err(EditFault::Memory);
+            }
+            Ok(steps)
+        }
+    }
+}
+
+fn composite(
+    alloc: Global,
+    rows: &[DocRow],
+    steps: List<Step>,
+) -> Result<Option<Operation>, AllocError>
+    ensures { IfOk result (λ o. o ≡ composite rows.now steps) }
+{
+    match rows {
+        [] => Ok(None),
+        [_, ..] => Ok(Some(Operation::Composite {
+            name: Text::new(alloc, "import")?,
+            steps,
+        })),
+    }
+}
+
+/// What is recorded of a document with these ids.
+fn recorded<L: Look>(
+    alloc: Global,
+    look: &L,
+    meta: &Metamodel,
+    names: &[Id],
+    rows: &[DocRow],
+) -> Result<Option<Operation>, EditFault>
+    requires { length names.now ≡ length rows.now }
+    ensures { Answers result (of_steps rows.now (steps_made meta.now (L.state look.now) names.now rows.now)) }
+{
+    match steps(alloc, look, meta, names, rows) {
+        Err(fault) => Err(fault),
+        Ok(steps) => match composite(alloc, rows, steps) {
+            Err(_) => Err(EditFault::Memory),
+            Ok(operation) => Ok(operation),
+        },
+    }
+}
+
+/// Records that a document is brought in, as one composite of the name `import`: its roots come behind the last element at the
+/// root, and elements without an id get fresh ones of the workspace. A document without elements makes no operation.
+///
+/// # Errors
+///
+/// `IdInUse` where the document gives an id that is live; `Bound` where the root is to be ranked anew and has 4,294,967,295
+/// elements or more; `Memory`.
+pub fn import_doc<L: Look>(
+    alloc: Global,
+    look: &L,
+    meta: &Metamodel,
+    ws: u32,
+    doc: &Doc,
+) -> Result<Option<Operation>, EditFault>
+    ensures made { Imports meta.now (L.state look.now) ws doc.now.rows result }
+{
+    let rows = doc.rows.as_slice();
+    if any_in_use(look, rows) {
+        return Err(EditFault::IdInUse);
+    }
+    match names(alloc, look, rows, ws) {
+        Err(_) => Err(EditFault::Memory),
+        Ok(names) => recorded(alloc, look, meta, names.as_slice(), rows),
+    }
+}

@@ -1,0 +1,14 @@
+//! A document is brought into a model as one composite: its elements come, get their values, and are linked.
+#![tactic(auto)]
+
+mod import;
+mod links;
+mod names;
+mod news;
+mod roots;
+#[cfg(test)]
+mod tests;
+mod values;
+
+pub use edit_laws::EditFault;
+pub use import::import_doc;

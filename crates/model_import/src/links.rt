@@ -1,0 +1,221 @@
+ghost use Rattle.std.specs.Prelude.{◌≡◌, ◌++◌, IfOk, OnOk, length, Some, option_copied, slice_get};
+ghost use Rattle.edit_laws.specs.Rows.{link_step};
+ghost use Rattle.emfjson_model.specs.Merged.{targets_at};
+ghost use Rattle.model_import.specs.Links.{index_in, is_made, link_to, links_made, mirror_of, refs_at, refs_made, targets_made};
+
+use crate::names::name_at;
+use crate::news::rank_of;
+use ecore_meta::{List, Metamodel};
+use emfjson_model::{DocRefs, DocRow};
+use model_state::{Id, Step, opposite_of};
+use std::alloc::{AllocError, Global};
+
+/// Whether the link was made from the other side.
+fn is_made(opposite: Option<u32>, n: usize, f: u32, b: usize) -> bool
+    ensures { result ≡ is_made opposite n f b }
+{
+    match opposite {
+        None => false,
+        Some(g) => b < n || b == n && g < f,
+    }
+}
+
+/// Where a number stands in a list, its length if it does not.
+fn index_in(numbers: &[usize], n: usize) -> usize
+    ensures { result ≡ index_in n numbers.now }
+{
+    let mut index: usize = 0;
+    for other in numbers {
+        if n == *other {
+            return index;
+        }
+        index += 1;
+    }
+    index
+}
+
+fn targets_at(refs: &[DocRefs], f: u32) -> &[usize]
+    ensures { result.now ≡ targets_at f refs.now }
+{
+    for r in refs {
+        if f == r.feature {
+            return r.targets.as_slice();
+        }
+    }
+    &[]
+}
+
+fn refs_at(rows: &[DocRow], b: usize) -> &[DocRefs]
+    ensures { result.now ≡ refs_at rows.now b }
+{
+    match rows.get(b) {
+        None => &[],
+        Some(row) => row.refs.as_slice(),
+    }
+}
+
+/// The rank of the mirror of a link of row n to the target b.
+fn mirror_of(rows: &[DocRow], opposite: Option<u32>, n: usize, b: usize) -> u64
+    ensures { result ≡ mirror_of rows.now opposite n b }
+{
+    match opposite {
+        None => 0,
+        Some(g) => rank_of(index_in(targets_at(refs_at(rows, b), g), n)),
+    }
+}
+
+/// The link of a row and its mirror, written from the side whose feature has the lesser number.
+fn link_step(
+    alloc: Global,
+    opposite: Option<u32>,
+    a: &Id,
+    f: u32,
+    ra: u64,
+    b: &Id,
+    rb: u64,
+) -> Result<Step, AllocError>
+    ensures { IfOk result (λ s. s ≡ link_step opposite a.now f ra b.now rb) }
+{
+    let a = a.copy(alloc)?;
+    let b = b.copy(alloc)?;
+    match opposite {
+        None => Ok(Step::Link {
+            a,
+            f,
+            ra,
+            b,
+            rb: None,
+        }),
+        Some(g) => {
+            if g < f {
+                Ok(Step::Link {
+                    a: b,
+                    f: g,
+                    ra: rb,
+                    b: a,
+                    rb: Some(ra),
+                })
+            } else {
+                Ok(Step::Link {
+                    a,
+                    f,
+                    ra,
+                    b,
+                    rb: Some(rb),
+                })
+            }
+        }
+    }
+}
+
+/// The link of row n, whose id is e, to the target b at index k of its list, where it isn't made yet.
+fn add_link(
+    alloc: Global,
+    meta: &Metamodel,
+    rows: &[DocRow],
+    n: usize,
+    e: &Id,
+    f: u32,
+    k: usize,
+    b: usize,
+    name: &Id,
+    steps: &mut List<Step>,
+) -> Result<(), AllocError>
+    ensures { OnOk result (steps.new ≡ steps.old ++ link_to meta.now rows.now n e.now f k b (Some name.now)) }
+{
+    let opposite = opposite_of(meta, f);
+    if is_made(opposite, n, f, b) {
+        return Ok(());
+    }
+    let mirror = mirror_of(rows, opposite, n, b);
+    steps.push(link_step(alloc, opposite, e, f, rank_of(k), name, mirror)?)?;
+    Ok(())
+}
+
+fn named(names: &[Id], b: usize) -> Option<&Id>
+    ensures { option_copied result ≡ slice_get names.now b }
+{
+    names.get(b)
+}
+
+fn add_target(
+    alloc: Global,
+    meta: &Metamodel,
+    names: &[Id],
+    rows: &[DocRow],
+    n: usize,
+    e: &Id,
+    f: u32,
+    k: usize,
+    b: usize,
+    steps: &mut List<Step>,
+) -> Result<(), AllocError>
+    ensures { OnOk result (steps.new ≡ steps.old ++ link_to meta.now rows.now n e.now f k b (slice_get names.now b)) }
+{
+    match named(names, b) {
+        None => Ok(()),
+        Some(name) => add_link(alloc, meta, rows, n, e, f, k, b, name, steps),
+    }
+}
+
+fn add_targets(
+    alloc: Global,
+    meta: &Metamodel,
+    names: &[Id],
+    rows: &[DocRow],
+    n: usize,
+    e: &Id,
+    refs: &DocRefs,
+    steps: &mut List<Step>,
+) -> Result<(), AllocError>
+    ensures { OnOk result (steps.new ≡ steps.old ++ targets_made meta.now names.now rows.now n e.now refs.now.feature 0 refs.now.targets) }
+{
+    for (k, b) in refs.targets.as_slice().iter().enumerate() {
+        add_target(alloc, meta, names, rows, n, e, refs.feature, k, *b, steps)?;
+    }
+    Ok(())
+}
+
+fn add_refs(
+    alloc: Global,
+    meta: &Metamodel,
+    names: &[Id],
+    rows: &[DocRow],
+    n: usize,
+    e: &Id,
+    refs: &[DocRefs],
+    steps: &mut List<Step>,
+) -> Result<(), AllocError>
+    ensures { OnOk result (steps.new ≡ steps.old ++ refs_made meta.now names.now rows.now n e.now refs.now) }
+{
+    for list in refs {
+        add_targets(alloc, meta, names, rows, n, e, list, steps)?;
+    }
+    Ok(())
+}
+
+/// The steps in which the elements of a document are linked.
+pub(crate) fn add_links(
+    alloc: Global,
+    meta: &Metamodel,
+    names: &[Id],
+    rows: &[DocRow],
+    steps: &mut List<Step>,
+) -> Result<(), AllocError>
+    requires { length names.now ≡ length rows.now }
+    ensures { OnOk result (steps.new ≡ steps.old ++ links_made meta.now names.now rows.now) }
+{
+    for (n, row) in rows.iter().enumerate() {
+        add_refs(
+            alloc,
+            meta,
+            names,
+            rows,
+            n,
+            name_at(names, n),
+            row.refs.as_slice(),
+            steps,
+        )?;
+    }
+    Ok(())
+}

@@ -1,0 +1,140 @@
+ghost use Rattle.std.specs.Prelude.{◌≡◌, ◌<◌, ◌^◌, ◌-◌, IfOk, None, length};
+ghost use Rattle.std.specs.List.{list_any};
+ghost use Rattle.model_state.specs.Ident.{is_id};
+ghost use Rattle.edit_laws.specs.FreshIds.{numbered};
+ghost use Rattle.model_import.specs.Names.{AreNames, IsName, IsNext, any_in_use, has_id, in_use, is_taken, name_at};
+
+use ecore_meta::List;
+use emfjson_model::DocRow;
+use model_state::{Id, IdFault, Look};
+use std::alloc::{AllocError, Global};
+
+/// The id of a row, and the number from which fresh ones go on.
+#[derive(Debug, Drop)]
+struct Named {
+    id: Id,
+    next: u64,
+}
+
+/// The id of a workspace with that number: `w`, the workspace's number, `n` and the number.
+fn numbered(alloc: Global, ws: u32, k: u64) -> Result<Id, AllocError>
+    ensures { IfOk result (λ id. id ≡ numbered ws k) }
+{
+    let text = format!(in alloc; "w{ws}n{k}")?;
+    match Id::read(alloc, text.as_str()) {
+        Ok(id) => Ok(id),
+        Err(IdFault::Bad) => unreachable!(),
+        Err(IdFault::Memory) => Err(AllocError),
+    }
+}
+
+fn has_id(row: &DocRow, e: &Id) -> bool
+    ensures { result ≡ has_id e.now row.now }
+{
+    match &row.id {
+        None => false,
+        Some(id) => id == e,
+    }
+}
+
+fn is_given(rows: &[DocRow], e: &Id) -> bool
+    ensures { result ≡ list_any (has_id e.now) rows.now }
+{
+    rows.iter().any(|row| has_id(row, e))
+}
+
+/// Whether an id is live, or the document gives it.
+fn is_taken<L: Look>(look: &L, rows: &[DocRow], e: &Id) -> bool
+    ensures { result ≡ is_taken (L.state look.now) rows.now e.now }
+{
+    look.class(e).is_some() || is_given(rows, e)
+}
+
+/// The fresh id of the first number from the given one on.
+fn fresh<L: Look>(
+    alloc: Global,
+    look: &L,
+    rows: &[DocRow],
+    ws: u32,
+    from: u64,
+) -> Result<Named, AllocError>
+    ensures { IfOk result (λ n. IsName (L.state look.now) rows.now ws from None n.id n.next) }
+{
+    for k in from..u64::MAX {
+        let id = numbered(alloc, ws, k)?;
+        if !is_taken(look, rows, &id) {
+            return Ok(Named { id, next: k + 1 });
+        }
+    }
+    // No memory holds so many elements.
+    Err(AllocError)
+}
+
+/// The id of a row: the one that the document gives, or else a fresh one.
+fn name_of<L: Look>(
+    alloc: Global,
+    look: &L,
+    rows: &[DocRow],
+    ws: u32,
+    from: u64,
+    id: &Option<Id>,
+) -> Result<Named, AllocError>
+    ensures { IfOk result (λ n. IsName (L.state look.now) rows.now ws from id.now n.id n.next) }
+{
+    match id {
+        None => fresh(alloc, look, rows, ws, from),
+        Some(id) => Ok(Named {
+            id: id.copy(alloc)?,
+            next: from,
+        }),
+    }
+}
+
+/// The ids that the rows get, in order.
+pub(crate) fn names<L: Look>(
+    alloc: Global,
+    look: &L,
+    rows: &[DocRow],
+    ws: u32,
+) -> Result<List<Id>, AllocError>
+    ensures names { IfOk result (λ names. AreNames (L.state look.now) rows.now ws 1 rows.now names) }
+    ensures as_many { IfOk result (λ names. length names ≡ length rows.now) }
+{
+    let mut names = List::new(alloc);
+    let mut from: u64 = 1;
+    for row in rows {
+        let named = name_of(alloc, look, rows, ws, from, &row.id)?;
+        names.push(named.id)?;
+        from = named.next;
+    }
+    Ok(names)
+}
+
+/// The id of a row.
+pub(crate) fn name_at(names: &[Id], n: usize) -> &Id
+    requires { n < length names.now }
+    ensures { result.now ≡ name_at names.now n }
+{
+    &names[n]
+}
+
+fn in_use<L: Look>(look: &L, id: &Option<Id>) -> bool
+    ensures { result ≡ in_use (L.state look.now) id.now }
+{
+    match id {
+        None => false,
+        Some(id) => look.class(id).is_some(),
+    }
+}
+
+/// Whether the document gives an id that is live.
+pub(crate) fn any_in_use<L: Look>(look: &L, rows: &[DocRow]) -> bool
+    ensures { result ≡ any_in_use (L.state look.now) rows.now }
+{
+    for row in rows {
+        if in_use(look, &row.id) {
+            return true;
+        }
+    }
+    false
+}
