@@ -41,13 +41,22 @@ fn joined(alloc: Global, first: &[u8], second: &[u8]) -> Result<Vec<u8>, AllocEr
 // The lines behind the opening over a metamodel, what is said to them, and the status; the store that they leave is read again.
 type Session = (&'static [u8], &'static [u8], Status);
 
-fn are_answered(rt: &impl Abort, alloc: Global, metamodel: &[u8], table: &[Session]) -> Result<(), Fail> {
+fn are_answered(
+    rt: &impl Abort,
+    alloc: Global,
+    metamodel: &[u8],
+    table: &[Session],
+) -> Result<(), Fail> {
     for (lines, said, status) in table {
         let mut host = over(alloc, beginning(alloc, metamodel, lines)?, Vec::new(alloc));
         let ended = serve(alloc, &mut host);
         assert_eq!(rt; host.said(), joined(alloc, OPENED, said)?.as_slice());
         assert_eq!(rt; ended, *status);
-        let mut again = over(alloc, b"changes 1\n".to_vec(alloc)?, host.file().to_vec(alloc)?);
+        let mut again = over(
+            alloc,
+            b"changes 1\n".to_vec(alloc)?,
+            host.file().to_vec(alloc)?,
+        );
         assert_eq!(rt; serve(alloc, &mut again), Status::Accepted);
         assert_eq!(rt; again.starved(), 0);
     }

@@ -70,10 +70,21 @@ fn a_list_without_room_is_ranked_anew(rt: HostRuntime) -> Result<(), Fail> {
         write!(lines, "create 1 Book / b{k}\nlink 1 w books b{k} 0\n")?;
     }
     write!(lines, "changes 1\n")?;
-    let mut host = over(alloc, beginning(alloc, SHELF, lines.as_str().as_bytes())?, Vec::new(alloc));
+    let mut host = over(
+        alloc,
+        beginning(alloc, SHELF, lines.as_str().as_bytes())?,
+        Vec::new(alloc),
+    );
     assert_eq!(&rt; serve(alloc, &mut host), Status::Accepted);
     let said = String::from_utf8(host.said().to_vec(alloc)?)?;
-    assert!(&rt; said.as_str().contains("\n link b32 writers 4294967296 w 1\n"));
-    assert!(&rt; said.as_str().ends_with("\n rerank w books b0 4294967296 141733920768\n link b33 writers 4294967296 w 2147483648\nok\n"));
+    assert!(&rt;
+        said.as_str()
+            .contains("\n link b32 writers 4294967296 w 1\n")
+    );
+    assert!(&rt;
+        said.as_str().ends_with(
+            "\n rerank w books b0 4294967296 141733920768\n link b33 writers 4294967296 w 2147483648\nok\n"
+        )
+    );
     Ok(())
 }
