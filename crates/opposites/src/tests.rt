@@ -283,6 +283,28 @@ const REORDERS: &[Case] = &[
     ("Link a 14 1 b -", "reorder a 14 c 0", "NoEntry"),
 ];
 
+// The last entry goes first.
+const UNSETS: &[Case] = &[
+    ("", "unset a 0", ""),
+    ("Link a 0 7 b 8", "unset a 0", "Unlink a 0 7 b 8"),
+    ("Link a 0 7 b 8", "unset b 1", "Unlink a 0 7 b 8"),
+    (
+        "Link a 6 10 c 3; Link a 6 20 d 4; Link c 6 5 d 5",
+        "unset a 6",
+        "Unlink a 6 20 d 4; Unlink a 6 10 c 3",
+    ),
+    (
+        "Link c 8 1 a 10; Link d 8 1 a 20; Link b 8 1 a 5",
+        "unset a 9",
+        "Unlink d 8 1 a 20; Unlink c 8 1 a 10; Unlink b 8 1 a 5",
+    ),
+    (
+        "Link a 14 5 c -; Link b 14 6 c -",
+        "unset a 14",
+        "Unlink a 14 5 c -",
+    ),
+];
+
 const ELEMENTS: &[(&str, u32)] = &[("a", 0), ("b", 0), ("c", 0), ("d", 0), ("l", 1)];
 
 fn elements(alloc: Global) -> Result<Vec<Step>, Fail> {
@@ -404,6 +426,29 @@ fn edits_make_their_steps(rt: HostRuntime) -> Result<(), Fail> {
             let got = answer(alloc, &meta, &plain, edit)?;
             assert_eq!(rt; got.as_str(), *want, "{edit} after {links}");
         }
+    }
+    Ok(())
+}
+
+fn unset(alloc: Global, meta: &Metamodel, plain: &Plain, edit: &str) -> Result<String, Fail> {
+    let mut words = edit.split_whitespace();
+    if words.next() != Some("unset") {
+        return Err("no unset")?;
+    }
+    let a = id(alloc, &mut words)?;
+    let f = number(&mut words)?;
+    let steps = unset_ref_steps(alloc, plain, meta, &a, f)?;
+    lines(alloc, &steps)
+}
+
+#[test]
+fn unsets_make_their_steps(rt: HostRuntime) -> Result<(), Fail> {
+    let alloc = rt.alloc();
+    let meta = sides(alloc)?;
+    for (links, edit, want) in UNSETS {
+        let plain = model(alloc, &meta, links)?;
+        let got = unset(alloc, &meta, &plain, edit)?;
+        assert_eq!(rt; got.as_str(), *want, "{edit} after {links}");
     }
     Ok(())
 }
