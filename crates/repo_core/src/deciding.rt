@@ -232,8 +232,13 @@ impl Repo {
             return Ok(refuse(alloc, Refusal::NoWorkspace));
         };
         meta.sound();
-        let model = workspace.model(alloc, meta)?;
-        let Recorded { operation, id } = match take_edit(alloc, &model, meta, ws, edit) {
+        let Recorded { operation, id } = match take_edit(
+            alloc,
+            workspace.model(meta),
+            meta,
+            ws,
+            edit,
+        ) {
             Ok(recorded) => recorded,
             Err(fault) => match refusal_of(fault) {
                 Some(refusal) => return Ok(refuse(alloc, refusal)),
