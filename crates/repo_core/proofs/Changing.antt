@@ -1,68 +1,95 @@
 -- One of several workspaces changed, and what stays of all of them.
-use Rattle.std.proofs.Common.{◌≡◌, ℕ, zero, suc, ◌-◌, ◌≤◌, ◌<◌, List, [], ◌∷◌, ◌++◌, true, length, Option, None, Some, is_some, Result, Ok, Err, OnOk, refl, sym, ◌∙◌, ap, subst, arith}
-use Rattle.std.specs.Prelude.{slice_get}
+use Rattle.std.proofs.Common.{◌≡◌, ℕ, zero, suc, ◌-◌, ◌≤◌, ◌<◌, List, [], ◌∷◌, ◌++◌, map, Bool, true, false, length, Option, None, Some, is_some, Result, Ok, Err, OnOk, IfErr, IfSome, Bor, nat_lt, refl, sym, ◌∙◌, ap, subst, arith}
+use Rattle.std.specs.Prelude.{slice_get, if◌then◌else◌}
+use Rattle.std.specs.Option.{option_copied, option_map}
 use Rattle.std.proofs.Math.ListN.{set, get_or}
+use Rattle.std.proofs.lemmas.List.{length-map}
 use Rattle.std.proofs.lemmas.List.Elements.{All-set, All-get_or, All-append, All-cons, All-nil}
-use Rattle.std.proofs.lemmas.Option.{get_or_from_slice_get}
+use Rattle.std.proofs.lemmas.Bool.{ltb-true, ltb-false}
+use Rattle.std.proofs.lemmas.Option.{slice_get-map, slice_get_past}
 use Rattle.ecore_meta.specs.Meta.{Meta}
 use Rattle.ecore_meta.specs.Sound.{Sound}
 use Rattle.model_state.specs.State.{nothing}
 use Rattle.model_laws.proofs.Start.{starts_good}
+use Rattle.step_apply.specs.View.{plain_state}
 use Rattle.data_lines.specs.Typed.{IsTypedPackage}
 use Rattle.data_lines.proofs.Taken.{packages_typed}
-use Rattle.plain_repository.specs.Repository.{State, Workspace, workspace_of, folded, changed, changed_at}
-use Rattle.repo_core.specs.Decisions.{AreFolded}
-use Rattle.repo_core.proofs.Folding.{some_is}
+use Rattle.plain_repository.specs.Repository.{State, Workspace, workspace_of, changed, changed_at}
+use Rattle.repo_core.specs.declared.workspace.Workspace.{Workspace as Kept}
+use Rattle.repo_core.specs.Keeping.{Keeps, AreKept, plain_of}
+use Rattle.repo_core.proofs.Keeping.{none_lead}
 
-set_is : (change : Workspace → Workspace) (ws : List Workspace) (n : ℕ) (d : Workspace) → n < length ws → set ws n (change (get_or ws n d)) ≡ changed_at change ws n
-set_is change [] n d below = absurd (omega arith)
-set_is change (w ∷ ws) zero d below = refl
-set_is change (w ∷ ws) (suc n) d below = ap (λ (l : List Workspace). w ∷ l) (set_is change ws n d (omega arith))
+-- the workspace at a place is set to what the change makes of it
+pub set_is : (change : Workspace → Workspace) (ws : List Kept) (i : ℕ) (d new : Kept) → i < length ws → plain_of new ≡ change (plain_of (get_or ws i d)) → map plain_of (set ws i new) ≡ changed_at change (map plain_of ws) i
+set_is change [] i d new below is = absurd (omega arith)
+set_is change (w ∷ ws) zero d new below is = ap (λ (x : Workspace). x ∷ map plain_of ws) is
+set_is change (w ∷ ws) (suc i) d new below is = ap (λ (l : List Workspace). plain_of w ∷ l) (set_is change ws i d new (omega arith) is)
 
-numbered_is : (change : Workspace → Workspace) (ws : List Workspace) (k : ℕ) → 1 ≤ k → changed change ws k ≡ changed_at change ws (k - 1)
-numbered_is change ws zero least = absurd (omega arith)
-numbered_is change ws (suc n) least = ap (λ (i : ℕ). changed_at change ws i) (omega arith)
+abbrev state_of : Option Meta → List Workspace → ℕ → ℕ → State
+state_of m ws events end = record { meta = m; workspaces = ws; events = events; end = end }
 
--- the workspace of a number is set to what the change makes of it
-pub changed_is : (change : Workspace → Workspace) (ws : List Workspace) (k : ℕ) (old new d : Workspace) → 1 ≤ k → k ≤ length ws → old ≡ get_or ws (k - 1) d → new ≡ change old → set ws (k - 1) new ≡ changed change ws k
-changed_is change ws k old new d least there old_is new_is =
-    ap (λ (w : Workspace). set ws (k - 1) w) (new_is ∙ ap change old_is) ∙ set_is change ws (k - 1) d (omega arith) ∙ sym (numbered_is change ws k least)
+pub below_is : (s : State) (ws : List Kept) (i : ℕ) → map plain_of ws ≡ s.workspaces → i < length s.workspaces → i < length ws
+below_is s ws i is below = subst (λ (n : ℕ). i < n) (sym (ap (λ (l : List Workspace). length l) is) ∙ length-map ws plain_of) below
 
--- all stay foldable where the one that is set is
-pub folded_set : (meta : Meta) (ws : List Workspace) (i : ℕ) (w : Workspace) → is_some (folded meta w) ≡ true → AreFolded (Some meta) ws → AreFolded (Some meta) (set ws i w)
-folded_set meta ws i w is all = All-set (λ w. is_some (folded meta w) ≡ true) ws i w is all
+-- a state in which the workspace of a number is set to what the change makes of it
+pub set_at : (m : Option Meta) (ws : List Kept) (events end : ℕ) (s : State) (change : Workspace → Workspace) (k i : ℕ) (old new d : Kept) → state_of m (map plain_of ws) events end ≡ s → k ≡ suc i → i < length s.workspaces → old ≡ get_or ws i d
+    → plain_of new ≡ change (plain_of old) → state_of m (map plain_of (set ws i new)) events end ≡ state_of s.meta (changed change s.workspaces k) s.events s.end
+set_at m ws events end s change k i old new d is numbered below old_is new_is =
+    ap (λ (l : List Workspace). state_of m l events end)
+    (set_is change ws i d new (below_is s ws i (ap (λ (s : State). s.workspaces) is) below) (new_is ∙ ap (λ (w : Kept). change (plain_of w)) old_is))
+    ∙ ap (λ (s : State). state_of s.meta (changed_at change s.workspaces i) s.events s.end) is
+    ∙ ap (λ (n : ℕ). state_of s.meta (changed change s.workspaces n) s.events s.end) (sym numbered)
 
-pub folded_at : (meta : Meta) (ws : List Workspace) (i : ℕ) (d : Workspace) → i < length ws → AreFolded (Some meta) ws → is_some (folded meta (get_or ws i d)) ≡ true
-folded_at meta ws i d below all = All-get_or (λ w. is_some (folded meta w) ≡ true) ws i d below all
+-- all keep their models where the one that is set does
+pub kept_set : (m : Option Meta) (meta : Meta) (ws : List Kept) (i : ℕ) (w : Kept) → m ≡ Some meta → Keeps meta w → AreKept m ws → AreKept m (set ws i w)
+kept_set m meta ws i w is keeps all = subst (λ (m : Option Meta). AreKept m (set ws i w)) (sym is) (All-set (Keeps meta) ws i w keeps (subst (λ (m : Option Meta). AreKept m ws) is all))
 
-pub folded_push : (meta : Meta) (ws : List Workspace) → AreFolded (Some meta) ws → AreFolded (Some meta) (ws ++ record { operations = [] } ∷ [])
-folded_push meta ws all = All-append (λ w. is_some (folded meta w) ≡ true) ws (record { operations = [] } ∷ []) all (All-cons (λ w. is_some (folded meta w) ≡ true) (record { operations = [] }) [] refl (All-nil (λ w. is_some (folded meta w) ≡ true)))
+-- or is let go
+pub kept_emptied : (m : Option Meta) (ws : List Kept) (i : ℕ) (w : Kept) → is_some m ≡ true → w.operations ≡ [] → plain_state w.model ≡ nothing → AreKept m ws → AreKept m (set ws i w)
+kept_emptied None ws i w begun none empty all = absurd cc
+kept_emptied (Some meta) ws i w begun none empty all = All-set (Keeps meta) ws i w (none_lead meta w.operations (plain_state w.model) none empty) all
 
-found_below : (ws : List Workspace) (n : ℕ) (w : Workspace) → slice_get ws n ≡ Some w → n < length ws
-found_below [] n w is = cc
-found_below (x ∷ ws) zero w is = omega arith
-found_below (x ∷ ws) (suc n) w is = let below = found_below ws n w is in omega arith
+pub kept_at : (m : Option Meta) (meta : Meta) (ws : List Kept) (i : ℕ) (d : Kept) → m ≡ Some meta → i < length ws → AreKept m ws → Keeps meta (get_or ws i d)
+kept_at m meta ws i d is below all = All-get_or (Keeps meta) ws i d below (subst (λ (m : Option Meta). AreKept m ws) is all)
 
--- a workspace that is there can be folded, and its operations are of the metamodel
-pub found_folded : (meta : Meta) (ws : List Workspace) (n : ℕ) (w : Workspace) → slice_get ws n ≡ Some w → AreFolded (Some meta) ws → is_some (folded meta w) ≡ true
-found_folded meta ws n w is all = subst (λ x. is_some (folded meta x) ≡ true) (get_or_from_slice_get ws n w w is) (folded_at meta ws n w (found_below ws n w is) all)
+pub kept_old : (m : Option Meta) (meta : Meta) (ws : List Kept) (i : ℕ) (old d : Kept) → m ≡ Some meta → i < length ws → old ≡ get_or ws i d → AreKept m ws → Keeps meta old
+kept_old m meta ws i old d is below old_is all = subst (Keeps meta) (sym old_is) (kept_at m meta ws i d is below all)
 
-pub found_typed : (meta : Meta) → Sound meta → (ws : List Workspace) (n : ℕ) (w : Workspace) → slice_get ws n ≡ Some w → AreFolded (Some meta) ws → IsTypedPackage meta w.operations
-found_typed meta sound ws n w is all =
-    let at = some_is (folded meta w) (found_folded meta ws n w is all) in
-    packages_typed meta sound nothing at.0 (starts_good meta) w.operations at.1
+-- a fresh workspace is pushed, or memory is wanting
+pub kept_pushed : (m : Option Meta) (ws new : List Kept) (w : Kept) (b : Bool) → is_some m ≡ true → w.operations ≡ [] → plain_state w.model ≡ nothing → new ≡ (if b then ws ++ w ∷ [] else ws) → AreKept m ws → AreKept m new
+kept_pushed None ws new w b begun none empty is all = absurd cc
+kept_pushed (Some meta) ws new w true begun none empty is all =
+    subst (AreKept (Some meta)) (sym is) (All-append (Keeps meta) ws (w ∷ []) all (All-cons (Keeps meta) w [] (none_lead meta w.operations (plain_state w.model) none empty) (All-nil (Keeps meta))))
+kept_pushed (Some meta) ws new w false begun none empty is all = subst (AreKept (Some meta)) (sym is) all
 
--- the workspace of a number that is there has operations of the metamodel
-pub typed_of : (meta : Meta) → Sound meta → (s : State) (ws : ℕ) (w : Workspace) → s.meta ≡ Some meta → workspace_of s ws ≡ Some w → AreFolded s.meta s.workspaces → IsTypedPackage meta w.operations
-typed_of meta sound s zero w begun there all = cc
-typed_of meta sound s (suc n) w begun there all = found_typed meta sound s.workspaces n w there (subst (λ m. AreFolded m s.workspaces) begun all)
+-- the operations of a workspace that keeps its model are of the metamodel
+pub kept_typed : (meta : Meta) → Sound meta → (w : Kept) → Keeps meta w → IsTypedPackage meta w.operations
+kept_typed meta sound w keeps = packages_typed meta sound nothing (plain_state w.model) (starts_good meta) w.operations keeps.run
 
--- all stay foldable where the one that is set is foldable as long as the one before was
-pub folded_changed : (m : Option Meta) (ws : List Workspace) (i : ℕ) (w d : Workspace) → i < length ws → AreFolded m ws → ((meta : Meta) → m ≡ Some meta → is_some (folded meta (get_or ws i d)) ≡ true → is_some (folded meta w) ≡ true)
-    → AreFolded m (set ws i w)
-folded_changed None ws i w d below all stays = absurd (let none = ap length all in omega (arith, none, below))
-folded_changed (Some meta) ws i w d below all stays = folded_set meta ws i w (stays meta refl (folded_at meta ws i d below all)) all
+-- the workspace at a place that is there
+pub slice_there : (ws : List Kept) (i : ℕ) (d : Kept) → i < length ws → slice_get ws i ≡ Some (get_or ws i d)
+slice_there [] i d below = absurd (omega arith)
+slice_there (w ∷ ws) zero d below = refl
+slice_there (w ∷ ws) (suc i) d below = slice_there ws i d (omega arith)
+
+-- what a look-up found
+pub looked_up : (ws : List Kept) (i : ℕ) (r : Option (Bor Kept)) → is_some r ≡ nat_lt i (length ws) → IfSome r (λ x. x.now ≡ get_or ws i x.now) → option_copied r ≡ slice_get ws i
+looked_up ws i None is found = sym (slice_get_past ws i (ltb-false i (length ws) (sym is)))
+looked_up ws i (Some x) is found = ap Some found ∙ sym (slice_there ws i x.now (ltb-true i (length ws) (sym is)))
+
+-- the workspace of a number, found at its place
+pub numbered_is : (s : State) (ws : List Kept) (k : ℕ) → s.workspaces ≡ map plain_of ws → 1 ≤ k → option_map plain_of (slice_get ws (k - 1)) ≡ workspace_of s k
+numbered_is s ws zero is least = absurd (omega arith)
+numbered_is s ws (suc n) is least = ap (λ (i : ℕ). option_map plain_of (slice_get ws i)) (omega arith) ∙ sym (slice_get-map plain_of ws n) ∙ ap (λ (l : List Workspace). slice_get l n) (sym is)
 
 pub on_ok : {T E : Type 0} (r : Result T E) (P Q : Type 0) → (P → Q) → OnOk r P → OnOk r Q
 on_ok (Ok x) P Q f p = f p
 on_ok (Err e) P Q f p = p
+
+pub on_ok_always : {T E : Type 0} (r : Result T E) (P : Type 0) → P → OnOk r P
+on_ok_always (Ok x) P p = p
+on_ok_always (Err e) P p = tt
+
+pub if_err : {T E : Type 0} (r : Result T E) (P Q : E → Type 0) → ((e : E) → P e → Q e) → IfErr r P → IfErr r Q
+if_err (Ok x) P Q f p = p
+if_err (Err e) P Q f p = f e p

@@ -1,14 +1,13 @@
 -- Packages taken one operation after another.
 use Rattle.std.proofs.Math.ListN.{get_or}
 use Rattle.std.proofs.Math.Seq.{drop-cons}
-use Rattle.std.proofs.Common.{◌≡◌, ◌≢◌, ℕ, suc, ◌+◌, ◌-◌, ◌<◌, List, [], ◌∷◌, ◌++◌, true, length, take, drop, Option, Some, None, is_some, Result, Ok, Err, ⊎_elim, refl, sym, ◌∙◌, ap, subst, append_assoc, arith}
-use Rattle.std.specs.Prelude.{unwrap_or, IfErr, OnOk, OnErr}
+use Rattle.std.proofs.Common.{◌≡◌, ◌≢◌, ℕ, suc, ◌+◌, ◌<◌, List, [], ◌∷◌, ◌++◌, true, length, drop, Option, Some, None, is_some, Result, Ok, Err, ⊎_elim, refl, sym, ◌∙◌, ap, subst, append_assoc, arith}
+use Rattle.std.specs.Prelude.{IfErr}
 use Rattle.std.specs.Result.{IsErr, IsErrAnd}
 use Rattle.model_state.specs.declared.step.StepFault.TheVariants.{Memory}
 use Rattle.model_state.specs.Faults.{IsFault}
-use Rattle.std.proofs.lemmas.List.{take-append-drop}
 use Rattle.ecore_meta.specs.Meta.{Meta}
-use Rattle.model_state.specs.State.{State, nothing}
+use Rattle.model_state.specs.State.{State}
 use Rattle.model_state.specs.declared.step.Step.{Step}
 use Rattle.model_state.specs.declared.step.StepFault.{StepFault}
 use Rattle.model_state.specs.Steps.{fold, fault, fault_along, apply}
@@ -16,14 +15,12 @@ use Rattle.model_state.specs.declared.operation.Operation.{Operation}
 use Rattle.model_state.specs.Packages.{steps_of, steps_all, fold_package}
 use Rattle.model_laws.proofs.Runs.{fold_append}
 use Rattle.model_state.specs.Good.{Good, Sound}
-use Rattle.std.specs.declared.alloc.AllocError.{AllocError}
 use Rattle.edit_laws.specs.declared.edit.Edit.{Edit}
 use Rattle.edit_laws.specs.declared.edit.Recorded.{Recorded}
 use Rattle.edit_laws.specs.Edits.{after}
 use Rattle.recorder.specs.Recording.{recorded}
 use Rattle.recorder.specs.Laws.{steps_in}
 use Rattle.recorder.proofs.Recordings.{recording_leads}
-use Rattle.plain_repository.specs.Repository.{Workspace, folded, model_of, with_more, without_last}
 
 -- steps with one that can't be taken lead nowhere
 pub fold_none : (meta : Meta) (m : State) (ss : List Step) (e : StepFault) → fault_along meta m ss ≡ Some e → fold meta m ss ≡ None
@@ -70,19 +67,12 @@ prefix_folds meta m ps qs is = by (fold_package meta m ps) refl
         let none : fold_package meta m (ps ++ qs) ≡ None = ap (λ l. fold meta m l) (steps_append ps qs) ∙ fold_append_none meta m (steps_all ps) (steps_all qs) at in
         absurd cc
 
--- more operations can be taken behind those that were
-pub more_folds : (meta : Meta) (w : Workspace) (more : List Operation) → is_some (folded meta w) ≡ true → is_some (fold_package meta (model_of meta w) more) ≡ true → is_some (folded meta (with_more more w)) ≡ true
-more_folds meta w more is next =
-    let at = some_is (folded meta w) is in
-    let there : model_of meta w ≡ at.0 = ap (λ o. unwrap_or o nothing) at.1 in
-    let whole : folded meta (with_more more w) ≡ fold_package meta at.0 more = ap (λ l. fold meta nothing l) (steps_append w.operations more) ∙ fold_append meta nothing at.0 (steps_all w.operations) (steps_all more) at.1 in
-    ap is_some whole ∙ subst (λ m. is_some (fold_package meta m more) ≡ true) there next
+-- operations behind those that were taken
+pub last_on : (meta : Meta) (start m : State) (os more : List Operation) → fold_package meta start os ≡ Some m → fold_package meta start (os ++ more) ≡ fold_package meta m more
+last_on meta start m os more first = ap (λ l. fold meta start l) (steps_append os more) ∙ fold_append meta start m (steps_all os) (steps_all more) first
 
--- the operations but the last can be taken
-pub fewer_folds : (meta : Meta) (w : Workspace) → is_some (folded meta w) ≡ true → is_some (folded meta (without_last w)) ≡ true
-fewer_folds meta w is =
-    let n : ℕ = length w.operations - 1 in
-    prefix_folds meta nothing (take n w.operations) (drop n w.operations) (subst (λ l. is_some (fold_package meta nothing l) ≡ true) (sym (take-append-drop n w.operations)) is)
+pub more_lead : (meta : Meta) (start m n : State) (os more : List Operation) → fold_package meta start os ≡ Some m → fold_package meta m more ≡ Some n → fold_package meta start (os ++ more) ≡ Some n
+more_lead meta start m n os more first next = last_on meta start m os more first ∙ next
 
 -- the operations of one step behind another
 pub one_follows : (meta : Meta) (m n : State) (o : Operation) → fold meta m (steps_of o) ≡ Some n → is_some (fold_package meta m (o ∷ [])) ≡ true
@@ -111,14 +101,3 @@ pub recorded_follows : (meta : Meta) → Sound meta → (m : State) → Good met
 recorded_follows meta sound m good ws edit r o is operation_is =
     let leads = recording_leads meta sound m good ws edit r is in
     one_follows meta m (after meta m leads.effect) o (subst (λ (x : Option Operation). fold meta m (steps_in x) ≡ Some (after meta m leads.effect)) operation_is leads.run)
-
--- a workspace that lost its last operation, or stayed
-pub popped_folds : (meta : Meta) (old new : Workspace) (r : Result (Unit {0}) AllocError) → OnOk r (new ≡ without_last old) → OnErr r (new ≡ old) → is_some (folded meta old) ≡ true → is_some (folded meta new) ≡ true
-popped_folds meta old new (Ok x) fewer same is = subst (λ w. is_some (folded meta w) ≡ true) (sym fewer) (fewer_folds meta old is)
-popped_folds meta old new (Err e) fewer same is = subst (λ w. is_some (folded meta w) ≡ true) (sym same) is
-
--- a workspace that got more operations, or lost all
-pub extended_folds : (meta : Meta) (old new : Workspace) (more : List Operation) (r : Result (Unit {0}) AllocError) → OnOk r (new ≡ with_more more old) → OnErr r (new ≡ record { operations = [] }) → is_some (folded meta old) ≡ true
-    → is_some (fold_package meta (model_of meta old) more) ≡ true → is_some (folded meta new) ≡ true
-extended_folds meta old new more (Ok x) ok none is follows = subst (λ w. is_some (folded meta w) ≡ true) (sym ok) (more_folds meta old more is follows)
-extended_folds meta old new more (Err e) ok none is follows = subst (λ w. is_some (folded meta w) ≡ true) (sym none) refl

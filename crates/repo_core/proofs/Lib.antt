@@ -1,4 +1,5 @@
 pub mod Changing
 pub mod Folding
+pub mod Keeping
 pub mod Playable
 pub mod Replaying

@@ -1,5 +1,5 @@
 -- Bytes that are an event's, and bytes that are none.
-use Rattle.std.proofs.Common.{◌≡◌, ℕ, List, Ok, Err, ◌∙◌, ap, subst, false}
+use Rattle.std.proofs.Common.{◌≡◌, ℕ, List, Result, Ok, Err, OnOk, ◌∙◌, ap, subst, false}
 use Rattle.std.specs.Prelude.{IsTrue}
 use Rattle.byte_form.specs.Laws.{AreBytes}
 use Rattle.op_form.specs.declared.event.Event.{Event}
@@ -8,7 +8,8 @@ use Rattle.op_form.specs.Events.{event_form, event_at, whole_of}
 use Rattle.op_form.specs.Laws.{IsEvent}
 use Rattle.op_form.proofs.Codes.{whole_again, whole_spelled}
 use Rattle.op_form.proofs.EventCodes.{event_codes}
-use Rattle.plain_repository.specs.Repository.{State, playable}
+use Rattle.plain_repository.specs.Repository.{State, play, playable}
+use Rattle.repo_core.specs.declared.fault.ReplayFault.{ReplayFault}
 use Rattle.plain_repository.proofs.Forms.{playable_is_event}
 
 -- bytes that are read as an event spell it
@@ -28,3 +29,9 @@ other_spelled s bytes found is cannot event could bytes_are =
     let same : found ≡ event = cc in
     let no : playable s event ≡ false = subst (λ (e : Event). playable s e ≡ false) same cannot in
     absurd cc
+
+-- the event that was read was made
+pub replayed : (r : Result (Unit {0}) ReplayFault) (old new : State) (bytes : List ℕ) (e : Event) → bytes ≡ event_form e → OnOk r (IsTrue (playable old e)) → OnOk r (new ≡ play old e)
+    → OnOk r ((event : Event) × IsTrue (playable old event) × (bytes ≡ event_form event) × (new ≡ play old event))
+replayed (Ok x) old new bytes e is could made = (e, could, is, made)
+replayed (Err f) old new bytes e is could made = tt

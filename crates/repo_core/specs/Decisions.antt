@@ -1,9 +1,8 @@
 -- A decision of the repository in memory, beside the plain repository's.
-use Rattle.std.specs.Prelude.{◌≡◌, ℕ, ◌+◌, ◌≤◌, ◌<◌, ◌-◌, ◌^◌, List, [], All, true, is_some, length, Option, Some, None, IsTrue}
+use Rattle.std.specs.Prelude.{◌≡◌, ℕ, ◌+◌, ◌≤◌, ◌<◌, ◌-◌, ◌^◌, List, length, Option, Some, None, IsTrue}
 use Rattle.op_form.specs.declared.event.Event.{Event}
 use Rattle.op_form.specs.Events.{event_form}
-use Rattle.plain_repository.specs.Repository.{State, Workspace, folded, playable}
-use Rattle.ecore_meta.specs.Meta.{Meta}
+use Rattle.plain_repository.specs.Repository.{State, playable}
 use Rattle.plain_repository.specs.Repository as plain
 use Rattle.repo_core.specs.declared.deciding.Decision.{Decision}
 use Rattle.repo_core.specs.declared.deciding.Made.{Made}
@@ -32,8 +31,3 @@ CanMakeIt state (Some made) = CanMake state made
 abbrev pub IsShortBlock : Option (List ℕ) → Type 0
 IsShortBlock None = Unit {0}
 IsShortBlock (Some text) = length text < 2 ^ 32 - 1
-
--- each workspace's operations can be taken one by one from the empty project; before there is a metamodel there is no workspace
-abbrev pub AreFolded : Option Meta → List Workspace → Type 0
-AreFolded None workspaces = workspaces ≡ []
-AreFolded (Some meta) workspaces = All (λ w. is_some (folded meta w) ≡ true) workspaces

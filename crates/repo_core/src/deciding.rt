@@ -250,8 +250,8 @@ impl Repo {
             return Ok(refuse(alloc, Refusal::NoWorkspace));
         };
         meta.sound();
-        let model = workspace.model(alloc, meta)?;
-        let Recorded { operation, id } = match take_edit(alloc, &model, meta, ws, edit) {
+        let model = workspace.model(meta);
+        let Recorded { operation, id } = match take_edit(alloc, model, meta, ws, edit) {
             Ok(recorded) => recorded,
             Err(fault) => match refusal_of(fault) {
                 Some(refusal) => return Ok(refuse(alloc, refusal)),
@@ -332,9 +332,8 @@ impl Repo {
         let Some(workspace) = self.workspace(ws) else {
             return Ok(refuse(alloc, Refusal::NoWorkspace));
         };
-        let model = workspace.model(alloc, meta)?;
         let mut lines = List::new(alloc);
-        lines.push(write_model(alloc, &model, meta)?)?;
+        lines.push(write_model(alloc, workspace.model(meta), meta)?)?;
         Ok(tell(lines, Text::new(alloc, "")?))
     }
 

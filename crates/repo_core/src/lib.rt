@@ -2,10 +2,12 @@
 #![tactic(auto)]
 
 mod deciding;
+mod fault;
 mod repo;
 #[cfg(test)]
 mod tests;
 mod workspace;
 
 pub use deciding::{Decision, Made};
-pub use repo::{ReplayFault, Repo};
+pub use fault::ReplayFault;
+pub use repo::Repo;

@@ -1,23 +1,23 @@
 //! The repository in memory, and what an event makes of it.
-ghost use Rattle.std.specs.Prelude.{◌≡◌, ◌≢◌, ◌+◌, ◌-◌, ◌*◌, ◌≤◌, ◌<◌, ◌^◌, ℕ, List, [], ◌∷◌, IfOk, None, OnOk, OnErr, IsErrOf, IsTrue, length, true, false, Some, Option};
+ghost use Rattle.std.specs.Prelude.{◌≡◌, ◌≢◌, ◌+◌, ◌-◌, ◌≤◌, ◌<◌, ◌^◌, ℕ, suc, None, OnOk, IfNone, IfSome, IsErrOf, IsTrue, length, true, false, Some};
 ghost use Rattle.std.specs.Bool.{OnTrue, OnFalse};
-ghost use Rattle.std.specs.Option.{option_copied};
+ghost use Rattle.std.specs.Option.{option_copied, option_map};
 ghost use Rattle.ecore_meta.specs.Meta.{Meta};
-ghost use Rattle.ecore_json.specs.Metamodel.{metamodel_of};
 ghost use Rattle.op_form.specs.declared.event.Event.{Event};
-ghost use Rattle.op_form.specs.declared.event.Event.TheVariants.{Init, Edit, Undo, Discard};
+ghost use Rattle.op_form.specs.declared.event.Event.TheVariants.{Init, Checkout, Edit, Undo, Discard};
 ghost use Rattle.op_form.specs.Events.{event_form};
 ghost use Rattle.op_form.specs.Formed.{is_event};
-ghost use Rattle.plain_repository.specs.Repository.{empty, workspace_of, can_follow, has_operations, effect, meta_of_read, play, playable, playable_with, most_bytes};
+ghost use Rattle.plain_repository.specs.Repository.{empty, workspace_of, effect, play, playable, playable_with, most_bytes};
+ghost use Rattle.repo_core.specs.Keeping.{Keeps, plain_of};
 
-use crate::workspace::{Workspace, follow};
+use crate::fault::ReplayFault;
+use crate::workspace::Workspace;
 use ecore_json::{EcoreFault, read_metamodel};
 use ecore_meta::{Metamodel, Text};
-use model_state::{Package, StepFault};
+use model_state::Package;
 use op_form::{Event, FormFault, decode_event};
 use std::alloc::{AllocError, Global};
 use std::marker::Model;
-use thiserror::Error;
 
 const MOST_EVENTS: u32 = u32::MAX;
 
@@ -34,37 +34,15 @@ pub struct Repo {
 }
 
 impl Model for Repo {
-    ghost use Rattle.std.specs.Prelude.{◌^◌, ◌≤◌};
+    ghost use Rattle.std.specs.Prelude.{◌^◌, ◌≤◌, map};
     ghost use Rattle.plain_repository.specs.Repository.{State};
-    ghost use Rattle.repo_core.specs.Decisions.{AreFolded};
+    ghost use Rattle.repo_core.specs.Keeping.{AreKept, plain_of};
 
     ghost Value = { State };
 
-    ghost view = { λ r. record { meta = r.meta; workspaces = r.workspaces.items; events = r.events; end = r.end } };
+    ghost view = { λ r. record { meta = r.meta; workspaces = map plain_of r.workspaces.items; events = r.events; end = r.end } };
 
-    ghost invariant = { λ r. (r.end ≤ 2 ^ 40) × AreFolded r.meta r.workspaces.items };
-}
-
-/// Why the bytes of a record are not played.
-#[derive(Clone, Copy, Debug, PartialEq, Eq, Error)]
-pub enum ReplayFault {
-    /// They are no event that a command could make here.
-    #[error("no event that a command could make here")]
-    NotPlayable,
-    #[error("out of memory")]
-    Memory,
-}
-
-/// The metamodel of a text, or none where the text says none.
-fn metamodel(alloc: Global, text: &str) -> Result<Option<Metamodel>, AllocError>
-    requires short { length text.now < 2 ^ 32 - 1 }
-    ensures { IfOk result (λ meta. meta ≡ meta_of_read (metamodel_of text.now)) }
-{
-    match read_metamodel(alloc, text) {
-        Ok(meta) => Ok(Some(meta)),
-        Err(EcoreFault::Memory) => Err(AllocError),
-        Err(_) => Ok(None),
-    }
+    ghost invariant = { λ r. (r.end ≤ 2 ^ 40) × AreKept r.meta r.workspaces.items };
 }
 
 impl Repo {
@@ -89,7 +67,8 @@ impl Repo {
 
     /// The workspace of that number.
     pub(crate) fn workspace(&self, ws: u32) -> Option<&Workspace>
-        ensures { option_copied result ≡ workspace_of self.now ws }
+        ensures found { option_map plain_of (option_copied result) ≡ workspace_of self.now ws }
+        ensures keeps { IfSome result (λ w. (meta : Meta) → self.now.meta ≡ Some meta → Keeps meta w.now) }
     {
         if ws == 0 {
             return None;
@@ -97,122 +76,161 @@ impl Repo {
         self.workspaces.get(ws as usize - 1)
     }
 
-    /// Whether the package can be taken on the workspace's model.
-    fn can_follow(
-        &self,
-        alloc: Global,
-        meta: &Metamodel,
-        ws: u32,
-        package: &Package,
-    ) -> Result<bool, AllocError>
-        ensures { IfOk result (λ b. b ≡ can_follow meta.now (workspace_of self.now ws) «package».now) }
+    /// The place of the workspace of that number.
+    fn place_of(&self, ws: u32) -> Option<usize>
+        ensures there { IfSome result (λ i. (ws ≡ suc i) × (i < length self.now.workspaces)) }
+        ensures none { IfNone result (workspace_of self.now ws ≡ None) }
     {
-        let Some(workspace) = self.workspace(ws) else {
-            return Ok(false);
+        if ws == 0 || ws as usize > self.workspaces.len() {
+            return None;
+        }
+        Some(ws as usize - 1)
+    }
+
+    /// Takes the metamodel of a text, where there is none yet.
+    fn begin(&mut self, alloc: Global, text: &Text) -> Result<(), ReplayFault>
+        requires short { length text.now < 2 ^ 32 - 1 }
+        ensures could { OnOk result (playable_with self.old self.old.meta (Init text.now) ≡ true) }
+        ensures done { OnOk result (self.new ≡ effect self.old (Init text.now)) }
+        ensures cannot { IsErrOf result ReplayFault.NotPlayable → playable_with self.old self.old.meta (Init text.now) ≡ false }
+    {
+        if self.meta.is_some() {
+            return Err(ReplayFault::NotPlayable);
+        }
+        match read_metamodel(alloc, text.as_str()) {
+            Ok(meta) => {
+                self.meta = Some(meta);
+                Ok(())
+            }
+            Err(EcoreFault::Memory) => Err(ReplayFault::Memory),
+            Err(_) => Err(ReplayFault::NotPlayable),
+        }
+    }
+
+    /// Makes a workspace at a version on a branch, where they are there.
+    fn check_out(&mut self, alloc: Global, version: u32, branch: u32) -> Result<(), ReplayFault>
+        ensures could { OnOk result (playable_with self.old self.old.meta (Checkout version branch) ≡ true) }
+        ensures done { OnOk result (self.new ≡ effect self.old (Checkout version branch)) }
+        ensures cannot { IsErrOf result ReplayFault.NotPlayable → playable_with self.old self.old.meta (Checkout version branch) ≡ false }
+    {
+        if !self.meta.is_some() || version != 0 || branch != 0 {
+            return Err(ReplayFault::NotPlayable);
+        }
+        match self.workspaces.push(Workspace::new(alloc)) {
+            Ok(()) => Ok(()),
+            Err(_) => Err(ReplayFault::Memory),
+        }
+    }
+
+    /// Takes a package on the model of a workspace and records it there, where each of its steps can be taken.
+    fn record(&mut self, alloc: Global, ws: u32, package: &Package) -> Result<(), ReplayFault>
+        ensures could { OnOk result (playable_with self.old self.old.meta (Edit ws «package».now) ≡ true) }
+        ensures done { OnOk result (self.new ≡ effect self.old (Edit ws «package».now)) }
+        ensures cannot { IsErrOf result ReplayFault.NotPlayable → playable_with self.old self.old.meta (Edit ws «package».now) ≡ false }
+    {
+        let Some(at) = self.place_of(ws) else {
+            return Err(ReplayFault::NotPlayable);
         };
-        if package.len() == 0 {
-            return Ok(false);
-        }
-        meta.sound();
-        let mut model = workspace.model(alloc, meta)?;
-        match follow(&mut model, meta, package) {
-            Ok(()) => Ok(true),
-            Err(StepFault::Memory) => Err(AllocError),
-            Err(_) => Ok(false),
-        }
-    }
-
-    /// Whether the workspace is there and has operations.
-    fn has_operations(&self, ws: u32) -> bool
-        ensures { result ≡ has_operations (workspace_of self.now ws) }
-    {
-        match self.workspace(ws) {
-            None => false,
-            Some(workspace) => workspace.has_operations(),
-        }
-    }
-
-    /// Whether the event is one that a command could make now.
-    #[tactic(auto, unfolding(plain_repository::specs::Repository::playable))]
-    fn is_playable(&self, alloc: Global, event: &Event, size: usize) -> Result<bool, AllocError>
-        requires event { is_event event.now ≡ true }
-        requires size { size ≡ length (event_form event.now) }
-        ensures { IfOk result (λ b. b ≡ playable self.now event.now) }
-    {
-        if self.is_full() || size > MOST_BYTES {
-            return Ok(false);
+        let count = package.len();
+        if count == 0 {
+            return Err(ReplayFault::NotPlayable);
         }
         let Some(meta) = &self.meta else {
-            return match event {
-                Event::Init { text } => Ok(metamodel(alloc, text.as_str())?.is_some()),
-                _ => Ok(false),
-            };
+            return Err(ReplayFault::NotPlayable);
         };
-        match event {
-            Event::Checkout { version, branch } => Ok(*version == 0 && *branch == 0),
-            Event::Edit { ws, package } => self.can_follow(alloc, meta, *ws, package),
-            Event::Undo { ws } => Ok(self.has_operations(*ws)),
-            Event::Discard { ws } => Ok(self.has_operations(*ws)),
-            _ => Ok(false),
-        }
+        meta.sound();
+        self.workspaces[at].record(alloc, meta, package)
     }
 
-    /// Takes the metamodel of a text.
-    fn begin(&mut self, alloc: Global, text: &Text) -> Result<(), AllocError>
-        requires short { length text.now < 2 ^ 32 - 1 }
-        requires none { self.old.meta ≡ None }
-        ensures { OnOk result (self.new ≡ record self.old { meta = meta_of_read (metamodel_of text.now) }) }
+    /// Takes the last operation of a workspace back and lets it go, where there is one.
+    fn undo(&mut self, alloc: Global, ws: u32) -> Result<(), ReplayFault>
+        ensures could { OnOk result (playable_with self.old self.old.meta (Undo ws) ≡ true) }
+        ensures done { OnOk result (self.new ≡ effect self.old (Undo ws)) }
+        ensures cannot { IsErrOf result ReplayFault.NotPlayable → playable_with self.old self.old.meta (Undo ws) ≡ false }
     {
-        self.meta = metamodel(alloc, text.as_str())?;
+        let Some(at) = self.place_of(ws) else {
+            return Err(ReplayFault::NotPlayable);
+        };
+        if !self.workspaces[at].has_operations() {
+            return Err(ReplayFault::NotPlayable);
+        }
+        let Some(meta) = &self.meta else {
+            return Err(ReplayFault::NotPlayable);
+        };
+        meta.sound();
+        self.workspaces[at].undo(alloc, meta)
+    }
+
+    /// Lets all operations of a workspace go, where there are some.
+    fn discard(&mut self, alloc: Global, ws: u32) -> Result<(), ReplayFault>
+        ensures could { OnOk result (playable_with self.old self.old.meta (Discard ws) ≡ true) }
+        ensures done { OnOk result (self.new ≡ effect self.old (Discard ws)) }
+        ensures cannot { IsErrOf result ReplayFault.NotPlayable → playable_with self.old self.old.meta (Discard ws) ≡ false }
+    {
+        if !self.meta.is_some() {
+            return Err(ReplayFault::NotPlayable);
+        }
+        let Some(at) = self.place_of(ws) else {
+            return Err(ReplayFault::NotPlayable);
+        };
+        if !self.workspaces[at].has_operations() {
+            return Err(ReplayFault::NotPlayable);
+        }
+        self.workspaces[at].clear(alloc);
         Ok(())
     }
 
-    /// Records a package in a workspace.
-    fn record(&mut self, alloc: Global, ws: u32, package: &Package) -> Result<(), AllocError>
-        requires can { IsTrue (playable_with self.old self.old.meta (Edit ws «package».now)) }
-        ensures { OnOk result (self.new ≡ effect self.old (Edit ws «package».now)) }
+    /// What an event changes beside the numbers that every event raises, where a command could make it.
+    fn carry_out(&mut self, alloc: Global, event: &Event) -> Result<(), ReplayFault>
+        requires short { length (event_form event.now) ≤ most_bytes }
+        ensures could { OnOk result (playable_with self.old self.old.meta event.now ≡ true) }
+        ensures done { OnOk result (self.new ≡ effect self.old event.now) }
+        ensures cannot { IsErrOf result ReplayFault.NotPlayable → playable_with self.old self.old.meta event.now ≡ false }
     {
-        self.workspaces[ws as usize - 1].extend(alloc, package)
+        match event {
+            Event::Init { text } => self.begin(alloc, text),
+            Event::Checkout { version, branch } => self.check_out(alloc, *version, *branch),
+            Event::Edit { ws, package } => self.record(alloc, *ws, package),
+            Event::Undo { ws } => self.undo(alloc, *ws),
+            Event::Discard { ws } => self.discard(alloc, *ws),
+            Event::Begin { .. } | Event::End { .. } => Err(ReplayFault::NotPlayable),
+        }
     }
 
-    /// Lets the last operation of a workspace go.
-    fn undo(&mut self, alloc: Global, ws: u32) -> Result<(), AllocError>
-        requires can { IsTrue (playable_with self.old self.old.meta (Undo ws)) }
-        ensures { OnOk result (self.new ≡ effect self.old (Undo ws)) }
-    {
-        self.workspaces[ws as usize - 1].pop(alloc)
-    }
-
-    /// Lets all operations of a workspace go.
-    fn discard(&mut self, alloc: Global, ws: u32)
-        requires can { IsTrue (playable_with self.old self.old.meta (Discard ws)) }
-        ensures { self.new ≡ effect self.old (Discard ws) }
-    {
-        self.workspaces[ws as usize - 1].clear(alloc);
-    }
-
-    /// Makes an event whose bytes are so many.
+    /// Makes an event whose bytes are so many, where a command could make it.
     #[tactic(auto, unfolding(plain_repository::specs::Repository::play, plain_repository::specs::Repository::playable))]
+    fn make(&mut self, alloc: Global, event: &Event, size: usize) -> Result<(), ReplayFault>
+        requires event { is_event event.now ≡ true }
+        requires size { size ≡ length (event_form event.now) }
+        requires room { self.old.end + 5 + size < 2 ^ 40 }
+        ensures could { OnOk result (IsTrue (playable self.old event.now)) }
+        ensures made { OnOk result (self.new ≡ play self.old event.now) }
+        ensures cannot { IsErrOf result ReplayFault.NotPlayable → playable self.old event.now ≡ false }
+    {
+        if self.is_full() || size > MOST_BYTES {
+            return Err(ReplayFault::NotPlayable);
+        }
+        self.carry_out(alloc, event)?;
+        self.events += 1;
+        self.end += 5 + size as u64;
+        Ok(())
+    }
+
+    /// Makes an event whose bytes are so many. After an error the repository is of no use.
     pub fn play(&mut self, alloc: Global, event: &Event, size: usize) -> Result<(), AllocError>
         requires can { IsTrue (playable self.old event.now) }
         requires size { size ≡ length (event_form event.now) }
         requires room { self.old.end + 5 + size < 2 ^ 40 }
         ensures played { OnOk result (self.new ≡ play self.old event.now) }
     {
-        match event {
-            Event::Init { text } => self.begin(alloc, text)?,
-            Event::Checkout { .. } => self.workspaces.push(Workspace::new(alloc))?,
-            Event::Edit { ws, package } => self.record(alloc, *ws, package)?,
-            Event::Undo { ws } => self.undo(alloc, *ws)?,
-            Event::Discard { ws } => self.discard(alloc, *ws),
-            _ => {}
+        match self.make(alloc, event, size) {
+            Ok(()) => Ok(()),
+            Err(ReplayFault::Memory) => Err(AllocError),
+            Err(ReplayFault::NotPlayable) => unreachable!(),
         }
-        self.events += 1;
-        self.end += 5 + size as u64;
-        Ok(())
     }
 
-    /// Plays the event that the bytes of a record are.
+    /// Plays the event that the bytes of a record are. After an error the repository is of no use.
     pub fn replay(&mut self, alloc: Global, bytes: &[u8]) -> Result<(), ReplayFault>
         requires room { self.old.end + 5 + length bytes.now < 2 ^ 40 }
         ensures played { OnOk result ((event : Event) × IsTrue (playable self.old event) × (bytes.now ≡ event_form event) × (self.new ≡ play self.old event)) }
@@ -223,14 +241,6 @@ impl Repo {
             Err(FormFault::NotForm { .. }) => return Err(ReplayFault::NotPlayable),
             Err(FormFault::Memory) => return Err(ReplayFault::Memory),
         };
-        match self.is_playable(alloc, &event, bytes.len()) {
-            Ok(true) => {}
-            Ok(false) => return Err(ReplayFault::NotPlayable),
-            Err(_) => return Err(ReplayFault::Memory),
-        }
-        match self.play(alloc, &event, bytes.len()) {
-            Ok(()) => Ok(()),
-            Err(_) => Err(ReplayFault::Memory),
-        }
+        self.make(alloc, &event, bytes.len())
     }
 }

@@ -1,30 +1,26 @@
-//! A workspace in memory.
-ghost use Rattle.std.specs.Prelude.{◌≡◌, ◌≢◌, ◌≤◌, ◌++◌, ◌∷◌, [], length, take, IfOk, OnOk, OnErr, IfErr, None, Some};
+//! A workspace in memory, which keeps its working model.
+ghost use Rattle.std.specs.Prelude.{◌≡◌, ◌≢◌, ◌++◌, ◌∷◌, [], is_some, true, OnOk, IfErr, IsErrOf, None, Some};
 ghost use Rattle.ecore_meta.specs.Sound.{Sound};
 ghost use Rattle.model_state.specs.Good.{Good};
+ghost use Rattle.model_state.specs.State.{nothing};
 ghost use Rattle.model_state.specs.Packages.{steps_of, fold_package};
 ghost use Rattle.step_apply.specs.View.{plain_state};
-ghost use Rattle.plain_repository.specs.Repository.{model_of, with_more, without_last, without_any, has_operations};
+ghost use Rattle.plain_repository.specs.Repository.{model_of, with_more, without_last, has_operations};
+ghost use Rattle.repo_core.specs.Keeping.{plain_of, Lead, Keeps};
 
+use crate::fault::{ReplayFault, package_fault};
 use ecore_meta::{List, Metamodel};
 use model_laws::replay;
 use model_state::{Operation, Package, Step, StepFault};
+use op_form::reverse_op;
 use std::alloc::{AllocError, Global};
-use std::marker::Model;
 use step_apply::Plain;
 
-/// The operations recorded in a workspace, in their order.
+/// The operations recorded in a workspace, in their order, and the working model that they lead to.
 #[derive(Drop)]
 pub(crate) struct Workspace {
-    operations: List<Operation>,
-}
-
-impl Model for Workspace {
-    ghost use Rattle.plain_repository.specs.Repository as plain;
-
-    ghost Value = { plain.Workspace };
-
-    ghost view = { λ w. record { operations = w.operations } };
+    pub(crate) operations: List<Operation>,
+    pub(crate) model: Plain,
 }
 
 fn steps_in(operation: &Operation) -> &[Step]
@@ -37,11 +33,7 @@ fn steps_in(operation: &Operation) -> &[Step]
 }
 
 /// Takes the steps of a package one by one, up to the first that can't be taken. After an error the model is of no use.
-pub(crate) fn follow(
-    model: &mut Plain,
-    meta: &Metamodel,
-    package: &Package,
-) -> Result<(), StepFault>
+fn follow(model: &mut Plain, meta: &Metamodel, package: &Package) -> Result<(), StepFault>
     requires sound { Sound meta.now }
     requires good { Good meta.now (plain_state model.old) }
     ensures done { OnOk result (fold_package meta.now (plain_state model.old) «package».now ≡ Some (plain_state model.new)) }
@@ -54,29 +46,15 @@ pub(crate) fn follow(
     Ok(())
 }
 
-/// Copies of the first operations.
-fn copies(
-    alloc: Global,
-    operations: &[Operation],
-    count: usize,
-) -> Result<List<Operation>, AllocError>
-    requires { count ≤ length operations.now }
-    ensures { IfOk result (λ copies. copies ≡ take count operations.now) }
-{
-    let mut copies = List::new(alloc);
-    for operation in &operations[..count] {
-        copies.push(operation.copy(alloc)?)?;
-    }
-    Ok(copies)
-}
-
 impl Workspace {
     /// A workspace at the empty project.
     pub(crate) fn new(alloc: Global) -> Workspace
-        ensures { result ≡ record { operations = [] } }
+        ensures operations { result.operations ≡ [] }
+        ensures model { plain_state result.model ≡ nothing }
     {
         Workspace {
             operations: List::new(alloc),
+            model: Plain::new(alloc),
         }
     }
 
@@ -89,41 +67,61 @@ impl Workspace {
 
     /// Whether there are operations.
     pub(crate) fn has_operations(&self) -> bool
-        ensures { result ≡ has_operations (Some self.now) }
+        ensures { result ≡ has_operations (Some (plain_of self.now)) }
     {
         self.operations.len() > 0
     }
 
-    /// The working model: what the operations lead to from the empty project. They are taken one by one each time.
-    pub(crate) fn model(&self, alloc: Global, meta: &Metamodel) -> Result<Plain, AllocError>
-        ensures model { IfOk result (λ m. plain_state m ≡ model_of meta.now self.now) }
-        ensures good { IfOk result (λ m. Good meta.now (plain_state m)) }
+    /// The working model, over the metamodel.
+    pub(crate) fn model(&self, _meta: &Metamodel) -> &Plain
+        requires keeps { Keeps _meta.now self.now }
+        ensures model { plain_state result.now ≡ model_of _meta.now (plain_of self.now) }
+        ensures good { Good _meta.now (plain_state result.now) }
     {
-        meta.sound();
-        let mut model = Plain::new(alloc);
-        match follow(&mut model, meta, &self.operations) {
-            Ok(()) => Ok(model),
-            Err(StepFault::Memory) => Err(AllocError),
-            Err(_) => Ok(Plain::new(alloc)),
-        }
+        &self.model
     }
 
-    /// Records the operations of a package, or has none where there is no memory.
-    pub(crate) fn extend(&mut self, alloc: Global, package: &Package) -> Result<(), AllocError>
-        ensures more { OnOk result (self.new ≡ with_more «package».now self.old) }
-        ensures none { OnErr result (self.new ≡ record { operations = [] }) }
+    /// Takes the steps of a package on the model and records its operations. After an error the workspace is at the empty project.
+    pub(crate) fn record(
+        &mut self,
+        alloc: Global,
+        meta: &Metamodel,
+        package: &Package,
+    ) -> Result<(), ReplayFault>
+        requires sound { Sound meta.now }
+        requires keeps { Keeps meta.now self.old }
+        ensures could { OnOk result (is_some (fold_package meta.now (plain_state self.old.model) «package».now) ≡ true) }
+        ensures recorded { OnOk result (plain_of self.new ≡ with_more «package».now (plain_of self.old)) }
+        ensures cannot { IsErrOf result ReplayFault.NotPlayable → fold_package meta.now (plain_state self.old.model) «package».now ≡ None }
+        ensures keeps { Keeps meta.now self.new }
     {
-        match self.push_all(alloc, package) {
+        match self.take(alloc, meta, package) {
             Ok(()) => Ok(()),
             Err(fault) => {
                 self.clear(alloc);
-                Err(fault)
+                Err(package_fault(fault))
             }
         }
     }
 
+    fn take(&mut self, alloc: Global, meta: &Metamodel, package: &Package) -> Result<(), StepFault>
+        requires sound { Sound meta.now }
+        requires good { Good meta.now (plain_state self.old.model) }
+        ensures taken { OnOk result (fold_package meta.now (plain_state self.old.model) «package».now ≡ Some (plain_state self.new.model)) }
+        ensures recorded { OnOk result (self.new.operations ≡ self.old.operations ++ «package».now) }
+        ensures cannot { IfErr result (λ e. e ≢ StepFault.Memory → fold_package meta.now (plain_state self.old.model) «package».now ≡ None) }
+        ensures good { Good meta.now (plain_state self.new.model) }
+    {
+        follow(&mut self.model, meta, package)?;
+        match self.push_all(alloc, package) {
+            Ok(()) => Ok(()),
+            Err(_) => Err(StepFault::Memory),
+        }
+    }
+
     fn push_all(&mut self, alloc: Global, package: &Package) -> Result<(), AllocError>
-        ensures { OnOk result (self.new ≡ with_more «package».now self.old) }
+        ensures more { OnOk result (self.new.operations ≡ self.old.operations ++ «package».now) }
+        ensures model { self.new.model ≡ self.old.model }
     {
         for operation in package.as_slice() {
             self.operations.push(operation.copy(alloc)?)?;
@@ -131,23 +129,54 @@ impl Workspace {
         Ok(())
     }
 
-    /// Lets the last operation go.
-    pub(crate) fn pop(&mut self, alloc: Global) -> Result<(), AllocError>
-        ensures fewer { OnOk result (self.new ≡ without_last self.old) }
-        ensures same { OnErr result (self.new ≡ self.old) }
+    /// Takes the reversal of the last operation on the model and lets the operation go. It fails for want of memory alone, and then the workspace
+    /// is at the empty project.
+    pub(crate) fn undo(&mut self, alloc: Global, meta: &Metamodel) -> Result<(), ReplayFault>
+        requires sound { Sound meta.now }
+        requires keeps { Keeps meta.now self.old }
+        requires has { has_operations (Some (plain_of self.old)) ≡ true }
+        ensures undone { OnOk result (plain_of self.new ≡ without_last (plain_of self.old)) }
+        ensures memory { IfErr result (λ e. e ≡ ReplayFault.Memory) }
+        ensures keeps { Keeps meta.now self.new }
     {
-        self.operations = copies(
-            alloc,
-            self.operations.as_slice(),
-            self.operations.len().saturating_sub(1),
-        )?;
-        Ok(())
+        let Some(operation) = self.operations.pop() else {
+            unreachable!()
+        };
+        match self.take_back(alloc, meta, &operation) {
+            Ok(()) => Ok(()),
+            Err(_) => {
+                self.clear(alloc);
+                Err(ReplayFault::Memory)
+            }
+        }
+    }
+
+    /// Takes the reversal of an operation that came behind the others. It fails for want of memory alone.
+    fn take_back(
+        &mut self,
+        alloc: Global,
+        meta: &Metamodel,
+        operation: &Operation,
+    ) -> Result<(), StepFault>
+        requires sound { Sound meta.now }
+        requires keeps { Lead meta.now (self.old.operations ++ operation.now ∷ []) (plain_state self.old.model) }
+        ensures same { self.new.operations ≡ self.old.operations }
+        ensures keeps { OnOk result (Keeps meta.now self.new) }
+        ensures memory { IfErr result (λ e. e ≡ StepFault.Memory) }
+    {
+        let reversal = match reverse_op(alloc, operation) {
+            Ok(reversal) => reversal,
+            Err(_) => return Err(StepFault::Memory),
+        };
+        replay(&mut self.model, meta, steps_in(&reversal))
     }
 
     /// Lets all operations go.
     pub(crate) fn clear(&mut self, alloc: Global)
-        ensures { self.new ≡ without_any self.old }
+        ensures operations { self.new.operations ≡ [] }
+        ensures model { plain_state self.new.model ≡ nothing }
     {
         self.operations = List::new(alloc);
+        self.model = Plain::new(alloc);
     }
 }

@@ -1,8 +1,6 @@
-use Rattle.std.proofs.Common.{arith}
-use Rattle.plain_repository.proofs.Forms.{playable_short, text_shorter}
+use Rattle.op_form.proofs.FormedLaws.{is_event_holds}
+use Rattle.plain_repository.proofs.Forms.{playable_is_event}
 use Rattle.repo_core.proofs.repo.Repo.play.Goals as goal
 
-pub begin-requires-clause-short : goal.begin-requires-clause-short
-begin-requires-clause-short c =
-    let could = rw c.in-Init.is at c.requires.can in
-    omega (arith, text_shorter c.in-Init.text, playable_short c.args.self.now _ could)
+pub make-requires-clause-event : goal.make-requires-clause-event
+make-requires-clause-event c = is_event_holds c.args.event.now (playable_is_event c.args.self.now c.args.event.now c.requires.can)
