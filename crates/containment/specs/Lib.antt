@@ -3,4 +3,5 @@ pub mod Deletes
 pub mod Sorts
 pub mod Refusals
 pub mod Moves
+pub mod Containers
 pub mod Laws

@@ -19,7 +19,9 @@ mod walk;
 pub use create::create_steps;
 pub use delete::delete_steps;
 pub use fault::MoveFault;
-pub use laws::{law_of_creations, law_of_deletions, law_of_moves, law_of_subtrees};
+pub use laws::{
+    law_of_containers, law_of_creations, law_of_deletions, law_of_moves, law_of_subtrees,
+};
 pub use moves::move_steps;
 pub use place::is_place;
 pub use spots::{Spot, spot_steps};

@@ -13,10 +13,6 @@ use std::alloc::Global;
 use std::test::Fail;
 use step_apply::Plain;
 
-fn named(alloc: Global, n: u32) -> Result<Id, Fail> {
-    Ok(Id::read(alloc, format!(in alloc; "e{n}")?.as_str())?)
-}
-
 fn taken(alloc: Global, meta: &Metamodel, steps: &[Step]) -> Result<Plain, Fail>
     requires { Sound meta.now }
     ensures { IfOk result (λ p. Good meta.now (plain_state p)) }
@@ -32,12 +28,7 @@ fn chain_of(alloc: Global, meta: &Metamodel, n: u32) -> Result<Plain, Fail>
     ensures { IfOk result (λ p. Good meta.now (plain_state p)) }
 {
     let mut steps = Vec::new(alloc);
-    steps.push(Step::New {
-        e: named(alloc, 0)?,
-        class: 0,
-        place: Place::Root,
-        rank: 1,
-    })?;
+    steps.push(new_root(named(alloc, 0)?))?;
     for k in 1..n {
         steps.push(Step::New {
             e: named(alloc, k)?,
@@ -52,26 +43,33 @@ fn chain_of(alloc: Global, meta: &Metamodel, n: u32) -> Result<Plain, Fail>
     taken(alloc, meta, steps.as_slice())
 }
 
-// An element at the root, and n others that refer to it.
+fn named(alloc: Global, n: u32) -> Result<Id, Fail> {
+    Ok(Id::read(alloc, format!(in alloc; "e{n}")?.as_str())?)
+}
+
+fn new_root(e: Id) -> Step {
+    Step::New {
+        e,
+        class: 0,
+        place: Place::Root,
+        rank: 1,
+    }
+}
+
+// An element `top` at the root, and n others that refer to it.
 fn star_of(alloc: Global, meta: &Metamodel, n: u32) -> Result<Plain, Fail>
     requires { Sound meta.now }
     ensures { IfOk result (λ p. Good meta.now (plain_state p)) }
 {
     let mut steps = Vec::new(alloc);
-    for k in 0..n + 1 {
-        steps.push(Step::New {
-            e: named(alloc, k)?,
-            class: 0,
-            place: Place::Root,
-            rank: 1,
-        })?;
-    }
-    for k in 1..n + 1 {
+    steps.push(new_root(Id::read(alloc, "top")?))?;
+    for k in 0..n {
+        steps.push(new_root(named(alloc, k)?))?;
         steps.push(Step::Link {
             a: named(alloc, k)?,
             f: 10,
             ra: 1,
-            b: named(alloc, 0)?,
+            b: Id::read(alloc, "top")?,
             rb: None,
         })?;
     }
@@ -122,7 +120,7 @@ fn an_element_with_2000_references_to_it_goes(rt: HostRuntime) -> Result<(), Fai
     let alloc = rt.alloc();
     let meta = parts(alloc)?;
     let mut plain = star_of(alloc, &meta, 2000)?;
-    let steps = delete_steps(alloc, &plain, &meta, &named(alloc, 0)?)?;
+    let steps = delete_steps(alloc, &plain, &meta, &Id::read(alloc, "top")?)?;
     assert_eq!(rt; steps.len(), 2001);
     replay(&mut plain, &meta, steps.as_slice())?;
     assert_eq!(rt; plain.ids(alloc)?.len(), 2000);

@@ -54,6 +54,38 @@ fn containers(alloc: Global, list: &List<Id>) -> Result<String, Fail> {
     ids(alloc, list, ",")
 }
 
+// A New or a Gone.
+fn birth_line(
+    alloc: Global,
+    kind: &str,
+    e: &Id,
+    class: u32,
+    place: &Place,
+    rank: u64,
+) -> Result<String, Fail> {
+    let place = place_text(alloc, place)?;
+    Ok(format!(in alloc; "{kind} {} {class} {place} {rank}", e.as_str())?)
+}
+
+// A place with the rank there.
+fn standing(alloc: Global, place: &Place, rank: u64) -> Result<String, Fail> {
+    let place = place_text(alloc, place)?;
+    Ok(format!(in alloc; "{place} {rank}")?)
+}
+
+fn move_line(
+    alloc: Global,
+    e: &Id,
+    from: &str,
+    to: &str,
+    up: &List<Id>,
+    down: &List<Id>,
+) -> Result<String, Fail> {
+    let up = containers(alloc, up)?;
+    let down = containers(alloc, down)?;
+    Ok(format!(in alloc; "Move {} {from} {to} {up} {down}", e.as_str())?)
+}
+
 fn line_of_place(alloc: Global, step: &Step) -> Result<String, Fail> {
     match step {
         Step::New {
@@ -61,19 +93,13 @@ fn line_of_place(alloc: Global, step: &Step) -> Result<String, Fail> {
             class,
             place,
             rank,
-        } => {
-            let place = place_text(alloc, place)?;
-            Ok(format!(in alloc; "New {} {class} {place} {rank}", e.as_str())?)
-        }
+        } => birth_line(alloc, "New", e, *class, place, *rank),
         Step::Gone {
             e,
             class,
             place,
             rank,
-        } => {
-            let place = place_text(alloc, place)?;
-            Ok(format!(in alloc; "Gone {} {class} {place} {rank}", e.as_str())?)
-        }
+        } => birth_line(alloc, "Gone", e, *class, place, *rank),
         Step::RerankPlace { e, old, new } => {
             Ok(format!(in alloc; "RerankPlace {} {old} {new}", e.as_str())?)
         }
@@ -86,14 +112,9 @@ fn line_of_place(alloc: Global, step: &Step) -> Result<String, Fail> {
             above_from,
             above_to,
         } => {
-            let from = place_text(alloc, from)?;
-            let to = place_text(alloc, to)?;
-            let up = containers(alloc, above_from)?;
-            let down = containers(alloc, above_to)?;
-            Ok(format!(in alloc;
-                "Move {} {from} {from_rank} {to} {to_rank} {up} {down}",
-                e.as_str()
-            )?)
+            let from = standing(alloc, from, *from_rank)?;
+            let to = standing(alloc, to, *to_rank)?;
+            move_line(alloc, e, from.as_str(), to.as_str(), above_from, above_to)
         }
         _ => Err("no step of a deletion, a creation or a move")?,
     }
