@@ -1,4 +1,6 @@
-// The lines of a session on the library of books and writers, and a line of each kind of step.
+// The lines of a session on the library of books and writers, a line of each kind of step, and what a model lacks.
+mod validation;
+
 use super::*;
 use ecore_json::read_metamodel;
 use ecore_meta::{List, Metamodel, Text, Value};
@@ -49,8 +51,12 @@ const PAIR: u32 = 10;
 const PARTS: u32 = 12;
 
 fn library(rt: &impl Abort, alloc: Global) -> Result<Metamodel, Fail> {
+    metamodel(rt, alloc, LIBRARY)
+}
+
+fn metamodel(rt: &impl Abort, alloc: Global, document: &str) -> Result<Metamodel, Fail> {
     let mut text = String::new(alloc);
-    for (n, part) in LIBRARY.split("E#").enumerate() {
+    for (n, part) in document.split("E#").enumerate() {
         if n > 0 {
             text.push_str("http://www.eclipse.org/emf/2002/Ecore#")?;
         }

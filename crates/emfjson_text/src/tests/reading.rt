@@ -31,17 +31,14 @@ fn class_named(meta: &Metamodel, name: &str) -> Result<u32, Fail> {
 }
 
 fn feature_named(meta: &Metamodel, name: &str) -> Result<u32, Fail> {
-    let Some((class, feature)) = name.split_once('.') else {
-        Err("no feature")?
-    };
+    let (class, feature) = name.split_once('.').unwrap_or(("", ""));
     let class = class_named(meta, class)?;
-    if class >= meta.class_count() {
-        Err("no class")?
+    if class < meta.class_count() {
+        if let Some(f) = meta.feature_named(class, feature) {
+            return Ok(f);
+        }
     }
-    match meta.feature_named(class, feature) {
-        Some(f) => Ok(f),
-        None => Err("no feature")?,
-    }
+    Err("no feature")?
 }
 
 // What stands before the first blank, and what stands behind it.
@@ -63,12 +60,9 @@ fn place(alloc: Global, meta: &Metamodel, word: &str) -> Result<Place, Fail> {
 }
 
 fn value(alloc: Global, meta: &Metamodel, f: u32, text: &str) -> Result<Value, Fail> {
-    let Some(feature) = feature(meta, f) else {
-        Err("no feature")?
-    };
-    match &feature.kind {
-        Kind::Attr { scalar, .. } => Ok(read_value(alloc, text, scalar, meta)?),
-        Kind::AttrMany { scalar, .. } => Ok(read_value(alloc, text, scalar, meta)?),
+    match feature(meta, f).map(|feature| &feature.kind) {
+        Some(Kind::Attr { scalar, .. }) => Ok(read_value(alloc, text, scalar, meta)?),
+        Some(Kind::AttrMany { scalar, .. }) => Ok(read_value(alloc, text, scalar, meta)?),
         _ => Err("no attribute")?,
     }
 }
