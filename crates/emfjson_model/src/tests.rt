@@ -354,13 +354,25 @@ const FAULTY: [(&str, u32, u32); 11] = [
     (r#"{"eClass":"//Thing"}"#, 3, 0),
     (r#"{"eClass":"//Book","x":1}"#, 4, 0),
     (r#"{"eClass":"//Book","pages":"7"}"#, 5, 0),
-    (r#"{"eClass":"//Shelf","_id":"d","parts":[{"_id":"d"}]}"#, 7, 0),
+    (
+        r#"{"eClass":"//Shelf","_id":"d","parts":[{"_id":"d"}]}"#,
+        7,
+        0,
+    ),
     (r#"{"eClass":"//Book","_id":"a b"}"#, 8, 0),
     (r#"{"eClass":"//Shelf","parts":[{},{},{}]}"#, 9, 0),
     (r#"{"eClass":"//Shelf","parts":[5]}"#, 10, 0),
     (r#"{"eClass":"//Book","sequel":{"$ref":"none"}}"#, 6, 1),
-    (r#"{"eClass":"//Book","_id":"t","authors":[{"$ref":"t"}]}"#, 10, 1),
-    (r#"{"eClass":"//Library","books":[{"_id":"m"},{"sequel":{"$ref":"m"}},{"sequel":{"$ref":"m"}}]}"#, 9, 2),
+    (
+        r#"{"eClass":"//Book","_id":"t","authors":[{"$ref":"t"}]}"#,
+        10,
+        1,
+    ),
+    (
+        r#"{"eClass":"//Library","books":[{"_id":"m"},{"sequel":{"$ref":"m"}},{"sequel":{"$ref":"m"}}]}"#,
+        9,
+        2,
+    ),
 ];
 
 #[test]
