@@ -96,20 +96,20 @@ fn move_element(
 }
 
 #[test]
-fn a_chain_of_5000_elements_moves_and_goes(rt: HostRuntime) -> Result<(), Fail> {
+fn a_chain_of_1000_elements_moves_and_goes(rt: HostRuntime) -> Result<(), Fail> {
     let alloc = rt.alloc();
     let meta = nested(alloc)?;
-    let mut plain = chain_of(alloc, &meta, 5000)?;
+    let mut plain = chain_of(alloc, &meta, 1000)?;
     let top = named(alloc, 0)?;
-    move_element(alloc, &meta, &mut plain, &named(alloc, 2500)?, &Place::Root)?;
-    assert_eq!(rt; subtree(alloc, &plain, &meta, &top)?.len(), 2500);
+    move_element(alloc, &meta, &mut plain, &named(alloc, 500)?, &Place::Root)?;
+    assert_eq!(rt; subtree(alloc, &plain, &meta, &top)?.len(), 500);
     let back = Place::Inside {
-        parent: named(alloc, 2499)?,
+        parent: named(alloc, 499)?,
         feature: 0,
     };
-    move_element(alloc, &meta, &mut plain, &named(alloc, 2500)?, &back)?;
+    move_element(alloc, &meta, &mut plain, &named(alloc, 500)?, &back)?;
     let steps = delete_steps(alloc, &plain, &meta, &top)?;
-    assert_eq!(rt; steps.len(), 5000);
+    assert_eq!(rt; steps.len(), 1000);
     replay(&mut plain, &meta, steps.as_slice())?;
     assert_eq!(rt; plain.ids(alloc)?.len(), 0);
     Ok(())
