@@ -1,5 +1,5 @@
 -- The plain repository: its state, what a command is answered on a state, and what an event makes of one.
-use Rattle.std.specs.Prelude.{ℕ, zero, suc, ◌+◌, ◌-◌, ◌^◌, ◌==◌, ◌&&◌, nat_eq, nat_lt, nat_le, not, List, [], ◌∷◌, ◌++◌, Bool, true, false, codes, length, take, slice_get, Option, Some, None, is_some, unwrap_or, Result, Ok, Err, is_ok, if◌then◌else◌}
+use Rattle.std.specs.Prelude.{ℕ, zero, suc, ◌+◌, ◌-◌, ◌^◌, ◌==◌, ◌&&◌, ◌||◌, nat_eq, nat_lt, nat_le, not, List, [], ◌∷◌, ◌++◌, Bool, true, false, codes, length, take, slice_get, Option, Some, None, is_some, unwrap_or, Result, Ok, Err, is_ok, if◌then◌else◌}
 use Rattle.std.specs.Fmt.{decimal}
 use Rattle.std.specs.Cmp.Lexicographic.{pointwise}
 use Rattle.host_port.specs.Cut.{Item}
@@ -9,10 +9,14 @@ use Rattle.ecore_json.specs.declared.fault.EcoreFault.{EcoreFault}
 use Rattle.ecore_json.specs.Metamodel.{metamodel_of, fault_number}
 use Rattle.model_state.specs.State.{nothing}
 use Rattle.model_state.specs.State as models
-use Rattle.model_state.specs.Packages.{fold_package}
+use Rattle.model_state.specs.Names.{is_name}
+use Rattle.model_state.specs.Steps.{fold}
+use Rattle.model_state.specs.Packages.{fold_package, steps_all}
+use Rattle.model_state.specs.declared.step.Step.{Step}
 use Rattle.model_state.specs.declared.operation.Operation.{Operation}
+use Rattle.model_state.specs.declared.operation.Operation.TheVariants as operation
 use Rattle.op_form.specs.declared.event.Event.{Event}
-use Rattle.op_form.specs.declared.event.Event.TheVariants.{Init, Checkout, Edit, Undo, Discard}
+use Rattle.op_form.specs.declared.event.Event.TheVariants.{Init, Checkout, Edit, Begin, End, Undo, Discard}
 use Rattle.op_form.specs.Events.{event_form}
 use Rattle.op_form.specs.Formed.{is_event}
 use Rattle.edit_laws.specs.declared.edit.Edit as edits
@@ -20,7 +24,8 @@ use Rattle.edit_laws.specs.declared.edit.Recorded.{Recorded}
 use Rattle.edit_laws.specs.declared.fault.EditFault.{EditFault}
 use Rattle.edit_laws.specs.declared.fault.EditFault.TheVariants as faults
 use Rattle.recorder.specs.Recording.{recorded}
-use Rattle.data_lines.specs.Lines.{operation_lines}
+use Rattle.data_lines.specs.Lines.{operation_lines, open_lines}
+use Rattle.data_lines.specs.Validation.{validate_lines}
 use Rattle.emfjson_text.specs.Tree.{text}
 use Rattle.script_lang.specs.declared.command.Spec.{Spec}
 use Rattle.script_lang.specs.declared.command.Spec.TheVariants as specs
@@ -35,9 +40,15 @@ use Rattle.script_lang.specs.Command.{command_of}
 use Rattle.script_lang.specs.Reply.{printed}
 use Rattle.plain_repository.specs.Lines.{is_skipped}
 
--- a workspace: the operations recorded in it, in their order
+-- a composite that is open: its name, and the steps recorded in it so far
+pub record Composite : Type 0 where
+  pub name : List ℕ
+  pub steps : List Step
+
+-- a workspace: the operations recorded in it, in their order, and the composite that is open, where one is
 pub record Workspace : Type 0 where
   pub operations : List Operation
+  pub composite : Option Composite
 
 -- The metamodel, once there is one; the workspaces, the one of the number n at the place n - 1; how many events were played; and the place of the journal's end
 -- behind them. While version 0 is the only version and `trunk` the only branch, both are there as soon as there is a metamodel, and each workspace stands at
@@ -60,9 +71,21 @@ abbrev pub workspace_of : State → ℕ → Option Workspace
 workspace_of s zero = None
 workspace_of s (suc n) = slice_get s.workspaces n
 
--- what the workspace's operations lead to from the empty project, one by one; None where one of them can't be taken, which comes of no event that could be made
+-- a workspace at the empty project
+abbrev pub untouched : Workspace
+untouched = record { operations = []; composite = None }
+
+abbrev pub open_steps : Option Composite → List Step
+open_steps None = []
+open_steps (Some composite) = composite.steps
+
+-- all steps recorded in a workspace: those of its operations, and then those of the open composite
+abbrev pub recorded_steps : Workspace → List Step
+recorded_steps w = steps_all w.operations ++ open_steps w.composite
+
+-- what the recorded steps lead to from the empty project, one by one; None where one of them can't be taken, which comes of no event that could be made
 abbrev pub folded : Meta → Workspace → Option models.State
-folded meta workspace = fold_package meta nothing workspace.operations
+folded meta workspace = fold meta nothing (recorded_steps workspace)
 
 -- the working model
 abbrev pub model_of : Meta → Workspace → models.State
@@ -79,14 +102,36 @@ abbrev pub changed : (Workspace → Workspace) → List Workspace → ℕ → Li
 changed change ws zero = ws
 changed change ws (suc n) = changed_at change ws n
 
+abbrev pub added : List Operation → List Operation → Option Composite → Workspace
+added more operations None = record { operations = operations ++ more; composite = None }
+added more operations (Some composite) = record { operations = operations; composite = Some (record { name = composite.name; steps = composite.steps ++ steps_all more }) }
+
+-- operations come behind those that are there; while a composite is open their steps join it
 abbrev pub with_more : List Operation → Workspace → Workspace
-with_more more w = record { operations = w.operations ++ more }
+with_more more w = added more w.operations w.composite
+
+-- a composite of that name is open, with no step yet
+abbrev pub with_open : List ℕ → Workspace → Workspace
+with_open name w = record { operations = w.operations; composite = Some (record { name = name; steps = [] }) }
+
+-- the composite as an operation, where it has steps
+abbrev pub composed : List ℕ → List Step → List Operation
+composed name [] = []
+composed name (s ∷ ss) = operation.Composite name (s ∷ ss) ∷ []
+
+abbrev pub operation_of_open : Option Composite → List Operation
+operation_of_open None = []
+operation_of_open (Some composite) = composed composite.name composite.steps
+
+-- the composite is closed, and is the last operation where it has steps
+abbrev pub with_closed : Workspace → Workspace
+with_closed w = record { operations = w.operations ++ operation_of_open w.composite; composite = None }
 
 abbrev pub without_last : Workspace → Workspace
-without_last w = record { operations = take (length w.operations - 1) w.operations }
+without_last w = record { operations = take (length w.operations - 1) w.operations; composite = w.composite }
 
 abbrev pub without_any : Workspace → Workspace
-without_any w = record { operations = [] }
+without_any w = untouched
 
 abbrev pub meta_of_read : Result Meta EcoreFault → Option Meta
 meta_of_read (Ok meta) = Some meta
@@ -95,20 +140,36 @@ meta_of_read (Err fault) = None
 -- what an event changes beside the numbers that every event raises
 abbrev pub effect : State → Event → State
 effect s (Init text) = record s { meta = meta_of_read (metamodel_of text) }
-effect s (Checkout version branch) = record s { workspaces = s.workspaces ++ record { operations = [] } ∷ [] }
+effect s (Checkout version branch) = record s { workspaces = s.workspaces ++ untouched ∷ [] }
 effect s (Edit ws operations) = record s { workspaces = changed (with_more operations) s.workspaces ws }
+effect s (Begin ws name) = record s { workspaces = changed (with_open name) s.workspaces ws }
+effect s (End ws) = record s { workspaces = changed with_closed s.workspaces ws }
 effect s (Undo ws) = record s { workspaces = changed without_last s.workspaces ws }
 effect s (Discard ws) = record s { workspaces = changed without_any s.workspaces ws }
-effect s event = s
 
 -- the state that an event makes
 unfoldable pub play : State → Event → State
 play s event = record (effect s event) { events = s.events + 1; end = s.end + 5 + length (event_form event) }
 
--- there are operations, and each can be taken in its turn on the working model
+-- an open composite takes one operation at a time
+abbrev pub takes : Option Composite → List Operation → Bool
+takes None operations = true
+takes (Some composite) operations = length operations == 1
+
+-- there are operations, as many as the workspace takes, and each can be taken in its turn on the working model
 abbrev pub can_follow : Meta → Option Workspace → List Operation → Bool
-can_follow meta (Some workspace) (o ∷ operations) = is_some (fold_package meta (model_of meta workspace) (o ∷ operations))
+can_follow meta (Some workspace) (o ∷ operations) = takes workspace.composite (o ∷ operations) && is_some (fold_package meta (model_of meta workspace) (o ∷ operations))
 can_follow meta workspace operations = false
+
+-- the workspace is there, and no composite is open in it
+abbrev pub is_closed : Option Workspace → Bool
+is_closed (Some workspace) = not (is_some workspace.composite)
+is_closed None = false
+
+-- the workspace is there, and a composite is open in it
+abbrev pub is_open : Option Workspace → Bool
+is_open (Some workspace) = is_some workspace.composite
+is_open None = false
 
 -- the workspace is there, and has operations
 abbrev pub has_operations : Option Workspace → Bool
@@ -123,8 +184,10 @@ abbrev pub playable_with : State → Option Meta → Event → Bool
 playable_with s None (Init text) = is_ok (metamodel_of text)
 playable_with s (Some meta) (Checkout version branch) = (version == 0) && (branch == 0)
 playable_with s (Some meta) (Edit ws operations) = can_follow meta (workspace_of s ws) operations
-playable_with s (Some meta) (Undo ws) = has_operations (workspace_of s ws)
-playable_with s (Some meta) (Discard ws) = has_operations (workspace_of s ws)
+playable_with s (Some meta) (Begin ws name) = is_name name && is_closed (workspace_of s ws)
+playable_with s (Some meta) (End ws) = is_open (workspace_of s ws)
+playable_with s (Some meta) (Undo ws) = is_closed (workspace_of s ws) && has_operations (workspace_of s ws)
+playable_with s (Some meta) (Discard ws) = is_open (workspace_of s ws) || has_operations (workspace_of s ws)
 playable_with s meta event = false
 
 -- the event has a form, of no more bytes than a record takes
@@ -237,9 +300,28 @@ edit_in s meta ws (Some workspace) edit = edited s ws (recorded meta (model_of m
 unfoldable pub decide_edit : State → Meta → ℕ → edits.Edit → Decision
 decide_edit s meta ws edit = edit_in s meta ws (workspace_of s ws) edit
 
+abbrev pub begun : State → ℕ → List ℕ → Option Workspace → Decision
+begun s ws name None = refused refusals.NoWorkspace
+begun s ws name (Some workspace) = if is_open (Some workspace) then refused refusals.CompositeOpen else with_room s [] [] (Begin ws name)
+
+-- `begin WS NAME`: a composite is open
+unfoldable pub decide_begin : State → ℕ → List ℕ → Decision
+decide_begin s ws name = begun s ws name (workspace_of s ws)
+
+abbrev pub ended : State → ℕ → Option Workspace → Decision
+ended s ws None = refused refusals.NoWorkspace
+ended s ws (Some workspace) = if is_open (Some workspace) then with_room s [] [] (End ws) else refused refusals.NoComposite
+
+-- `end WS`: the composite is closed
+unfoldable pub decide_end : State → ℕ → Decision
+decide_end s ws = ended s ws (workspace_of s ws)
+
 abbrev pub undone : State → ℕ → Option Workspace → Decision
 undone s ws None = refused refusals.NoWorkspace
-undone s ws (Some workspace) = if has_operations (Some workspace) then with_room s [] [] (Undo ws) else refused refusals.NothingLocal
+undone s ws (Some workspace) =
+    if is_open (Some workspace) then refused refusals.CompositeOpen
+    else if has_operations (Some workspace) then with_room s [] [] (Undo ws)
+    else refused refusals.NothingLocal
 
 -- `undo WS`: the last operation goes
 unfoldable pub decide_undo : State → ℕ → Decision
@@ -247,17 +329,21 @@ decide_undo s ws = undone s ws (workspace_of s ws)
 
 abbrev pub discarded : State → ℕ → Option Workspace → Decision
 discarded s ws None = refused refusals.NoWorkspace
-discarded s ws (Some workspace) = if has_operations (Some workspace) then with_room s [] [] (Discard ws) else told [] []
+discarded s ws (Some workspace) = if is_open (Some workspace) || has_operations (Some workspace) then with_room s [] [] (Discard ws) else told [] []
 
--- `discard WS`: all operations go
+-- `discard WS`: all operations and the open composite go
 unfoldable pub decide_discard : State → ℕ → Decision
 decide_discard s ws = discarded s ws (workspace_of s ws)
 
+abbrev pub lines_of_open : Meta → Option Composite → List (List ℕ)
+lines_of_open meta None = []
+lines_of_open meta (Some composite) = open_lines meta composite.name composite.steps
+
 abbrev pub changes_of : Meta → Option Workspace → Decision
 changes_of meta None = refused refusals.NoWorkspace
-changes_of meta (Some workspace) = told (operation_lines meta workspace.operations) []
+changes_of meta (Some workspace) = told (operation_lines meta workspace.operations ++ lines_of_open meta workspace.composite) []
 
--- `changes WS`: the operations, line by line
+-- `changes WS`: the operations and the open composite, line by line
 unfoldable pub decide_changes : State → Meta → ℕ → Decision
 decide_changes s meta ws = changes_of meta (workspace_of s ws)
 
@@ -269,6 +355,14 @@ shown meta (Some workspace) = told (text meta (model_of meta workspace) ∷ []) 
 unfoldable pub decide_show : State → Meta → ℕ → Decision
 decide_show s meta ws = shown meta (workspace_of s ws)
 
+abbrev pub validated : Meta → Option Workspace → Decision
+validated meta None = refused refusals.NoWorkspace
+validated meta (Some workspace) = told (validate_lines meta (model_of meta workspace)) []
+
+-- `validate WS`: the features of the working model that are below their lower bounds
+unfoldable pub decide_validate : State → Meta → ℕ → Decision
+decide_validate s meta ws = validated meta (workspace_of s ws)
+
 abbrev pub block_text : Option (List ℕ) → List ℕ
 block_text None = []
 block_text (Some text) = text
@@ -278,11 +372,14 @@ abbrev pub decide_begun : State → Meta → Option (List ℕ) → Command → D
 decide_begun s meta block commands.Init = decide_init s (Some meta) (block_text block)
 decide_begun s meta block (commands.Checkout spec) = decide_checkout s meta spec
 decide_begun s meta block (commands.Edit ws edit) = decide_edit s meta ws edit
+decide_begun s meta block (commands.Begin ws name) = decide_begin s ws name
+decide_begun s meta block (commands.End ws) = decide_end s ws
 decide_begun s meta block (commands.Undo ws) = decide_undo s ws
 decide_begun s meta block (commands.Discard ws) = decide_discard s ws
 decide_begun s meta block (commands.Changes ws) = decide_changes s meta ws
 decide_begun s meta block (commands.Show ws) = decide_show s meta ws
 decide_begun s meta block (commands.Cat spec) = decide_cat meta spec
+decide_begun s meta block (commands.Validate ws) = decide_validate s meta ws
 
 -- before there is a metamodel, `init` alone is answered otherwise than so
 abbrev pub decide_with : State → Option Meta → Option (List ℕ) → Command → Decision

@@ -10,14 +10,18 @@ use Rattle.std.proofs.lemmas.Option.{slice_get-map, slice_get_past}
 use Rattle.ecore_meta.specs.Meta.{Meta}
 use Rattle.ecore_meta.specs.Sound.{Sound}
 use Rattle.model_state.specs.State.{nothing}
+use Rattle.model_state.specs.Packages.{steps_all}
 use Rattle.model_laws.proofs.Start.{starts_good}
+use Rattle.model_laws.proofs.Runs.{steps_keep_good}
 use Rattle.step_apply.specs.View.{plain_state}
-use Rattle.data_lines.specs.Typed.{IsTypedPackage}
-use Rattle.data_lines.proofs.Taken.{packages_typed}
-use Rattle.plain_repository.specs.Repository.{State, Workspace, workspace_of, changed, changed_at}
+use Rattle.data_lines.specs.Typed.{AreTyped, IsTypedPackage}
+use Rattle.data_lines.proofs.Taken.{packages_typed, steps_typed}
+use Rattle.plain_repository.specs.Repository.{State, Workspace, untouched, open_steps, workspace_of, changed, changed_at}
+use Rattle.repo_core.specs.declared.workspace.Composite.{Composite as Open}
 use Rattle.repo_core.specs.declared.workspace.Workspace.{Workspace as Kept}
-use Rattle.repo_core.specs.Keeping.{Keeps, AreKept, plain_of}
-use Rattle.repo_core.proofs.Keeping.{none_lead}
+use Rattle.repo_core.specs.Keeping.{Keeps, AreKept, plain_composite, plain_of}
+use Rattle.repo_core.proofs.Keeping.{untouched_lead}
+use Rattle.repo_core.proofs.Folding.{ByWay, by_way}
 
 -- the workspace at a place is set to what the change makes of it
 pub set_is : (change : Workspace → Workspace) (ws : List Kept) (i : ℕ) (d new : Kept) → i < length ws → plain_of new ≡ change (plain_of (get_or ws i d)) → map plain_of (set ws i new) ≡ changed_at change (map plain_of ws) i
@@ -45,9 +49,9 @@ pub kept_set : (m : Option Meta) (meta : Meta) (ws : List Kept) (i : ℕ) (w : K
 kept_set m meta ws i w is keeps all = subst (λ (m : Option Meta). AreKept m (set ws i w)) (sym is) (All-set (Keeps meta) ws i w keeps (subst (λ (m : Option Meta). AreKept m ws) is all))
 
 -- or is let go
-pub kept_emptied : (m : Option Meta) (ws : List Kept) (i : ℕ) (w : Kept) → is_some m ≡ true → w.operations ≡ [] → plain_state w.model ≡ nothing → AreKept m ws → AreKept m (set ws i w)
+pub kept_emptied : (m : Option Meta) (ws : List Kept) (i : ℕ) (w : Kept) → is_some m ≡ true → plain_of w ≡ untouched → plain_state w.model ≡ nothing → AreKept m ws → AreKept m (set ws i w)
 kept_emptied None ws i w begun none empty all = absurd cc
-kept_emptied (Some meta) ws i w begun none empty all = All-set (Keeps meta) ws i w (none_lead meta w.operations (plain_state w.model) none empty) all
+kept_emptied (Some meta) ws i w begun none empty all = All-set (Keeps meta) ws i w (untouched_lead meta (plain_of w) (plain_state w.model) none empty) all
 
 pub kept_at : (m : Option Meta) (meta : Meta) (ws : List Kept) (i : ℕ) (d : Kept) → m ≡ Some meta → i < length ws → AreKept m ws → Keeps meta (get_or ws i d)
 kept_at m meta ws i d is below all = All-get_or (Keeps meta) ws i d below (subst (λ (m : Option Meta). AreKept m ws) is all)
@@ -55,16 +59,34 @@ kept_at m meta ws i d is below all = All-get_or (Keeps meta) ws i d below (subst
 pub kept_old : (m : Option Meta) (meta : Meta) (ws : List Kept) (i : ℕ) (old d : Kept) → m ≡ Some meta → i < length ws → old ≡ get_or ws i d → AreKept m ws → Keeps meta old
 kept_old m meta ws i old d is below old_is all = subst (Keeps meta) (sym old_is) (kept_at m meta ws i d is below all)
 
+-- all keep their models where the one that is set does as it did before
+pub kept_still : (s : State) (m : Option Meta) (ws : List Kept) (i : ℕ) (old new d : Kept) → is_some m ≡ true → map plain_of ws ≡ s.workspaces → i < length s.workspaces → old ≡ get_or ws i d → ((meta : Meta) → Keeps meta old → Keeps meta new)
+    → AreKept m ws → AreKept m (set ws i new)
+kept_still s None ws i old new d begun is below old_is keeps all = absurd cc
+kept_still s (Some meta) ws i old new d begun is below old_is keeps all = All-set (Keeps meta) ws i new (keeps meta (kept_old (Some meta) meta ws i old d refl (below_is s ws i is below) old_is all)) all
+
 -- a fresh workspace is pushed, or memory is wanting
-pub kept_pushed : (m : Option Meta) (ws new : List Kept) (w : Kept) (b : Bool) → is_some m ≡ true → w.operations ≡ [] → plain_state w.model ≡ nothing → new ≡ (if b then ws ++ w ∷ [] else ws) → AreKept m ws → AreKept m new
+pub kept_pushed : (m : Option Meta) (ws new : List Kept) (w : Kept) (b : Bool) → is_some m ≡ true → plain_of w ≡ untouched → plain_state w.model ≡ nothing → new ≡ (if b then ws ++ w ∷ [] else ws) → AreKept m ws → AreKept m new
 kept_pushed None ws new w b begun none empty is all = absurd cc
 kept_pushed (Some meta) ws new w true begun none empty is all =
-    subst (AreKept (Some meta)) (sym is) (All-append (Keeps meta) ws (w ∷ []) all (All-cons (Keeps meta) w [] (none_lead meta w.operations (plain_state w.model) none empty) (All-nil (Keeps meta))))
+    subst (AreKept (Some meta)) (sym is) (All-append (Keeps meta) ws (w ∷ []) all (All-cons (Keeps meta) w [] (untouched_lead meta (plain_of w) (plain_state w.model) none empty) (All-nil (Keeps meta))))
 kept_pushed (Some meta) ws new w false begun none empty is all = subst (AreKept (Some meta)) (sym is) all
 
 -- the operations of a workspace that keeps its model are of the metamodel
 pub kept_typed : (meta : Meta) → Sound meta → (w : Kept) → Keeps meta w → IsTypedPackage meta w.operations
-kept_typed meta sound w keeps = packages_typed meta sound nothing (plain_state w.model) (starts_good meta) w.operations keeps.run
+kept_typed meta sound w keeps =
+    let at : ByWay meta nothing (plain_state w.model) (steps_all w.operations) (open_steps (plain_of w).composite) = by_way meta nothing (plain_state w.model) (steps_all w.operations) (open_steps (plain_of w).composite) keeps.run in
+    packages_typed meta sound nothing at.way (starts_good meta) w.operations at.first
+
+-- so are the steps of the composite that is open
+pub open_typed : (meta : Meta) → Sound meta → (w : Kept) → Keeps meta w → AreTyped meta (open_steps (plain_of w).composite)
+open_typed meta sound w keeps =
+    let at : ByWay meta nothing (plain_state w.model) (steps_all w.operations) (open_steps (plain_of w).composite) = by_way meta nothing (plain_state w.model) (steps_all w.operations) (open_steps (plain_of w).composite) keeps.run in
+    steps_typed meta sound at.way (plain_state w.model) (steps_keep_good meta sound nothing at.way (starts_good meta) (steps_all w.operations) at.first) (open_steps (plain_of w).composite) at.rest
+
+pub seen_typed : (meta : Meta) → Sound meta → (w : Kept) (r : Option (Bor Open)) → Keeps meta w → option_copied r ≡ w.composite → IfSome r (λ c. AreTyped meta c.now.steps)
+seen_typed meta sound w None keeps is = tt
+seen_typed meta sound w (Some c) keeps is = subst (λ (o : Option Open). AreTyped meta (open_steps (option_map plain_composite o))) (sym is) (open_typed meta sound w keeps)
 
 -- the workspace at a place that is there
 pub slice_there : (ws : List Kept) (i : ℕ) (d : Kept) → i < length ws → slice_get ws i ≡ Some (get_or ws i d)

@@ -1,7 +1,7 @@
 -- Packages taken one operation after another.
 use Rattle.std.proofs.Math.ListN.{get_or}
-use Rattle.std.proofs.Math.Seq.{drop-cons}
-use Rattle.std.proofs.Common.{◌≡◌, ◌≢◌, ℕ, suc, ◌+◌, ◌<◌, List, [], ◌∷◌, ◌++◌, true, length, drop, Option, Some, None, is_some, Result, Ok, Err, ⊎_elim, refl, sym, ◌∙◌, ap, subst, append_assoc, arith}
+use Rattle.std.proofs.Math.Seq.{drop-cons, take-suc}
+use Rattle.std.proofs.Common.{◌≡◌, ◌≢◌, ℕ, suc, ◌+◌, ◌<◌, List, [], ◌∷◌, ◌++◌, true, length, drop, take, Option, Some, None, is_some, Result, Ok, Err, ⊎_elim, refl, sym, ◌∙◌, ap, subst, append_assoc, append-nil, arith}
 use Rattle.std.specs.Prelude.{IfErr}
 use Rattle.std.specs.Result.{IsErr, IsErrAnd}
 use Rattle.model_state.specs.declared.step.StepFault.TheVariants.{Memory}
@@ -49,30 +49,37 @@ package_on meta m n o os is = fold_append meta m n (steps_of o) (steps_all os) i
 pub package_none : (meta : Meta) (m : State) (o : Operation) (os : List Operation) → fold meta m (steps_of o) ≡ None → fold_package meta m (o ∷ os) ≡ None
 package_none meta m o os is = fold_append_none meta m (steps_of o) (steps_all os) is
 
-steps_append : (ps qs : List Operation) → steps_all (ps ++ qs) ≡ steps_all ps ++ steps_all qs
+pub steps_append : (ps qs : List Operation) → steps_all (ps ++ qs) ≡ steps_all ps ++ steps_all qs
 steps_append [] qs = refl
 steps_append (p ∷ ps) qs = ap (λ l. steps_of p ++ l) (steps_append ps qs) ∙ sym (append_assoc (steps_of p) (steps_all ps) (steps_all qs))
 
-pub some_is : {X : Type 0} (o : Option X) → is_some o ≡ true → (x : X) × (o ≡ Some x)
-some_is None is = cc
-some_is (Some x) is = (x, refl)
+-- where steps lead by way of what the first of them lead to
+pub record ByWay (meta : Meta) (m n : State) (ss ts : List Step) : Type 0 where
+  pub way : State
+  pub first : fold meta m ss ≡ Some way
+  pub rest : fold meta way ts ≡ Some n
 
--- what can be taken can be taken in part
-pub prefix_folds : (meta : Meta) (m : State) (ps qs : List Operation) → is_some (fold_package meta m (ps ++ qs)) ≡ true → is_some (fold_package meta m ps) ≡ true
-prefix_folds meta m ps qs is = by (fold_package meta m ps) refl
+pub by_way : (meta : Meta) (m n : State) (ss ts : List Step) → fold meta m (ss ++ ts) ≡ Some n → ByWay meta m n ss ts
+by_way meta m n ss ts is = by (fold meta m ss) refl
   where
-    by : (o : Option State) → fold_package meta m ps ≡ o → is_some o ≡ true
-    by (Some n) at = refl
-    by None at =
-        let none : fold_package meta m (ps ++ qs) ≡ None = ap (λ l. fold meta m l) (steps_append ps qs) ∙ fold_append_none meta m (steps_all ps) (steps_all qs) at in
-        absurd cc
+    some_none : (x : State) → ◌≡◌ {A = Option State} (Some x) None → ⊥
+    some_none x is = cc
 
--- operations behind those that were taken
-pub last_on : (meta : Meta) (start m : State) (os more : List Operation) → fold_package meta start os ≡ Some m → fold_package meta start (os ++ more) ≡ fold_package meta m more
-last_on meta start m os more first = ap (λ l. fold meta start l) (steps_append os more) ∙ fold_append meta start m (steps_all os) (steps_all more) first
+    by : (o : Option State) → fold meta m ss ≡ o → ByWay meta m n ss ts
+    by (Some k) at = record { way = k; first = at; rest = sym (fold_append meta m k ss ts at) ∙ is }
+    by None at = absurd (some_none n (sym is ∙ fold_append_none meta m ss ts at))
 
-pub more_lead : (meta : Meta) (start m n : State) (os more : List Operation) → fold_package meta start os ≡ Some m → fold_package meta m more ≡ Some n → fold_package meta start (os ++ more) ≡ Some n
-more_lead meta start m n os more first next = last_on meta start m os more first ∙ next
+-- the steps of one operation more lead to where the operation leads
+pub steps_of_one : (o : Operation) → steps_all (o ∷ []) ≡ steps_of o
+steps_of_one o = append-nil (steps_of o)
+
+-- the steps of the operations up to a place and of the one that stands there
+pub steps_on : (os : List Operation) (i : ℕ) (d : Operation) → i < length os → steps_all (take (i + 1) os) ≡ steps_all (take i os) ++ steps_of (get_or os i d)
+steps_on os i d below =
+    ap (λ (k : ℕ). steps_all (take k os)) next ∙ ap steps_all (take-suc os i d below) ∙ steps_append (take i os) (get_or os i d ∷ []) ∙ ap (λ l. steps_all (take i os) ++ l) (steps_of_one (get_or os i d))
+  where
+    next : i + 1 ≡ suc i
+    next = omega arith
 
 -- the operations of one step behind another
 pub one_follows : (meta : Meta) (m n : State) (o : Operation) → fold meta m (steps_of o) ≡ Some n → is_some (fold_package meta m (o ∷ [])) ≡ true

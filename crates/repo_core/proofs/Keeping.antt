@@ -1,58 +1,88 @@
--- A workspace keeps its working model: a package taken and recorded, the last operation taken back, all let go.
-use Rattle.std.proofs.Common.{◌≡◌, ◌-◌, List, [], ◌∷◌, ◌++◌, ℕ, true, length, length-append, take, Option, Some, None, is_some, ⊎_elim, refl, sym, ◌∙◌, ap, subst, append-nil, arith}
-use Rattle.std.specs.Prelude.{unwrap_or}
+-- A workspace keeps its working model: a package taken and recorded, a composite opened and closed, the last operation taken back, all let go.
+use Rattle.std.proofs.Common.{◌≡◌, ◌-◌, List, [], ◌∷◌, ◌++◌, ℕ, Bool, true, false, length, length-append, take, Option, Some, None, is_some, ⊎_elim, refl, sym, ◌∙◌, ap, subst, append-nil, append_assoc, arith}
+use Rattle.std.specs.Prelude.{not, ◌&&◌, unwrap_or}
 use Rattle.ecore_meta.specs.Meta.{Meta}
 use Rattle.ecore_meta.specs.Sound.{Sound}
 use Rattle.model_state.specs.State.{State, nothing}
 use Rattle.model_state.specs.Good.{Good}
 use Rattle.model_state.specs.Faults.{IsFault}
 use Rattle.model_state.specs.Steps.{fold, fault_along}
-use Rattle.model_state.specs.Packages.{steps_of, fold_package, rev_op}
+use Rattle.model_state.specs.Packages.{steps_of, steps_all, fold_package, rev_op}
 use Rattle.model_state.specs.declared.step.Step.{Step}
 use Rattle.model_state.specs.declared.step.StepFault.{StepFault}
 use Rattle.model_state.specs.declared.step.StepFault.TheVariants.{Memory}
 use Rattle.model_state.specs.declared.operation.Operation.{Operation}
 use Rattle.model_laws.proofs.Start.{starts_good}
-use Rattle.op_form.proofs.Reversals.{packages_undone, packages_keep}
-use Rattle.plain_repository.specs.Repository.{model_of, has_operations}
+use Rattle.model_laws.proofs.Runs.{fold_append, steps_keep_good}
+use Rattle.op_form.proofs.Reversals.{packages_undone}
+use Rattle.plain_repository.specs.Repository.{Composite, Workspace, untouched, recorded_steps, open_steps, model_of, added, with_more, with_open, composed, operation_of_open, with_closed, is_open, is_closed, has_operations}
+use Rattle.plain_repository.proofs.Forms.{and_left, and_right}
 use Rattle.repo_core.specs.Keeping.{Lead}
-use Rattle.repo_core.proofs.Folding.{some_is, prefix_folds, last_on, more_lead, fold_none}
+use Rattle.repo_core.proofs.Folding.{ByWay, by_way, steps_append, steps_of_one, fold_none}
 
--- what the operations lead to is the working model
-pub model_is : (meta : Meta) (os : List Operation) (m : State) → Lead meta os m → model_of meta (record { operations = os }) ≡ m
-model_is meta os m lead = ap (λ (o : Option State). unwrap_or o nothing) lead.run
+-- what the recorded steps lead to is the working model
+pub model_is : (meta : Meta) (w : Workspace) (m : State) → Lead meta (recorded_steps w) m → model_of meta w ≡ m
+model_is meta w m lead = ap (λ (o : Option State). unwrap_or o nothing) lead.run
 
--- no operations lead to the empty project
-pub none_lead : (meta : Meta) (os : List Operation) (m : State) → os ≡ [] → m ≡ nothing → Lead meta os m
-none_lead meta os m none is = subst (λ (m : State). Lead meta os m) (sym is) (subst (λ (os : List Operation). Lead meta os nothing) (sym none) (record { run = refl; good = starts_good meta }))
+-- where nothing is recorded it is the empty project
+pub untouched_lead : (meta : Meta) (w : Workspace) (m : State) → w ≡ untouched → m ≡ nothing → Lead meta (recorded_steps w) m
+untouched_lead meta w m none is =
+    subst (λ (m : State). Lead meta (recorded_steps w) m) (sym is) (subst (λ (w : Workspace). Lead meta (recorded_steps w) nothing) (sym none) (record { run = refl; good = starts_good meta }))
+
+-- the same steps lead to the same model
+same_lead : (meta : Meta) (ss ts : List Step) (m : State) → ss ≡ ts → Lead meta ss m → Lead meta ts m
+same_lead meta ss ts m same lead = subst (λ (l : List Step). Lead meta l m) same lead
+
+-- the steps of operations that come behind those that are there, or join the composite that is open
+more_steps : (more os : List Operation) (c : Option Composite) → recorded_steps (added more os c) ≡ (steps_all os ++ open_steps c) ++ steps_all more
+more_steps more os None = append-nil (steps_all (os ++ more)) ∙ steps_append os more ∙ ap (λ (l : List Step). l ++ steps_all more) (sym (append-nil (steps_all os)))
+more_steps more os (Some c) = sym (append_assoc (steps_all os) c.steps (steps_all more))
 
 -- a package that is taken and recorded
-pub recorded_lead : (meta : Meta) (os new more : List Operation) (m n : State) → Lead meta os m → fold_package meta m more ≡ Some n → new ≡ os ++ more → Good meta n → Lead meta new n
-recorded_lead meta os new more m n lead taken is good = record {
-  run = subst (λ (l : List Operation). fold_package meta nothing l ≡ Some n) (sym is) (more_lead meta nothing m n os more lead.run taken);
+pub recorded_lead : (meta : Meta) (w new : Workspace) (more : List Operation) (m n : State) → Lead meta (recorded_steps w) m → fold_package meta m more ≡ Some n → new ≡ with_more more w → Good meta n → Lead meta (recorded_steps new) n
+recorded_lead meta w new more m n lead taken is good = record {
+  run = ap (λ (v : Workspace). fold meta nothing (recorded_steps v)) is ∙ ap (λ (l : List Step). fold meta nothing l) (more_steps more w.operations w.composite) ∙ fold_append meta nothing m (recorded_steps w) (steps_all more) lead.run ∙ taken;
   good = good;
 }
 
--- where the operations before an operation lead, and its reversal leads back
-record Before (meta : Meta) (front : List Operation) (o : Operation) (m : State) : Type 0 where
+-- a composite that is opened where none is has no step
+pub opened_lead : (meta : Meta) (name : List ℕ) (w new : Workspace) (m : State) → is_open (Some w) ≡ false → new ≡ with_open name w → Lead meta (recorded_steps w) m → Lead meta (recorded_steps new) m
+opened_lead meta name w new m closed is lead = same_lead meta (recorded_steps w) (recorded_steps new) m (sym (ap recorded_steps is ∙ opened w.operations w.composite closed)) lead
+  where
+    opened : (os : List Operation) (c : Option Composite) → is_some c ≡ false → steps_all os ++ [] ≡ steps_all os ++ open_steps c
+    opened os None closed = refl
+    opened os (Some c) closed = absurd cc
+
+-- the steps of a composite stay where they are when it is closed
+pub closed_lead : (meta : Meta) (w new : Workspace) (m : State) → new ≡ with_closed w → Lead meta (recorded_steps w) m → Lead meta (recorded_steps new) m
+closed_lead meta w new m is lead = same_lead meta (recorded_steps w) (recorded_steps new) m (sym (ap recorded_steps is ∙ closing w.operations w.composite)) lead
+  where
+    filled : (os : List Operation) (name : List ℕ) (steps : List Step) → steps_all (os ++ composed name steps) ++ [] ≡ steps_all os ++ steps
+    filled os name [] = ap (λ (l : List Operation). steps_all l ++ []) (append-nil os)
+    filled os name (s ∷ ss) = append-nil (steps_all (os ++ composed name (s ∷ ss))) ∙ steps_append os (composed name (s ∷ ss)) ∙ ap (λ (l : List Step). steps_all os ++ l) (append-nil (s ∷ ss))
+
+    closing : (os : List Operation) (c : Option Composite) → steps_all (os ++ operation_of_open c) ++ [] ≡ steps_all os ++ open_steps c
+    closing os None = ap (λ (l : List Operation). steps_all l ++ []) (append-nil os)
+    closing os (Some c) = filled os c.name c.steps
+
+-- where the steps before those of an operation lead, and its reversal leads back
+record Before (meta : Meta) (front : List Step) (o : Operation) (m : State) : Type 0 where
   before : State
   lead : Lead meta front before
   back : fold meta m (steps_of (rev_op o)) ≡ Some before
 
-before_it : (meta : Meta) → Sound meta → (front : List Operation) (o : Operation) (m : State) → fold_package meta nothing (front ++ o ∷ []) ≡ Some m → Before meta front o m
+before_it : (meta : Meta) → Sound meta → (front : List Step) (o : Operation) (m : State) → fold meta nothing (front ++ steps_of o) ≡ Some m → Before meta front o m
 before_it meta sound front o m leads =
-    let at = some_is (fold_package meta nothing front) (prefix_folds meta nothing front (o ∷ []) (ap is_some leads)) in
-    let good : Good meta at.0 = packages_keep meta sound nothing at.0 (starts_good meta) front at.1 in
-    let next : fold_package meta at.0 (o ∷ []) ≡ Some m = sym (last_on meta nothing at.0 front (o ∷ []) at.1) ∙ leads in
+    let at : ByWay meta nothing m front (steps_of o) = by_way meta nothing m front (steps_of o) leads in
+    let good : Good meta at.way = steps_keep_good meta sound nothing at.way (starts_good meta) front at.first in
     record {
-      before = at.0;
-      lead = record { run = at.1; good = good };
-      back = subst (λ (l : List Step). fold meta m l ≡ Some at.0) (append-nil (steps_of (rev_op o))) (packages_undone meta sound at.0 m good (o ∷ []) next);
+      before = at.way;
+      lead = record { run = at.first; good = good };
+      back = subst (λ (l : List Step). fold meta m l ≡ Some at.way) (steps_of_one (rev_op o)) (packages_undone meta sound at.way m good (o ∷ []) (ap (λ (l : List Step). fold meta at.way l) (steps_of_one o) ∙ at.rest));
     }
 
 -- the last operation is taken back
-pub back_lead : (meta : Meta) → Sound meta → (front : List Operation) (o r : Operation) (steps : List Step) (m new : State) → Lead meta (front ++ o ∷ []) m → r ≡ rev_op o → steps ≡ steps_of r
-    → fold meta m steps ≡ Some new → Lead meta front new
+pub back_lead : (meta : Meta) → Sound meta → (front : List Step) (o r : Operation) (steps : List Step) (m new : State) → Lead meta (front ++ steps_of o) m → r ≡ rev_op o → steps ≡ steps_of r → fold meta m steps ≡ Some new → Lead meta front new
 back_lead meta sound front o r steps m new lead is are leads =
     let b = before_it meta sound front o m lead.run in
     let same : new ≡ b.before = some_same (sym leads ∙ ap (λ (l : List Step). fold meta m l) (are ∙ ap steps_of is) ∙ b.back) in
@@ -62,8 +92,7 @@ back_lead meta sound front o r steps m new lead is are leads =
     some_same is = cc
 
 -- its reversal can be taken
-pub back_can : (meta : Meta) → Sound meta → (front : List Operation) (o r : Operation) (steps : List Step) (m : State) (e : StepFault) → Lead meta (front ++ o ∷ []) m → r ≡ rev_op o → steps ≡ steps_of r
-    → IsFault (fault_along meta m steps) e → e ≡ Memory
+pub back_can : (meta : Meta) → Sound meta → (front : List Step) (o r : Operation) (steps : List Step) (m : State) (e : StepFault) → Lead meta (front ++ steps_of o) m → r ≡ rev_op o → steps ≡ steps_of r → IsFault (fault_along meta m steps) e → e ≡ Memory
 back_can meta sound front o r steps m e lead is are fault =
     let b = before_it meta sound front o m lead.run in
     ⊎_elim (λ memory. memory)
@@ -72,11 +101,28 @@ back_can meta sound front o r steps m e lead is are fault =
     some_none : (x : State) → ◌≡◌ {A = Option State} (Some x) None → ⊥
     some_none x is = cc
 
+-- with no composite open the recorded steps are those of the operations
+abbrev can_undo : Workspace → Bool
+can_undo w = is_closed (Some w) && has_operations (Some w)
+
+only_operations : (os : List Operation) (c : Option Composite) → not (is_some c) ≡ true → steps_all os ++ open_steps c ≡ steps_all os
+only_operations os None closed = append-nil (steps_all os)
+only_operations os (Some c) closed = absurd cc
+
+pub last_lead : (meta : Meta) (w : Workspace) (front : List Operation) (o : Operation) (m : State) → can_undo w ≡ true → w.operations ≡ front ++ o ∷ [] → Lead meta (recorded_steps w) m → Lead meta (steps_all front ++ steps_of o) m
+last_lead meta w front o m can is lead =
+    same_lead meta (recorded_steps w) (steps_all front ++ steps_of o) m
+    (only_operations w.operations w.composite (and_left (is_closed (Some w)) (has_operations (Some w)) can) ∙ ap steps_all is ∙ steps_append front (o ∷ []) ∙ ap (λ (l : List Step). steps_all front ++ l) (steps_of_one o)) lead
+
+pub left_lead : (meta : Meta) (w new : Workspace) (m : State) → can_undo w ≡ true → new.composite ≡ w.composite → Lead meta (steps_all new.operations) m → Lead meta (recorded_steps new) m
+left_lead meta w new m can same lead =
+    same_lead meta (steps_all new.operations) (recorded_steps new) m (sym (only_operations new.operations new.composite (ap (λ (c : Option Composite). not (is_some c)) same ∙ and_left (is_closed (Some w)) (has_operations (Some w)) can))) lead
+
 -- an operation is there to be taken out
-pub popped_some : (os : List Operation) → os ≡ [] → has_operations (Some (record { operations = os })) ≡ true → ⊥
-popped_some os none has = absurd (filled (subst (λ (os : List Operation). has_operations (Some (record { operations = os })) ≡ true) none has))
+pub popped_some : (w : Workspace) → w.operations ≡ [] → can_undo w ≡ true → ⊥
+popped_some w none can = absurd (filled (subst (λ (os : List Operation). has_operations (Some (record { operations = os; composite = w.composite })) ≡ true) none (and_right (is_closed (Some w)) (has_operations (Some w)) can)))
   where
-    filled : has_operations (Some (record { operations = [] })) ≡ true → ⊥
+    filled : has_operations (Some (record { operations = []; composite = w.composite })) ≡ true → ⊥
     filled is = cc
 
 -- what is left behind the operation taken out is all but the last

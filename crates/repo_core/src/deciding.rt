@@ -1,13 +1,18 @@
 //! What a command is answered, and the event that it makes.
-ghost use Rattle.std.specs.Prelude.{◌≡◌, ◌≢◌, ◌+◌, ◌-◌, ◌≤◌, ◌<◌, ◌^◌, ℕ, List, [], ◌∷◌, IfOk, IfNone, IfSome, None, IsTrue, length, true, false, Some, Option, Ok, Err, codes};
-ghost use Rattle.std.specs.Option.{option_copied};
+ghost use Rattle.std.specs.Prelude.{◌≡◌, ◌≢◌, ◌+◌, ◌-◌, ◌≤◌, ◌<◌, ◌^◌, ℕ, List, [], ◌∷◌, IfOk, IfNone, IfSome, OnOk, ◌++◌, None, IsTrue, length, true, false, Some, Option, Ok, Err, codes};
+ghost use Rattle.std.specs.Option.{option_copied, option_map};
 ghost use Rattle.ecore_json.specs.Metamodel.{metamodel_of};
-ghost use Rattle.op_form.specs.declared.event.Event.TheVariants.{Init, Checkout, Edit, Undo, Discard};
-ghost use Rattle.plain_repository.specs.Repository.{State, workspace_of, playable_with, refused, told, first_text, with_room, decide_init, unknown, decide_checkout, decide_edit, decide_undo, decide_discard, decide_changes, decide_show, decide_cat, refusal_of, id_words, decide_command, decide_line, block_text};
+ghost use Rattle.op_form.specs.declared.event.Event.TheVariants.{Init, Checkout, Edit, Begin, End, Undo, Discard};
+ghost use Rattle.plain_repository.specs.Repository.{State, workspace_of, playable_with, refused, told, first_text, with_room, decide_init, unknown, decide_checkout, decide_edit, decide_begin, decide_end, decide_undo, decide_discard, lines_of_open, decide_changes, decide_show, decide_cat, decide_validate, refusal_of, id_words, decide_command, decide_line, block_text};
+ghost use Rattle.data_lines.specs.Typed.{AreTyped};
+ghost use Rattle.model_state.specs.Names.{is_name};
+ghost use Rattle.script_lang.specs.Spelling.{IsCommand};
+ghost use Rattle.repo_core.specs.Keeping.{plain_composite};
 ghost use Rattle.repo_core.specs.Decisions.{seen, CanMake, CanMakeIt, IsShortBlock};
 
 use crate::repo::{MOST_BYTES, Repo};
-use data_lines::operation_lines;
+use crate::workspace::Composite;
+use data_lines::{open_lines, operation_lines, validate_lines};
 use ecore_json::{EcoreFault, read_metamodel};
 use ecore_meta::{List, Metamodel, Text};
 use edit_laws::{Edit, EditFault, Recorded};
@@ -139,6 +144,32 @@ fn first_text(alloc: Global, meta: &Metamodel) -> Result<List<Text>, AllocError>
     Ok(lines)
 }
 
+fn push_lines(alloc: Global, lines: &mut List<Text>, more: &List<Text>) -> Result<(), AllocError>
+    ensures { OnOk result (lines.new ≡ lines.old ++ more.now) }
+{
+    for line in more.as_slice() {
+        lines.push(line.copy(alloc)?)?;
+    }
+    Ok(())
+}
+
+/// The lines of the composite that is open come behind others.
+fn push_open_lines(
+    alloc: Global,
+    lines: &mut List<Text>,
+    composite: Option<&Composite>,
+    meta: &Metamodel,
+) -> Result<(), AllocError>
+    requires typed { IfSome composite (λ c. AreTyped meta.now c.now.steps) }
+    ensures lines { OnOk result (lines.new ≡ lines.old ++ lines_of_open meta.now (option_map plain_composite (option_copied composite.entry))) }
+{
+    let Some(composite) = composite else {
+        return Ok(());
+    };
+    let open = open_lines(alloc, &composite.name, &composite.steps, meta)?;
+    push_lines(alloc, lines, &open)
+}
+
 impl Repo {
     /// The answer to a line that gets one, and to the block behind it. It takes nothing of the repository.
     #[tactic(auto, unfolding(plain_repository::specs::Repository::decide_line))]
@@ -167,6 +198,7 @@ impl Repo {
         command: &Command,
         block: &Option<Text>,
     ) -> Result<Decision, AllocError>
+        requires command { IsCommand command.now }
         requires block { IsShortBlock block.now }
         ensures decision { IfOk result (λ d. seen d ≡ decide_command self.now block.now command.now) }
         ensures made { IfOk result (λ d. CanMakeIt self.now d.made) }
@@ -181,11 +213,14 @@ impl Repo {
             Command::Init => Ok(refuse(alloc, Refusal::AlreadyInit)),
             Command::Checkout { spec } => self.decide_checkout(alloc, meta, spec),
             Command::Edit { ws, edit } => self.decide_edit(alloc, meta, *ws, edit),
+            Command::Begin { ws, name } => self.decide_begin(alloc, *ws, name),
+            Command::End { ws } => self.decide_end(alloc, *ws),
             Command::Undo { ws } => self.decide_undo(alloc, *ws),
             Command::Discard { ws } => self.decide_discard(alloc, *ws),
             Command::Changes { ws } => self.decide_changes(alloc, meta, *ws),
             Command::Show { ws } => self.decide_show(alloc, meta, *ws),
             Command::Cat { spec } => self.decide_cat(alloc, meta, spec),
+            Command::Validate { ws } => self.decide_validate(alloc, meta, *ws),
         }
     }
 
@@ -267,6 +302,46 @@ impl Repo {
         self.with_room(alloc, List::new(alloc), words, Event::Edit { ws, package })
     }
 
+    #[tactic(auto, unfolding(plain_repository::specs::Repository::decide_begin))]
+    fn decide_begin(&self, alloc: Global, ws: u32, name: &Text) -> Result<Decision, AllocError>
+        requires begun { self.now.meta ≢ None }
+        requires name { is_name name.now ≡ true }
+        ensures decision { IfOk result (λ d. seen d ≡ decide_begin self.now ws name.now) }
+        ensures made { IfOk result (λ d. CanMakeIt self.now d.made) }
+    {
+        let Some(workspace) = self.workspace(ws) else {
+            return Ok(refuse(alloc, Refusal::NoWorkspace));
+        };
+        if workspace.is_open() {
+            return Ok(refuse(alloc, Refusal::CompositeOpen));
+        }
+        let event = Event::Begin {
+            ws,
+            name: name.copy(alloc)?,
+        };
+        self.with_room(alloc, List::new(alloc), Text::new(alloc, "")?, event)
+    }
+
+    #[tactic(auto, unfolding(plain_repository::specs::Repository::decide_end))]
+    fn decide_end(&self, alloc: Global, ws: u32) -> Result<Decision, AllocError>
+        requires begun { self.now.meta ≢ None }
+        ensures decision { IfOk result (λ d. seen d ≡ decide_end self.now ws) }
+        ensures made { IfOk result (λ d. CanMakeIt self.now d.made) }
+    {
+        let Some(workspace) = self.workspace(ws) else {
+            return Ok(refuse(alloc, Refusal::NoWorkspace));
+        };
+        if !workspace.is_open() {
+            return Ok(refuse(alloc, Refusal::NoComposite));
+        }
+        self.with_room(
+            alloc,
+            List::new(alloc),
+            Text::new(alloc, "")?,
+            Event::End { ws },
+        )
+    }
+
     #[tactic(auto, unfolding(plain_repository::specs::Repository::decide_undo))]
     fn decide_undo(&self, alloc: Global, ws: u32) -> Result<Decision, AllocError>
         requires begun { self.now.meta ≢ None }
@@ -276,6 +351,9 @@ impl Repo {
         let Some(workspace) = self.workspace(ws) else {
             return Ok(refuse(alloc, Refusal::NoWorkspace));
         };
+        if workspace.is_open() {
+            return Ok(refuse(alloc, Refusal::CompositeOpen));
+        }
         if !workspace.has_operations() {
             return Ok(refuse(alloc, Refusal::NothingLocal));
         }
@@ -297,7 +375,7 @@ impl Repo {
             return Ok(refuse(alloc, Refusal::NoWorkspace));
         };
         let words = Text::new(alloc, "")?;
-        if !workspace.has_operations() {
+        if !workspace.is_touched() {
             return Ok(tell(List::new(alloc), words));
         }
         self.with_room(alloc, List::new(alloc), words, Event::Discard { ws })
@@ -319,7 +397,8 @@ impl Repo {
         };
         meta.sound();
         let _ = &self.meta;
-        let lines = operation_lines(alloc, workspace.operations(), meta)?;
+        let mut lines = operation_lines(alloc, workspace.operations(), meta)?;
+        push_open_lines(alloc, &mut lines, workspace.composite(), meta)?;
         Ok(tell(lines, Text::new(alloc, "")?))
     }
 
@@ -355,6 +434,24 @@ impl Repo {
                 Ok(tell(lines, Text::new(alloc, "")?))
             }
         }
+    }
+
+    #[tactic(auto, unfolding(plain_repository::specs::Repository::decide_validate))]
+    fn decide_validate(
+        &self,
+        alloc: Global,
+        meta: &Metamodel,
+        ws: u32,
+    ) -> Result<Decision, AllocError>
+        requires begun { self.now.meta ≡ Some meta.now }
+        ensures decision { IfOk result (λ d. seen d ≡ decide_validate self.now meta.now ws) }
+        ensures made { IfOk result (λ d. CanMakeIt self.now d.made) }
+    {
+        let Some(workspace) = self.workspace(ws) else {
+            return Ok(refuse(alloc, Refusal::NoWorkspace));
+        };
+        let lines = validate_lines(alloc, workspace.model(meta), meta)?;
+        Ok(tell(lines, Text::new(alloc, "")?))
     }
 
     /// Makes an event, where the history and the journal have room.

@@ -4,7 +4,7 @@ ghost use Rattle.std.specs.Bool.{OnTrue, OnFalse};
 ghost use Rattle.std.specs.Option.{option_copied, option_map};
 ghost use Rattle.ecore_meta.specs.Meta.{Meta};
 ghost use Rattle.op_form.specs.declared.event.Event.{Event};
-ghost use Rattle.op_form.specs.declared.event.Event.TheVariants.{Init, Checkout, Edit, Undo, Discard};
+ghost use Rattle.op_form.specs.declared.event.Event.TheVariants.{Init, Checkout, Edit, Begin, End, Undo, Discard};
 ghost use Rattle.op_form.specs.Events.{event_form};
 ghost use Rattle.op_form.specs.Formed.{is_event};
 ghost use Rattle.plain_repository.specs.Repository.{empty, workspace_of, effect, play, playable, playable_with, most_bytes};
@@ -14,7 +14,7 @@ use crate::fault::ReplayFault;
 use crate::workspace::Workspace;
 use ecore_json::{EcoreFault, read_metamodel};
 use ecore_meta::{Metamodel, Text};
-use model_state::Package;
+use model_state::{Package, is_name};
 use op_form::{Event, FormFault, decode_event};
 use std::alloc::{AllocError, Global};
 use std::marker::Model;
@@ -131,8 +131,7 @@ impl Repo {
         let Some(at) = self.place_of(ws) else {
             return Err(ReplayFault::NotPlayable);
         };
-        let count = package.len();
-        if count == 0 {
+        if !self.workspaces[at].takes(package) {
             return Err(ReplayFault::NotPlayable);
         }
         let Some(meta) = &self.meta else {
@@ -142,7 +141,43 @@ impl Repo {
         self.workspaces[at].record(alloc, meta, package)
     }
 
-    /// Takes the last operation of a workspace back and lets it go, where there is one.
+    /// Opens a composite of that name in a workspace, where none is open.
+    fn open_composite(&mut self, alloc: Global, ws: u32, name: &Text) -> Result<(), ReplayFault>
+        ensures could { OnOk result (playable_with self.old self.old.meta (Begin ws name.now) ≡ true) }
+        ensures done { OnOk result (self.new ≡ effect self.old (Begin ws name.now)) }
+        ensures cannot { IsErrOf result ReplayFault.NotPlayable → playable_with self.old self.old.meta (Begin ws name.now) ≡ false }
+    {
+        if !self.meta.is_some() || !is_name(name.as_str()) {
+            return Err(ReplayFault::NotPlayable);
+        }
+        let Some(at) = self.place_of(ws) else {
+            return Err(ReplayFault::NotPlayable);
+        };
+        if self.workspaces[at].is_open() {
+            return Err(ReplayFault::NotPlayable);
+        }
+        self.workspaces[at].open_composite(alloc, name)
+    }
+
+    /// Closes the composite that is open in a workspace.
+    fn close_composite(&mut self, alloc: Global, ws: u32) -> Result<(), ReplayFault>
+        ensures could { OnOk result (playable_with self.old self.old.meta (End ws) ≡ true) }
+        ensures done { OnOk result (self.new ≡ effect self.old (End ws)) }
+        ensures cannot { IsErrOf result ReplayFault.NotPlayable → playable_with self.old self.old.meta (End ws) ≡ false }
+    {
+        let Some(at) = self.place_of(ws) else {
+            return Err(ReplayFault::NotPlayable);
+        };
+        if !self.workspaces[at].is_open() {
+            return Err(ReplayFault::NotPlayable);
+        }
+        let Some(meta) = &self.meta else {
+            return Err(ReplayFault::NotPlayable);
+        };
+        self.workspaces[at].close_composite(alloc, meta)
+    }
+
+    /// Takes the last operation of a workspace back and lets it go, where there is one and no composite is open.
     fn undo(&mut self, alloc: Global, ws: u32) -> Result<(), ReplayFault>
         ensures could { OnOk result (playable_with self.old self.old.meta (Undo ws) ≡ true) }
         ensures done { OnOk result (self.new ≡ effect self.old (Undo ws)) }
@@ -151,7 +186,7 @@ impl Repo {
         let Some(at) = self.place_of(ws) else {
             return Err(ReplayFault::NotPlayable);
         };
-        if !self.workspaces[at].has_operations() {
+        if !self.workspaces[at].can_undo() {
             return Err(ReplayFault::NotPlayable);
         }
         let Some(meta) = &self.meta else {
@@ -161,7 +196,7 @@ impl Repo {
         self.workspaces[at].undo(alloc, meta)
     }
 
-    /// Lets all operations of a workspace go, where there are some.
+    /// Lets all operations of a workspace and its open composite go, where there are some.
     fn discard(&mut self, alloc: Global, ws: u32) -> Result<(), ReplayFault>
         ensures could { OnOk result (playable_with self.old self.old.meta (Discard ws) ≡ true) }
         ensures done { OnOk result (self.new ≡ effect self.old (Discard ws)) }
@@ -173,7 +208,7 @@ impl Repo {
         let Some(at) = self.place_of(ws) else {
             return Err(ReplayFault::NotPlayable);
         };
-        if !self.workspaces[at].has_operations() {
+        if !self.workspaces[at].is_touched() {
             return Err(ReplayFault::NotPlayable);
         }
         self.workspaces[at].clear(alloc);
@@ -191,9 +226,10 @@ impl Repo {
             Event::Init { text } => self.begin(alloc, text),
             Event::Checkout { version, branch } => self.check_out(alloc, *version, *branch),
             Event::Edit { ws, package } => self.record(alloc, *ws, package),
+            Event::Begin { ws, name } => self.open_composite(alloc, *ws, name),
+            Event::End { ws } => self.close_composite(alloc, *ws),
             Event::Undo { ws } => self.undo(alloc, *ws),
             Event::Discard { ws } => self.discard(alloc, *ws),
-            Event::Begin { .. } | Event::End { .. } => Err(ReplayFault::NotPlayable),
         }
     }
 

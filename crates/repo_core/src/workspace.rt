@@ -1,25 +1,36 @@
 //! A workspace in memory, which keeps its working model.
-ghost use Rattle.std.specs.Prelude.{◌≡◌, ◌≢◌, ◌++◌, ◌∷◌, [], is_some, true, OnOk, IfErr, IsErrOf, None, Some};
+ghost use Rattle.std.specs.Prelude.{◌≡◌, ◌≢◌, ◌++◌, ◌∷◌, ◌&&◌, ◌||◌, ◌<◌, [], is_some, length, true, false, OnOk, IfErr, IsErrOf, None, Some};
+ghost use Rattle.std.specs.Bool.{OnTrue, OnFalse};
+ghost use Rattle.std.specs.Option.{option_copied, option_map};
+ghost use Rattle.ecore_meta.specs.Meta.{Meta};
 ghost use Rattle.ecore_meta.specs.Sound.{Sound};
 ghost use Rattle.model_state.specs.Good.{Good};
 ghost use Rattle.model_state.specs.State.{nothing};
-ghost use Rattle.model_state.specs.Packages.{steps_of, fold_package};
+ghost use Rattle.model_state.specs.Packages.{steps_all, steps_of, fold_package};
 ghost use Rattle.step_apply.specs.View.{plain_state};
-ghost use Rattle.plain_repository.specs.Repository.{model_of, with_more, without_last, has_operations};
+ghost use Rattle.plain_repository.specs.Repository.{model_of, untouched, with_more, with_open, with_closed, without_last, can_follow, takes, has_operations, is_open, is_closed};
 ghost use Rattle.repo_core.specs.Keeping.{plain_of, Lead, Keeps};
 
 use crate::fault::{ReplayFault, package_fault};
-use ecore_meta::{List, Metamodel};
+use ecore_meta::{List, Metamodel, Text};
 use model_laws::replay;
 use model_state::{Operation, Package, Step, StepFault};
 use op_form::reverse_op;
 use std::alloc::{AllocError, Global};
 use step_apply::Plain;
 
-/// The operations recorded in a workspace, in their order, and the working model that they lead to.
+/// A composite that is open: its name, and the steps recorded in it so far.
+#[derive(Drop)]
+pub(crate) struct Composite {
+    pub(crate) name: Text,
+    pub(crate) steps: List<Step>,
+}
+
+/// The operations recorded in a workspace, in their order, the composite that is open, where one is, and the working model that all their steps lead to.
 #[derive(Drop)]
 pub(crate) struct Workspace {
     pub(crate) operations: List<Operation>,
+    pub(crate) composite: Option<Composite>,
     pub(crate) model: Plain,
 }
 
@@ -46,14 +57,46 @@ fn follow(model: &mut Plain, meta: &Metamodel, package: &Package) -> Result<(), 
     Ok(())
 }
 
+fn push_operations(
+    alloc: Global,
+    operations: &mut List<Operation>,
+    package: &Package,
+) -> Result<(), AllocError>
+    ensures { OnOk result (operations.new ≡ operations.old ++ «package».now) }
+{
+    for operation in package.as_slice() {
+        operations.push(operation.copy(alloc)?)?;
+    }
+    Ok(())
+}
+
+fn push_steps(alloc: Global, steps: &mut List<Step>, package: &Package) -> Result<(), AllocError>
+    ensures { OnOk result (steps.new ≡ steps.old ++ steps_all «package».now) }
+{
+    for operation in package.as_slice() {
+        push_copies(alloc, steps, steps_in(operation))?;
+    }
+    Ok(())
+}
+
+fn push_copies(alloc: Global, steps: &mut List<Step>, more: &[Step]) -> Result<(), AllocError>
+    ensures { OnOk result (steps.new ≡ steps.old ++ more.now) }
+{
+    for step in more {
+        steps.push(step.copy(alloc)?)?;
+    }
+    Ok(())
+}
+
 impl Workspace {
     /// A workspace at the empty project.
     pub(crate) fn new(alloc: Global) -> Workspace
-        ensures operations { result.operations ≡ [] }
+        ensures untouched { plain_of result ≡ untouched }
         ensures model { plain_state result.model ≡ nothing }
     {
         Workspace {
             operations: List::new(alloc),
+            composite: None,
             model: Plain::new(alloc),
         }
     }
@@ -65,11 +108,48 @@ impl Workspace {
         &self.operations
     }
 
+    /// The composite that is open.
+    pub(crate) fn composite(&self) -> Option<&Composite>
+        ensures { option_copied result ≡ self.now.composite }
+    {
+        self.composite.as_ref()
+    }
+
     /// Whether there are operations.
     pub(crate) fn has_operations(&self) -> bool
         ensures { result ≡ has_operations (Some (plain_of self.now)) }
     {
         self.operations.len() > 0
+    }
+
+    /// Whether a composite is open.
+    pub(crate) fn is_open(&self) -> bool
+        ensures open { result ≡ is_open (Some (plain_of self.now)) }
+    {
+        self.composite.is_some()
+    }
+
+    /// Whether there is something to discard.
+    pub(crate) fn is_touched(&self) -> bool
+        ensures { result ≡ (is_open (Some (plain_of self.now)) || has_operations (Some (plain_of self.now))) }
+    {
+        self.is_open() || self.has_operations()
+    }
+
+    /// Whether there is an operation to undo, with no composite open behind it.
+    pub(crate) fn can_undo(&self) -> bool
+        ensures { result ≡ (is_closed (Some (plain_of self.now)) && has_operations (Some (plain_of self.now))) }
+    {
+        !self.is_open() && self.has_operations()
+    }
+
+    /// Whether a package has operations, and one alone while a composite is open.
+    pub(crate) fn takes(&self, package: &Package) -> bool
+        ensures some { OnTrue result (0 < length «package».now) }
+        ensures takes { OnTrue result (takes (plain_of self.now).composite «package».now ≡ true) }
+        ensures not { OnFalse result ((meta : Meta) → can_follow meta (Some (plain_of self.now)) «package».now ≡ false) }
+    {
+        package.len() == 1 || (package.len() > 1 && !self.is_open())
     }
 
     /// The working model, over the metamodel.
@@ -81,7 +161,8 @@ impl Workspace {
         &self.model
     }
 
-    /// Takes the steps of a package on the model and records its operations. After an error the workspace is at the empty project.
+    /// Takes the steps of a package on the model and records its operations, or their steps in the composite that is open. After an error the workspace
+    /// is at the empty project.
     pub(crate) fn record(
         &mut self,
         alloc: Global,
@@ -108,7 +189,7 @@ impl Workspace {
         requires sound { Sound meta.now }
         requires good { Good meta.now (plain_state self.old.model) }
         ensures taken { OnOk result (fold_package meta.now (plain_state self.old.model) «package».now ≡ Some (plain_state self.new.model)) }
-        ensures recorded { OnOk result (self.new.operations ≡ self.old.operations ++ «package».now) }
+        ensures recorded { OnOk result (plain_of self.new ≡ with_more «package».now (plain_of self.old)) }
         ensures cannot { IfErr result (λ e. e ≢ StepFault.Memory → fold_package meta.now (plain_state self.old.model) «package».now ≡ None) }
         ensures good { Good meta.now (plain_state self.new.model) }
     {
@@ -120,13 +201,64 @@ impl Workspace {
     }
 
     fn push_all(&mut self, alloc: Global, package: &Package) -> Result<(), AllocError>
-        ensures more { OnOk result (self.new.operations ≡ self.old.operations ++ «package».now) }
+        ensures more { OnOk result (plain_of self.new ≡ with_more «package».now (plain_of self.old)) }
         ensures model { self.new.model ≡ self.old.model }
     {
-        for operation in package.as_slice() {
-            self.operations.push(operation.copy(alloc)?)?;
+        match &mut self.composite {
+            Some(composite) => push_steps(alloc, &mut composite.steps, package),
+            None => push_operations(alloc, &mut self.operations, package),
         }
+    }
+
+    /// Opens a composite of that name, with no step yet. It fails for want of memory alone.
+    pub(crate) fn open_composite(&mut self, alloc: Global, name: &Text) -> Result<(), ReplayFault>
+        requires closed { is_open (Some (plain_of self.old)) ≡ false }
+        ensures opened { OnOk result (plain_of self.new ≡ with_open name.now (plain_of self.old)) }
+        ensures memory { IfErr result (λ e. e ≡ ReplayFault.Memory) }
+        ensures keeps { (meta : Meta) → Keeps meta self.old → Keeps meta self.new }
+    {
+        let Ok(name) = name.copy(alloc) else {
+            return Err(ReplayFault::Memory);
+        };
+        self.composite = Some(Composite {
+            name,
+            steps: List::new(alloc),
+        });
         Ok(())
+    }
+
+    /// Closes the composite that is open: it is the last operation, where it has steps. It fails for want of memory alone, and then the workspace
+    /// is at the empty project.
+    pub(crate) fn close_composite(
+        &mut self,
+        alloc: Global,
+        meta: &Metamodel,
+    ) -> Result<(), ReplayFault>
+        requires keeps { Keeps meta.now self.old }
+        ensures closed { OnOk result (plain_of self.new ≡ with_closed (plain_of self.old)) }
+        ensures memory { IfErr result (λ e. e ≡ ReplayFault.Memory) }
+        ensures keeps { Keeps meta.now self.new }
+    {
+        match self.push_composite() {
+            Ok(()) => Ok(()),
+            Err(_) => {
+                self.clear(alloc);
+                Err(ReplayFault::Memory)
+            }
+        }
+    }
+
+    fn push_composite(&mut self) -> Result<(), AllocError>
+        ensures closed { OnOk result (plain_of self.new ≡ with_closed (plain_of self.old)) }
+        ensures model { self.new.model ≡ self.old.model }
+    {
+        let Some(Composite { name, steps }) = self.composite.take() else {
+            return Ok(());
+        };
+        if steps.len() == 0 {
+            return Ok(());
+        }
+        self.operations.push(Operation::Composite { name, steps })
     }
 
     /// Takes the reversal of the last operation on the model and lets the operation go. It fails for want of memory alone, and then the workspace
@@ -134,7 +266,7 @@ impl Workspace {
     pub(crate) fn undo(&mut self, alloc: Global, meta: &Metamodel) -> Result<(), ReplayFault>
         requires sound { Sound meta.now }
         requires keeps { Keeps meta.now self.old }
-        requires has { has_operations (Some (plain_of self.old)) ≡ true }
+        requires can { (is_closed (Some (plain_of self.old)) && has_operations (Some (plain_of self.old))) ≡ true }
         ensures undone { OnOk result (plain_of self.new ≡ without_last (plain_of self.old)) }
         ensures memory { IfErr result (λ e. e ≡ ReplayFault.Memory) }
         ensures keeps { Keeps meta.now self.new }
@@ -159,9 +291,9 @@ impl Workspace {
         operation: &Operation,
     ) -> Result<(), StepFault>
         requires sound { Sound meta.now }
-        requires keeps { Lead meta.now (self.old.operations ++ operation.now ∷ []) (plain_state self.old.model) }
-        ensures same { self.new.operations ≡ self.old.operations }
-        ensures keeps { OnOk result (Keeps meta.now self.new) }
+        requires keeps { Lead meta.now (steps_all self.old.operations ++ steps_of operation.now) (plain_state self.old.model) }
+        ensures same { plain_of self.new ≡ plain_of self.old }
+        ensures keeps { OnOk result (Lead meta.now (steps_all self.new.operations) (plain_state self.new.model)) }
         ensures memory { IfErr result (λ e. e ≡ StepFault.Memory) }
     {
         let reversal = match reverse_op(alloc, operation) {
@@ -171,12 +303,13 @@ impl Workspace {
         replay(&mut self.model, meta, steps_in(&reversal))
     }
 
-    /// Lets all operations go.
+    /// Lets all operations and the composite that is open go.
     pub(crate) fn clear(&mut self, alloc: Global)
-        ensures operations { self.new.operations ≡ [] }
+        ensures untouched { plain_of self.new ≡ untouched }
         ensures model { plain_state self.new.model ≡ nothing }
     {
         self.operations = List::new(alloc);
+        self.composite = None;
         self.model = Plain::new(alloc);
     }
 }

@@ -7,14 +7,14 @@ use Rattle.edit_laws.specs.declared.edit.Edit.{Edit}
 use Rattle.edit_laws.specs.declared.edit.Edit.TheVariants.{Create, Set, Unset, Add, Remove, Shift, Link, Unlink, Reorder}
 use Rattle.script_lang.specs.Left.{Left}
 use Rattle.script_lang.specs.Words.{is_word, word_at}
-use Rattle.script_lang.specs.Command.{init_at, checkout_at, create_at, set_at, unset_at, add_at, remove_at, shift_at, link_at, unlink_at, reorder_at, undo_at, discard_at, changes_at, show_at, cat_at, command_of}
+use Rattle.script_lang.specs.Command.{init_at, checkout_at, create_at, set_at, unset_at, add_at, remove_at, shift_at, link_at, unlink_at, reorder_at, begin_at, end_line_at, undo_at, discard_at, changes_at, show_at, cat_at, validate_at, command_of}
 use Rattle.script_lang.specs.Spelling.{IsCommand, edit_word, edit_fields, spec_word, words_of, spaced, Spells}
 use Rattle.script_lang.proofs.WordLemmas.{word_back}
 use Rattle.script_lang.proofs.Readings.{reads, reached, word_kind, joined, spaced_joined, some_is, Tells}
 use Rattle.script_lang.proofs.FieldLemmas.{same_word}
 use Rattle.script_lang.proofs.EditLines.{create_read, create_spelled, set_read, set_spelled, unset_read, unset_spelled, add_read, add_spelled, remove_read, remove_spelled, shift_read, shift_spelled}
 use Rattle.script_lang.proofs.ReferenceLines.{link_read, link_spelled, unlink_read, unlink_spelled, reorder_read, reorder_spelled}
-use Rattle.script_lang.proofs.WorkspaceLines.{init_read, init_spelled, checkout_read, checkout_spelled, undo_read, undo_spelled, discard_read, discard_spelled, changes_read, changes_spelled, show_read, show_spelled, cat_read, cat_spelled}
+use Rattle.script_lang.proofs.WorkspaceLines.{init_read, init_spelled, checkout_read, checkout_spelled, begin_read, begin_spelled, end_read, end_spelled, undo_read, undo_spelled, discard_read, discard_spelled, changes_read, changes_spelled, show_read, show_spelled, cat_read, cat_spelled, validate_read, validate_spelled}
 
 -- a line is what is left of it in front of its first word
 pub line_joined : (line first : List ℕ) (words : List (List ℕ)) → line ≡ spaced (first ∷ words) → Some line ≡ joined (first ∷ words)
@@ -50,6 +50,11 @@ line_read line (commands.Checkout spec) spells =
     rw (line_joined line (codes "checkout") (spec_word spec ∷ []) spells.words)
     (reads word_kind (codes "checkout") (omega arith, refl) (spec_word spec ∷ []) 1 _ _ (checkout_read spec spells.form))
 line_read line (commands.Edit ws edit) spells = edit_read line ws edit spells.form (line_joined line (edit_word edit) (decimal ws ∷ edit_fields edit) spells.words)
+line_read line (commands.Begin ws name) spells =
+    rw (line_joined line (codes "begin") (decimal ws ∷ name ∷ []) spells.words)
+    (reads word_kind (codes "begin") (omega arith, refl) (decimal ws ∷ name ∷ []) 1 _ _ (begin_read ws name spells.form))
+line_read line (commands.End ws) spells =
+    rw (line_joined line (codes "end") (decimal ws ∷ []) spells.words) (reads word_kind (codes "end") (omega arith, refl) (decimal ws ∷ []) 1 _ _ (end_read ws spells.form))
 line_read line (commands.Undo ws) spells =
     rw (line_joined line (codes "undo") (decimal ws ∷ []) spells.words) (reads word_kind (codes "undo") (omega arith, refl) (decimal ws ∷ []) 1 _ _ (undo_read ws spells.form))
 line_read line (commands.Discard ws) spells =
@@ -61,6 +66,8 @@ line_read line (commands.Show ws) spells =
 line_read line (commands.Cat spec) spells =
     rw (line_joined line (codes "cat") (spec_word spec ∷ []) spells.words)
     (reads word_kind (codes "cat") (omega arith, refl) (spec_word spec ∷ []) 1 _ _ (cat_read spec spells.form))
+line_read line (commands.Validate ws) spells =
+    rw (line_joined line (codes "validate") (decimal ws ∷ []) spells.words) (reads word_kind (codes "validate") (omega arith, refl) (decimal ws ∷ []) 1 _ _ (validate_read ws spells.form))
 
 -- a first word is the one that was looked for, or reading went on to the next
 chosen_or : (first word : List ℕ) (left : Left) (command : Command) (read next : Result Command ℕ) (b : Bool) → is_word first word ≡ b
@@ -73,7 +80,7 @@ no_command first left command e = cc
 
 -- what the first word chooses is spelled behind it
 first_spelled : (first : List ℕ) (left : Left) (command : Command)
-    → cond (is_word first (codes "init")) (init_at left) (cond (is_word first (codes "checkout")) (checkout_at left) (cond (is_word first (codes "create")) (create_at left) (cond (is_word first (codes "set")) (set_at left) (cond (is_word first (codes "unset")) (unset_at left) (cond (is_word first (codes "add")) (add_at left) (cond (is_word first (codes "remove")) (remove_at left) (cond (is_word first (codes "shift")) (shift_at left) (cond (is_word first (codes "link")) (link_at left) (cond (is_word first (codes "unlink")) (unlink_at left) (cond (is_word first (codes "reorder")) (reorder_at left) (cond (is_word first (codes "undo")) (undo_at left) (cond (is_word first (codes "discard")) (discard_at left) (cond (is_word first (codes "changes")) (changes_at left) (cond (is_word first (codes "show")) (show_at left) (cond (is_word first (codes "cat")) (cat_at left) (Err 1)))))))))))))))) ≡ Ok command
+    → cond (is_word first (codes "init")) (init_at left) (cond (is_word first (codes "checkout")) (checkout_at left) (cond (is_word first (codes "create")) (create_at left) (cond (is_word first (codes "set")) (set_at left) (cond (is_word first (codes "unset")) (unset_at left) (cond (is_word first (codes "add")) (add_at left) (cond (is_word first (codes "remove")) (remove_at left) (cond (is_word first (codes "shift")) (shift_at left) (cond (is_word first (codes "link")) (link_at left) (cond (is_word first (codes "unlink")) (unlink_at left) (cond (is_word first (codes "reorder")) (reorder_at left) (cond (is_word first (codes "begin")) (begin_at left) (cond (is_word first (codes "end")) (end_line_at left) (cond (is_word first (codes "undo")) (undo_at left) (cond (is_word first (codes "discard")) (discard_at left) (cond (is_word first (codes "changes")) (changes_at left) (cond (is_word first (codes "show")) (show_at left) (cond (is_word first (codes "cat")) (cat_at left) (cond (is_word first (codes "validate")) (validate_at left) (Err 1))))))))))))))))))) ≡ Ok command
     → Tells first left command
 first_spelled first left command =
     chosen_or first (codes "init") left command _ _ _ refl (init_spelled left command) (
@@ -87,22 +94,28 @@ first_spelled first left command =
     chosen_or first (codes "link") left command _ _ _ refl (link_spelled left command) (
     chosen_or first (codes "unlink") left command _ _ _ refl (unlink_spelled left command) (
     chosen_or first (codes "reorder") left command _ _ _ refl (reorder_spelled left command) (
+    chosen_or first (codes "begin") left command _ _ _ refl (begin_spelled left command) (
+    chosen_or first (codes "end") left command _ _ _ refl (end_spelled left command) (
     chosen_or first (codes "undo") left command _ _ _ refl (undo_spelled left command) (
     chosen_or first (codes "discard") left command _ _ _ refl (discard_spelled left command) (
     chosen_or first (codes "changes") left command _ _ _ refl (changes_spelled left command) (
     chosen_or first (codes "show") left command _ _ _ refl (show_spelled left command) (
     chosen_or first (codes "cat") left command _ _ _ refl (cat_spelled left command) (
-    no_command first left command))))))))))))))))
+    chosen_or first (codes "validate") left command _ _ _ refl (validate_spelled left command) (
+    no_command first left command)))))))))))))))))))
 
 joined_line : (command : Command) → joined (words_of command) ≡ Some (spaced (words_of command))
 joined_line commands.Init = sym (spaced_joined (codes "init") [])
 joined_line (commands.Checkout spec) = sym (spaced_joined (codes "checkout") (spec_word spec ∷ []))
 joined_line (commands.Edit ws edit) = sym (spaced_joined (edit_word edit) (decimal ws ∷ edit_fields edit))
+joined_line (commands.Begin ws name) = sym (spaced_joined (codes "begin") (decimal ws ∷ name ∷ []))
+joined_line (commands.End ws) = sym (spaced_joined (codes "end") (decimal ws ∷ []))
 joined_line (commands.Undo ws) = sym (spaced_joined (codes "undo") (decimal ws ∷ []))
 joined_line (commands.Discard ws) = sym (spaced_joined (codes "discard") (decimal ws ∷ []))
 joined_line (commands.Changes ws) = sym (spaced_joined (codes "changes") (decimal ws ∷ []))
 joined_line (commands.Show ws) = sym (spaced_joined (codes "show") (decimal ws ∷ []))
 joined_line (commands.Cat spec) = sym (spaced_joined (codes "cat") (spec_word spec ∷ []))
+joined_line (commands.Validate ws) = sym (spaced_joined (codes "validate") (decimal ws ∷ []))
 
 pub line_spelled : (line : List ℕ) (command : Command) → command_of line ≡ Ok command → Spells line command
 unfolding command_of

@@ -6,7 +6,7 @@ use Rattle.std.proofs.lemmas.Bool.{eqb-true}
 use Rattle.script_lang.specs.declared.command.Spec.{Spec}
 use Rattle.script_lang.specs.declared.command.Spec.TheVariants.{Number, Branch, Tag}
 use Rattle.model_state.specs.Names.{is_name, is_name_byte}
-use Rattle.script_lang.specs.Words.{is_space, number_of}
+use Rattle.script_lang.specs.Words.{is_space, number_of, name_at}
 use Rattle.script_lang.specs.Command.{spec_of, spec_from, tag_of, spec_at}
 use Rattle.script_lang.specs.Spelling.{IsWord, IsSpec, spec_word}
 use Rattle.script_lang.proofs.Numbers.{both, chosen, number_decimal, number_back, decimal_word}
@@ -43,6 +43,17 @@ name_word (c ∷ cs) e =
     let k = both (is_ascii_alphabetic c && nat_le (length cs) 63) (list_all is_name_byte cs) e in
     let m = both (is_ascii_alphabetic c) (nat_le (length cs) 63) k.0 in
     (omega arith, rw (no_letter_space c m.0) (name_spaceless cs k.1))
+
+name_named : (name : List ℕ) → is_name name ≡ true → cond (is_name name) (Some name) None ≡ Some name
+name_named name is = rw is refl
+
+name_only : (word name : List ℕ) (b : Bool) → is_name word ≡ b → cond b (Some word) None ≡ Some name → (is_name name ≡ true) × (word ≡ name)
+name_only word name true is e = let same = some_is word name e in (subst (λ w. is_name w ≡ true) same is, same)
+name_only word name false is e = cc
+
+pub name_kind : Kind name_at (λ name. is_name name ≡ true) (λ name. name)
+unfolding name_at
+name_kind = named_kind (λ word. cond (is_name word) (Some word) None) (λ name. is_name name ≡ true) (λ name. name) name_word name_named (λ word name e. name_only word name (is_name word) refl e)
 
 name_no_number : (name : List ℕ) → is_name name ≡ true → number_of name ≡ None
 name_no_number [] e = cc

@@ -1,15 +1,15 @@
 -- The lines of the other commands: what stands behind the first word is read as the command, and is the command's words where it is read.
-use Rattle.std.proofs.Common.{◌≡◌, ℕ, [], ◌∷◌, refl, Ok, codes}
+use Rattle.std.proofs.Common.{◌≡◌, ℕ, List, [], ◌∷◌, refl, Ok, codes}
 use Rattle.std.specs.Fmt.{decimal}
 use Rattle.script_lang.specs.declared.command.Spec.{Spec}
 use Rattle.script_lang.specs.declared.command.Command.{Command}
 use Rattle.script_lang.specs.declared.command.Command.TheVariants as commands
 use Rattle.script_lang.specs.Left.{Left}
-use Rattle.script_lang.specs.Command.{init_at, checkout_at, undo_at, discard_at, changes_at, show_at, cat_at}
+use Rattle.script_lang.specs.Command.{init_at, checkout_at, begin_at, end_line_at, undo_at, discard_at, changes_at, show_at, cat_at, validate_at}
 use Rattle.script_lang.specs.Spelling.{IsCommand, spec_word}
 use Rattle.script_lang.proofs.Readings.{reads, tells, joined, Tells, told_as}
 use Rattle.script_lang.proofs.FieldLemmas.{number_kind, end_tells}
-use Rattle.script_lang.proofs.SpecLemmas.{spec_kind}
+use Rattle.script_lang.proofs.SpecLemmas.{spec_kind, name_kind}
 
 pub init_read : (column : ℕ) → init_at (record { rest = joined []; column = column }) ≡ Ok commands.Init
 unfolding init_at
@@ -31,6 +31,33 @@ checkout_spelled left command e =
     tells spec_kind left _ command e (λ spec a is_spec at_spec e1.
     let end = end_tells a _ command e1 in
     told_as (codes "checkout") left (commands.Checkout spec) command (spec_word spec ∷ []) is_spec (at_spec [] end.0) refl end.1)
+
+pub begin_read : (ws : ℕ) (name : List ℕ) → IsCommand (commands.Begin ws name) → (column : ℕ)
+    → begin_at (record { rest = joined (decimal ws ∷ name ∷ []); column = column }) ≡ Ok (commands.Begin ws name)
+unfolding begin_at
+begin_read ws name is column =
+    reads (number_kind 1) ws is.0 (name ∷ []) column _ _
+    (λ a. reads name_kind name is.1 [] a _ _
+    (λ b. refl))
+
+pub begin_spelled : (left : Left) (command : Command) → begin_at left ≡ Ok command → Tells (codes "begin") left command
+unfolding begin_at
+begin_spelled left command e =
+    tells (number_kind 1) left _ command e (λ ws a is_ws at_ws e1.
+    tells name_kind a _ command e1 (λ name b is_name at_name e2.
+    let end = end_tells b _ command e2 in
+    told_as (codes "begin") left (commands.Begin ws name) command (decimal ws ∷ name ∷ []) (is_ws, is_name) (at_ws (name ∷ []) (at_name [] end.0)) refl end.1))
+
+pub end_read : (ws : ℕ) → IsCommand (commands.End ws) → (column : ℕ) → end_line_at (record { rest = joined (decimal ws ∷ []); column = column }) ≡ Ok (commands.End ws)
+unfolding end_line_at
+end_read ws is column = reads (number_kind 1) ws is [] column _ _ (λ a. refl)
+
+pub end_spelled : (left : Left) (command : Command) → end_line_at left ≡ Ok command → Tells (codes "end") left command
+unfolding end_line_at
+end_spelled left command e =
+    tells (number_kind 1) left _ command e (λ ws a is_ws at_ws e1.
+    let end = end_tells a _ command e1 in
+    told_as (codes "end") left (commands.End ws) command (decimal ws ∷ []) is_ws (at_ws [] end.0) refl end.1)
 
 pub undo_read : (ws : ℕ) → IsCommand (commands.Undo ws) → (column : ℕ) → undo_at (record { rest = joined (decimal ws ∷ []); column = column }) ≡ Ok (commands.Undo ws)
 unfolding undo_at
@@ -75,6 +102,17 @@ show_spelled left command e =
     tells (number_kind 1) left _ command e (λ ws a is_ws at_ws e1.
     let end = end_tells a _ command e1 in
     told_as (codes "show") left (commands.Show ws) command (decimal ws ∷ []) is_ws (at_ws [] end.0) refl end.1)
+
+pub validate_read : (ws : ℕ) → IsCommand (commands.Validate ws) → (column : ℕ) → validate_at (record { rest = joined (decimal ws ∷ []); column = column }) ≡ Ok (commands.Validate ws)
+unfolding validate_at
+validate_read ws is column = reads (number_kind 1) ws is [] column _ _ (λ a. refl)
+
+pub validate_spelled : (left : Left) (command : Command) → validate_at left ≡ Ok command → Tells (codes "validate") left command
+unfolding validate_at
+validate_spelled left command e =
+    tells (number_kind 1) left _ command e (λ ws a is_ws at_ws e1.
+    let end = end_tells a _ command e1 in
+    told_as (codes "validate") left (commands.Validate ws) command (decimal ws ∷ []) is_ws (at_ws [] end.0) refl end.1)
 
 pub cat_read : (spec : Spec) → IsCommand (commands.Cat spec) → (column : ℕ) → cat_at (record { rest = joined (spec_word spec ∷ []); column = column }) ≡ Ok (commands.Cat spec)
 unfolding cat_at

@@ -8,7 +8,7 @@ use Rattle.script_lang.specs.declared.command.Command.TheVariants as commands
 use Rattle.edit_laws.specs.declared.edit.Edit.TheVariants.{Create, Set, Unset, Add, Remove, Shift, Link, Unlink, Reorder}
 use Rattle.script_lang.specs.Left.{Left}
 use Rattle.model_state.specs.Names.{is_name}
-use Rattle.script_lang.specs.Words.{◌>>=◌, word_at, number_of, number_at, found_at, end_at, root_at, optional_at, optional_number_at, rest_at, index_or_end_at, is_word, IsBad}
+use Rattle.script_lang.specs.Words.{◌>>=◌, word_at, number_of, number_at, found_at, end_at, root_at, name_at, optional_at, optional_number_at, rest_at, index_or_end_at, is_word, IsBad}
 
 -- `@` and a name is a tag's
 abbrev pub tag_of : List ℕ → Option Spec
@@ -137,6 +137,21 @@ reorder_at left = do
   end ← end_at index.1
   Ok (commands.Edit ws.0 (Reorder id.0 feature.0 target.0 index.0))
 
+-- behind `begin`: WS NAME
+unfoldable pub begin_at : Left → Result Command ℕ
+begin_at left = do
+  ws ← number_at 1 left
+  name ← name_at ws.1
+  end ← end_at name.1
+  Ok (commands.Begin ws.0 name.0)
+
+-- behind `end`: WS
+unfoldable pub end_line_at : Left → Result Command ℕ
+end_line_at left = do
+  ws ← number_at 1 left
+  end ← end_at ws.1
+  Ok (commands.End ws.0)
+
 -- behind `undo`: WS
 unfoldable pub undo_at : Left → Result Command ℕ
 undo_at left = do
@@ -172,6 +187,13 @@ cat_at left = do
   end ← end_at spec.1
   Ok (commands.Cat spec.0)
 
+-- behind `validate`: WS
+unfoldable pub validate_at : Left → Result Command ℕ
+validate_at left = do
+  ws ← number_at 1 left
+  end ← end_at ws.1
+  Ok (commands.Validate ws.0)
+
 -- a whole line: the first word names the command
 unfoldable pub command_of : List ℕ → Result Command ℕ
 command_of line = do
@@ -187,11 +209,14 @@ command_of line = do
       else if is_word first.0 (codes "link") then link_at first.1
       else if is_word first.0 (codes "unlink") then unlink_at first.1
       else if is_word first.0 (codes "reorder") then reorder_at first.1
+      else if is_word first.0 (codes "begin") then begin_at first.1
+      else if is_word first.0 (codes "end") then end_line_at first.1
       else if is_word first.0 (codes "undo") then undo_at first.1
       else if is_word first.0 (codes "discard") then discard_at first.1
       else if is_word first.0 (codes "changes") then changes_at first.1
       else if is_word first.0 (codes "show") then show_at first.1
       else if is_word first.0 (codes "cat") then cat_at first.1
+      else if is_word first.0 (codes "validate") then validate_at first.1
       else Err 1
 
 -- a call gave the command that reading gives, or its column

@@ -57,11 +57,14 @@ abbrev pub IsCommand : Command → Type 0
 IsCommand commands.Init = Unit {0}
 IsCommand (commands.Checkout spec) = IsSpec spec
 IsCommand (commands.Edit ws edit) = IsWorkspace ws × IsEdit edit
+IsCommand (commands.Begin ws name) = IsWorkspace ws × (is_name name ≡ true)
+IsCommand (commands.End ws) = IsWorkspace ws
 IsCommand (commands.Undo ws) = IsWorkspace ws
 IsCommand (commands.Discard ws) = IsWorkspace ws
 IsCommand (commands.Changes ws) = IsWorkspace ws
 IsCommand (commands.Show ws) = IsWorkspace ws
 IsCommand (commands.Cat spec) = IsSpec spec
+IsCommand (commands.Validate ws) = IsWorkspace ws
 
 abbrev pub spec_word : Spec → List ℕ
 spec_word (Number n) = decimal n
@@ -111,11 +114,14 @@ abbrev pub words_of : Command → List (List ℕ)
 words_of commands.Init = codes "init" ∷ []
 words_of (commands.Checkout spec) = codes "checkout" ∷ spec_word spec ∷ []
 words_of (commands.Edit ws edit) = edit_word edit ∷ decimal ws ∷ edit_fields edit
+words_of (commands.Begin ws name) = codes "begin" ∷ decimal ws ∷ name ∷ []
+words_of (commands.End ws) = codes "end" ∷ decimal ws ∷ []
 words_of (commands.Undo ws) = codes "undo" ∷ decimal ws ∷ []
 words_of (commands.Discard ws) = codes "discard" ∷ decimal ws ∷ []
 words_of (commands.Changes ws) = codes "changes" ∷ decimal ws ∷ []
 words_of (commands.Show ws) = codes "show" ∷ decimal ws ∷ []
 words_of (commands.Cat spec) = codes "cat" ∷ spec_word spec ∷ []
+words_of (commands.Validate ws) = codes "validate" ∷ decimal ws ∷ []
 
 -- words with single spaces between them
 abbrev pub spaced : List (List ℕ) → List ℕ

@@ -7,6 +7,7 @@ use Rattle.std.specs.Borrow.{Bor}
 use Rattle.std.specs.Cmp.Lexicographic.{pointwise}
 use Rattle.script_lang.specs.declared.fault.ParseFault.{ParseFault}
 use Rattle.script_lang.specs.declared.fault.ParseFault.TheVariants.{BadLine, Memory}
+use Rattle.model_state.specs.Names.{is_name}
 use Rattle.script_lang.specs.Left.{Left, left_of}
 
 -- one reading after another; the first that does not fit gives its column
@@ -81,6 +82,12 @@ unfoldable pub root_at : Left → Result (Unit {0} × Left) ℕ
 root_at left = do
   word ← word_at left
   found_at left.column (if is_word word.0 (codes "/") then Some tt else None) word.1
+
+-- the next word, a name
+unfoldable pub name_at : Left → Result (List ℕ × Left) ℕ
+name_at left = do
+  word ← word_at left
+  found_at left.column (if is_name word.0 then Some word.0 else None) word.1
 
 abbrev pub optional_from : Option (List ℕ) → Left → Result (Option (List ℕ) × Left) ℕ
 optional_from None left = Ok (None, left)

@@ -23,6 +23,10 @@ pub enum Command {
     /// `remove WS ID FEATURE INDEX`, `shift WS ID FEATURE FROM TO`, `link WS ID FEATURE TARGET [INDEX]`, `unlink WS ID FEATURE TARGET` or
     /// `reorder WS ID FEATURE TARGET INDEX`.
     Edit { ws: u32, edit: Edit },
+    /// `begin WS NAME`: a composite of that name is open.
+    Begin { ws: u32, name: Text },
+    /// `end WS`: the open composite is closed.
+    End { ws: u32 },
     /// `undo WS`: the last local operation goes.
     Undo { ws: u32 },
     /// `discard WS`: all that is local goes.
@@ -33,4 +37,6 @@ pub enum Command {
     Show { ws: u32 },
     /// `cat SPEC`: the text of that version.
     Cat { spec: Spec },
+    /// `validate WS`: the features of the workspace's model that are below their lower bounds.
+    Validate { ws: u32 },
 }

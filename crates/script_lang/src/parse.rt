@@ -1,6 +1,6 @@
 // A line as a command: one private function a command.
 ghost use Rattle.std.specs.Prelude.{◌≡◌, ◌-◌, ◌<◌, ◌^◌, length, IfOk, IfNone, IfSome, None, Some};
-ghost use Rattle.script_lang.specs.Command.{GivesCommand, GivesSpec, command_of, init_at, checkout_at, create_at, set_at, unset_at, add_at, remove_at, shift_at, link_at, unlink_at, reorder_at, undo_at, discard_at, changes_at, show_at, cat_at, spec_of, spec_at, tag_of};
+ghost use Rattle.script_lang.specs.Command.{GivesCommand, GivesSpec, command_of, init_at, checkout_at, create_at, set_at, unset_at, add_at, remove_at, shift_at, link_at, unlink_at, reorder_at, begin_at, end_line_at, undo_at, discard_at, changes_at, show_at, cat_at, validate_at, spec_of, spec_at, tag_of};
 ghost use Rattle.script_lang.specs.declared.command.Spec.TheVariants.{Tag};
 
 use crate::words::{Words, bad_line, number_of};
@@ -34,11 +34,14 @@ pub fn parse_line(alloc: Global, line: &str) -> Result<Command, ParseFault>
         "link" => link(alloc, &mut words),
         "unlink" => unlink(alloc, &mut words),
         "reorder" => reorder(alloc, &mut words),
+        "begin" => begin(alloc, &mut words),
+        "end" => end(&mut words),
         "undo" => undo(&mut words),
         "discard" => discard(&mut words),
         "changes" => changes(&mut words),
         "show" => show(&mut words),
         "cat" => cat(alloc, &mut words),
+        "validate" => validate(&mut words),
         _ => Err(ParseFault::BadLine { column: 1 }),
     }
 }
@@ -237,6 +240,28 @@ fn reorder(alloc: Global, words: &mut Words<'_>) -> Result<Command, ParseFault>
     })
 }
 
+#[tactic(auto, unfolding(crate::specs::Command::begin_at))]
+fn begin(alloc: Global, words: &mut Words<'_>) -> Result<Command, ParseFault>
+    ensures { GivesCommand result (begin_at words.old) }
+{
+    let ws = words.workspace()?;
+    let name = words.name()?;
+    words.end()?;
+    Ok(Command::Begin {
+        ws,
+        name: Text::new(alloc, name)?,
+    })
+}
+
+#[tactic(auto, unfolding(crate::specs::Command::end_line_at))]
+fn end(words: &mut Words<'_>) -> Result<Command, ParseFault>
+    ensures { GivesCommand result (end_line_at words.old) }
+{
+    let ws = words.workspace()?;
+    words.end()?;
+    Ok(Command::End { ws })
+}
+
 #[tactic(auto, unfolding(crate::specs::Command::undo_at))]
 fn undo(words: &mut Words<'_>) -> Result<Command, ParseFault>
     ensures { GivesCommand result (undo_at words.old) }
@@ -280,6 +305,15 @@ fn cat(alloc: Global, words: &mut Words<'_>) -> Result<Command, ParseFault>
     let spec = spec(alloc, words)?;
     words.end()?;
     Ok(Command::Cat { spec })
+}
+
+#[tactic(auto, unfolding(crate::specs::Command::validate_at))]
+fn validate(words: &mut Words<'_>) -> Result<Command, ParseFault>
+    ensures { GivesCommand result (validate_at words.old) }
+{
+    let ws = words.workspace()?;
+    words.end()?;
+    Ok(Command::Validate { ws })
 }
 
 /// The next word, which names a version.

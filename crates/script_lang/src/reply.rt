@@ -47,8 +47,14 @@ pub enum Refusal {
     AlreadyThere,
     /// 21: the list has no entry at that index.
     NoEntry,
+    /// 22: the element would come to lie in itself.
+    WouldCycle,
     /// 23: the workspace has no local operation.
     NothingLocal,
+    /// 27: a composite is open in the workspace.
+    CompositeOpen,
+    /// 28: no composite is open in the workspace.
+    NoComposite,
     /// 33: as many events stand in the history as it can hold.
     HistoryFull,
     /// 34: the event's record would be longer than a record may be.
@@ -85,7 +91,10 @@ impl fmt::Display for Refusal {
             Refusal::Bound => f.write_str("19 Bound"),
             Refusal::AlreadyThere => f.write_str("20 AlreadyThere"),
             Refusal::NoEntry => f.write_str("21 NoEntry"),
+            Refusal::WouldCycle => f.write_str("22 WouldCycle"),
             Refusal::NothingLocal => f.write_str("23 NothingLocal"),
+            Refusal::CompositeOpen => f.write_str("27 CompositeOpen"),
+            Refusal::NoComposite => f.write_str("28 NoComposite"),
             Refusal::HistoryFull => f.write_str("33 HistoryFull"),
             Refusal::TooLarge => f.write_str("34 TooLarge"),
             Refusal::JournalFull => f.write_str("35 JournalFull"),

@@ -172,7 +172,7 @@ const REFERENCE_LINES: [Row; 24] = [
     ("reorder 1 b authors w 3 3", Err(25)),
 ];
 
-const WORKSPACE_LINES: [Row; 24] = [
+const WORKSPACE_LINES: [Row; 40] = [
     ("show 7", Ok("7 Show")),
     ("show", Err(5)),
     ("show 0", Err(6)),
@@ -181,6 +181,22 @@ const WORKSPACE_LINES: [Row; 24] = [
     ("cat 0", Ok("Cat Number 0")),
     ("cat", Err(4)),
     ("cat 0 1", Err(7)),
+    ("validate 1", Ok("1 Validate")),
+    ("validate", Err(9)),
+    ("validate x", Err(10)),
+    ("validate 1 ", Err(12)),
+    ("begin 1 both", Ok("1 Begin both")),
+    ("begin 1 a.b-c_9", Ok("1 Begin a.b-c_9")),
+    ("begin", Err(6)),
+    ("begin 0 both", Err(7)),
+    ("begin 1", Err(8)),
+    ("begin 1 ", Err(9)),
+    ("begin 1 9", Err(9)),
+    ("begin 1 both ends", Err(14)),
+    ("end 3", Ok("3 End")),
+    ("end", Err(4)),
+    ("end 0", Err(5)),
+    ("end 3 both", Err(7)),
     ("undo 1", Ok("1 Undo")),
     ("undo", Err(5)),
     ("undo ", Err(6)),
@@ -214,10 +230,13 @@ fn shown(alloc: Global, command: &Command) -> Result<String, Fail> {
         Command::Checkout { spec } => shown_spec(alloc, "Checkout", spec)?,
         Command::Cat { spec } => shown_spec(alloc, "Cat", spec)?,
         Command::Show { ws } => format!(in alloc; "{ws} Show")?,
+        Command::Validate { ws } => format!(in alloc; "{ws} Validate")?,
         Command::Edit { ws, edit } => {
             let edit = shown_edit(alloc, edit)?;
             format!(in alloc; "{ws} {}", edit.as_str())?
         }
+        Command::Begin { ws, name } => format!(in alloc; "{ws} Begin {}", name.as_str())?,
+        Command::End { ws } => format!(in alloc; "{ws} End")?,
         Command::Undo { ws } => format!(in alloc; "{ws} Undo")?,
         Command::Discard { ws } => format!(in alloc; "{ws} Discard")?,
         Command::Changes { ws } => format!(in alloc; "{ws} Changes")?,
@@ -348,7 +367,7 @@ fn lines_are_read(rt: HostRuntime) -> Result<(), Fail> {
     are_read(&rt, alloc, &WORKSPACE_LINES)
 }
 
-const REFUSALS: [(Refusal, &[u8]); 23] = [
+const REFUSALS: [(Refusal, &[u8]); 26] = [
     (Refusal::BadLine { column: 10 }, b"no 1 BadLine 10\n"),
     (Refusal::NotInit, b"no 2 NotInit\n"),
     (Refusal::AlreadyInit, b"no 3 AlreadyInit\n"),
@@ -368,7 +387,10 @@ const REFUSALS: [(Refusal, &[u8]); 23] = [
     (Refusal::Bound, b"no 19 Bound\n"),
     (Refusal::AlreadyThere, b"no 20 AlreadyThere\n"),
     (Refusal::NoEntry, b"no 21 NoEntry\n"),
+    (Refusal::WouldCycle, b"no 22 WouldCycle\n"),
     (Refusal::NothingLocal, b"no 23 NothingLocal\n"),
+    (Refusal::CompositeOpen, b"no 27 CompositeOpen\n"),
+    (Refusal::NoComposite, b"no 28 NoComposite\n"),
     (Refusal::HistoryFull, b"no 33 HistoryFull\n"),
     (Refusal::TooLarge, b"no 34 TooLarge\n"),
     (Refusal::JournalFull, b"no 35 JournalFull\n"),

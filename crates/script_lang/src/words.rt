@@ -1,10 +1,11 @@
 // The words of a line, one after another.
 ghost use Rattle.std.specs.Prelude.{◌≡◌, ◌-◌, ◌<◌, ◌^◌, length, OnOk, Some};
 ghost use Rattle.std.specs.List.{list_all};
-ghost use Rattle.script_lang.specs.Words.{Gives, GivesText, GivesEnd, GivesUnit, GivesOptional, GivesRest, root_at, optional_at, optional_number_at, rest_at, index_or_end_at, word_at, number_at, number_of, is_numeral, end_at};
+ghost use Rattle.script_lang.specs.Words.{Gives, GivesText, GivesEnd, GivesUnit, GivesOptional, GivesRest, root_at, name_at, optional_at, optional_number_at, rest_at, index_or_end_at, word_at, number_at, number_of, is_numeral, end_at};
 ghost use Rattle.std.specs.Char.{is_ascii_digit};
 
 use crate::ParseFault;
+use model_state::is_name;
 use std::marker::Model;
 
 /// The rest of a line, and the column where its next word begins, from 1.
@@ -98,6 +99,20 @@ impl<'a> Words<'a> {
         let word = self.word()?;
         if word == "/" {
             Ok(())
+        } else {
+            Err(bad_line(column))
+        }
+    }
+
+    /// The next word, a name.
+    #[tactic(auto, unfolding(crate::specs::Words::name_at))]
+    pub(crate) fn name(&mut self) -> Result<&'a str, ParseFault>
+        ensures { GivesText self.new result (name_at self.old) }
+    {
+        let column = self.column;
+        let word = self.word()?;
+        if is_name(word) {
+            Ok(word)
         } else {
             Err(bad_line(column))
         }

@@ -16,7 +16,7 @@ pub returns-clause-could : goal.returns-clause-could
 returns-clause-could c =
     on_ok_always c.undo.result _ (ap (λ (m : Option Meta). playable_with c.args.self.now m (Undo c.args.ws)) (sym (ap meta_in c.self.view_is))
     ∙ undo_at c.args.self.now c.self.inside.meta c.self.inside.workspaces.items c.args.ws c.in-Some.at c.index.result.now _ (ap is_some c.in-Some-meta.is) (ap (λ (s : State). s.workspaces) c.self.view_is) c.in-Some.ensures.there.0 c.in-Some.ensures.there.1 c.index.ensures
-    (sym c.has_operations.ensures ∙ c.if-not-has_operations.false))
+    ∙ sym c.can_undo.ensures ∙ c.if-not-can_undo.false)
 
 pub returns-clause-done : goal.returns-clause-done
 returns-clause-done c =
