@@ -197,7 +197,7 @@ fn strings_are_escaped(rt: HostRuntime) -> Result<(), Fail> {
     Ok(())
 }
 
-const LEVELS: usize = 10_000;
+const LEVELS: usize = 1_000;
 
 fn shelf(alloc: Global, n: usize) -> Result<Id, Fail> {
     Ok(Id::read(alloc, format!(in alloc; "s{n}")?.as_str())?)
@@ -226,7 +226,7 @@ fn shelves(alloc: Global) -> Result<Vec<Step>, Fail> {
 }
 
 #[test]
-fn ten_thousand_levels_are_written(rt: HostRuntime) -> Result<(), Fail> {
+fn a_thousand_levels_are_written(rt: HostRuntime) -> Result<(), Fail> {
     let alloc = rt.alloc();
     let meta = metamodel(&rt, alloc, LIBRARY)?;
     meta.sound();
