@@ -1,3 +1,4 @@
+mod composites;
 mod edits;
 mod references;
 
