@@ -356,15 +356,29 @@ fn are_read(rt: &impl Abort, alloc: Global, rows: &[Row]) -> Result<(), Fail> {
 }
 
 #[test]
-fn lines_are_read(rt: HostRuntime) -> Result<(), Fail> {
+fn first_words_and_creations_are_read(rt: HostRuntime) -> Result<(), Fail> {
     let alloc = rt.alloc();
     are_read(&rt, alloc, &FIRST_LINES)?;
-    are_read(&rt, alloc, &CREATE_LINES)?;
+    are_read(&rt, alloc, &CREATE_LINES)
+}
+
+#[test]
+fn edits_of_attributes_are_read(rt: HostRuntime) -> Result<(), Fail> {
+    let alloc = rt.alloc();
     are_read(&rt, alloc, &SET_LINES)?;
-    are_read(&rt, alloc, &ADD_LINES)?;
+    are_read(&rt, alloc, &ADD_LINES)
+}
+
+#[test]
+fn edits_at_indexes_are_read(rt: HostRuntime) -> Result<(), Fail> {
+    let alloc = rt.alloc();
     are_read(&rt, alloc, &PLACE_LINES)?;
-    are_read(&rt, alloc, &REFERENCE_LINES)?;
-    are_read(&rt, alloc, &WORKSPACE_LINES)
+    are_read(&rt, alloc, &REFERENCE_LINES)
+}
+
+#[test]
+fn lines_of_workspaces_are_read(rt: HostRuntime) -> Result<(), Fail> {
+    are_read(&rt, rt.alloc(), &WORKSPACE_LINES)
 }
 
 const REFUSALS: [(Refusal, &[u8]); 26] = [
