@@ -1,6 +1,11 @@
+mod composites;
+mod edits;
+mod references;
+
 use crate::{Status, run};
 use host_port::{FuseHost, Host, MemoryHost, TalkHost};
 use std::alloc::{AllocError, Global};
+use std::process::Abort;
 use std::test::Fail;
 
 // A metamodel with the class Book and the abstract class Thing.
@@ -14,19 +19,49 @@ const OPENED: &[u8] = b"ok\n[]\nok 1 0 trunk\n";
 
 const TWO: &[u8] = b"create 1 Book / a\ncreate 1 Book / b\n";
 
-// The script that begins a project, and then these lines.
-fn opening(alloc: Global, lines: &[u8]) -> Result<Vec<u8>, AllocError> {
+// The script that begins a project of a metamodel, and then these lines.
+fn beginning(alloc: Global, metamodel: &[u8], lines: &[u8]) -> Result<Vec<u8>, AllocError> {
     let mut script = b"init\n".to_vec(alloc)?;
-    script.extend_from_slice(METAMODEL)?;
+    script.extend_from_slice(metamodel)?;
     script.extend_from_slice(b".\ncheckout 0\n")?;
     script.extend_from_slice(lines)?;
     Ok(script)
+}
+
+// The script that begins a project of books, and then these lines.
+fn opening(alloc: Global, lines: &[u8]) -> Result<Vec<u8>, AllocError> {
+    beginning(alloc, METAMODEL, lines)
 }
 
 fn joined(alloc: Global, first: &[u8], second: &[u8]) -> Result<Vec<u8>, AllocError> {
     let mut bytes = first.to_vec(alloc)?;
     bytes.extend_from_slice(second)?;
     Ok(bytes)
+}
+
+// The lines behind the opening over a metamodel, what is said to them, and the status; the store that they leave is read again.
+type Session = (&'static [u8], &'static [u8], Status);
+
+fn are_answered(
+    rt: &impl Abort,
+    alloc: Global,
+    metamodel: &[u8],
+    table: &[Session],
+) -> Result<(), Fail> {
+    for (lines, said, status) in table {
+        let mut host = over(alloc, beginning(alloc, metamodel, lines)?, Vec::new(alloc));
+        let ended = serve(alloc, &mut host);
+        assert_eq!(rt; host.said(), joined(alloc, OPENED, said)?.as_slice());
+        assert_eq!(rt; ended, *status);
+        let mut again = over(
+            alloc,
+            b"changes 1\n".to_vec(alloc)?,
+            host.file().to_vec(alloc)?,
+        );
+        assert_eq!(rt; serve(alloc, &mut again), Status::Accepted);
+        assert_eq!(rt; again.starved(), 0);
+    }
+    Ok(())
 }
 
 fn over(alloc: Global, input: Vec<u8>, file: Vec<u8>) -> MemoryHost {
