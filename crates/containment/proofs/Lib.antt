@@ -14,4 +14,3 @@ pub mod DeleteLaws
 pub mod Reranks
 pub mod PlaceRefusals
 pub mod Walks
-pub mod ContainerLists

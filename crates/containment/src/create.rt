@@ -1,16 +1,63 @@
-ghost use Rattle.std.specs.Prelude.{◌≡◌, IfOk, IfErr, OnOk, None, true, false};
-ghost use Rattle.model_state.specs.Good.{Good};
-ghost use Rattle.model_state.specs.State.{is_live};
-ghost use Rattle.model_state.specs.Typing.{is_concrete};
-ghost use Rattle.edit_laws.specs.Places.{create_made};
-ghost use Rattle.containment.specs.Refusals.{IsPlace, IsRefusal, create_refusal};
+ghost use Rattle.std.specs.Prelude.{◌≡◌, IfOk, IfErr, OnOk, None, Some};
+ghost use Rattle.model_state.specs.Listing.{children};
+ghost use Rattle.edit_laws.specs.Spot.{end_spot};
+ghost use Rattle.edit_laws.specs.Places.{create_made, rerank_places};
+ghost use Rattle.containment.specs.Refusals.{IsRefusal, create_refusal};
 
 use crate::MoveFault;
 use crate::place::{has_room, may_stand};
-use crate::spots::find_spot;
+use crate::spots::{Spot, find_spot};
 use ecore_meta::{List, Metamodel};
 use model_state::{Id, Look, Place, Step};
-use std::alloc::Global;
+use std::alloc::{AllocError, Global};
+
+/// The spot of a new element of a class, last in a place. Refused with WrongType before Bound.
+pub fn creation_spot<L: Look>(
+    alloc: Global,
+    look: &L,
+    meta: &Metamodel,
+    class: u32,
+    place: &Place,
+) -> Result<Spot, MoveFault>
+    ensures steps { IfOk result (λ s. let xs = children (L.state look.now).place (L.state look.now).prank place.now in s.steps ≡ rerank_places xs (end_spot xs).ranks) }
+    ensures rank { IfOk result (λ s. (end_spot (children (L.state look.now).place (L.state look.now).prank place.now)).rank ≡ Some s.rank) }
+    ensures taken { OnOk result (create_refusal meta.now (L.state look.now) class place.now ≡ None) }
+    ensures refused { IfErr result (λ x. IsRefusal (create_refusal meta.now (L.state look.now) class place.now) x) }
+{
+    if !may_stand(look, meta, class, place) {
+        return Err(MoveFault::WrongType);
+    }
+    let there = look.children(alloc, place)?;
+    if !has_room(look, meta, place, there.as_slice()) {
+        return Err(MoveFault::Bound);
+    }
+    find_spot(alloc, there, None)
+}
+
+/// The steps that create an element of a class at its spot, last in a place: the reranks of the others where there is no
+/// room behind the last, and then the new element.
+pub fn create_at<L: Look>(
+    alloc: Global,
+    look: &L,
+    e: &Id,
+    class: u32,
+    place: Place,
+    spot: Spot,
+) -> Result<List<Step>, AllocError>
+    requires steps { let xs = children (L.state look.now).place (L.state look.now).prank place in spot.steps ≡ rerank_places xs (end_spot xs).ranks }
+    requires rank { (end_spot (children (L.state look.now).place (L.state look.now).prank place)).rank ≡ Some spot.rank }
+    ensures made { IfOk result (λ s. s ≡ create_made (L.state look.now) e.now class place) }
+{
+    let _look = look;
+    let Spot { mut steps, rank } = spot;
+    steps.push(Step::New {
+        e: e.copy(alloc)?,
+        class,
+        place,
+        rank,
+    })?;
+    Ok(steps)
+}
 
 /// The steps that create an element of a class, last in a place.
 ///
@@ -27,20 +74,6 @@ pub fn create_steps<L: Look>(
     ensures taken { OnOk result (create_refusal meta.now (L.state look.now) class place.now ≡ None) }
     ensures refused { IfErr result (λ x. IsRefusal (create_refusal meta.now (L.state look.now) class place.now) x) }
 {
-    if !may_stand(look, meta, class, place) {
-        return Err(MoveFault::WrongType);
-    }
-    let there = look.children(alloc, place)?;
-    if !has_room(look, meta, place, there.as_slice()) {
-        return Err(MoveFault::Bound);
-    }
-    let spot = find_spot(alloc, there, None)?;
-    let mut steps = spot.steps;
-    steps.push(Step::New {
-        e: e.copy(alloc)?,
-        class,
-        place: place.copy(alloc)?,
-        rank: spot.rank,
-    })?;
-    Ok(steps)
+    let spot = creation_spot(alloc, look, meta, class, place)?;
+    Ok(create_at(alloc, look, e, class, place.copy(alloc)?, spot)?)
 }

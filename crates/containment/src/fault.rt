@@ -1,6 +1,8 @@
 ghost use Rattle.std.specs.Prelude.{◌≡◌};
+ghost use Rattle.containment.specs.EditFaults.{edit_fault};
 ghost use Rattle.containment.specs.declared.fault.MoveFault.TheVariants.{Memory};
 
+use edit_laws::EditFault;
 use std::alloc::AllocError;
 use thiserror::Error;
 
@@ -29,5 +31,19 @@ impl From<AllocError> for MoveFault {
 
     fn from(_: AllocError) -> MoveFault {
         MoveFault::Memory
+    }
+}
+
+impl From<MoveFault> for EditFault {
+    ghost from_gives = { λ fault e. e ≡ edit_fault fault };
+
+    fn from(fault: MoveFault) -> EditFault {
+        match fault {
+            MoveFault::WouldCycle => EditFault::WouldCycle,
+            MoveFault::Bound => EditFault::Bound,
+            MoveFault::WrongType => EditFault::WrongType,
+            MoveFault::NoEntry => EditFault::NoEntry,
+            MoveFault::Memory => EditFault::Memory,
+        }
     }
 }

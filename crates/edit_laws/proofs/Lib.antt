@@ -10,6 +10,3 @@ pub mod MoveEdits
 pub mod Idle
 pub mod Refused
 pub mod ManyEdits
-pub mod Fresh
-pub mod Taken
-pub mod Unchanged

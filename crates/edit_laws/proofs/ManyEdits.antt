@@ -1,12 +1,11 @@
 -- Values come into a many-valued attribute, go, and change places.
 use Rattle.std.proofs.lemmas.Bool.Decides.{nat_tests}
-use Rattle.std.proofs.Common.{◌≡◌, ℕ, ◌+◌, Bool, true, false, cond, List, [], ◌∷◌, ◌++◌, length, zero, suc, refl, sym, ap, ◌∙◌, ◌&&◌, arith, nat_le, nat_lt, nat_eq}
+use Rattle.std.proofs.Common.{◌≡◌, ℕ, ◌+◌, Bool, true, false, cond, List, [], ◌∷◌, ◌++◌, length, zero, suc, refl, sym, ap, ◌∙◌, arith, nat_lt, nat_eq}
 use Rattle.std.specs.Prelude.{Option, None, Some, slice_get}
-use Rattle.std.specs.List.{insert, remove, list_all, list_any}
+use Rattle.std.specs.List.{insert, remove, list_all}
 use Rattle.std.specs.Option.{option_map_or}
 use Rattle.std.specs.FinMap.{get}
 use Rattle.finite_maps.specs.Equal.{option_eq, list_eq}
-use Rattle.finite_maps.specs.Maps.{is_below}
 use Rattle.finite_maps.proofs.Cases.{not_false, not_so, true_false}
 use Rattle.finite_maps.proofs.MapLaws.{set_here, set_twice, get-set_same}
 use Rattle.finite_maps.proofs.EqualLaws.{IsEquality, and_first, and_second, option_equality, list_equality, nat_equality}
@@ -15,9 +14,9 @@ use Rattle.ecore_meta.specs.declared.meta.Value.{Value}
 use Rattle.model_state.specs.declared.step.Step.TheVariants.{Ins, Del, Shift}
 use Rattle.model_state.specs.Keys.{Name}
 use Rattle.model_state.specs.Lists.{entry_of, values_of, shifted}
-use Rattle.model_state.specs.Typing.{value_eq, kind_of, upper_of, is_many, is_unique, many_fits}
+use Rattle.model_state.specs.Typing.{value_eq, kind_of, many_fits}
 use Rattle.model_state.specs.State.{State}
-use Rattle.model_state.specs.Steps.{tests, Can, fold, class_has}
+use Rattle.model_state.specs.Steps.{tests, Can, fold}
 use Rattle.model_state.specs.Good.{Good}
 use Rattle.model_state.proofs.Orders.{attr_order}
 use Rattle.model_state.proofs.StepTests.{pass, value_equality}
@@ -25,11 +24,7 @@ use Rattle.model_laws.proofs.Births.{has_class}
 use Rattle.model_laws.proofs.Runs.{fold_more, fold_append}
 use Rattle.model_laws.proofs.Inserts.{insert-remove}
 use Rattle.model_laws.proofs.Many.{whole, part, from_entry}
-use Rattle.edit_laws.specs.ManyValues.{values_in, with_values, insert_after, insert_made, remove_after, remove_made, shift_after, shift_made, clear_after, clear_made, dels}
-
--- a many-valued attribute of a live element
-abbrev pub IsMany : Meta → State → Name → ℕ → Type 0
-IsMany meta m e f = (class_has meta (get m.kind e) f ≡ true) × (is_many (kind_of meta f) ≡ true)
+use Rattle.edit_laws.specs.ManyValues.{IsMany, MayInsert, values_in, with_values, insert_after, insert_made, remove_after, remove_made, shift_after, shift_made, clear_after, clear_made, dels}
 
 pub value_test : IsEquality (option_eq value_eq)
 value_test = option_equality value_eq value_equality
@@ -38,14 +33,6 @@ pub values_test : IsEquality (list_eq value_eq)
 values_test = list_equality value_eq value_equality
 
 -- ---- a value comes in
-pub record MayInsert (meta : Meta) (m : State) (e : Name) (f : ℕ) (k : ℕ) (v : Value) : Type 0 where
-  pub many : IsMany meta m e f
-  pub typed : many_fits meta (kind_of meta f) v ≡ true
-  pub within : nat_le k (length (values_in m e f)) ≡ true
-  pub once : is_unique (kind_of meta f) && list_any (value_eq v) (values_in m e f) ≡ false
-  pub room : is_below (length (values_in m e f)) (upper_of meta f) ≡ true
-  pub few : nat_lt (length (values_in m e f)) 4294967295 ≡ true
-
 pub insert_meets : (meta : Meta) (m : State) (e : Name) (f : ℕ) (k : ℕ) (v : Value) → MayInsert meta m e f k v → fold meta m (insert_made e f k v) ≡ Some (insert_after m e f k v)
 insert_meets meta m e f k v may =
     fold_more meta m (Ins e f k v) []

@@ -30,7 +30,7 @@ use Rattle.edit_laws.proofs.Clears.{or_left, or_right}
 use Rattle.edit_laws.proofs.LinkEdits.{all_filter, fewer, none_without, at_most}
 use Rattle.edit_laws.proofs.Creates.{spot_of, Stand, names_differ, rerank_leads, placed_live, LiveHere, children_live, one_child, stand_from, children_stand}
 
-ranked_missing : (e : Name) (xs : List Entry) (rs : List ℕ) (prank : Ranks) → list_any (λ (x : Entry). text_eq e x.id) xs ≡ false → get (ranked_places xs rs prank) e ≡ get prank e
+pub ranked_missing : (e : Name) (xs : List Entry) (rs : List ℕ) (prank : Ranks) → list_any (λ (x : Entry). text_eq e x.id) xs ≡ false → get (ranked_places xs rs prank) e ≡ get prank e
 ranked_missing e [] rs prank h = refl
 ranked_missing e (x ∷ xs) [] prank h = refl
 ranked_missing e (x ∷ xs) (r ∷ rs) prank h =
@@ -38,14 +38,14 @@ ranked_missing e (x ∷ xs) (r ∷ rs) prank h =
     ∙ get-set_other id_order prank x.id (Some r) e (names_differ x.id e (apart text_eq text_equality e x.id (or_left (text_eq e x.id) _ h)))
 
 -- what is known of an element that stands in a place
-placed : (meta : Meta) (m : State) → Good meta m → (e : Name) (p : Place) → get m.place e ≡ Some p → (is_live m e ≡ true) × (get m.prank e ≡ Some (rank_at m.prank e))
+pub placed : (meta : Meta) (m : State) → Good meta m → (e : Name) (p : Place) → get m.place e ≡ Some p → (is_live m e ≡ true) × (get m.prank e ≡ Some (rank_at m.prank e))
 placed meta m good e p is = placed_live meta m.kind (get m.kind e) p (get m.prank e) (subst (λ o. PlaceOk meta m.kind (get m.kind e) o (get m.prank e)) is (good.places.stands e))
 
 module _ (meta : Meta) (sound : Sound meta) (m : State) (good : Good meta m) (e : Name) (p : Place) (k : ℕ) (may : MayMoveWithin m e p k) where
   abbrev others : List Entry
   others = without_entry e (children m.place m.prank p)
 
-  others_stand : Stand m others
+  pub others_stand : Stand m others
   others_stand = stand_from meta m good p others (all_filter (LiveHere m) (λ x. not (text_eq e x.id)) (children m.place m.prank p) (children_live meta m good p))
       (apart_from others (λ i. at_most _ _ (fewer (λ x. not (text_eq e x.id)) (λ x. text_eq i x.id) (children m.place m.prank p)) (one_child meta m good p i)))
 

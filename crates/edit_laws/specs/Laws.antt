@@ -1,5 +1,5 @@
 -- The steps of an edit that is not refused can be taken one by one, and lead to the model that the edit is to leave.
-use Rattle.std.specs.Prelude.{List, [], ◌≡◌, ◌+◌, ◌^◌, ◌<◌, ℕ, Some, None, Ok, is_some, true, length}
+use Rattle.std.specs.Prelude.{List, [], ◌≡◌, ℕ, Some, None, is_some, true, length, nat_lt}
 use Rattle.std.specs.FinMap.{get}
 use Rattle.ecore_meta.specs.Meta.{Meta}
 use Rattle.model_state.specs.Keys.{Name}
@@ -9,14 +9,9 @@ use Rattle.model_state.specs.Good.{Good, Sound}
 use Rattle.model_state.specs.declared.step.Place.{Place}
 use Rattle.edit_laws.specs.Places.{MayCreate, create_after, create_made, MayMoveWithin, move_within_after, move_within_made, MayMoveTo, move_to_after, move_to_made}
 use Rattle.ecore_meta.specs.declared.meta.Value.{Value}
-use Rattle.ecore_meta.specs.declared.meta.Scalar.{Scalar}
-use Rattle.model_state.specs.Typing.{attr_fits, fits, kind_of}
-use Rattle.model_state.specs.Ident.{is_id}
-use Rattle.model_state.specs.Listing.{ids}
-use Rattle.edit_laws.specs.declared.edit.Edit.{Edit}
-use Rattle.edit_laws.specs.FreshIds.{HasFirst, IsFirst, numbered, fresh_id}
-use Rattle.edit_laws.specs.Edits.{Reading, Effect, effect_of, made, after}
+use Rattle.model_state.specs.Typing.{attr_fits, kind_of}
 use Rattle.edit_laws.specs.Attributes.{IsAttribute, set_attr_after, set_attr_made, put_after, put_made}
+use Rattle.edit_laws.specs.ManyValues.{IsMany, MayInsert, values_in, insert_after, insert_made, remove_after, remove_made, shift_after, shift_made, clear_after, clear_made}
 use Rattle.edit_laws.specs.References.{MaySet, MayLink, MayReorder, set_ref_after, set_ref_made, link_after, link_made, unlink_after, unlink_made, unset_after, unset_made, reorder_after, reorder_made}
 
 -- a reference is set: the rows are those that it is to leave, and all else is as it was
@@ -74,33 +69,22 @@ abbrev pub SetRefIdle : Type 0
 SetRefIdle = (meta : Meta) → Sound meta → (m : State) → Good meta m → (a : Name) (f : ℕ) (b : Name) → MaySet meta m a f b
     → (set_ref_made meta m.row a f b ≡ [] → set_ref_after meta a f b m.row ≡ m.row) × (set_ref_after meta a f b m.row ≡ m.row → set_ref_made meta m.row a f b ≡ [])
 
--- which text is which value: each is of its type
-abbrev pub IsTyped : Meta → Reading → Type 0
-IsTyped meta reading = (scalar : Scalar) (text : List ℕ) (v : Value) → reading scalar text ≡ Some v → fits meta scalar v ≡ true
+-- a value comes into a many-valued attribute
+abbrev pub InsertMeets : Type 0
+InsertMeets = (meta : Meta) (m : State) (e : Name) (f : ℕ) (k : ℕ) (v : Value) → MayInsert meta m e f k v
+    → fold meta m (insert_made e f k v) ≡ Some (insert_after m e f k v)
 
--- an edit that is not refused leads to the model after it
-abbrev pub EditsMeet : Type 0
-EditsMeet = (meta : Meta) → Sound meta → (m : State) → Good meta m → (reading : Reading) → IsTyped meta reading → (ws : ℕ) (edit : Edit) (effect : Effect) → effect_of reading meta m ws edit ≡ Ok effect
-    → fold meta m (made meta m effect) ≡ Some (after meta m effect)
+-- a value goes
+abbrev pub RemoveMeets : Type 0
+RemoveMeets = (meta : Meta) (m : State) → Good meta m → (e : Name) (f : ℕ) (k : ℕ) → IsMany meta m e f → nat_lt k (length (values_in m e f)) ≡ true
+    → fold meta m (remove_made m e f k) ≡ Some (remove_after m e f k)
 
--- no step is made for it exactly where it changes nothing
-abbrev pub EditsIdle : Type 0
-EditsIdle = (meta : Meta) → Sound meta → (m : State) → Good meta m → (reading : Reading) → IsTyped meta reading → (ws : ℕ) (edit : Edit) (effect : Effect) → effect_of reading meta m ws edit ≡ Ok effect
-    → (made meta m effect ≡ [] → after meta m effect ≡ m) × (after meta m effect ≡ m → made meta m effect ≡ [])
+-- a value changes its place
+abbrev pub ShiftMeets : Type 0
+ShiftMeets = (meta : Meta) (m : State) → Good meta m → (e : Name) (f : ℕ) (from to : ℕ) → IsMany meta m e f → nat_lt from (length (values_in m e f)) ≡ true → nat_lt to (length (values_in m e f)) ≡ true
+    → fold meta m (shift_made m e f from to) ≡ Some (shift_after m e f from to)
 
--- the model after it is good: among other things, each row of a reference and its mirror stand together, and no list is over its bound
-abbrev pub EditsKeepGood : Type 0
-EditsKeepGood = (meta : Meta) → Sound meta → (m : State) → Good meta m → (reading : Reading) → IsTyped meta reading → (ws : ℕ) (edit : Edit) (effect : Effect) → effect_of reading meta m ws edit ≡ Ok effect
-    → Good meta (after meta m effect)
-
--- the first number whose id is not live gives the fresh id
-abbrev pub FirstIsFresh : Type 0
-FirstIsFresh = (m : State) (ws k : ℕ) → k < 2 ^ 64 → IsFirst m ws k → fresh_id m ws ≡ numbered ws k
-
--- a fresh id is of the form of an id
-abbrev pub FreshIsId : Type 0
-FreshIsId = (m : State) (ws : ℕ) → ws < 2 ^ 32 → length (ids m) + 1 < 2 ^ 64 → is_id (fresh_id m ws) ≡ true
-
--- a fresh id has the first number whose id is not live, unless almost 2^64 elements are
-abbrev pub FreshIsFirst : Type 0
-FreshIsFirst = (m : State) (ws : ℕ) → length (ids m) + 1 < 2 ^ 64 → HasFirst m ws (fresh_id m ws)
+-- all values go
+abbrev pub ClearMeets : Type 0
+ClearMeets = (meta : Meta) (m : State) → Good meta m → (e : Name) (f : ℕ) → IsMany meta m e f
+    → fold meta m (clear_made m e f) ≡ Some (clear_after m e f)

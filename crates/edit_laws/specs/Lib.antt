@@ -5,6 +5,4 @@ pub mod Refusals
 pub mod Places
 pub mod Attributes
 pub mod ManyValues
-pub mod FreshIds
-pub mod Edits
 pub mod Laws

@@ -1,17 +1,19 @@
 -- Edits of many-valued attributes: the model after each, said without steps, and the steps.
-use Rattle.std.specs.Prelude.{ℕ, ◌+◌, cond, List, [], ◌∷◌, ◌++◌, slice_get}
-use Rattle.std.specs.List.{insert, remove}
+use Rattle.std.specs.Prelude.{◌≡◌, ℕ, ◌+◌, true, false, cond, List, [], ◌∷◌, ◌++◌, length, nat_le, nat_lt, ◌&&◌, slice_get}
+use Rattle.std.specs.List.{insert, remove, list_any}
 use Rattle.std.specs.Option.{option_map_or}
 use Rattle.std.specs.FinMap.{get}
 use Rattle.finite_maps.specs.Equal.{list_eq}
-use Rattle.finite_maps.specs.Maps.{set}
+use Rattle.finite_maps.specs.Maps.{set, is_below}
+use Rattle.ecore_meta.specs.Meta.{Meta}
 use Rattle.ecore_meta.specs.declared.meta.Value.{Value}
 use Rattle.model_state.specs.declared.step.Step.{Step}
 use Rattle.model_state.specs.declared.step.Step.TheVariants.{Ins, Del, Shift}
 use Rattle.model_state.specs.Keys.{Name}
-use Rattle.model_state.specs.Typing.{value_eq}
+use Rattle.model_state.specs.Typing.{value_eq, kind_of, upper_of, is_many, is_unique, many_fits}
 use Rattle.model_state.specs.Lists.{entry_of, values_of, shifted}
 use Rattle.model_state.specs.State.{State}
+use Rattle.model_state.specs.Steps.{class_has}
 
 -- the values that an attribute of an element has
 abbrev pub values_in : State → Name → ℕ → List Value
@@ -57,3 +59,17 @@ dels e f n (v ∷ vs) = dels e f (n + 1) vs ++ Del e f n v ∷ []
 -- a step for each value, the last first
 abbrev pub clear_made : State → Name → ℕ → List Step
 clear_made m e f = dels e f 0 (values_in m e f)
+
+-- ---- where an edit is not refused
+-- a many-valued attribute of a live element
+abbrev pub IsMany : Meta → State → Name → ℕ → Type 0
+IsMany meta m e f = (class_has meta (get m.kind e) f ≡ true) × (is_many (kind_of meta f) ≡ true)
+
+-- a value may come in at the index k
+pub record MayInsert (meta : Meta) (m : State) (e : Name) (f : ℕ) (k : ℕ) (v : Value) : Type 0 where
+  pub many : IsMany meta m e f
+  pub typed : many_fits meta (kind_of meta f) v ≡ true
+  pub within : nat_le k (length (values_in m e f)) ≡ true
+  pub once : is_unique (kind_of meta f) && list_any (value_eq v) (values_in m e f) ≡ false
+  pub room : is_below (length (values_in m e f)) (upper_of meta f) ≡ true
+  pub few : nat_lt (length (values_in m e f)) 4294967295 ≡ true

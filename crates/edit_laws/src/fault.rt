@@ -7,7 +7,7 @@ use thiserror::Error;
 /// Why an edit is refused: the first of its tests that fails.
 #[derive(Clone, Copy, Debug, PartialEq, Eq, Drop, Error)]
 pub enum EditFault {
-    /// No live element has the id, that of the edit's element or that of a target.
+    /// No live element has the id, that of the edit's element, of a target or of a new parent.
     #[error("no such element")]
     NoElement,
     /// The id of the new element is that of a live one.
@@ -31,18 +31,20 @@ pub enum EditFault {
     /// The text isn't a value of the attribute's type, or for a reference isn't a JSON text.
     #[error("no value of the feature's type")]
     BadValue,
-    /// The target's class isn't the reference's type or below it.
+    /// The class of the target, or of the element that comes inside another, isn't the feature's type or below it.
     #[error("a wrong type")]
     WrongType,
-    /// A list would get an entry more and is at its upper bound or has 4,294,967,295 values, or a list of references is
-    /// to be ranked anew and is too long for it, or no rank is left behind the last element at the root. An entry that
-    /// the edit itself displaces isn't counted.
+    /// A list or place would get an entry more and is at its upper bound or has 4,294,967,295 values, or it is to be ranked
+    /// anew and is too long for it. An entry that the edit itself displaces isn't counted.
     #[error("the list is full")]
     Bound,
+    /// The element would come inside itself: it is the new parent, or one of the parent's containers.
+    #[error("a cycle of containers")]
+    WouldCycle,
     /// The attribute holds each value once, and holds this one, or the reference has the target.
     #[error("there already")]
     AlreadyThere,
-    /// The list has no such index, or no such target.
+    /// The list or place has no such index, or the list no such target.
     #[error("no such entry")]
     NoEntry,
     #[error("out of memory")]

@@ -1,4 +1,4 @@
-ghost use Rattle.edit_laws.specs.Laws.{EditsIdle, EditsKeepGood, EditsMeet, FirstIsFresh, FreshIsFirst, FreshIsId, SetRefIdle, CreateMeets, MoveWithinMeets, MoveToMeets, SetAttrMeets, UnsetAttrMeets, SetRefMeets, LinkMeets, UnlinkMeets, UnsetMeets, ReorderMeets};
+ghost use Rattle.edit_laws.specs.Laws.{ClearMeets, InsertMeets, RemoveMeets, ShiftMeets, SetRefIdle, CreateMeets, MoveWithinMeets, MoveToMeets, SetAttrMeets, UnsetAttrMeets, SetRefMeets, LinkMeets, UnlinkMeets, UnsetMeets, ReorderMeets};
 
 /// The steps of an edit of a plain reference lead to the rows that the edit is to leave, with the mirrors of
 /// opposites and what they displace. Setting a reference takes no step exactly where it changes nothing.
@@ -28,17 +28,10 @@ pub fn law_of_moves()
     ensures to_another { MoveToMeets }
 {}
 
-/// The steps that are recorded of an edit lead to the model that the edit is to leave, and there are none exactly where it
-/// changes nothing. That model is good: a reference and its opposite stand together, and each list is within its bound.
-pub fn law_of_edits()
-    ensures meets { EditsMeet }
-    ensures idle { EditsIdle }
-    ensures good { EditsKeepGood }
-{}
-
-/// A fresh id is the first of its workspace that is not live, and is of the form of an id.
-pub fn law_of_fresh_ids()
-    ensures first { FreshIsFirst }
-    ensures only { FirstIsFresh }
-    ensures form { FreshIsId }
+/// The steps of an edit of a many-valued attribute lead to a model in which it has the values that the edit is to leave.
+pub fn law_of_many_value_edits()
+    ensures insert { InsertMeets }
+    ensures remove { RemoveMeets }
+    ensures shift { ShiftMeets }
+    ensures clear { ClearMeets }
 {}

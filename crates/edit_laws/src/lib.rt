@@ -1,14 +1,12 @@
-//! Edits of a model: what is given, what each leaves, said without steps, the steps that are made for it, when it is
-//! refused, and the laws that the steps lead there. A law is the contract of a function that does nothing.
+//! Single edits of a model: what each leaves, said without steps, the steps that are made for it, when it is refused, and
+//! the laws that the steps lead there. A law is the contract of a function that does nothing.
 #![tactic(auto)]
 
-mod edit;
 mod fault;
 mod laws;
 
-pub use edit::{Edit, Recorded};
 pub use fault::EditFault;
 pub use laws::{
-    law_of_attribute_edits, law_of_creation, law_of_edits, law_of_fresh_ids, law_of_moves,
+    law_of_attribute_edits, law_of_creation, law_of_many_value_edits, law_of_moves,
     law_of_reference_edits,
 };

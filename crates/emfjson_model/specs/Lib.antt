@@ -8,3 +8,4 @@ pub mod References
 pub mod Merged
 pub mod Document
 pub mod Answers
+pub mod Laws

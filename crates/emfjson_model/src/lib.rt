@@ -7,6 +7,7 @@ mod doc;
 mod draft;
 mod fault;
 mod identity;
+mod laws;
 mod links;
 mod merged;
 mod paths;
@@ -18,4 +19,5 @@ mod walk;
 
 pub use doc::{Doc, DocAttr, DocParent, DocRefs, DocRow};
 pub use fault::ModelFault;
+pub use laws::law_of_documents;
 pub use read::read_model;

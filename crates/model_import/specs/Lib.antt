@@ -4,3 +4,4 @@ pub mod News
 pub mod Values
 pub mod Links
 pub mod Import
+pub mod Laws

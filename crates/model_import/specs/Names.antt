@@ -1,24 +1,22 @@
 -- The ids that the elements of a document get.
 use Rattle.std.specs.Prelude.{◌≡◌, ℕ, ◌+◌, ◌<◌, ◌≤◌, Bool, true, false, ◌||◌, List, [], ◌∷◌, Option, None, Some, slice_get, unwrap_or}
 use Rattle.std.specs.List.{list_any}
-use Rattle.finite_maps.specs.Equal.{option_eq, text_eq}
 use Rattle.model_state.specs.Keys.{Name}
 use Rattle.model_state.specs.State.{State, is_live}
 use Rattle.edit_laws.specs.FreshIds.{numbered}
 use Rattle.emfjson_model.specs.declared.doc.DocRow.{DocRow}
-
-abbrev pub has_id : Name → DocRow → Bool
-has_id e r = option_eq text_eq r.id (Some e)
+use Rattle.emfjson_model.specs.Laws.{gives_id}
 
 -- the id is live, or the document gives it
 abbrev pub is_taken : State → List DocRow → Name → Bool
-is_taken m rows e = is_live m e || list_any (has_id e) rows
+is_taken m rows e = is_live m e || list_any (gives_id e) rows
 
 -- the number is the first from the given one on whose id is not taken
 pub record IsNext (m : State) (rows : List DocRow) (ws from k : ℕ) : Type 0 where
   pub from_there : from ≤ k
   pub free : is_taken m rows (numbered ws k) ≡ false
   pub before : (j : ℕ) → from ≤ j → j < k → is_taken m rows (numbered ws j) ≡ true
+  pub small : k < 18446744073709551615
 
 -- the id of a row is the one that the document gives, or else the fresh one of the next number; the numbers go on from next
 abbrev pub IsName : State → List DocRow → ℕ → ℕ → Option Name → Name → ℕ → Type 0

@@ -2,11 +2,15 @@
 #![tactic(auto)]
 
 mod import;
+mod laws;
 mod links;
 mod names;
 mod news;
 mod roots;
+#[cfg(test)]
+mod tests;
 mod values;
 
 pub use edit_laws::EditFault;
 pub use import::import_doc;
+pub use laws::law_of_names;

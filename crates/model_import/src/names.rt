@@ -2,7 +2,8 @@ ghost use Rattle.std.specs.Prelude.{◌≡◌, ◌<◌, ◌^◌, ◌-◌, IfOk, 
 ghost use Rattle.std.specs.List.{list_any};
 ghost use Rattle.model_state.specs.Ident.{is_id};
 ghost use Rattle.edit_laws.specs.FreshIds.{numbered};
-ghost use Rattle.model_import.specs.Names.{AreNames, IsName, IsNext, any_in_use, has_id, in_use, is_taken, name_at};
+ghost use Rattle.emfjson_model.specs.Laws.{gives_id};
+ghost use Rattle.model_import.specs.Names.{AreNames, IsName, IsNext, any_in_use, in_use, is_taken, name_at};
 
 use ecore_meta::List;
 use emfjson_model::DocRow;
@@ -28,19 +29,19 @@ fn numbered(alloc: Global, ws: u32, k: u64) -> Result<Id, AllocError>
     }
 }
 
-fn has_id(row: &DocRow, e: &Id) -> bool
-    ensures { result ≡ has_id e.now row.now }
+fn gives_id(row: &DocRow, e: &Id) -> bool
+    ensures { result ≡ gives_id e.now row.now }
 {
     match &row.id {
         None => false,
-        Some(id) => id == e,
+        Some(id) => e == id,
     }
 }
 
 fn is_given(rows: &[DocRow], e: &Id) -> bool
-    ensures { result ≡ list_any (has_id e.now) rows.now }
+    ensures { result ≡ list_any (gives_id e.now) rows.now }
 {
-    rows.iter().any(|row| has_id(row, e))
+    rows.iter().any(|row| gives_id(row, e))
 }
 
 /// Whether an id is live, or the document gives it.

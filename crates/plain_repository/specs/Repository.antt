@@ -19,8 +19,8 @@ use Rattle.op_form.specs.declared.event.Event.{Event}
 use Rattle.op_form.specs.declared.event.Event.TheVariants.{Init, Checkout, Edit, Begin, End, Undo, Discard}
 use Rattle.op_form.specs.Events.{event_form}
 use Rattle.op_form.specs.Formed.{is_event}
-use Rattle.edit_laws.specs.declared.edit.Edit as edits
-use Rattle.edit_laws.specs.declared.edit.Recorded.{Recorded}
+use Rattle.edits.specs.declared.edit.Edit as edits
+use Rattle.edits.specs.declared.edit.Recorded.{Recorded}
 use Rattle.edit_laws.specs.declared.fault.EditFault.{EditFault}
 use Rattle.edit_laws.specs.declared.fault.EditFault.TheVariants as faults
 use Rattle.recorder.specs.Recording.{recorded}
@@ -276,6 +276,7 @@ refusal_of faults.WrongType = refusals.WrongType
 refusal_of faults.Bound = refusals.Bound
 refusal_of faults.AlreadyThere = refusals.AlreadyThere
 refusal_of faults.NoEntry = refusals.NoEntry
+refusal_of faults.WouldCycle = refusals.WouldCycle
 refusal_of faults.Memory = refusals.TooLarge
 
 -- the id of a new element, or nothing

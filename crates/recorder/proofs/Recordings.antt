@@ -9,12 +9,12 @@ use Rattle.model_state.specs.Steps.{fold}
 use Rattle.model_state.specs.Good.{Good, Sound}
 use Rattle.emfjson_io.specs.Values.{value_of}
 use Rattle.emfjson_io.proofs.Fits.{read_fits}
-use Rattle.edit_laws.specs.declared.edit.Edit.{Edit}
-use Rattle.edit_laws.specs.declared.edit.Recorded.{Recorded}
+use Rattle.edits.specs.declared.edit.Edit.{Edit}
+use Rattle.edits.specs.declared.edit.Recorded.{Recorded}
 use Rattle.edit_laws.specs.declared.fault.EditFault.{EditFault}
-use Rattle.edit_laws.specs.Edits.{Effect, effect_of, made, after, operation_kind, operation_of, recording, recording_of, recorded_of}
-use Rattle.edit_laws.proofs.Taken.{edits_meet, edits_keep_good}
-use Rattle.edit_laws.proofs.Unchanged.{edits_idle}
+use Rattle.edits.specs.Edits.{Effect, effect_of, made, after, operation_kind, operation_of, recording, recording_of, recorded_of}
+use Rattle.edits.proofs.Taken.{edits_meet, edits_keep_good}
+use Rattle.edits.proofs.Unchanged.{edits_idle}
 use Rattle.recorder.specs.Answers.{Answers}
 use Rattle.recorder.specs.Recording.{recorded}
 use Rattle.recorder.specs.Laws.{steps_in, LeadsOn, RecordingLeads, KeepsGood}

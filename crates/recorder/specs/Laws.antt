@@ -11,9 +11,9 @@ use Rattle.model_state.specs.Steps.{fold}
 use Rattle.model_state.specs.Good.{Good, Sound}
 use Rattle.model_state.specs.Typing.{opposite_of}
 use Rattle.emfjson_io.specs.Values.{value_of}
-use Rattle.edit_laws.specs.declared.edit.Edit.{Edit}
-use Rattle.edit_laws.specs.declared.edit.Recorded.{Recorded}
-use Rattle.edit_laws.specs.Edits.{Effect, effect_of, after}
+use Rattle.edits.specs.declared.edit.Edit.{Edit}
+use Rattle.edits.specs.declared.edit.Recorded.{Recorded}
+use Rattle.edits.specs.Edits.{Effect, effect_of, after}
 use Rattle.recorder.specs.Recording.{recorded}
 
 -- the steps of an operation, if there is one

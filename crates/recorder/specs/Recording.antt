@@ -3,10 +3,10 @@ use Rattle.std.specs.Prelude.{ℕ, Result}
 use Rattle.ecore_meta.specs.Meta.{Meta}
 use Rattle.model_state.specs.State.{State}
 use Rattle.emfjson_io.specs.Values.{value_of}
-use Rattle.edit_laws.specs.declared.edit.Edit.{Edit}
-use Rattle.edit_laws.specs.declared.edit.Recorded.{Recorded}
+use Rattle.edits.specs.declared.edit.Edit.{Edit}
+use Rattle.edits.specs.declared.edit.Recorded.{Recorded}
 use Rattle.edit_laws.specs.declared.fault.EditFault.{EditFault}
-use Rattle.edit_laws.specs.Edits.{recorded_of}
+use Rattle.edits.specs.Edits.{recorded_of}
 
 -- what is recorded of an edit in a workspace of that number, or the first of its refusals
 abbrev pub recorded : Meta → State → ℕ → Edit → Result Recorded EditFault

@@ -7,14 +7,15 @@ ghost use Rattle.model_state.specs.Typing.{kind_of, value_eq};
 ghost use Rattle.model_state.specs.declared.operation.OpKind.TheVariants.{Attribute};
 ghost use Rattle.emfjson_io.specs.Values.{value_of};
 ghost use Rattle.edit_laws.specs.Attributes.{held, put_made, taken};
-ghost use Rattle.edit_laws.specs.Edits.{operation_of, recording_of, set_effect};
+ghost use Rattle.edits.specs.Edits.{operation_of, recording_of, set_effect};
 ghost use Rattle.recorder.specs.Answers.{Answers};
 
 use crate::feature::{Named, feature, read};
 use crate::operation::operation;
 use crate::reference;
 use ecore_meta::{Kind, List, Metamodel, Text, Value};
-use edit_laws::{EditFault, Recorded};
+use edit_laws::EditFault;
+use edits::Recorded;
 use model_state::{Id, Look, OpKind, Step, is_default, is_same_value};
 use opposites::is_one;
 use std::alloc::{AllocError, Global};

@@ -1,37 +1,22 @@
-ghost use Rattle.std.specs.Prelude.{◌≡◌, IfOk, Some, length};
+ghost use Rattle.std.specs.Prelude.{◌≡◌, Some};
 ghost use Rattle.ecore_meta.specs.Meta.{class_named};
-ghost use Rattle.model_state.specs.declared.operation.OpKind.TheVariants.{Create};
-ghost use Rattle.model_state.specs.declared.step.Place.TheVariants.{Root};
-ghost use Rattle.edit_laws.specs.Spot.{rank_for, ranks_of};
-ghost use Rattle.edit_laws.specs.FreshIds.{id_or_fresh};
-ghost use Rattle.edit_laws.specs.Places.{create_made};
-ghost use Rattle.edit_laws.specs.Edits.{create_effect, end_rank, operation_of, recording_of};
+ghost use Rattle.model_state.specs.Good.{Good};
+ghost use Rattle.model_state.specs.Listing.{children};
+ghost use Rattle.edit_laws.specs.Spot.{end_spot};
+ghost use Rattle.edit_laws.specs.Places.{rerank_places};
+ghost use Rattle.edits.specs.FreshIds.{id_or_fresh};
+ghost use Rattle.edits.specs.Edits.{create_effect, new_effect, recording_of};
 ghost use Rattle.recorder.specs.Answers.{Answers, AnswersId};
 
 use crate::fresh::fresh_id;
 use crate::operation::operation;
-use ecore_meta::{List, Metamodel, Text};
-use edit_laws::{EditFault, Recorded};
-use model_state::{Entry, Id, IdFault, Look, OpKind, Place, Step, is_concrete, rank_between};
-use std::alloc::{AllocError, Global};
-
-/// The rank behind the last of the entries, None where none is left.
-fn rank_behind(list: &[Entry]) -> Option<u64>
-    ensures { result ≡ rank_for (ranks_of list.now) (length list.now) }
-{
-    match list.last() {
-        None => rank_between(0, None),
-        Some(last) => rank_between(last.rank, None),
-    }
-}
-
-/// The rank behind the last element at the root.
-fn end_rank<L: Look>(alloc: Global, look: &L) -> Result<Option<u64>, AllocError>
-    ensures { IfOk result (λ rank. rank ≡ end_rank (L.state look.now)) }
-{
-    let roots = look.children(alloc, &Place::Root)?;
-    Ok(rank_behind(roots.as_slice()))
-}
+use crate::place::place_at;
+use containment::{Spot, create_at, creation_spot};
+use ecore_meta::{Metamodel, Text};
+use edit_laws::EditFault;
+use edits::{Destination, Recorded};
+use model_state::{Id, IdFault, Look, OpKind, Place, is_concrete};
+use std::alloc::Global;
 
 /// The id that is given, or else a fresh one. BadId where the one that is given isn't of the form of an id.
 fn id_or_fresh<L: Look>(
@@ -52,43 +37,48 @@ fn id_or_fresh<L: Look>(
     }
 }
 
-/// What is recorded of a new element at the root.
-fn new_at_root<L: Look>(
+/// What is recorded of a new element of a class at its spot, last in a place. Refused with BadId before IdInUse.
+fn new_element<L: Look>(
     alloc: Global,
     look: &L,
-    e: Id,
+    meta: &Metamodel,
+    ws: u32,
     class: u32,
-    rank: u64,
-) -> Result<Recorded, AllocError>
-    requires { end_rank (L.state look.now) ≡ Some rank }
-    ensures { IfOk result (λ r. r ≡ record { operation = operation_of Create (create_made (L.state look.now) e class Root); id = Some e }) }
+    place: Place,
+    spot: Spot,
+    id: &Option<Text>,
+) -> Result<Recorded, EditFault>
+    requires steps { let xs = children (L.state look.now).place (L.state look.now).prank place in spot.steps ≡ rerank_places xs (end_spot xs).ranks }
+    requires rank { (end_spot (children (L.state look.now).place (L.state look.now).prank place)).rank ≡ Some spot.rank }
+    ensures { Answers result (recording_of meta.now (L.state look.now) (new_effect (L.state look.now) class place (id_or_fresh (L.state look.now) ws id.now))) }
 {
-    let _look = look;
-    let mut steps = List::new(alloc);
-    steps.push(Step::New {
-        e: e.copy(alloc)?,
-        class,
-        place: Place::Root,
-        rank,
-    })?;
+    let _meta = meta;
+    let e = id_or_fresh(alloc, look, ws, id)?;
+    if look.class(&e).is_some() {
+        return Err(EditFault::IdInUse);
+    }
+    let steps = create_at(alloc, look, &e, class, place, spot)?;
     Ok(Recorded {
         operation: operation(OpKind::Create, steps),
         id: Some(e),
     })
 }
 
-/// Records a new element of a class, last at the root, with that id or a fresh one.
+/// Records a new element of a class, last in its place, with that id or a fresh one.
 ///
-/// Refused with NoClass, Abstract, Bound, BadId and IdInUse, in this order.
+/// Refused with NoClass, Abstract, with what the destination is refused with, and with WrongType, Bound, BadId and IdInUse,
+/// in this order.
 pub fn create<L: Look>(
     alloc: Global,
     look: &L,
     meta: &Metamodel,
     ws: u32,
     class: &Text,
+    destination: &Destination,
     id: &Option<Text>,
 ) -> Result<Recorded, EditFault>
-    ensures { Answers result (recording_of meta.now (L.state look.now) (create_effect meta.now (L.state look.now) (class_named meta.now class.now) (id_or_fresh (L.state look.now) ws id.now))) }
+    requires good { Good meta.now (L.state look.now) }
+    ensures { Answers result (recording_of meta.now (L.state look.now) (create_effect meta.now (L.state look.now) (class_named meta.now class.now) destination.now (id_or_fresh (L.state look.now) ws id.now))) }
 {
     let Some(class) = meta.class_named(class.as_str()) else {
         return Err(EditFault::NoClass);
@@ -96,12 +86,7 @@ pub fn create<L: Look>(
     if !is_concrete(meta, class) {
         return Err(EditFault::Abstract);
     }
-    let Some(rank) = end_rank(alloc, look)? else {
-        return Err(EditFault::Bound);
-    };
-    let id = id_or_fresh(alloc, look, ws, id)?;
-    if look.class(&id).is_some() {
-        return Err(EditFault::IdInUse);
-    }
-    Ok(new_at_root(alloc, look, id, class, rank)?)
+    let place = place_at(alloc, look, meta, destination)?;
+    let spot = creation_spot(alloc, look, meta, class, &place)?;
+    new_element(alloc, look, meta, ws, class, place, spot, id)
 }

@@ -1,10 +1,11 @@
-ghost use Rattle.std.specs.Prelude.{◌≡◌, IfOk, slice_get, true};
+ghost use Rattle.std.specs.Prelude.{◌≡◌, ◌⊎◌, IfErr, IfOk, OnOk, is_some, slice_get, true, false};
 ghost use Rattle.std.specs.FinMap.{get};
 ghost use Rattle.std.specs.Option.{option_copied};
 ghost use Rattle.model_state.specs.Good.{Good};
 ghost use Rattle.model_state.specs.Steps.{class_has};
 ghost use Rattle.emfjson_io.specs.Values.{value_of};
-ghost use Rattle.edit_laws.specs.Edits.{class_at, feature_at};
+ghost use Rattle.edit_laws.specs.declared.fault.EditFault.TheVariants.{Memory, NoElement};
+ghost use Rattle.edits.specs.Edits.{class_at, feature_at};
 ghost use Rattle.recorder.specs.Answers.{AnswersFeature, AnswersValue};
 
 use ecore_meta::{Feature, Metamodel, Scalar, Text, Value, ValueFault};
@@ -47,6 +48,24 @@ impl Named {
             Some(feature) => Ok(Named { id, feature }),
         }
     }
+}
+
+/// The live element that a word names.
+pub fn live<L: Look>(alloc: Global, look: &L, word: &Text) -> Result<Id, EditFault>
+    ensures id { IfOk result (λ id. id ≡ word.now) }
+    ensures kind { OnOk result (is_some (get (L.state look.now).kind word.now) ≡ true) }
+    ensures live { OnOk result (is_some (class_at (L.state look.now) word.now) ≡ true) }
+    ensures none { IfErr result (λ fault. (fault ≡ Memory) ⊎ (fault ≡ NoElement) × (is_some (class_at (L.state look.now) word.now) ≡ false)) }
+{
+    let id = match Id::read(alloc, word.as_str()) {
+        Ok(id) => id,
+        Err(IdFault::Bad) => return Err(EditFault::NoElement),
+        Err(IdFault::Memory) => return Err(EditFault::Memory),
+    };
+    if look.class(&id).is_none() {
+        return Err(EditFault::NoElement);
+    }
+    Ok(id)
 }
 
 /// The feature of that number, where there is one.

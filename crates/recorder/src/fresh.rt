@@ -1,6 +1,6 @@
 ghost use Rattle.std.specs.Prelude.{◌≡◌, IfOk, OnOk, true};
 ghost use Rattle.model_state.specs.Ident.{is_id};
-ghost use Rattle.edit_laws.specs.FreshIds.{fresh_id, numbered};
+ghost use Rattle.edits.specs.FreshIds.{fresh_id, numbered};
 
 use model_state::{Id, IdFault, Look};
 use std::alloc::{AllocError, Global};

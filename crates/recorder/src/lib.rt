@@ -9,11 +9,13 @@ mod fresh;
 mod laws;
 mod many;
 mod operation;
+mod place;
 mod record;
 mod reference;
 #[cfg(test)]
 mod tests;
 
-pub use edit_laws::{Edit, EditFault, Recorded};
+pub use edit_laws::EditFault;
+pub use edits::{Destination, Edit, Recorded};
 pub use laws::law_of_recording;
 pub use record::take_edit;

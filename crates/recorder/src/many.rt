@@ -9,13 +9,14 @@ ghost use Rattle.model_state.specs.Typing.{is_many, kind_of, value_eq};
 ghost use Rattle.emfjson_io.specs.Values.{value_of};
 ghost use Rattle.edit_laws.specs.ManyValues.{dels, values_in};
 ghost use Rattle.model_state.specs.declared.operation.OpKind.TheVariants.{ManyAttribute};
-ghost use Rattle.edit_laws.specs.Edits.{Clears, operation_of, add_effect, insert_effect, recording, recording_of, remove_effect, shift_effect};
+ghost use Rattle.edits.specs.Edits.{Clears, operation_of, add_effect, insert_effect, recording, recording_of, remove_effect, shift_effect};
 ghost use Rattle.recorder.specs.Answers.{Answers};
 
 use crate::feature::{Named, feature, read};
 use crate::operation::operation;
 use ecore_meta::{Kind, List, Metamodel, Text, Value};
-use edit_laws::{EditFault, Recorded};
+use edit_laws::EditFault;
+use edits::Recorded;
 use model_state::{Id, Look, OpKind, Step, is_many, is_same_value, upper_of};
 use std::alloc::{AllocError, Global};
 

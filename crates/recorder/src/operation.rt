@@ -1,5 +1,5 @@
 ghost use Rattle.std.specs.Prelude.{◌≡◌};
-ghost use Rattle.edit_laws.specs.Edits.{operation_of};
+ghost use Rattle.edits.specs.Edits.{operation_of};
 
 use ecore_meta::List;
 use model_state::{OpKind, Operation, Step};

@@ -1,15 +1,16 @@
 ghost use Rattle.std.specs.Prelude.{IfOk};
 ghost use Rattle.model_state.specs.Good.{Good};
 ghost use Rattle.model_state.specs.Typing.{kind_of};
-ghost use Rattle.edit_laws.specs.Edits.{recording_of, unset_effect};
+ghost use Rattle.edits.specs.Edits.{recording_of, unset_effect};
 ghost use Rattle.recorder.specs.Answers.{Answers};
 ghost use Rattle.recorder.specs.Laws.{KeepsGood};
 ghost use Rattle.recorder.specs.Recording.{recorded};
 
 use crate::feature::Named;
-use crate::{attribute, create, many, reference};
+use crate::{attribute, create, many, place, reference};
 use ecore_meta::Metamodel;
-use edit_laws::{Edit, EditFault, Recorded};
+use edit_laws::EditFault;
+use edits::{Edit, Recorded};
 use model_state::{Look, is_attr, is_many, is_plain};
 use std::alloc::Global;
 
@@ -34,7 +35,7 @@ fn unset<L: Look>(
     }
 }
 
-#[tactic(auto, unfolding(edit_laws::specs::Edits::recorded_of, edit_laws::specs::Edits::effect_of))]
+#[tactic(auto, unfolding(edits::specs::Edits::recorded_of, edits::specs::Edits::effect_of))]
 fn record<L: Look>(
     alloc: Global,
     look: &L,
@@ -46,7 +47,12 @@ fn record<L: Look>(
     ensures { Answers result (recorded meta.now (L.state look.now) ws edit.now) }
 {
     match edit {
-        Edit::Create { class, id } => create::create(alloc, look, meta, ws, class, id),
+        Edit::Create {
+            class,
+            destination,
+            id,
+        } => create::create(alloc, look, meta, ws, class, destination, id),
+        Edit::Delete { id } => place::delete_element(alloc, look, meta, id),
         Edit::Set { id, feature, value } => {
             let named = Named::find(alloc, look, meta, id, feature)?;
             attribute::set(alloc, look, meta, &named, value)
@@ -103,25 +109,31 @@ fn record<L: Look>(
             let named = Named::find(alloc, look, meta, id, feature)?;
             reference::reorder(alloc, look, meta, &named, target, *index)
         }
+        Edit::Move {
+            id,
+            destination,
+            index,
+        } => place::move_element(alloc, look, meta, id, destination, *index),
     }
 }
 
 /// What is recorded of an edit in the workspace of that number: one operation, or none where the edit changes nothing, and
 /// the id of an element that it creates. Its steps lead to a good model again: each reference stands with its opposite.
 ///
-/// The edit is refused with the first of its tests that fails. For `Create` these are NoClass, Abstract, Bound, BadId and
-/// IdInUse; for all others NoElement, NoFeature and WrongKind, and then:
+/// The edit is refused with the first of its tests that fails. A destination inside an element is refused with NoElement,
+/// NoFeature and WrongKind; the edit of a feature with these three, and then as the table says:
 ///
 /// | Edit | Refusals in order |
 /// |---|---|
+/// | `Create` | NoClass, Abstract, those of the destination, WrongType, Bound, BadId, IdInUse |
+/// | `Delete` | NoElement |
+/// | `Move` | NoElement, those of the destination, WrongType, WouldCycle, NoEntry, Bound |
 /// | `Set` of an attribute | BadValue |
 /// | `Set` of a plain reference of upper bound 1 | BadValue, NoElement, WrongType, Bound |
 /// | `Add` | NoEntry, BadValue, AlreadyThere, Bound |
 /// | `Remove`, `Shift`, `Unlink` | NoEntry |
 /// | `Link` | NoElement, WrongType, AlreadyThere, NoEntry, Bound |
 /// | `Reorder` | NoEntry, Bound |
-///
-/// While lists of elements are not ranked anew, Bound comes for `Create` where no rank is left behind the last one.
 pub fn take_edit<L: Look>(
     alloc: Global,
     look: &L,

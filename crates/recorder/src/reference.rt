@@ -7,15 +7,16 @@ ghost use Rattle.model_state.specs.Steps.{class_has};
 ghost use Rattle.model_state.specs.Typing.{is_plain, kind_of};
 ghost use Rattle.model_state.specs.declared.operation.OpKind.TheVariants.{Reference};
 ghost use Rattle.emfjson_io.specs.Values.{value_of};
-ghost use Rattle.edit_laws.specs.declared.fault.EditFault.TheVariants.{Memory, NoElement, NoEntry};
+ghost use Rattle.edit_laws.specs.declared.fault.EditFault.TheVariants.{Memory, NoEntry};
 ghost use Rattle.edit_laws.specs.References.{is_one};
-ghost use Rattle.edit_laws.specs.Edits.{Forgets, class_at, is_listed, link_effect, operation_of, recording, recording_of, refer_effect, reorder_effect, target_in, unlink_effect};
+ghost use Rattle.edits.specs.Edits.{Forgets, is_listed, link_effect, operation_of, recording, recording_of, refer_effect, reorder_effect, target_in, unlink_effect};
 ghost use Rattle.recorder.specs.Answers.{Answers};
 
-use crate::feature::{Named, read};
+use crate::feature::{Named, live, read};
 use crate::operation::operation;
 use ecore_meta::{List, Metamodel, Scalar, Text, Value};
-use edit_laws::{EditFault, Recorded};
+use edit_laws::EditFault;
+use edits::Recorded;
 use model_state::{Id, IdFault, Look, OpKind, Step, is_plain};
 use opposites::{is_one, link_steps, reorder_steps, set_ref_steps, unlink_steps, unset_ref_steps};
 use std::alloc::{AllocError, Global};
@@ -35,24 +36,6 @@ fn is_listed(meta: &Metamodel, f: u32) -> bool
     ensures { result ≡ is_listed meta.now f (kind_of meta.now f) }
 {
     is_plain(meta, f) && !is_one(meta, f)
-}
-
-/// The live element that a word names.
-fn live<L: Look>(alloc: Global, look: &L, word: &Text) -> Result<Id, EditFault>
-    ensures id { IfOk result (λ id. id ≡ word.now) }
-    ensures kind { OnOk result (is_some (get (L.state look.now).kind word.now) ≡ true) }
-    ensures live { OnOk result (is_some (class_at (L.state look.now) word.now) ≡ true) }
-    ensures none { IfErr result (λ fault. (fault ≡ Memory) ⊎ (fault ≡ NoElement) × (is_some (class_at (L.state look.now) word.now) ≡ false)) }
-{
-    let id = match Id::read(alloc, word.as_str()) {
-        Ok(id) => id,
-        Err(IdFault::Bad) => return Err(EditFault::NoElement),
-        Err(IdFault::Memory) => return Err(EditFault::Memory),
-    };
-    if look.class(&id).is_none() {
-        return Err(EditFault::NoElement);
-    }
-    Ok(id)
 }
 
 /// The target of a list that a word names, where the word is an id.

@@ -2,6 +2,7 @@
 // recorded of each edit. The ranks are multiples of 4294967296, which is 2^32; 18446744073709551615 is the last rank.
 // A list of 2^32 - 1 values, which takes no more, is made by no test.
 mod models;
+mod places;
 mod script;
 
 ghost use Rattle.std.specs.Prelude.{OnOk};
@@ -11,6 +12,7 @@ ghost use Rattle.step_apply.specs.View.{plain_state};
 
 use super::*;
 use crate::tests::models::{boxes, library};
+use crate::tests::places::{ABSTRACT, PLACES};
 use crate::tests::script::{edit, told};
 use ecore_meta::{List, Metamodel};
 use model_laws::replay;
@@ -20,7 +22,7 @@ use std::test::Fail;
 use step_apply::Plain;
 
 // The edits before the last one, the last one, and what it is answered.
-type Case = (&'static [&'static str], &'static str, &'static str);
+pub type Case = (&'static [&'static str], &'static str, &'static str);
 
 const BOOK: &[&str] = &["create Book / b"];
 
@@ -31,21 +33,25 @@ const TAGS: &[&str] = &[
     "add b tags end \"z\"",
 ];
 
-// No rank is left behind the last element at the root.
+// The last element at the root has the last rank.
 const LAST: &[&str] = &["last b"];
 
 const IN_THE_LIBRARY: &[Case] = &[
     // create: refusals in order
     (LAST, "create Novel / b", "NoClass"),
     (&[], "create book / #b", "NoClass"),
-    (LAST, "create Book / #b", "Bound"),
-    (LAST, "create Book / b", "Bound"),
-    (LAST, "create Book /", "Bound"),
+    (LAST, "create Book / #b", "BadId"),
+    (LAST, "create Book / b", "IdInUse"),
     (&[], "create Book / #b", "BadId"),
     (&[], "create Book / a\"b", "BadId"),
     (BOOK, "create Writer / b", "IdInUse"),
     // create
     (&[], "create Book / b", "Create: new b 1 / 4294967296 -> b"),
+    (
+        LAST,
+        "create Book /",
+        "Create: rerank b 18446744073709551615 4294967296; new w7n1 1 / 8589934592 -> w7n1",
+    ),
     (
         BOOK,
         "create Shelf / a",
@@ -470,6 +476,22 @@ fn edits_of_references_are_recorded_or_refused(rt: HostRuntime) -> Result<(), Fa
     let alloc = rt.alloc();
     let meta = library(alloc)?;
     for (before, last, want) in REFERENCES {
+        let got = answer(alloc, &meta, before, last)?;
+        assert_eq!(rt; got.as_str(), *want, "{last} after {before:?}");
+    }
+    Ok(())
+}
+
+#[test]
+fn creations_moves_and_deletions_are_recorded_or_refused(rt: HostRuntime) -> Result<(), Fail> {
+    let alloc = rt.alloc();
+    let meta = library(alloc)?;
+    for (before, last, want) in PLACES {
+        let got = answer(alloc, &meta, before, last)?;
+        assert_eq!(rt; got.as_str(), *want, "{last} after {before:?}");
+    }
+    let meta = boxes(alloc)?;
+    for (before, last, want) in ABSTRACT {
         let got = answer(alloc, &meta, before, last)?;
         assert_eq!(rt; got.as_str(), *want, "{last} after {before:?}");
     }

@@ -15,9 +15,9 @@ use Rattle.model_state.specs.declared.operation.Operation.{Operation}
 use Rattle.model_state.specs.Packages.{steps_of, steps_all, fold_package}
 use Rattle.model_laws.proofs.Runs.{fold_append}
 use Rattle.model_state.specs.Good.{Good, Sound}
-use Rattle.edit_laws.specs.declared.edit.Edit.{Edit}
-use Rattle.edit_laws.specs.declared.edit.Recorded.{Recorded}
-use Rattle.edit_laws.specs.Edits.{after}
+use Rattle.edits.specs.declared.edit.Edit.{Edit}
+use Rattle.edits.specs.declared.edit.Recorded.{Recorded}
+use Rattle.edits.specs.Edits.{after}
 use Rattle.recorder.specs.Recording.{recorded}
 use Rattle.recorder.specs.Laws.{steps_in}
 use Rattle.recorder.proofs.Recordings.{recording_leads}

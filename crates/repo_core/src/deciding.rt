@@ -15,7 +15,8 @@ use crate::workspace::Composite;
 use data_lines::{open_lines, operation_lines, validate_lines};
 use ecore_json::{EcoreFault, read_metamodel};
 use ecore_meta::{List, Metamodel, Text};
-use edit_laws::{Edit, EditFault, Recorded};
+use edit_laws::EditFault;
+use edits::{Edit, Recorded};
 use emfjson_text::write_model;
 use model_state::Id;
 use op_form::{Event, encode_event, has_form};
@@ -107,6 +108,7 @@ fn refusal_of(fault: EditFault) -> Option<Refusal>
         EditFault::Bound => Some(Refusal::Bound),
         EditFault::AlreadyThere => Some(Refusal::AlreadyThere),
         EditFault::NoEntry => Some(Refusal::NoEntry),
+        EditFault::WouldCycle => Some(Refusal::WouldCycle),
         EditFault::Memory => None,
     }
 }

@@ -3,7 +3,8 @@ use Rattle.std.proofs.Common.{◌≡◌, ℕ, List, [], ◌∷◌, refl, Option,
 use Rattle.std.specs.Fmt.{decimal}
 use Rattle.script_lang.specs.declared.command.Command.{Command}
 use Rattle.script_lang.specs.declared.command.Command.TheVariants as commands
-use Rattle.edit_laws.specs.declared.edit.Edit.TheVariants.{Create, Set, Unset, Add, Remove, Shift}
+use Rattle.edits.specs.declared.edit.Destination.TheVariants.{Root}
+use Rattle.edits.specs.declared.edit.Edit.TheVariants.{Create, Set, Unset, Add, Remove, Shift}
 use Rattle.script_lang.specs.Left.{Left}
 use Rattle.script_lang.specs.Words.{optional_at}
 use Rattle.script_lang.specs.Command.{create_at, set_at, unset_at, add_at, remove_at, shift_at}
@@ -11,8 +12,8 @@ use Rattle.script_lang.specs.Spelling.{IsCommand, optional_word, index_word}
 use Rattle.script_lang.proofs.Readings.{reads, tells, joined, reached, word_kind, Tells, told_as}
 use Rattle.script_lang.proofs.FieldLemmas.{number_kind, root_kind, index_kind, index_or_end_kind, end_tells, text_in, text_tells, optional_in, optional_out}
 
-pub create_read : (ws : ℕ) (class : List ℕ) (id : Option (List ℕ)) → IsCommand (commands.Edit ws (Create class id)) → (column : ℕ)
-    → create_at (record { rest = joined (decimal ws ∷ class ∷ codes "/" ∷ optional_word id); column = column }) ≡ Ok (commands.Edit ws (Create class id))
+pub create_read : (ws : ℕ) (class : List ℕ) (id : Option (List ℕ)) → IsCommand (commands.Edit ws (Create class Root id)) → (column : ℕ)
+    → create_at (record { rest = joined (decimal ws ∷ class ∷ codes "/" ∷ optional_word id); column = column }) ≡ Ok (commands.Edit ws (Create class Root id))
 unfolding create_at
 create_read ws class id is column =
     reads (number_kind 1) ws is.0 (class ∷ codes "/" ∷ optional_word id) column _ _
@@ -29,7 +30,7 @@ create_spelled left command e =
     let o = reached (optional_at c) _ command e3 in
     let end = end_tells o.0.1 _ command o.2 in
     let t = optional_out c o.0.0 o.0.1 o.1 end.0 in
-    told_as (codes "create") left (commands.Edit ws (Create class o.0.0)) command (decimal ws ∷ class ∷ codes "/" ∷ optional_word o.0.0) (is_ws, (is_class, t.0))
+    told_as (codes "create") left (commands.Edit ws (Create class Root o.0.0)) command (decimal ws ∷ class ∷ codes "/" ∷ optional_word o.0.0) (is_ws, (is_class, t.0))
     (at_ws (class ∷ codes "/" ∷ optional_word o.0.0) (at_class (codes "/" ∷ optional_word o.0.0) (at_root (optional_word o.0.0) t.1))) refl end.1)))
 
 pub set_read : (ws : ℕ) (id feature value : List ℕ) → IsCommand (commands.Edit ws (Set id feature value)) → (column : ℕ)

@@ -3,8 +3,9 @@ use Rattle.std.proofs.Common.{◌≡◌, ℕ, List, [], ◌∷◌, refl, sym, ap
 use Rattle.std.specs.Fmt.{decimal}
 use Rattle.script_lang.specs.declared.command.Command.{Command}
 use Rattle.script_lang.specs.declared.command.Command.TheVariants as commands
-use Rattle.edit_laws.specs.declared.edit.Edit.{Edit}
-use Rattle.edit_laws.specs.declared.edit.Edit.TheVariants.{Create, Set, Unset, Add, Remove, Shift, Link, Unlink, Reorder}
+use Rattle.edits.specs.declared.edit.Edit.{Edit}
+use Rattle.edits.specs.declared.edit.Edit.TheVariants.{Create, Delete, Set, Unset, Add, Remove, Shift, Link, Unlink, Reorder, Move}
+use Rattle.edits.specs.declared.edit.Destination.TheVariants.{Root, Inside}
 use Rattle.script_lang.specs.Left.{Left}
 use Rattle.script_lang.specs.Words.{is_word, word_at}
 use Rattle.script_lang.specs.Command.{init_at, checkout_at, create_at, set_at, unset_at, add_at, remove_at, shift_at, link_at, unlink_at, reorder_at, begin_at, end_line_at, undo_at, discard_at, changes_at, show_at, cat_at, validate_at, command_of}
@@ -23,8 +24,11 @@ line_joined line first words is = ap Some is ∙ spaced_joined first words
 edit_read : (line : List ℕ) (ws : ℕ) (edit : Edit) → IsCommand (commands.Edit ws edit) → Some line ≡ joined (edit_word edit ∷ decimal ws ∷ edit_fields edit)
     → command_of line ≡ Ok (commands.Edit ws edit)
 unfolding command_of
-edit_read line ws (Create class id) is words =
-    rw words (reads word_kind (codes "create") (omega arith, refl) (decimal ws ∷ edit_fields (Create class id)) 1 _ _ (create_read ws class id is))
+edit_read line ws (Create class Root id) is words =
+    rw words (reads word_kind (codes "create") (omega arith, refl) (decimal ws ∷ edit_fields (Create class Root id)) 1 _ _ (create_read ws class id is))
+edit_read line ws (Create class (Inside parent feature) id) is words = absurd is.1
+edit_read line ws (Delete id) is words = absurd is.1
+edit_read line ws (Move id destination index) is words = absurd is.1
 edit_read line ws (Set id feature value) is words =
     rw words (reads word_kind (codes "set") (omega arith, refl) (decimal ws ∷ edit_fields (Set id feature value)) 1 _ _ (set_read ws id feature value is))
 edit_read line ws (Unset id feature) is words =

@@ -3,7 +3,7 @@ use Rattle.std.proofs.Common.{◌≡◌, ℕ, List, [], ◌∷◌, refl, Option,
 use Rattle.std.specs.Fmt.{decimal}
 use Rattle.script_lang.specs.declared.command.Command.{Command}
 use Rattle.script_lang.specs.declared.command.Command.TheVariants as commands
-use Rattle.edit_laws.specs.declared.edit.Edit.TheVariants.{Link, Unlink, Reorder}
+use Rattle.edits.specs.declared.edit.Edit.TheVariants.{Link, Unlink, Reorder}
 use Rattle.script_lang.specs.Left.{Left}
 use Rattle.script_lang.specs.Words.{optional_number_at}
 use Rattle.script_lang.specs.Command.{link_at, unlink_at, reorder_at}

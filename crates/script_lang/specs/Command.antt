@@ -5,7 +5,8 @@ use Rattle.script_lang.specs.declared.command.Spec.{Spec}
 use Rattle.script_lang.specs.declared.command.Spec.TheVariants.{Number, Branch, Tag}
 use Rattle.script_lang.specs.declared.command.Command.{Command}
 use Rattle.script_lang.specs.declared.command.Command.TheVariants as commands
-use Rattle.edit_laws.specs.declared.edit.Edit.TheVariants.{Create, Set, Unset, Add, Remove, Shift, Link, Unlink, Reorder}
+use Rattle.edits.specs.declared.edit.Destination.TheVariants.{Root}
+use Rattle.edits.specs.declared.edit.Edit.TheVariants.{Create, Set, Unset, Add, Remove, Shift, Link, Unlink, Reorder}
 use Rattle.script_lang.specs.Left.{Left}
 use Rattle.model_state.specs.Names.{is_name}
 use Rattle.script_lang.specs.Words.{◌>>=◌, word_at, number_of, number_at, found_at, end_at, root_at, name_at, optional_at, optional_number_at, rest_at, index_or_end_at, is_word, IsBad}
@@ -54,7 +55,7 @@ create_at left = do
   root ← root_at class.1
   id ← optional_at root.1
   end ← end_at id.1
-  Ok (commands.Edit ws.0 (Create class.0 id.0))
+  Ok (commands.Edit ws.0 (Create class.0 Root id.0))
 
 -- behind `set`: WS ID FEATURE VALUE
 unfoldable pub set_at : Left → Result Command ℕ

@@ -6,8 +6,9 @@ use Rattle.script_lang.specs.declared.command.Spec.{Spec}
 use Rattle.script_lang.specs.declared.command.Spec.TheVariants.{Number, Branch, Tag}
 use Rattle.script_lang.specs.declared.command.Command.{Command}
 use Rattle.script_lang.specs.declared.command.Command.TheVariants as commands
-use Rattle.edit_laws.specs.declared.edit.Edit.{Edit}
-use Rattle.edit_laws.specs.declared.edit.Edit.TheVariants.{Create, Set, Unset, Add, Remove, Shift, Link, Unlink, Reorder}
+use Rattle.edits.specs.declared.edit.Edit.{Edit}
+use Rattle.edits.specs.declared.edit.Edit.TheVariants.{Create, Delete, Set, Unset, Add, Remove, Shift, Link, Unlink, Reorder, Move}
+use Rattle.edits.specs.declared.edit.Destination.TheVariants.{Root, Inside}
 use Rattle.model_state.specs.Names.{is_name}
 use Rattle.script_lang.specs.Words.{is_space}
 use Rattle.script_lang.specs.Command.{command_of}
@@ -36,9 +37,12 @@ abbrev pub IsOptionalNumber : Option ℕ → Type 0
 IsOptionalNumber None = Unit {0}
 IsOptionalNumber (Some n) = IsNumber n
 
--- an edit that a line can spell
+-- an edit that a line can spell; no line spells a creation inside an element, a deletion or a move yet
 abbrev pub IsEdit : Edit → Type 0
-IsEdit (Create class id) = IsWord class × IsOptionalWord id
+IsEdit (Create class Root id) = IsWord class × IsOptionalWord id
+IsEdit (Create class (Inside parent feature) id) = ⊥
+IsEdit (Delete id) = ⊥
+IsEdit (Move id destination index) = ⊥
 IsEdit (Set id feature value) = IsWord id × IsWord feature × IsText value
 IsEdit (Unset id feature) = IsWord id × IsWord feature
 IsEdit (Add id feature at value) = IsWord id × IsWord feature × IsOptionalNumber at × IsText value
@@ -87,7 +91,9 @@ index_if_any (Some index) = decimal index ∷ []
 
 -- the word that names an edit
 abbrev pub edit_word : Edit → List ℕ
-edit_word (Create class id) = codes "create"
+edit_word (Create class destination id) = codes "create"
+edit_word (Delete id) = codes "delete"
+edit_word (Move id destination index) = codes "move"
 edit_word (Set id feature value) = codes "set"
 edit_word (Unset id feature) = codes "unset"
 edit_word (Add id feature at value) = codes "add"
@@ -99,7 +105,11 @@ edit_word (Reorder id feature target index) = codes "reorder"
 
 -- the words of an edit behind the workspace's number; a value is the last
 abbrev pub edit_fields : Edit → List (List ℕ)
-edit_fields (Create class id) = class ∷ codes "/" ∷ optional_word id
+edit_fields (Create class Root id) = class ∷ codes "/" ∷ optional_word id
+edit_fields (Create class (Inside parent feature) id) = class ∷ parent ∷ feature ∷ optional_word id
+edit_fields (Delete id) = id ∷ []
+edit_fields (Move id Root index) = id ∷ codes "/" ∷ index_if_any index
+edit_fields (Move id (Inside parent feature) index) = id ∷ parent ∷ feature ∷ index_if_any index
 edit_fields (Set id feature value) = id ∷ feature ∷ value ∷ []
 edit_fields (Unset id feature) = id ∷ feature ∷ []
 edit_fields (Add id feature at value) = id ∷ feature ∷ index_word at ∷ value ∷ []

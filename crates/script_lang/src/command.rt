@@ -1,5 +1,5 @@
 use ecore_meta::Text;
-use edit_laws::Edit;
+use edits::Edit;
 
 /// How a line names a version.
 #[derive(Debug, PartialEq, Drop)]

@@ -6,7 +6,7 @@ ghost use Rattle.script_lang.specs.declared.command.Spec.TheVariants.{Tag};
 use crate::words::{Words, bad_line, number_of};
 use crate::{Command, ParseFault, Spec};
 use ecore_meta::Text;
-use edit_laws::Edit;
+use edits::{Destination, Edit};
 use model_state::is_name;
 use std::alloc::{AllocError, Global};
 
@@ -76,6 +76,7 @@ fn create(alloc: Global, words: &mut Words<'_>) -> Result<Command, ParseFault>
         ws,
         edit: Edit::Create {
             class: Text::new(alloc, class)?,
+            destination: Destination::Root,
             id: match id {
                 None => None,
                 Some(id) => Some(Text::new(alloc, id)?),

@@ -1,7 +1,7 @@
 // The forms of lines and replies, as the language is written down for its users.
 use super::*;
 use ecore_meta::{List, Text};
-use edit_laws::Edit;
+use edits::Edit;
 use std::alloc::Global;
 use std::process::Abort;
 use std::test::Fail;
@@ -247,10 +247,13 @@ fn shown(alloc: Global, command: &Command) -> Result<String, Fail> {
 // An edit's fields in their order, a value between brackets, and `-` for what is not given.
 fn shown_edit(alloc: Global, edit: &Edit) -> Result<String, Fail> {
     let text = match edit {
-        Edit::Create { class, id: None } => format!(in alloc; "Create {} -", class.as_str())?,
+        Edit::Create {
+            class, id: None, ..
+        } => format!(in alloc; "Create {} -", class.as_str())?,
         Edit::Create {
             class,
             id: Some(id),
+            ..
         } => format!(in alloc; "Create {} {}", class.as_str(), id.as_str())?,
         Edit::Set { id, feature, value } => {
             format!(in alloc;
@@ -293,6 +296,7 @@ fn shown_edit(alloc: Global, edit: &Edit) -> Result<String, Fail> {
         Edit::Link { .. } | Edit::Unlink { .. } | Edit::Reorder { .. } => {
             return shown_edit_of_reference(alloc, edit);
         }
+        Edit::Delete { .. } | Edit::Move { .. } => return Err("an edit of no line")?,
     };
     Ok(text)
 }

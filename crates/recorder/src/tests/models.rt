@@ -8,7 +8,8 @@ use std::alloc::Global;
 use std::test::Fail;
 
 // Classes: 0 Library, 1 Book, 2 Writer, 3 Shelf. Features: 0 Library.books, 1 title, 2 pages, 3 tags, 4 authors, 5 sequel,
-// 6 prequel, 7 library, 8 Writer.name, 9 Writer.books, 10 pair, 11 Shelf.name, 12 parts.
+// 6 prequel, 7 library, 8 Writer.name, 9 Writer.books, 10 pair, 11 Shelf.name, 12 parts,
+// 13 top, which is one.
 const LIBRARY: &str =
     r##"{"eClass":"E#//EPackage","name":"lib","nsURI":"http://lib/1","nsPrefix":"lib","eClassifiers":[
 {"eClass":"E#//EClass","name":"Library","eStructuralFeatures":[
@@ -27,7 +28,8 @@ const LIBRARY: &str =
 {"eClass":"E#//EReference","name":"pair","upperBound":2,"eType":{"$ref":"//Writer"}}]},
 {"eClass":"E#//EClass","name":"Shelf","eStructuralFeatures":[
 {"eClass":"E#//EAttribute","name":"name","eType":{"$ref":"E#//EString"}},
-{"eClass":"E#//EReference","name":"parts","upperBound":-1,"containment":true,"eType":{"$ref":"//Shelf"}}]}
+{"eClass":"E#//EReference","name":"parts","upperBound":-1,"containment":true,"eType":{"$ref":"//Shelf"}},
+{"eClass":"E#//EReference","name":"top","containment":true,"eType":{"$ref":"//Shelf"}}]}
 ]}"##;
 
 // Classes: 0 Thing, which is abstract, 1 Box, below it. Features: 0 Thing.label, 1 open, true by default, 2 color, red by

@@ -1,8 +1,8 @@
 // Edits as lines, in the words of the script but for the workspace, and what is recorded of them as lines: the kind, each
 // step with its fields, and the new id.
-use crate::{Edit, EditFault, Recorded};
+use crate::{Destination, Edit, EditFault, Recorded};
 use ecore_meta::{List, Text, Value};
-use model_state::{Id, Operation, Step};
+use model_state::{Id, Operation, Place, Step};
 use std::alloc::Global;
 use std::str::SplitWhitespace;
 use std::test::Fail;
@@ -51,14 +51,27 @@ impl<'a> Words<'a> {
 
     fn create(&mut self) -> Result<Edit, Fail> {
         let class = self.text()?;
-        if self.word() != "/" {
-            return Err("an element not at the root")?;
-        }
+        let destination = self.destination()?;
         let id = match self.rest.next() {
             None => None,
             Some(word) => Some(Text::new(self.alloc, word)?),
         };
-        Ok(Edit::Create { class, id })
+        Ok(Edit::Create {
+            class,
+            destination,
+            id,
+        })
+    }
+
+    fn destination(&mut self) -> Result<Destination, Fail> {
+        let word = self.word();
+        if word == "/" {
+            return Ok(Destination::Root);
+        }
+        Ok(Destination::Inside {
+            parent: Text::new(self.alloc, word)?,
+            feature: self.text()?,
+        })
     }
 
     fn edit(&mut self) -> Result<Edit, Fail> {
@@ -67,6 +80,18 @@ impl<'a> Words<'a> {
             return self.create();
         }
         let id = self.text()?;
+        if name == "delete" {
+            return Ok(Edit::Delete { id });
+        }
+        if name == "move" {
+            let destination = self.destination()?;
+            let index = self.index()?;
+            return Ok(Edit::Move {
+                id,
+                destination,
+                index,
+            });
+        }
         let feature = self.text()?;
         match name {
             "set" => {
@@ -156,6 +181,73 @@ fn row(alloc: Global, a: &Id, f: u32, ra: u64, b: &Id, rb: Option<u64>) -> Resul
     }
 }
 
+// `/`, or the parent and the feature's number.
+fn place(alloc: Global, place: &Place) -> Result<String, Fail> {
+    match place {
+        Place::Root => Ok(String::from_str(alloc, "/")?),
+        Place::Inside { parent, feature } => {
+            Ok(format!(in alloc; "{}.{feature}", parent.as_str())?)
+        }
+    }
+}
+
+// The containers of a place, `-` where there is none.
+fn containers(alloc: Global, above: &List<Id>) -> Result<String, Fail> {
+    if above.len() == 0 {
+        return Ok(String::from_str(alloc, "-")?);
+    }
+    let mut text = String::new(alloc);
+    for id in above.as_slice() {
+        if !text.is_empty() {
+            text.push_str(",")?;
+        }
+        text.push_str(id.as_str())?;
+    }
+    Ok(text)
+}
+
+// A step that changes where elements stand.
+fn line_of_place(alloc: Global, step: &Step) -> Result<String, Fail> {
+    match step {
+        Step::New {
+            e,
+            class,
+            place: at,
+            rank,
+        } => {
+            let at = place(alloc, at)?;
+            Ok(format!(in alloc; "new {} {class} {at} {rank}", e.as_str())?)
+        }
+        Step::Gone {
+            e,
+            class,
+            place: at,
+            rank,
+        } => {
+            let at = place(alloc, at)?;
+            Ok(format!(in alloc; "gone {} {class} {at} {rank}", e.as_str())?)
+        }
+        Step::RerankPlace { e, old, new } => {
+            Ok(format!(in alloc; "rerank {} {old} {new}", e.as_str())?)
+        }
+        Step::Move {
+            e,
+            from,
+            from_rank,
+            to,
+            to_rank,
+            above_from,
+            above_to,
+        } => {
+            let (from, to) = (place(alloc, from)?, place(alloc, to)?);
+            let up = containers(alloc, above_from)?;
+            let down = containers(alloc, above_to)?;
+            Ok(format!(in alloc; "move {} {from} {from_rank} {to} {to_rank} {up} {down}", e.as_str())?)
+        }
+        _ => Err("a step of another kind")?,
+    }
+}
+
 fn line(alloc: Global, step: &Step) -> Result<String, Fail> {
     match step {
         Step::Link { a, f, ra, b, rb } => {
@@ -169,19 +261,6 @@ fn line(alloc: Global, step: &Step) -> Result<String, Fail> {
         Step::RerankRow { a, f, b, old, new } => {
             let (a, b) = (a.as_str(), b.as_str());
             Ok(format!(in alloc; "rerank {a} {f} {b} {old} {new}")?)
-        }
-        Step::New {
-            e,
-            class,
-            place,
-            rank,
-        } => {
-            let place = if place.parent().is_none() {
-                "/"
-            } else {
-                "inside"
-            };
-            Ok(format!(in alloc; "new {} {class} {place} {rank}", e.as_str())?)
         }
         Step::Put { e, f, old, new } => {
             let old = optional(alloc, old)?;
@@ -199,7 +278,7 @@ fn line(alloc: Global, step: &Step) -> Result<String, Fail> {
         Step::Shift { e, f, from, to } => {
             Ok(format!(in alloc; "shift {} {f} {from} {to}", e.as_str())?)
         }
-        _ => Err("a step of another kind")?,
+        _ => line_of_place(alloc, step),
     }
 }
 

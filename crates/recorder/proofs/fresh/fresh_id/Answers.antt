@@ -2,7 +2,7 @@ use Rattle.std.proofs.Common.{◌<◌, ◌^◌, sym, ap, ◌∙◌, arith}
 use Rattle.std.specs.Prelude.{is_some}
 use Rattle.model_state.specs.Ident.{is_id}
 use Rattle.model_state.specs.State.{is_live}
-use Rattle.edit_laws.proofs.Fresh.{first_is_fresh}
+use Rattle.edits.proofs.Fresh.{first_is_fresh}
 use Rattle.recorder.proofs.fresh.fresh_id.Goals as goal
 
 pub returns-then-is_none-clause-id : goal.returns-then-is_none-clause-id

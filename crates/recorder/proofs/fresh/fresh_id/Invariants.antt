@@ -1,6 +1,6 @@
 use Rattle.std.proofs.Common.{◌≡◌, ℕ, ◌<◌, ◌≤◌, true}
 use Rattle.model_state.specs.State.{is_live}
-use Rattle.edit_laws.specs.FreshIds.{numbered}
+use Rattle.edits.specs.FreshIds.{numbered}
 use Rattle.recorder.proofs.fresh.fresh_id.Given as goal
 
 abbrev pub invariant-loop-k : goal.invariant-loop-k

@@ -3,8 +3,8 @@ use Rattle.std.specs.Prelude.{ok_or}
 use Rattle.std.specs.FinMap.{get}
 use Rattle.ecore_meta.specs.Meta.{feature_named}
 use Rattle.edit_laws.specs.declared.fault.EditFault.TheVariants.{NoFeature}
-use Rattle.edit_laws.specs.Edits.{feature_at}
-use Rattle.edit_laws.proofs.Taken.{feature_of}
+use Rattle.edits.specs.Edits.{feature_at}
+use Rattle.edits.proofs.Names.{feature_of}
 use Rattle.recorder.proofs.feature.Named.find.Goals as goal
 
 pub returns-in-Some-feature_named-clause-held : goal.returns-in-Some-feature_named-clause-held

@@ -1,0 +1,4 @@
+pub mod FreshIds
+pub mod Containers
+pub mod Edits
+pub mod Laws

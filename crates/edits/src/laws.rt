@@ -1,0 +1,16 @@
+ghost use Rattle.edits.specs.Laws.{EditsIdle, EditsKeepGood, EditsMeet, FirstIsFresh, FreshIsFirst, FreshIsId};
+
+/// The steps that are recorded of an edit lead to the model that the edit is to leave, and there are none exactly where it
+/// changes nothing. That model is good: a reference and its opposite stand together, and each list is within its bound.
+pub fn law_of_edits()
+    ensures meets { EditsMeet }
+    ensures idle { EditsIdle }
+    ensures good { EditsKeepGood }
+{}
+
+/// A fresh id is the first of its workspace that is not live, and is of the form of an id.
+pub fn law_of_fresh_ids()
+    ensures first { FreshIsFirst }
+    ensures only { FirstIsFresh }
+    ensures form { FreshIsId }
+{}

@@ -1,0 +1,9 @@
+//! Edits of a model as they are given: what each leaves, the steps that are recorded of it, when it is refused, and the laws
+//! that the steps lead there. A law is the contract of a function that does nothing.
+#![tactic(auto)]
+
+mod edit;
+mod laws;
+
+pub use edit::{Destination, Edit, Recorded};
+pub use laws::{law_of_edits, law_of_fresh_ids};

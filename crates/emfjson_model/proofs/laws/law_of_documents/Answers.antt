@@ -1,0 +1,6 @@
+use Rattle.emfjson_model.proofs.Apart.{ids_apart}
+use Rattle.emfjson_model.proofs.Behind.{parents_first}
+use Rattle.emfjson_model.proofs.laws.law_of_documents.Goals as goal
+
+pub returns : goal.returns
+returns c = record { apart = ids_apart; behind = parents_first }
