@@ -9,3 +9,4 @@ pub mod Merged
 pub mod Document
 pub mod Answers
 pub mod Laws
+pub mod Fits
