@@ -14,3 +14,4 @@ pub mod DeleteLaws
 pub mod Reranks
 pub mod PlaceRefusals
 pub mod Walks
+pub mod ContainerLists

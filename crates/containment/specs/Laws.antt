@@ -15,6 +15,7 @@ use Rattle.containment.specs.Subtree.{children_of, each, is_among, subtree_of}
 use Rattle.containment.specs.Deletes.{delete_after, delete_made}
 use Rattle.containment.specs.Refusals.{IsPlace, create_refusal, move_refusal}
 use Rattle.containment.specs.Moves.{IsMove, move_after}
+use Rattle.containment.specs.Containers.{containers_of}
 
 -- an element is created, last in its place
 abbrev pub CreateLeads : Type 0
@@ -45,3 +46,7 @@ SubtreeIsBelow = (meta : Meta) (m : State) → Good meta m → (e : Name) (y : N
 -- its elements are live
 abbrev pub SubtreeIsLive : Type 0
 SubtreeIsLive = (meta : Meta) (m : State) → Good meta m → (e : Name) → is_live m e ≡ true → (y : Name) → is_among (subtree_of meta m e) y ≡ true → is_live m y ≡ true
+
+-- a place's containers are its chain, and no other list is
+abbrev pub ContainersAreChain : Type 0
+ContainersAreChain = (meta : Meta) (m : State) → Good meta m → (p : Place) (xs : List Name) → IsChain m.place (Some p) xs → containers_of m p ≡ xs

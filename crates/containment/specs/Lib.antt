@@ -4,4 +4,5 @@ pub mod Sorts
 pub mod Refusals
 pub mod EditFaults
 pub mod Moves
+pub mod Containers
 pub mod Laws

@@ -1,4 +1,4 @@
-ghost use Rattle.containment.specs.Laws.{CreateLeads, DeleteLeads, MoveLeads, SubtreeIsBelow, SubtreeIsInOrder, SubtreeIsLive};
+ghost use Rattle.containment.specs.Laws.{ContainersAreChain, CreateLeads, DeleteLeads, MoveLeads, SubtreeIsBelow, SubtreeIsInOrder, SubtreeIsLive};
 
 /// The steps of a creation that is not refused lead to a model in which the element is live, last in its place.
 pub fn law_of_creations()
@@ -22,4 +22,9 @@ pub fn law_of_subtrees()
     ensures in_order { SubtreeIsInOrder }
     ensures below { SubtreeIsBelow }
     ensures live { SubtreeIsLive }
+{}
+
+/// A place has one chain of containers, which is a function of the model.
+pub fn law_of_containers()
+    ensures { ContainersAreChain }
 {}

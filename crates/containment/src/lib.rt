@@ -11,15 +11,15 @@ mod moves;
 mod place;
 mod rows;
 mod spots;
-#[cfg(test)]
-mod tests;
 mod values;
 mod walk;
 
 pub use create::{create_at, create_steps, creation_spot};
 pub use delete::delete_steps;
 pub use fault::MoveFault;
-pub use laws::{law_of_creations, law_of_deletions, law_of_moves, law_of_subtrees};
+pub use laws::{
+    law_of_containers, law_of_creations, law_of_deletions, law_of_moves, law_of_subtrees,
+};
 pub use moves::move_steps;
 pub use place::{is_containment, is_place};
 pub use spots::{Spot, spot_steps};

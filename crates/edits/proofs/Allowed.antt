@@ -13,7 +13,7 @@ use Rattle.edit_laws.specs.Attributes.{IsAttribute}
 use Rattle.edit_laws.specs.ManyValues.{IsMany, MayInsert, values_in}
 use Rattle.edit_laws.specs.Places.{MayCreate}
 use Rattle.containment.specs.Refusals.{IsPlace, move_refusal}
-use Rattle.edits.specs.Containers.{containers_of}
+use Rattle.containment.specs.Containers.{containers_of}
 use Rattle.edits.specs.Edits.{Effect, Creates, Moves, Deletes, Puts, Clears, Inserts, Removes, Shifts, Refers, Forgets, Links, Unlinks, Reorders}
 
 -- an element may move to a place

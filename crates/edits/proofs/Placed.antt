@@ -21,7 +21,7 @@ use Rattle.containment.proofs.Containers.{live_place, parent_live}
 use Rattle.containment.proofs.Refused as moves
 use Rattle.edits.specs.declared.edit.Destination.{Destination}
 use Rattle.edits.specs.declared.edit.Destination.TheVariants.{Root, Inside}
-use Rattle.edits.specs.Containers.{containers_of}
+use Rattle.containment.specs.Containers.{containers_of}
 use Rattle.edits.specs.Edits.{Effect, Creates, Moves, Deletes, class_at, feature_at, place_inside, place_at, unless_full, new_effect, create_in, create_effect, move_in, move_effect, delete_effect}
 use Rattle.edits.proofs.Allowed.{Allowed, MayMove, passed, missed, allowed_as}
 use Rattle.edits.proofs.Chains.{chain_of, is_chain}

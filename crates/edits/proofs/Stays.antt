@@ -33,7 +33,7 @@ use Rattle.containment.specs.Deletes.{delete_after}
 use Rattle.containment.specs.Moves.{move_after, move_made}
 use Rattle.containment.proofs.Containers.{live_place}
 use Rattle.containment.proofs.Refused.{AllPass, passed}
-use Rattle.edits.specs.Containers.{containers_of}
+use Rattle.containment.specs.Containers.{containers_of}
 use Rattle.edits.proofs.Allowed.{MayMove}
 
 or_first : (b c : Bool) → b ≡ true → b || c ≡ true

@@ -28,7 +28,7 @@ use Rattle.edits.specs.Laws.{EditsIdle}
 use Rattle.edit_laws.proofs.Idle.{set_ref_still, link_still, unlink_still, unset_still, reorder_still}
 use Rattle.edit_laws.proofs.ManyEdits.{value_test, values_test, values_now}
 use Rattle.containment.specs.Refusals.{place_of}
-use Rattle.edits.specs.Containers.{containers_of}
+use Rattle.containment.specs.Containers.{containers_of}
 use Rattle.edits.proofs.Allowed.{Allowed}
 use Rattle.edits.proofs.Stays.{move_still, deleted}
 use Rattle.edits.proofs.Taken.{allowed, made_leads}

@@ -39,7 +39,7 @@ use Rattle.containment.specs.Refusals.{create_refusal, move_refusal, place_of}
 use Rattle.containment.specs.Moves.{move_after, move_made}
 use Rattle.containment.specs.Deletes.{delete_after, delete_made}
 use Rattle.edits.specs.FreshIds.{id_or_fresh}
-use Rattle.edits.specs.Containers.{containers_of}
+use Rattle.containment.specs.Containers.{containers_of}
 
 -- which value of a type a text is, where it is one
 abbrev pub Reading : Type 0

@@ -1,4 +1,3 @@
 pub mod FreshIds
-pub mod Containers
 pub mod Edits
 pub mod Laws

@@ -3,7 +3,7 @@ ghost use Rattle.model_state.specs.Good.{Good};
 ghost use Rattle.model_state.specs.State.{is_live};
 ghost use Rattle.containment.specs.Refusals.{IsPlace, IsRefusal, move_refusal, place_of};
 ghost use Rattle.containment.specs.Moves.{move_made};
-ghost use Rattle.edits.specs.Containers.{containers_of};
+ghost use Rattle.containment.specs.Containers.{containers_of};
 ghost use Rattle.edits.specs.Edits.{delete_effect, move_effect, place_at, recording_of};
 ghost use Rattle.recorder.specs.Answers.{Answers};
 
