@@ -1,37 +1,14 @@
--- The line of each edit: what stands behind its first word is read as the edit, and is the edit's words where it is read.
+-- The lines of edits of attributes: what stands behind the first word is read as the edit, and is the edit's words where it is read.
 use Rattle.std.proofs.Common.{◌≡◌, ℕ, List, [], ◌∷◌, refl, Option, Ok, codes}
 use Rattle.std.specs.Fmt.{decimal}
 use Rattle.script_lang.specs.declared.command.Command.{Command}
 use Rattle.script_lang.specs.declared.command.Command.TheVariants as commands
-use Rattle.edits.specs.declared.edit.Destination.TheVariants.{Root}
-use Rattle.edits.specs.declared.edit.Edit.TheVariants.{Create, Set, Unset, Add, Remove, Shift}
+use Rattle.edits.specs.declared.edit.Edit.TheVariants.{Set, Unset, Add, Remove, Shift}
 use Rattle.script_lang.specs.Left.{Left}
-use Rattle.script_lang.specs.Words.{optional_at}
-use Rattle.script_lang.specs.Command.{create_at, set_at, unset_at, add_at, remove_at, shift_at}
-use Rattle.script_lang.specs.Spelling.{IsCommand, optional_word, index_word}
-use Rattle.script_lang.proofs.Readings.{reads, tells, joined, reached, word_kind, Tells, told_as}
-use Rattle.script_lang.proofs.FieldLemmas.{number_kind, root_kind, index_kind, index_or_end_kind, end_tells, text_in, text_tells, optional_in, optional_out}
-
-pub create_read : (ws : ℕ) (class : List ℕ) (id : Option (List ℕ)) → IsCommand (commands.Edit ws (Create class Root id)) → (column : ℕ)
-    → create_at (record { rest = joined (decimal ws ∷ class ∷ codes "/" ∷ optional_word id); column = column }) ≡ Ok (commands.Edit ws (Create class Root id))
-unfolding create_at
-create_read ws class id is column =
-    reads (number_kind 1) ws is.0 (class ∷ codes "/" ∷ optional_word id) column _ _
-    (λ a. reads word_kind class is.1.0 (codes "/" ∷ optional_word id) a _ _
-    (λ b. reads root_kind tt tt (optional_word id) b _ _
-    (λ c. let o = optional_in id is.1.1 c in rw o.1 (rw o.2 refl))))
-
-pub create_spelled : (left : Left) (command : Command) → create_at left ≡ Ok command → Tells (codes "create") left command
-unfolding create_at
-create_spelled left command e =
-    tells (number_kind 1) left _ command e (λ ws a is_ws at_ws e1.
-    tells word_kind a _ command e1 (λ class b is_class at_class e2.
-    tells root_kind b _ command e2 (λ root c is_root at_root e3.
-    let o = reached (optional_at c) _ command e3 in
-    let end = end_tells o.0.1 _ command o.2 in
-    let t = optional_out c o.0.0 o.0.1 o.1 end.0 in
-    told_as (codes "create") left (commands.Edit ws (Create class Root o.0.0)) command (decimal ws ∷ class ∷ codes "/" ∷ optional_word o.0.0) (is_ws, (is_class, t.0))
-    (at_ws (class ∷ codes "/" ∷ optional_word o.0.0) (at_class (codes "/" ∷ optional_word o.0.0) (at_root (optional_word o.0.0) t.1))) refl end.1)))
+use Rattle.script_lang.specs.Command.{set_at, unset_at, add_at, remove_at, shift_at}
+use Rattle.script_lang.specs.Spelling.{IsCommand, index_word}
+use Rattle.script_lang.proofs.Readings.{reads, tells, joined, word_kind, Tells, told_as}
+use Rattle.script_lang.proofs.FieldLemmas.{number_kind, index_kind, index_or_end_kind, end_tells, text_in, text_tells}
 
 pub set_read : (ws : ℕ) (id feature value : List ℕ) → IsCommand (commands.Edit ws (Set id feature value)) → (column : ℕ)
     → set_at (record { rest = joined (decimal ws ∷ id ∷ feature ∷ value ∷ []); column = column }) ≡ Ok (commands.Edit ws (Set id feature value))

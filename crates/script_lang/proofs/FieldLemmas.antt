@@ -4,7 +4,7 @@ use Rattle.std.specs.Fmt.{decimal}
 use Rattle.std.proofs.lemmas.Bool.{leb-true, le-leb, eqb-true}
 use Rattle.std.proofs.lemmas.List.{append-nil}
 use Rattle.script_lang.specs.Left.{Left}
-use Rattle.script_lang.specs.Words.{◌>>=◌, is_word, word_at, number_of, number_at, not_below, root_at, optional_at, optional_number_at, rest_at, rest_from, index_or_end, index_from, index_or_end_at, end_at}
+use Rattle.script_lang.specs.Words.{◌>>=◌, is_word, word_at, number_of, number_at, not_below, optional_at, optional_number_at, rest_at, rest_from, index_or_end, index_from, index_or_end_at, end_at}
 use Rattle.script_lang.specs.Spelling.{IsWord, IsNumber, IsText, IsOptionalNumber, IsOptionalWord, optional_word, index_word, index_if_any}
 use Rattle.script_lang.proofs.Numbers.{both, number_decimal, number_back, decimal_word}
 use Rattle.script_lang.proofs.WordLemmas.{behind, word_last, word_back}
@@ -49,19 +49,6 @@ same_word (x ∷ xs) [] e = cc
 same_word (x ∷ xs) (y ∷ ys) e =
     let k = both (nat_eq x y) (is_word xs ys) e in
     λ i. eqb-true x y k.0 i ∷ same_word xs ys k.1 i
-
--- `/`
-slash : (b : Bool) (x : Unit {0}) → ◌≡◌ {A = Option (Unit {0})} (cond b (Some tt) None) (Some x) → b ≡ true
-slash true x e = refl
-slash false x e = cc
-
-slash_is_word : IsWord (codes "/")
-slash_is_word = (omega arith, refl)
-
-pub root_kind : Kind root_at (λ x. Unit {0}) (λ x. codes "/")
-unfolding root_at
-root_kind = named_kind (λ word. cond (is_word word (codes "/")) (Some tt) None) (λ x. Unit {0}) (λ x. codes "/")
-    (λ x is. slash_is_word) (λ x is. refl) (λ word x e. (tt, same_word word (codes "/") (slash (is_word word (codes "/")) x e)))
 
 -- an index, or `end`
 index_is_word : (at : Option ℕ) → IsOptionalNumber at → IsWord (index_word at)

@@ -5,6 +5,8 @@ pub mod Readings
 pub mod ReferenceLines
 pub mod FieldLemmas
 pub mod SpecLemmas
+pub mod Destinations
+pub mod ElementLines
 pub mod EditLines
 pub mod WorkspaceLines
 pub mod LineLemmas

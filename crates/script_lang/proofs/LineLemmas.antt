@@ -5,15 +5,15 @@ use Rattle.script_lang.specs.declared.command.Command.{Command}
 use Rattle.script_lang.specs.declared.command.Command.TheVariants as commands
 use Rattle.edits.specs.declared.edit.Edit.{Edit}
 use Rattle.edits.specs.declared.edit.Edit.TheVariants.{Create, Delete, Set, Unset, Add, Remove, Shift, Link, Unlink, Reorder, Move}
-use Rattle.edits.specs.declared.edit.Destination.TheVariants.{Root, Inside}
 use Rattle.script_lang.specs.Left.{Left}
 use Rattle.script_lang.specs.Words.{is_word, word_at}
-use Rattle.script_lang.specs.Command.{init_at, checkout_at, create_at, set_at, unset_at, add_at, remove_at, shift_at, link_at, unlink_at, reorder_at, begin_at, end_line_at, undo_at, discard_at, changes_at, show_at, cat_at, validate_at, command_of}
+use Rattle.script_lang.specs.Command.{init_at, checkout_at, create_at, delete_at, move_at, set_at, unset_at, add_at, remove_at, shift_at, link_at, unlink_at, reorder_at, begin_at, end_line_at, undo_at, discard_at, changes_at, show_at, cat_at, validate_at, command_of}
 use Rattle.script_lang.specs.Spelling.{IsCommand, edit_word, edit_fields, spec_word, words_of, spaced, Spells}
 use Rattle.script_lang.proofs.WordLemmas.{word_back}
 use Rattle.script_lang.proofs.Readings.{reads, reached, word_kind, joined, spaced_joined, some_is, Tells}
 use Rattle.script_lang.proofs.FieldLemmas.{same_word}
-use Rattle.script_lang.proofs.EditLines.{create_read, create_spelled, set_read, set_spelled, unset_read, unset_spelled, add_read, add_spelled, remove_read, remove_spelled, shift_read, shift_spelled}
+use Rattle.script_lang.proofs.ElementLines.{create_read, create_spelled, delete_read, delete_spelled, move_read, move_spelled}
+use Rattle.script_lang.proofs.EditLines.{set_read, set_spelled, unset_read, unset_spelled, add_read, add_spelled, remove_read, remove_spelled, shift_read, shift_spelled}
 use Rattle.script_lang.proofs.ReferenceLines.{link_read, link_spelled, unlink_read, unlink_spelled, reorder_read, reorder_spelled}
 use Rattle.script_lang.proofs.WorkspaceLines.{init_read, init_spelled, checkout_read, checkout_spelled, begin_read, begin_spelled, end_read, end_spelled, undo_read, undo_spelled, discard_read, discard_spelled, changes_read, changes_spelled, show_read, show_spelled, cat_read, cat_spelled, validate_read, validate_spelled}
 
@@ -24,11 +24,12 @@ line_joined line first words is = ap Some is ∙ spaced_joined first words
 edit_read : (line : List ℕ) (ws : ℕ) (edit : Edit) → IsCommand (commands.Edit ws edit) → Some line ≡ joined (edit_word edit ∷ decimal ws ∷ edit_fields edit)
     → command_of line ≡ Ok (commands.Edit ws edit)
 unfolding command_of
-edit_read line ws (Create class Root id) is words =
-    rw words (reads word_kind (codes "create") (omega arith, refl) (decimal ws ∷ edit_fields (Create class Root id)) 1 _ _ (create_read ws class id is))
-edit_read line ws (Create class (Inside parent feature) id) is words = absurd is.1
-edit_read line ws (Delete id) is words = absurd is.1
-edit_read line ws (Move id destination index) is words = absurd is.1
+edit_read line ws (Create class destination id) is words =
+    rw words (reads word_kind (codes "create") (omega arith, refl) (decimal ws ∷ edit_fields (Create class destination id)) 1 _ _ (create_read ws class destination id is))
+edit_read line ws (Delete id) is words =
+    rw words (reads word_kind (codes "delete") (omega arith, refl) (decimal ws ∷ edit_fields (Delete id)) 1 _ _ (delete_read ws id is))
+edit_read line ws (Move id destination index) is words =
+    rw words (reads word_kind (codes "move") (omega arith, refl) (decimal ws ∷ edit_fields (Move id destination index)) 1 _ _ (move_read ws id destination index is))
 edit_read line ws (Set id feature value) is words =
     rw words (reads word_kind (codes "set") (omega arith, refl) (decimal ws ∷ edit_fields (Set id feature value)) 1 _ _ (set_read ws id feature value is))
 edit_read line ws (Unset id feature) is words =
@@ -84,12 +85,14 @@ no_command first left command e = cc
 
 -- what the first word chooses is spelled behind it
 first_spelled : (first : List ℕ) (left : Left) (command : Command)
-    → cond (is_word first (codes "init")) (init_at left) (cond (is_word first (codes "checkout")) (checkout_at left) (cond (is_word first (codes "create")) (create_at left) (cond (is_word first (codes "set")) (set_at left) (cond (is_word first (codes "unset")) (unset_at left) (cond (is_word first (codes "add")) (add_at left) (cond (is_word first (codes "remove")) (remove_at left) (cond (is_word first (codes "shift")) (shift_at left) (cond (is_word first (codes "link")) (link_at left) (cond (is_word first (codes "unlink")) (unlink_at left) (cond (is_word first (codes "reorder")) (reorder_at left) (cond (is_word first (codes "begin")) (begin_at left) (cond (is_word first (codes "end")) (end_line_at left) (cond (is_word first (codes "undo")) (undo_at left) (cond (is_word first (codes "discard")) (discard_at left) (cond (is_word first (codes "changes")) (changes_at left) (cond (is_word first (codes "show")) (show_at left) (cond (is_word first (codes "cat")) (cat_at left) (cond (is_word first (codes "validate")) (validate_at left) (Err 1))))))))))))))))))) ≡ Ok command
+    → cond (is_word first (codes "init")) (init_at left) (cond (is_word first (codes "checkout")) (checkout_at left) (cond (is_word first (codes "create")) (create_at left) (cond (is_word first (codes "delete")) (delete_at left) (cond (is_word first (codes "move")) (move_at left) (cond (is_word first (codes "set")) (set_at left) (cond (is_word first (codes "unset")) (unset_at left) (cond (is_word first (codes "add")) (add_at left) (cond (is_word first (codes "remove")) (remove_at left) (cond (is_word first (codes "shift")) (shift_at left) (cond (is_word first (codes "link")) (link_at left) (cond (is_word first (codes "unlink")) (unlink_at left) (cond (is_word first (codes "reorder")) (reorder_at left) (cond (is_word first (codes "begin")) (begin_at left) (cond (is_word first (codes "end")) (end_line_at left) (cond (is_word first (codes "undo")) (undo_at left) (cond (is_word first (codes "discard")) (discard_at left) (cond (is_word first (codes "changes")) (changes_at left) (cond (is_word first (codes "show")) (show_at left) (cond (is_word first (codes "cat")) (cat_at left) (cond (is_word first (codes "validate")) (validate_at left) (Err 1))))))))))))))))))))) ≡ Ok command
     → Tells first left command
 first_spelled first left command =
     chosen_or first (codes "init") left command _ _ _ refl (init_spelled left command) (
     chosen_or first (codes "checkout") left command _ _ _ refl (checkout_spelled left command) (
     chosen_or first (codes "create") left command _ _ _ refl (create_spelled left command) (
+    chosen_or first (codes "delete") left command _ _ _ refl (delete_spelled left command) (
+    chosen_or first (codes "move") left command _ _ _ refl (move_spelled left command) (
     chosen_or first (codes "set") left command _ _ _ refl (set_spelled left command) (
     chosen_or first (codes "unset") left command _ _ _ refl (unset_spelled left command) (
     chosen_or first (codes "add") left command _ _ _ refl (add_spelled left command) (
@@ -106,7 +109,7 @@ first_spelled first left command =
     chosen_or first (codes "show") left command _ _ _ refl (show_spelled left command) (
     chosen_or first (codes "cat") left command _ _ _ refl (cat_spelled left command) (
     chosen_or first (codes "validate") left command _ _ _ refl (validate_spelled left command) (
-    no_command first left command)))))))))))))))))))
+    no_command first left command)))))))))))))))))))))
 
 joined_line : (command : Command) → joined (words_of command) ≡ Some (spaced (words_of command))
 joined_line commands.Init = sym (spaced_joined (codes "init") [])

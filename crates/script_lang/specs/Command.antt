@@ -5,11 +5,12 @@ use Rattle.script_lang.specs.declared.command.Spec.{Spec}
 use Rattle.script_lang.specs.declared.command.Spec.TheVariants.{Number, Branch, Tag}
 use Rattle.script_lang.specs.declared.command.Command.{Command}
 use Rattle.script_lang.specs.declared.command.Command.TheVariants as commands
-use Rattle.edits.specs.declared.edit.Destination.TheVariants.{Root}
-use Rattle.edits.specs.declared.edit.Edit.TheVariants.{Create, Set, Unset, Add, Remove, Shift, Link, Unlink, Reorder}
+use Rattle.edits.specs.declared.edit.Destination.{Destination}
+use Rattle.edits.specs.declared.edit.Destination.TheVariants.{Root, Inside}
+use Rattle.edits.specs.declared.edit.Edit.TheVariants.{Create, Delete, Set, Unset, Add, Remove, Shift, Link, Unlink, Reorder, Move}
 use Rattle.script_lang.specs.Left.{Left}
 use Rattle.model_state.specs.Names.{is_name}
-use Rattle.script_lang.specs.Words.{◌>>=◌, word_at, number_of, number_at, found_at, end_at, root_at, name_at, optional_at, optional_number_at, rest_at, index_or_end_at, is_word, IsBad}
+use Rattle.script_lang.specs.Words.{◌>>=◌, word_at, number_of, number_at, found_at, end_at, name_at, optional_at, optional_number_at, rest_at, index_or_end_at, is_word, IsBad}
 
 -- `@` and a name is a tag's
 abbrev pub tag_of : List ℕ → Option Spec
@@ -47,15 +48,43 @@ checkout_at left = do
   end ← end_at spec.1
   Ok (commands.Checkout spec.0)
 
--- behind `create`: WS CLASS / [ID]
+-- behind the first word of a place: nothing where that is `/`, else FEATURE
+abbrev pub destination_from : List ℕ → Left → Result (Destination × Left) ℕ
+destination_from first left = if is_word first (codes "/") then Ok (Root, left) else word_at left >>= λ feature. Ok (Inside first feature.0, feature.1)
+
+-- the next words, which name a place: `/`, or PARENT FEATURE
+unfoldable pub destination_at : Left → Result (Destination × Left) ℕ
+destination_at left = do
+  first ← word_at left
+  destination_from first.0 first.1
+
+-- behind `create`: WS CLASS DESTINATION [ID]
 unfoldable pub create_at : Left → Result Command ℕ
 create_at left = do
   ws ← number_at 1 left
   class ← word_at ws.1
-  root ← root_at class.1
-  id ← optional_at root.1
+  destination ← destination_at class.1
+  id ← optional_at destination.1
   end ← end_at id.1
-  Ok (commands.Edit ws.0 (Create class.0 Root id.0))
+  Ok (commands.Edit ws.0 (Create class.0 destination.0 id.0))
+
+-- behind `delete`: WS ID
+unfoldable pub delete_at : Left → Result Command ℕ
+delete_at left = do
+  ws ← number_at 1 left
+  id ← word_at ws.1
+  end ← end_at id.1
+  Ok (commands.Edit ws.0 (Delete id.0))
+
+-- behind `move`: WS ID DESTINATION [INDEX]
+unfoldable pub move_at : Left → Result Command ℕ
+move_at left = do
+  ws ← number_at 1 left
+  id ← word_at ws.1
+  destination ← destination_at id.1
+  index ← optional_number_at destination.1
+  end ← end_at index.1
+  Ok (commands.Edit ws.0 (Move id.0 destination.0 index.0))
 
 -- behind `set`: WS ID FEATURE VALUE
 unfoldable pub set_at : Left → Result Command ℕ
@@ -202,6 +231,8 @@ command_of line = do
   if is_word first.0 (codes "init") then init_at first.1
       else if is_word first.0 (codes "checkout") then checkout_at first.1
       else if is_word first.0 (codes "create") then create_at first.1
+      else if is_word first.0 (codes "delete") then delete_at first.1
+      else if is_word first.0 (codes "move") then move_at first.1
       else if is_word first.0 (codes "set") then set_at first.1
       else if is_word first.0 (codes "unset") then unset_at first.1
       else if is_word first.0 (codes "add") then add_at first.1

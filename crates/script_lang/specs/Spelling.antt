@@ -1,5 +1,5 @@
 -- How a command is spelled: the words of its line, one after another.
-use Rattle.std.specs.Prelude.{◌≡◌, ℕ, ◌<◌, ◌≤◌, ◌^◌, List, [], ◌∷◌, ◌++◌, codes, Option, Some, None, Ok, length, true, false}
+use Rattle.std.specs.Prelude.{◌≡◌, ◌≢◌, ℕ, ◌<◌, ◌≤◌, ◌^◌, List, [], ◌∷◌, ◌++◌, codes, Option, Some, None, Ok, length, true, false}
 use Rattle.std.specs.List.{list_any}
 use Rattle.std.specs.Fmt.{decimal}
 use Rattle.script_lang.specs.declared.command.Spec.{Spec}
@@ -8,6 +8,7 @@ use Rattle.script_lang.specs.declared.command.Command.{Command}
 use Rattle.script_lang.specs.declared.command.Command.TheVariants as commands
 use Rattle.edits.specs.declared.edit.Edit.{Edit}
 use Rattle.edits.specs.declared.edit.Edit.TheVariants.{Create, Delete, Set, Unset, Add, Remove, Shift, Link, Unlink, Reorder, Move}
+use Rattle.edits.specs.declared.edit.Destination.{Destination}
 use Rattle.edits.specs.declared.edit.Destination.TheVariants.{Root, Inside}
 use Rattle.model_state.specs.Names.{is_name}
 use Rattle.script_lang.specs.Words.{is_space}
@@ -37,12 +38,16 @@ abbrev pub IsOptionalNumber : Option ℕ → Type 0
 IsOptionalNumber None = Unit {0}
 IsOptionalNumber (Some n) = IsNumber n
 
--- an edit that a line can spell; no line spells a creation inside an element, a deletion or a move yet
+-- a place that words can name: a parent is not `/`, which names the root
+abbrev pub IsDestination : Destination → Type 0
+IsDestination Root = Unit {0}
+IsDestination (Inside parent feature) = IsWord parent × (parent ≢ codes "/") × IsWord feature
+
+-- an edit that a line can spell
 abbrev pub IsEdit : Edit → Type 0
-IsEdit (Create class Root id) = IsWord class × IsOptionalWord id
-IsEdit (Create class (Inside parent feature) id) = ⊥
-IsEdit (Delete id) = ⊥
-IsEdit (Move id destination index) = ⊥
+IsEdit (Create class destination id) = IsWord class × IsDestination destination × IsOptionalWord id
+IsEdit (Delete id) = IsWord id
+IsEdit (Move id destination index) = IsWord id × IsDestination destination × IsOptionalNumber index
 IsEdit (Set id feature value) = IsWord id × IsWord feature × IsText value
 IsEdit (Unset id feature) = IsWord id × IsWord feature
 IsEdit (Add id feature at value) = IsWord id × IsWord feature × IsOptionalNumber at × IsText value
@@ -89,6 +94,11 @@ abbrev pub index_if_any : Option ℕ → List (List ℕ)
 index_if_any None = []
 index_if_any (Some index) = decimal index ∷ []
 
+-- the words of a place
+abbrev pub destination_words : Destination → List (List ℕ)
+destination_words Root = codes "/" ∷ []
+destination_words (Inside parent feature) = parent ∷ feature ∷ []
+
 -- the word that names an edit
 abbrev pub edit_word : Edit → List ℕ
 edit_word (Create class destination id) = codes "create"
@@ -105,11 +115,9 @@ edit_word (Reorder id feature target index) = codes "reorder"
 
 -- the words of an edit behind the workspace's number; a value is the last
 abbrev pub edit_fields : Edit → List (List ℕ)
-edit_fields (Create class Root id) = class ∷ codes "/" ∷ optional_word id
-edit_fields (Create class (Inside parent feature) id) = class ∷ parent ∷ feature ∷ optional_word id
+edit_fields (Create class destination id) = class ∷ (destination_words destination ++ optional_word id)
 edit_fields (Delete id) = id ∷ []
-edit_fields (Move id Root index) = id ∷ codes "/" ∷ index_if_any index
-edit_fields (Move id (Inside parent feature) index) = id ∷ parent ∷ feature ∷ index_if_any index
+edit_fields (Move id destination index) = id ∷ (destination_words destination ++ index_if_any index)
 edit_fields (Set id feature value) = id ∷ feature ∷ value ∷ []
 edit_fields (Unset id feature) = id ∷ feature ∷ []
 edit_fields (Add id feature at value) = id ∷ feature ∷ index_word at ∷ value ∷ []

@@ -77,12 +77,6 @@ end_at left = end_from left.rest left.column
 abbrev pub is_word : List ℕ → List ℕ → Bool
 is_word = pointwise nat_eq
 
--- the next word is `/`
-unfoldable pub root_at : Left → Result (Unit {0} × Left) ℕ
-root_at left = do
-  word ← word_at left
-  found_at left.column (if is_word word.0 (codes "/") then Some tt else None) word.1
-
 -- the next word, a name
 unfoldable pub name_at : Left → Result (List ℕ × Left) ℕ
 name_at left = do
@@ -153,7 +147,3 @@ GivesOptional new (Err e) read = IsBad e read
 abbrev pub GivesRest : Result (Bor (List ℕ)) ParseFault → Result (List ℕ) ℕ → Type 0
 GivesRest (Ok x) read = read ≡ Ok x.now
 GivesRest (Err e) read = IsBad e read
-
-abbrev pub GivesUnit : Left → Result (Unit {0}) ParseFault → Result (Unit {0} × Left) ℕ → Type 0
-GivesUnit new (Ok x) read = read ≡ Ok (tt, new)
-GivesUnit new (Err e) read = IsBad e read

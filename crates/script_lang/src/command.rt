@@ -19,9 +19,10 @@ pub enum Command {
     Init,
     /// `checkout SPEC`: a new workspace at that version.
     Checkout { spec: Spec },
-    /// An edit of a workspace's model: `create WS CLASS / [ID]`, `set WS ID FEATURE VALUE`, `unset WS ID FEATURE`, `add WS ID FEATURE AT VALUE`,
-    /// `remove WS ID FEATURE INDEX`, `shift WS ID FEATURE FROM TO`, `link WS ID FEATURE TARGET [INDEX]`, `unlink WS ID FEATURE TARGET` or
-    /// `reorder WS ID FEATURE TARGET INDEX`.
+    /// An edit of a workspace's model: `create WS CLASS DESTINATION [ID]`, `delete WS ID`, `move WS ID DESTINATION [INDEX]`,
+    /// `set WS ID FEATURE VALUE`, `unset WS ID FEATURE`, `add WS ID FEATURE AT VALUE`, `remove WS ID FEATURE INDEX`, `shift WS ID FEATURE FROM TO`,
+    /// `link WS ID FEATURE TARGET [INDEX]`, `unlink WS ID FEATURE TARGET` or `reorder WS ID FEATURE TARGET INDEX`. A destination is `/`, the root, or
+    /// `PARENT FEATURE`.
     Edit { ws: u32, edit: Edit },
     /// `begin WS NAME`: a composite of that name is open.
     Begin { ws: u32, name: Text },

@@ -1,6 +1,7 @@
 // A line as a command: one private function a command.
 ghost use Rattle.std.specs.Prelude.{◌≡◌, ◌-◌, ◌<◌, ◌^◌, length, IfOk, IfNone, IfSome, None, Some};
-ghost use Rattle.script_lang.specs.Command.{GivesCommand, GivesSpec, command_of, init_at, checkout_at, create_at, set_at, unset_at, add_at, remove_at, shift_at, link_at, unlink_at, reorder_at, begin_at, end_line_at, undo_at, discard_at, changes_at, show_at, cat_at, validate_at, spec_of, spec_at, tag_of};
+ghost use Rattle.script_lang.specs.Words.{Gives};
+ghost use Rattle.script_lang.specs.Command.{GivesCommand, GivesSpec, command_of, init_at, checkout_at, create_at, delete_at, move_at, destination_at, set_at, unset_at, add_at, remove_at, shift_at, link_at, unlink_at, reorder_at, begin_at, end_line_at, undo_at, discard_at, changes_at, show_at, cat_at, validate_at, spec_of, spec_at, tag_of};
 ghost use Rattle.script_lang.specs.declared.command.Spec.TheVariants.{Tag};
 
 use crate::words::{Words, bad_line, number_of};
@@ -26,6 +27,8 @@ pub fn parse_line(alloc: Global, line: &str) -> Result<Command, ParseFault>
         "init" => init(&words),
         "checkout" => checkout(alloc, &mut words),
         "create" => create(alloc, &mut words),
+        "delete" => delete(alloc, &mut words),
+        "move" => move_element(alloc, &mut words),
         "set" => set(alloc, &mut words),
         "unset" => unset(alloc, &mut words),
         "add" => add(alloc, &mut words),
@@ -69,19 +72,69 @@ fn create(alloc: Global, words: &mut Words<'_>) -> Result<Command, ParseFault>
 {
     let ws = words.workspace()?;
     let class = words.word()?;
-    words.root()?;
+    let destination = destination(alloc, words)?;
     let id = words.optional_word()?;
     words.end()?;
     Ok(Command::Edit {
         ws,
         edit: Edit::Create {
             class: Text::new(alloc, class)?,
-            destination: Destination::Root,
+            destination,
             id: match id {
                 None => None,
                 Some(id) => Some(Text::new(alloc, id)?),
             },
         },
+    })
+}
+
+#[tactic(auto, unfolding(crate::specs::Command::delete_at))]
+fn delete(alloc: Global, words: &mut Words<'_>) -> Result<Command, ParseFault>
+    ensures { GivesCommand result (delete_at words.old) }
+{
+    let ws = words.workspace()?;
+    let id = words.word()?;
+    words.end()?;
+    Ok(Command::Edit {
+        ws,
+        edit: Edit::Delete {
+            id: Text::new(alloc, id)?,
+        },
+    })
+}
+
+#[tactic(auto, unfolding(crate::specs::Command::move_at))]
+fn move_element(alloc: Global, words: &mut Words<'_>) -> Result<Command, ParseFault>
+    ensures { GivesCommand result (move_at words.old) }
+{
+    let ws = words.workspace()?;
+    let id = words.word()?;
+    let destination = destination(alloc, words)?;
+    let index = words.optional_number()?;
+    words.end()?;
+    Ok(Command::Edit {
+        ws,
+        edit: Edit::Move {
+            id: Text::new(alloc, id)?,
+            destination,
+            index,
+        },
+    })
+}
+
+/// The next words, which name a place: `/` for the root, or a parent and the name of its feature.
+#[tactic(auto, unfolding(crate::specs::Command::destination_at))]
+fn destination(alloc: Global, words: &mut Words<'_>) -> Result<Destination, ParseFault>
+    ensures { Gives words.new result (destination_at words.old) }
+{
+    let first = words.word()?;
+    if first == "/" {
+        return Ok(Destination::Root);
+    }
+    let feature = words.word()?;
+    Ok(Destination::Inside {
+        parent: Text::new(alloc, first)?,
+        feature: Text::new(alloc, feature)?,
     })
 }
 

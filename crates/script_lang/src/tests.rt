@@ -1,7 +1,7 @@
 // The forms of lines and replies, as the language is written down for its users.
 use super::*;
 use ecore_meta::{List, Text};
-use edits::Edit;
+use edits::{Destination, Edit};
 use std::alloc::Global;
 use std::process::Abort;
 use std::test::Fail;
@@ -37,10 +37,10 @@ const FIRST_LINES: [Row; 25] = [
     ("checkout 0 ", Err(12)),
 ];
 
-const CREATE_LINES: [Row; 14] = [
-    ("create 1 Book /", Ok("1 Create Book -")),
-    ("create 1 Book / b", Ok("1 Create Book b")),
-    ("create 1 Book / /", Ok("1 Create Book /")),
+const CREATE_LINES: [Row; 13] = [
+    ("create 1 Book /", Ok("1 Create Book / -")),
+    ("create 1 Book / b", Ok("1 Create Book / b")),
+    ("create 1 Book / /", Ok("1 Create Book / /")),
     ("create", Err(7)),
     ("create ", Err(8)),
     ("create 0 Book / b", Err(8)),
@@ -49,9 +49,51 @@ const CREATE_LINES: [Row; 14] = [
     ("create 1  / b", Err(10)),
     ("create 1 Book", Err(14)),
     ("create 1 Book ", Err(15)),
-    ("create 1 Book l b", Err(15)),
     ("create 1 Book / b ", Err(19)),
     ("create 1 Book / b c", Err(19)),
+];
+
+const ELEMENT_LINES: [Row; 37] = [
+    ("create 1 Book l books", Ok("1 Create Book l books -")),
+    ("create 1 Book l books b", Ok("1 Create Book l books b")),
+    ("create 1 Book // books b", Ok("1 Create Book // books b")),
+    ("create 4294967295 / l / /", Ok("4294967295 Create / l / /")),
+    ("create 1 Book l", Err(16)),
+    ("create 1 Book l ", Err(17)),
+    ("create 1 Book l  b", Err(17)),
+    ("create 1 Book  books b", Err(15)),
+    ("create 1 Book l books ", Err(23)),
+    ("create 1 Book l books b c", Err(25)),
+    ("delete 1 b", Ok("1 Delete b")),
+    ("delete 1 /", Ok("1 Delete /")),
+    ("delete", Err(7)),
+    ("delete 0 b", Err(8)),
+    ("delete 1", Err(9)),
+    ("delete 1 ", Err(10)),
+    ("delete 1 b ", Err(12)),
+    ("delete 1 b c", Err(12)),
+    ("move 1 b /", Ok("1 Move b / -")),
+    ("move 1 b / 0", Ok("1 Move b / 0")),
+    ("move 1 b l books", Ok("1 Move b l books -")),
+    (
+        "move 1 b l books 4294967295",
+        Ok("1 Move b l books 4294967295"),
+    ),
+    ("move 1 b l 0", Ok("1 Move b l 0 -")),
+    ("move", Err(5)),
+    ("move x b /", Err(6)),
+    ("move 1", Err(7)),
+    ("move 1 b", Err(9)),
+    ("move 1 b ", Err(10)),
+    ("move 1 b l", Err(11)),
+    ("move 1 b  books", Err(10)),
+    ("move 1 b / ", Err(12)),
+    ("move 1 b / end", Err(12)),
+    ("move 1 b / 00", Err(12)),
+    ("move 1 b / books 0", Err(12)),
+    ("move 1 b / 0 0", Err(14)),
+    ("move 1 b l books end", Err(18)),
+    ("move 1 b l books 0 0", Err(20)),
 ];
 
 const SET_LINES: [Row; 25] = [
@@ -247,14 +289,6 @@ fn shown(alloc: Global, command: &Command) -> Result<String, Fail> {
 // An edit's fields in their order, a value between brackets, and `-` for what is not given.
 fn shown_edit(alloc: Global, edit: &Edit) -> Result<String, Fail> {
     let text = match edit {
-        Edit::Create {
-            class, id: None, ..
-        } => format!(in alloc; "Create {} -", class.as_str())?,
-        Edit::Create {
-            class,
-            id: Some(id),
-            ..
-        } => format!(in alloc; "Create {} {}", class.as_str(), id.as_str())?,
         Edit::Set { id, feature, value } => {
             format!(in alloc;
                 "Set {} {} [{}]",
@@ -272,10 +306,7 @@ fn shown_edit(alloc: Global, edit: &Edit) -> Result<String, Fail> {
             at,
             value,
         } => {
-            let at = match at {
-                Some(index) => format!(in alloc; "{index}")?,
-                None => String::from_str(alloc, "-")?,
-            };
+            let at = shown_index(alloc, *at)?;
             format!(in alloc;
                 "Add {} {} {} [{}]",
                 id.as_str(),
@@ -296,7 +327,62 @@ fn shown_edit(alloc: Global, edit: &Edit) -> Result<String, Fail> {
         Edit::Link { .. } | Edit::Unlink { .. } | Edit::Reorder { .. } => {
             return shown_edit_of_reference(alloc, edit);
         }
-        Edit::Delete { .. } | Edit::Move { .. } => return Err("an edit of no line")?,
+        Edit::Create { .. } | Edit::Delete { .. } | Edit::Move { .. } => {
+            return shown_edit_of_element(alloc, edit);
+        }
+    };
+    Ok(text)
+}
+
+fn shown_index(alloc: Global, index: Option<u32>) -> Result<String, Fail> {
+    let text = match index {
+        Some(index) => format!(in alloc; "{index}")?,
+        None => String::from_str(alloc, "-")?,
+    };
+    Ok(text)
+}
+
+// A place as a line names it.
+fn shown_place(alloc: Global, place: &Destination) -> Result<String, Fail> {
+    let text = match place {
+        Destination::Root => String::from_str(alloc, "/")?,
+        Destination::Inside { parent, feature } => {
+            format!(in alloc; "{} {}", parent.as_str(), feature.as_str())?
+        }
+    };
+    Ok(text)
+}
+
+fn shown_edit_of_element(alloc: Global, edit: &Edit) -> Result<String, Fail> {
+    let text = match edit {
+        Edit::Create {
+            class,
+            destination,
+            id,
+        } => {
+            let place = shown_place(alloc, destination)?;
+            let id = match id {
+                Some(id) => id.as_str(),
+                None => "-",
+            };
+            format!(in alloc; "Create {} {} {id}", class.as_str(), place.as_str())?
+        }
+        Edit::Delete { id } => format!(in alloc; "Delete {}", id.as_str())?,
+        Edit::Move {
+            id,
+            destination,
+            index,
+        } => {
+            let place = shown_place(alloc, destination)?;
+            let index = shown_index(alloc, *index)?;
+            format!(in alloc;
+                "Move {} {} {}",
+                id.as_str(),
+                place.as_str(),
+                index.as_str()
+            )?
+        }
+        _ => String::new(alloc),
     };
     Ok(text)
 }
@@ -364,6 +450,11 @@ fn first_words_and_creations_are_read(rt: HostRuntime) -> Result<(), Fail> {
     let alloc = rt.alloc();
     are_read(&rt, alloc, &FIRST_LINES)?;
     are_read(&rt, alloc, &CREATE_LINES)
+}
+
+#[test]
+fn edits_of_elements_are_read(rt: HostRuntime) -> Result<(), Fail> {
+    are_read(&rt, rt.alloc(), &ELEMENT_LINES)
 }
 
 #[test]

@@ -1,7 +1,7 @@
 // The words of a line, one after another.
 ghost use Rattle.std.specs.Prelude.{◌≡◌, ◌-◌, ◌<◌, ◌^◌, length, OnOk, Some};
 ghost use Rattle.std.specs.List.{list_all};
-ghost use Rattle.script_lang.specs.Words.{Gives, GivesText, GivesEnd, GivesUnit, GivesOptional, GivesRest, root_at, name_at, optional_at, optional_number_at, rest_at, index_or_end_at, word_at, number_at, number_of, is_numeral, end_at};
+ghost use Rattle.script_lang.specs.Words.{Gives, GivesText, GivesEnd, GivesOptional, GivesRest, name_at, optional_at, optional_number_at, rest_at, index_or_end_at, word_at, number_at, number_of, is_numeral, end_at};
 ghost use Rattle.std.specs.Char.{is_ascii_digit};
 
 use crate::ParseFault;
@@ -88,20 +88,6 @@ impl<'a> Words<'a> {
         ensures { Gives self.new result (number_at 1 self.old) }
     {
         self.number(1)
-    }
-
-    /// The word `/`.
-    #[tactic(auto, unfolding(crate::specs::Words::root_at))]
-    pub(crate) fn root(&mut self) -> Result<(), ParseFault>
-        ensures { GivesUnit self.new result (root_at self.old) }
-    {
-        let column = self.column;
-        let word = self.word()?;
-        if word == "/" {
-            Ok(())
-        } else {
-            Err(bad_line(column))
-        }
     }
 
     /// The next word, a name.
