@@ -7,8 +7,8 @@ use Rattle.finite_maps.proofs.EqualLaws.{and_both, text_equality}
 use Rattle.finite_maps.proofs.Cases.{not_so, true_false}
 use Rattle.model_state.specs.Keys.{Name}
 use Rattle.model_state.specs.State.{State, is_live}
-use Rattle.edit_laws.specs.FreshIds.{numbered}
-use Rattle.edit_laws.proofs.Fresh.{numbered_apart}
+use Rattle.edits.specs.FreshIds.{numbered}
+use Rattle.edits.proofs.Fresh.{numbered_apart}
 use Rattle.emfjson_model.specs.declared.doc.DocRow.{DocRow}
 use Rattle.emfjson_model.specs.Laws.{gives_id, ids_repeat, is_given}
 use Rattle.model_import.specs.Names.{AreNames, IsName, any_in_use, in_use, is_taken}

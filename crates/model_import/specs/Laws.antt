@@ -1,11 +1,18 @@
--- The ids that the elements of a document get are new.
-use Rattle.std.specs.Prelude.{◌≡◌, ℕ, Bool, true, false, ◌&&◌, not, List, [], ◌∷◌, length}
+-- The ids that the elements of a document get are new; the steps of an import lead to a good model, which is said map by map.
+use Rattle.std.specs.Prelude.{◌≡◌, ℕ, Bool, true, false, ◌&&◌, not, List, [], ◌∷◌, Option, Some, Ok, length}
 use Rattle.std.specs.List.{list_any}
 use Rattle.finite_maps.specs.Equal.{text_eq}
+use Rattle.ecore_meta.specs.Meta.{Meta}
+use Rattle.model_state.specs.declared.operation.Operation.{Operation}
+use Rattle.model_state.specs.Good.{Good, Sound}
 use Rattle.model_state.specs.Keys.{Name}
 use Rattle.model_state.specs.State.{State, is_live}
+use Rattle.model_state.specs.Steps.{fold}
 use Rattle.emfjson_model.specs.declared.doc.DocRow.{DocRow}
+use Rattle.emfjson_model.specs.Fits.{Fits}
 use Rattle.emfjson_model.specs.Laws.{ids_repeat}
+use Rattle.model_import.specs.After.{import_after, steps_in}
+use Rattle.model_import.specs.Import.{import_of}
 use Rattle.model_import.specs.Names.{AreNames, any_in_use}
 
 -- no name comes twice
@@ -17,3 +24,13 @@ are_apart (x ∷ xs) = not (list_any (text_eq x) xs) && are_apart xs
 abbrev pub NamesAreNew : Type 0
 NamesAreNew = (m : State) (rows : List DocRow) (ws : ℕ) (names : List Name) → AreNames m rows ws 1 rows names → any_in_use m rows ≡ false → ids_repeat rows ≡ false
     → (length names ≡ length rows) × (list_any (is_live m) names ≡ false) × (are_apart names ≡ true)
+
+-- the steps of what is recorded can be taken one by one, and leave the model with the document's elements, a good one
+pub record LeadsIn (meta : Meta) (m : State) (names : List Name) (rows : List DocRow) (operation : Option Operation) : Type 0 where
+  pub run : fold meta m (steps_in operation) ≡ Some (import_after m names rows)
+  pub good : Good meta (import_after m names rows)
+
+-- so it is with each import of a document that fits
+abbrev pub ImportsLead : Type 0
+ImportsLead = (meta : Meta) → Sound meta → (m : State) → Good meta m → (ws : ℕ) (rows : List DocRow) → Fits meta rows → (names : List Name) → AreNames m rows ws 1 rows names
+    → (operation : Option Operation) → import_of meta m names rows ≡ Ok operation → LeadsIn meta m names rows operation

@@ -4,4 +4,5 @@ pub mod News
 pub mod Values
 pub mod Links
 pub mod Import
+pub mod After
 pub mod Laws

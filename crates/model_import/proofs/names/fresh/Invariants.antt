@@ -1,5 +1,5 @@
 use Rattle.std.proofs.Common.{◌≡◌, ℕ, ◌<◌, ◌≤◌, true}
-use Rattle.edit_laws.specs.FreshIds.{numbered}
+use Rattle.edits.specs.FreshIds.{numbered}
 use Rattle.model_import.specs.Names.{is_taken}
 use Rattle.model_import.proofs.names.fresh.Given as goal
 

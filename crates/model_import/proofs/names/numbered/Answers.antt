@@ -1,8 +1,8 @@
 use Rattle.std.proofs.Common.{◌≡◌, ap, ◌∙◌, true, arith, inl, inr}
 use Rattle.finite_maps.proofs.Cases.{true_false}
 use Rattle.model_state.specs.Ident.{is_id}
-use Rattle.edit_laws.specs.FreshIds.{numbered}
-use Rattle.edit_laws.proofs.Fresh.{numbered_is_id}
+use Rattle.edits.specs.FreshIds.{numbered}
+use Rattle.edits.proofs.Fresh.{numbered_is_id}
 use Rattle.model_import.proofs.names.numbered.Goals as goal
 
 pub returns-in-Ok : goal.returns-in-Ok
