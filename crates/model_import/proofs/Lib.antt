@@ -6,3 +6,7 @@ pub mod ValuesLead
 pub mod Standing
 pub mod NewsLead
 pub mod Turns
+pub mod RowCounts
+pub mod Linking
+pub mod LinksLead
+pub mod ImportLead

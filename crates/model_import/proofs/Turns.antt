@@ -282,13 +282,13 @@ tally_append p (t ∷ ts) us = let rest = tally_append p ts us in omega (arith, 
 
 tally_none : (p : Turn → Bool) (ts : List Turn) → Each (λ t. p t ≡ false) ts → tally p ts ≡ 0
 tally_none p [] all = refl
-tally_none p (t ∷ ts) all = let rest = tally_none p ts all.1 in let here : cond (p t) 1 0 ≡ 0 = ap (λ b. cond b 1 0) all.0 in omega (arith, rest, here)
+tally_none p (t ∷ ts) all = let rest = tally_none p ts all.1 in let here : ◌≡◌ {A = ℕ} (cond (p t) 1 0) 0 = ap (λ b. cond b 1 0) all.0 in omega (arith, rest, here)
 
 tally_all : (i h n f k : ℕ) (bs : List ℕ) → nat_eq i n ≡ true → nat_eq h f ≡ true → tally (is_mine i h) (turns_in n f k bs) ≡ length bs
 tally_all i h n f k [] e g = refl
 tally_all i h n f k (b ∷ bs) e g =
     let rest = tally_all i h n f (suc k) bs e g in
-    let here : cond (nat_eq i n && nat_eq h f) 1 0 ≡ 1 = ap (λ x. cond (x && nat_eq h f) 1 0) e ∙ ap (λ x. cond x 1 0) g in
+    let here : ◌≡◌ {A = ℕ} (cond (nat_eq i n && nat_eq h f) 1 0) 1 = ap (λ x. cond (x && nat_eq h f) 1 0) e ∙ ap (λ x. cond x 1 0) g in
     omega (arith, rest, here)
 
 -- none of a feature that has no list

@@ -1,7 +1,12 @@
-ghost use Rattle.model_import.specs.Laws.{NamesAreNew};
+ghost use Rattle.model_import.specs.Laws.{ImportsLead, NamesAreNew};
 
 /// The ids that the elements of a document get are as many as the elements, none of them is live and no two are the same,
 /// where the document gives no id that is live and none twice.
 pub fn law_of_names()
     ensures { NamesAreNew }
+{}
+
+/// The steps that are recorded of a document that fits can be taken one by one, and leave the model with its elements, a good one.
+pub fn law_of_imports()
+    ensures { ImportsLead }
 {}

@@ -13,4 +13,4 @@ mod values;
 
 pub use edit_laws::EditFault;
 pub use import::import_doc;
-pub use laws::law_of_names;
+pub use laws::{law_of_imports, law_of_names};
