@@ -93,7 +93,7 @@ module _ (names : List Name) (differ : are_apart names ≡ true) where
   turns_held [] row small alone = tt
   turns_held (t ∷ ts) row small alone = (
     turns_other ts (turn_set names row t) (key_of names t) (each_map (λ u. Small u × Other t u) (λ u. key_of names t ≡ key_of names u → ⊥) (λ u h. keys_other t u small.0 h.0 h.1) ts (each_both Small (Other t) ts small.1 alone.0))
-    ∙ get-set_same row_order row (key_of names t) (Some (rank_of t.index)),
+        ∙ get-set_same row_order row (key_of names t) (Some (rank_of t.index)),
     turns_held ts (turn_set names row t) small.1 alone.1,
   )
 

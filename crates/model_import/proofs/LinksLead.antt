@@ -4,6 +4,7 @@ use Rattle.std.proofs.Common.{◌≡◌, ℕ, zero, suc, ◌+◌, ◌<◌, ◌�
 use Rattle.std.specs.Prelude.{Option, None, Some, is_some, slice_get}
 use Rattle.std.specs.List.{list_any}
 use Rattle.std.specs.FinMap.{get}
+use Rattle.std.specs.Option.{option_map_or}
 use Rattle.finite_maps.specs.Maps.{count, is_within, tally}
 use Rattle.finite_maps.proofs.Cases.{no_some, not_true, some_none, true_false}
 use Rattle.finite_maps.proofs.CountLaws.{le_of_le}
@@ -74,6 +75,9 @@ at_feature P g none (q ∷ refs) each =
       | false ↦ λ _. at_feature P g none refs (λ l. each (suc l))
     ] refl
 
+abbrev features : List DocRefs → List ℕ
+features refs = map (λ (q : DocRefs). q.feature) refs
+
 feature_there : (refs : List DocRefs) (l : ℕ) (q : DocRefs) → slice_get refs l ≡ Some q → list_any (nat_eq q.feature) (map (λ (x : DocRefs). x.feature) refs) ≡ true
 feature_there [] l q is = cc
 feature_there (x ∷ refs) zero q is = ap (λ b. b || list_any (nat_eq q.feature) (map (λ (x : DocRefs). x.feature) refs)) (ap (nat_eq q.feature) (same_feature x q is) ∙ nat_equality.own q.feature)
@@ -96,14 +100,11 @@ list_is (x ∷ refs) zero q ok is =
     same_refs x q is = cc
 list_is (x ∷ refs) (suc l) q ok is =
     elim (nat_eq q.feature x.feature) as (λ b. nat_eq q.feature x.feature ≡ b → cond b x.targets (targets_at q.feature refs) ≡ q.targets) [
-      | true ↦ λ equal. absurd (true_false (list_any (nat_eq x.feature) features)
-          (ap (λ f. list_any (nat_eq f) features) (sym (nat_equality.exact q.feature x.feature equal)) ∙ feature_there refs l q is)
-          (not_true (list_any (nat_eq x.feature) features) (and_first _ _ ok)))
-      | false ↦ λ _. list_is refs l q (and_second (not (list_any (nat_eq x.feature) features)) _ ok) is
+      | true ↦ λ equal. absurd (true_false (list_any (nat_eq x.feature) (features refs))
+          (ap (λ f. list_any (nat_eq f) (features refs)) (sym (nat_equality.exact q.feature x.feature equal)) ∙ feature_there refs l q is)
+          (not_true (list_any (nat_eq x.feature) (features refs)) (and_first _ _ ok)))
+      | false ↦ λ _. list_is refs l q (and_second (not (list_any (nat_eq x.feature) (features refs))) _ ok) is
     ] refl
-  where
-    abbrev features : List ℕ
-    features = map (λ (x : DocRefs). x.feature) refs
 
 within_less : (n k : ℕ) (upper : Option ℕ) → n ≤ k → is_within k upper ≡ true → is_within n upper ≡ true
 within_less n k None less h = refl
@@ -202,7 +203,7 @@ module _ (meta : Meta) (sound : Sound meta) (s : State) (good : Good meta s) (na
   Ranked i f b = (j : ℕ) × (slice_get (targets_at f (refs_at rows i)) j ≡ Some b) × (get whole (name_at names i, f, name_at names b) ≡ Some (rank_of j))
 
   refs_are : (i : ℕ) (r : DocRow) → slice_get rows i ≡ Some r → refs_at rows i ≡ r.refs
-  refs_are i r is = ap (λ (o : Option DocRow). elim o as (λ _. List DocRefs) [ None ↦ [] | Some r ↦ r.refs ]) is
+  refs_are i r is = ap (λ (o : Option DocRow). option_map_or {T = DocRow} {U = List DocRefs} (λ x. x.refs) o []) is
 
   all_ranked : Each (λ t. Ranked t.row t.feature t.target) ts
   all_ranked = each_map (λ t. Sits meta rows t × (get whole (key_of names t) ≡ Some (rank_of t.index))) (λ t. Ranked t.row t.feature t.target)

@@ -156,21 +156,23 @@ module _ (meta : Meta) (sound : Sound meta) (m : State) (names : List Name) (row
         let to = place_of names r.parent in
         let may = may_come s xs come r.class r.parent refl before row.stands in
         let dead : is_live s e ≡ false = come.ahead n (itself n) within in
-        let arrived = arrives meta sound s come.good xs come.stand e r.class dead row.concrete to k may.0 may.1 may.2 end in
-        (arrived, record {
-          good = arrived.good;
-          stand = arrived.stand;
-          behind = λ i q less is. elim (nat_eq i n) as (λ b. nat_eq i n ≡ b → get (set s.kind e (Some r.class)) (at i) ≡ Some q.class) [
-            | true ↦ λ same.
-                let now : i ≡ n = nat_equality.exact i n same in
-                ap (λ j. get (set s.kind e (Some r.class)) (at j)) now ∙ get-set_same id_order s.kind e (Some r.class) ∙ same_class q (sym is ∙ ap (slice_get rows) now ∙ here)
-            | false ↦ λ other.
-                let less' : i < n = earlier i n other less in
-                get-set_other id_order s.kind e (Some r.class) (at i) (other_name i (λ same. not_self i n less' same) (small i n less' within)) ∙ come.behind i q less' is
-          ] refl;
-          ahead = λ i later small. ap is_some (get-set_other id_order s.kind e (Some r.class) (at i) (other_name i (λ same. not_next i n later same) small)) ∙ come.ahead i (from_next i n later) small;
-          stood = stood_next s xs come before (ranks_after xs to e k s.prank);
-        })
+        let arrived = arrives meta sound s come.good xs come.stand e r.class dead row.concrete to k may.0 may.1 may.2 end in (
+          arrived,
+          record {
+            good = arrived.good;
+            stand = arrived.stand;
+            behind = λ i q less is. elim (nat_eq i n) as (λ b. nat_eq i n ≡ b → get (set s.kind e (Some r.class)) (at i) ≡ Some q.class) [
+              | true ↦ λ same.
+                  let now : i ≡ n = nat_equality.exact i n same in
+                  ap (λ j. get (set s.kind e (Some r.class)) (at j)) now ∙ get-set_same id_order s.kind e (Some r.class) ∙ same_class q (sym is ∙ ap (slice_get rows) now ∙ here)
+              | false ↦ λ other.
+                  let less' : i < n = earlier i n other less in
+                  get-set_other id_order s.kind e (Some r.class) (at i) (other_name i (λ same. not_self i n less' same) (small i n less' within)) ∙ come.behind i q less' is
+            ] refl;
+            ahead = λ i later small. ap is_some (get-set_other id_order s.kind e (Some r.class) (at i) (other_name i (λ same. not_next i n later same) small)) ∙ come.ahead i (from_next i n later) small;
+            stood = stood_next s xs come before (ranks_after xs to e k s.prank);
+          },
+        )
       where
         itself : (n : ℕ) → n ≤ n
         itself n = omega arith

@@ -22,22 +22,24 @@ use Rattle.emfjson_model.specs.declared.doc.DocRow.{DocRow}
 use Rattle.model_import.specs.Names.{name_at}
 use Rattle.model_import.specs.News.{place_of, rank_of, roots_after, standing}
 
--- the classes, the places and the values of a model
+-- the class of each element
 abbrev pub Kinds : Type 0
 Kinds = FinMap id_cmp ℕ
 
+-- where each element stands
 abbrev pub Places : Type 0
 Places = FinMap id_cmp Place
 
+-- the values of the attributes that are set
 abbrev pub Attrs : Type 0
 Attrs = FinMap attr_cmp (List Value)
 
--- each of the rows from the n-th on has its class
+-- each of the rows from the n-th on has its class, under its id
 abbrev pub kinds_from : List Name → ℕ → Kinds → List DocRow → Kinds
 kinds_from names n kind [] = kind
 kinds_from names n kind (r ∷ rest) = kinds_from names (suc n) (set kind (name_at names n) (Some r.class)) rest
 
--- and stands where it is to
+-- each of them stands where the document says
 abbrev pub places_from : List Name → ℕ → Places → List DocRow → Places
 places_from names n place [] = place
 places_from names n place (r ∷ rest) = places_from names (suc n) (set place (name_at names n) (Some (place_of names r.parent))) rest
@@ -68,6 +70,7 @@ abbrev pub targets_set : List Name → Name → ℕ → ℕ → Rows → List �
 targets_set names e f k row [] = row
 targets_set names e f k row (b ∷ bs) = targets_set names e f (suc k) (set row (e, f, name_at names b) (Some (rank_of k))) bs
 
+-- an element has these lists of references
 abbrev pub refs_set : List Name → Name → Rows → List DocRefs → Rows
 refs_set names e row [] = row
 refs_set names e row (q ∷ refs) = refs_set names e (targets_set names e q.feature 0 row q.targets) refs
