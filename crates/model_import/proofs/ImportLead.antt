@@ -1,5 +1,5 @@
 -- The steps of an import can be taken one by one, and leave the model with the document's elements.
-use Rattle.std.proofs.Common.{◌≡◌, ℕ, ◌<◌, ◌≤◌, Bool, true, false, List, [], ◌∷◌, ◌++◌, length, drop, refl, sym, ap, subst, ◌∙◌}
+use Rattle.std.proofs.Common.{◌≡◌, ℕ, ◌<◌, Bool, true, false, List, [], ◌∷◌, ◌++◌, length, drop, refl, sym, ap, ◌∙◌}
 use Rattle.std.specs.Prelude.{Option, None, Some, Result, Ok, Err, if◌then◌else◌}
 use Rattle.std.specs.List.{list_any}
 use Rattle.std.specs.FinMap.{get}
@@ -20,8 +20,8 @@ use Rattle.edit_laws.specs.declared.fault.EditFault.TheVariants.{IdInUse}
 use Rattle.emfjson_model.specs.declared.doc.DocRow.{DocRow}
 use Rattle.emfjson_model.specs.Fits.{Fits}
 use Rattle.model_import.specs.After.{attrs_from, import_after, kinds_from, places_from, ranks_from, steps_in}
-use Rattle.model_import.specs.Import.{and_then, composite, import_of, of_steps, steps_made}
-use Rattle.model_import.specs.Laws.{ImportsLead, LeadsIn, are_apart}
+use Rattle.model_import.specs.Import.{and_then, composite, of_steps, steps_made}
+use Rattle.model_import.specs.Laws.{ImportsLead, are_apart}
 use Rattle.model_import.specs.Links.{links_made}
 use Rattle.model_import.specs.Names.{any_in_use, name_at}
 use Rattle.model_import.specs.News.{news_made}
@@ -29,7 +29,7 @@ use Rattle.model_import.specs.Values.{values_made}
 use Rattle.model_import.proofs.Indexed.{none_at}
 use Rattle.model_import.proofs.LinksLead.{links_led}
 use Rattle.model_import.proofs.NewNames.{names_new}
-use Rattle.model_import.proofs.NewsLead.{Led, news_led, placed}
+use Rattle.model_import.proofs.NewsLead.{news_led, placed}
 use Rattle.model_import.proofs.ValuesLead.{values_lead}
 
 none_dropped : {X : Type 0} (xs : List X) → drop 0 xs ≡ xs

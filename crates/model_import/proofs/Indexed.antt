@@ -1,7 +1,7 @@
 -- Lists by index: what is left of a list, and the names at indices.
-use Rattle.std.proofs.Common.{◌≡◌, ℕ, zero, suc, ◌+◌, ◌<◌, ◌≤◌, Bool, true, false, ◌||◌, ◌&&◌, not, List, [], ◌∷◌, ◌++◌, length, drop, take, refl, sym, ap, subst, ◌∙◌, arith, nat_eq}
-use Rattle.std.specs.Prelude.{Option, Some, slice_get}
-use Rattle.std.specs.List.{list_any, sum_by, count_by}
+use Rattle.std.proofs.Common.{◌≡◌, ℕ, zero, suc, ◌+◌, ◌<◌, ◌≤◌, Bool, true, false, ◌||◌, not, List, [], ◌∷◌, ◌++◌, length, drop, take, refl, sym, ap, subst, ◌∙◌, arith, nat_eq}
+use Rattle.std.specs.Prelude.{Some, slice_get}
+use Rattle.std.specs.List.{list_any, count_by}
 use Rattle.std.proofs.lemmas.List.Sums.{sum_by-append}
 use Rattle.finite_maps.specs.Equal.{text_eq}
 use Rattle.finite_maps.proofs.Cases.{not_so, not_true, true_false}

@@ -1,12 +1,12 @@
 -- The elements of a document are linked.
 use Rattle.std.proofs.lemmas.Bool.Decides.{nat_tests}
-use Rattle.std.proofs.Common.{◌≡◌, ℕ, zero, suc, ◌+◌, ◌<◌, ◌≤◌, Bool, true, false, cond, not, ◌&&◌, ◌||◌, List, [], ◌∷◌, map, length, drop, refl, sym, ap, subst, ◌∙◌, arith, nat_eq}
+use Rattle.std.proofs.Common.{◌≡◌, ℕ, zero, suc, ◌+◌, ◌<◌, ◌≤◌, Bool, true, false, cond, not, ◌||◌, List, [], ◌∷◌, map, length, drop, refl, sym, ap, subst, ◌∙◌, arith, nat_eq}
 use Rattle.std.specs.Prelude.{Option, None, Some, is_some, slice_get}
 use Rattle.std.specs.List.{list_any}
 use Rattle.std.specs.FinMap.{get}
 use Rattle.std.specs.Option.{option_map_or}
 use Rattle.finite_maps.specs.Maps.{count, is_within, tally}
-use Rattle.finite_maps.proofs.Cases.{no_some, not_true, some_none, true_false}
+use Rattle.finite_maps.proofs.Cases.{not_true, some_none, true_false}
 use Rattle.finite_maps.proofs.CountLaws.{le_of_le}
 use Rattle.finite_maps.proofs.EqualLaws.{and_first, and_second, nat_equality}
 use Rattle.finite_maps.proofs.MapLaws.{same}
@@ -33,7 +33,7 @@ use Rattle.model_import.specs.News.{rank_of}
 use Rattle.model_import.proofs.Indexed.{at_less}
 use Rattle.model_import.proofs.Linking.{Due, Linked, covered, links_lead, made_there, turns_held, turns_other}
 use Rattle.model_import.proofs.RowCounts.{count_turns, within}
-use Rattle.model_import.proofs.Turns.{Alone, Each, Turn, alone_from, each_both, each_from, each_map, found_from, is_mine, key_of, links_are, rows_are, tally_from, turn, turns_from, turns_set}
+use Rattle.model_import.proofs.Turns.{Alone, Each, Turn, alone_from, each_both, each_from, each_map, found_from, is_mine, key_of, links_are, rows_are, tally_from, turns_from, turns_set}
 
 -- ---- lists by index
 any_at : (bs : List ℕ) (j b : ℕ) → slice_get bs j ≡ Some b → list_any (nat_eq b) bs ≡ true

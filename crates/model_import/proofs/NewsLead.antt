@@ -1,17 +1,17 @@
 -- The elements of a document come.
 use Rattle.std.proofs.lemmas.Bool.Decides.{nat_tests}
-use Rattle.std.proofs.Common.{◌≡◌, ℕ, zero, suc, ◌+◌, ◌<◌, ◌≤◌, Bool, true, false, cond, ◌&&◌, List, [], ◌∷◌, ◌++◌, length, drop, take, refl, sym, ap, subst, ◌∙◌, arith, nat_eq, nat_lt}
+use Rattle.std.proofs.Common.{◌≡◌, ℕ, suc, ◌+◌, ◌<◌, ◌≤◌, Bool, true, false, cond, ◌&&◌, List, [], ◌∷◌, ◌++◌, length, drop, take, refl, sym, ap, subst, ◌∙◌, arith, nat_eq, nat_lt}
 use Rattle.std.specs.Prelude.{Option, None, Some, is_some, Result, Ok, Err, if◌then◌else◌, slice_get}
 use Rattle.std.specs.List.{count_by, list_any}
 use Rattle.std.specs.FinMap.{get}
 use Rattle.std.specs.Ordering.{eq_by_cmp}
-use Rattle.finite_maps.specs.Equal.{option_eq, text_eq}
-use Rattle.finite_maps.specs.Maps.{count, counts, is_below, is_within, set}
-use Rattle.finite_maps.proofs.Cases.{no_some, not_so}
+use Rattle.finite_maps.specs.Equal.{option_eq}
+use Rattle.finite_maps.specs.Maps.{count, counts, is_below, set}
+use Rattle.finite_maps.proofs.Cases.{no_some}
 use Rattle.finite_maps.proofs.CountLaws.{count-set, count_none}
 use Rattle.finite_maps.proofs.EqualLaws.{and_both, and_first, and_second, nat_equality}
 use Rattle.finite_maps.proofs.MapLaws.{get-set_other, get-set_same}
-use Rattle.ecore_meta.specs.Meta.{Meta, has_feature}
+use Rattle.ecore_meta.specs.Meta.{Meta}
 use Rattle.model_state.specs.declared.entry.Entry.{Entry}
 use Rattle.model_state.specs.declared.step.Place.{Place}
 use Rattle.model_state.specs.declared.step.Place.TheVariants.{Root, Inside}

@@ -1,13 +1,13 @@
 -- How many rows a feature of an element has: where one map has all rows of another and one more, and after the turns of a document.
 use Rattle.std.proofs.lemmas.Bool.Decides.{nat_tests}
-use Rattle.std.proofs.Common.{◌≡◌, ℕ, ◌+◌, ◌<◌, ◌≤◌, Bool, true, false, cond, ◌&&◌, List, [], ◌∷◌, length, refl, sym, ap, subst, ◌∙◌, arith, nat_eq}
+use Rattle.std.proofs.Common.{◌≡◌, ℕ, ◌+◌, ◌<◌, ◌≤◌, Bool, true, false, cond, ◌&&◌, List, [], ◌∷◌, length, refl, sym, ap, ◌∙◌, arith, nat_eq}
 use Rattle.std.specs.Prelude.{Option, None, Some, is_some}
 use Rattle.std.specs.List.{filter}
-use Rattle.std.specs.FinMap.{entries, entries-from_sorted, entries_sorted, from_sorted, get, get-entries, get-from_sorted, find}
+use Rattle.std.specs.FinMap.{entries, entries-from_sorted, entries_sorted, from_sorted, get, get-entries, get-from_sorted}
 use Rattle.std.specs.FinMap.Entries.{find-where_key, is_sorted-where_key, where_key}
 use Rattle.finite_maps.specs.Equal.{text_eq}
 use Rattle.finite_maps.specs.Maps.{count, counts, is_below, is_within, passes, set, tally}
-use Rattle.finite_maps.proofs.CountLaws.{count-set, count_alike, lt_of_le}
+use Rattle.finite_maps.proofs.CountLaws.{count-set, count_alike}
 use Rattle.finite_maps.proofs.EqualLaws.{and_both, nat_equality, text_equality}
 use Rattle.finite_maps.proofs.MapLaws.{by_key, get-set_other, get-set_same}
 use Rattle.model_state.specs.Keys.{Name, RowKey, row_cmp}

@@ -1,5 +1,5 @@
 -- The elements at the root have their ranks, also once another has come.
-use Rattle.std.proofs.Common.{◌≡◌, ℕ, Bool, true, false, ◌||◌, List, [], ◌∷◌, ◌++◌, refl, sym, ap, subst, ◌∙◌}
+use Rattle.std.proofs.Common.{◌≡◌, ℕ, true, false, List, [], ◌∷◌, ◌++◌, refl, sym, ap, subst, ◌∙◌}
 use Rattle.std.specs.Prelude.{Option, Some, is_some, unwrap_or}
 use Rattle.std.specs.List.{list_any}
 use Rattle.std.specs.FinMap.{get}

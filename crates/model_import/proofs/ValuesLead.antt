@@ -7,7 +7,7 @@ use Rattle.std.specs.Ordering.{eq_by_cmp}
 use Rattle.std.specs.FinMap.{get}
 use Rattle.finite_maps.specs.Equal.{text_eq, option_eq, list_eq}
 use Rattle.finite_maps.specs.Maps.{set, is_below, is_within}
-use Rattle.finite_maps.proofs.Cases.{not_false, not_so, not_true, true_false}
+use Rattle.finite_maps.proofs.Cases.{not_so, not_true, true_false}
 use Rattle.finite_maps.proofs.EqualLaws.{and_first, and_second, apart, nat_equality, text_equality}
 use Rattle.finite_maps.proofs.MapLaws.{get-set_other, get-set_same, same_key, set_here, set_twice}
 use Rattle.ecore_meta.specs.Meta.{Meta, has_feature}
@@ -15,7 +15,6 @@ use Rattle.ecore_meta.specs.declared.meta.Kind.{Kind}
 use Rattle.ecore_meta.specs.declared.meta.Kind.TheVariants.{Attr, AttrMany, Bounded, Free, Contains, Container, Skip}
 use Rattle.ecore_meta.specs.declared.meta.Scalar.{Scalar}
 use Rattle.ecore_meta.specs.declared.meta.Value.{Value}
-use Rattle.model_state.specs.declared.step.Step.{Step}
 use Rattle.model_state.specs.declared.step.Step.TheVariants.{Put, Ins}
 use Rattle.model_state.specs.Good.{ValuesOk, is_distinct}
 use Rattle.model_state.specs.Keys.{Name, AttrKey, attr_cmp}
@@ -34,7 +33,7 @@ use Rattle.model_import.specs.After.{Attrs, attrs_from, attrs_set}
 use Rattle.model_import.specs.Laws as laws
 use Rattle.model_import.specs.Names.{name_at}
 use Rattle.model_import.specs.Values.{attr_made, attrs_made, inserts_made, put_made, values_from}
-use Rattle.model_import.proofs.Indexed.{at_less, differ_at, drop_at, drop_less, drop_next, or_first}
+use Rattle.model_import.proofs.Indexed.{differ_at, drop_at, drop_less, drop_next, or_first}
 
 -- ---- a value among those of a list
 module _ (p : Value → Bool) where
