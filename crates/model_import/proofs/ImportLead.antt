@@ -1,5 +1,5 @@
 -- The steps of an import can be taken one by one, and leave the model with the document's elements.
-use Rattle.std.proofs.Common.{◌≡◌, ℕ, ◌<◌, Bool, true, false, List, [], ◌∷◌, ◌++◌, length, drop, refl, sym, ap, ◌∙◌}
+use Rattle.std.proofs.Common.{◌≡◌, ℕ, ◌<◌, Bool, true, false, List, [], ◌∷◌, ◌++◌, length, refl, sym, ap, ◌∙◌}
 use Rattle.std.specs.Prelude.{Option, None, Some, Result, Ok, Err, if◌then◌else◌}
 use Rattle.std.specs.List.{list_any}
 use Rattle.std.specs.FinMap.{get}
@@ -26,15 +26,11 @@ use Rattle.model_import.specs.Links.{links_made}
 use Rattle.model_import.specs.Names.{any_in_use, name_at}
 use Rattle.model_import.specs.News.{news_made}
 use Rattle.model_import.specs.Values.{values_made}
-use Rattle.model_import.proofs.Indexed.{none_at}
+use Rattle.model_import.proofs.Indexed.{drop_none, none_at}
 use Rattle.model_import.proofs.LinksLead.{links_led}
 use Rattle.model_import.proofs.NewNames.{names_new}
 use Rattle.model_import.proofs.NewsLead.{news_led, placed}
 use Rattle.model_import.proofs.ValuesLead.{values_lead}
-
-none_dropped : {X : Type 0} (xs : List X) → drop 0 xs ≡ xs
-none_dropped [] = refl
-none_dropped (x ∷ xs) = refl
 
 -- ---- from what is recorded to its steps
 allowed : (b : Bool) (r : Result (Option Operation) EditFault) (operation : Option Operation) → (if b then Err IdInUse else r) ≡ Ok operation → (b ≡ false) × (r ≡ Ok operation)
@@ -80,7 +76,7 @@ module _ (meta : Meta) (sound : Sound meta) (m : State) (good : Good meta m) (na
   run : (news : List Step) → news_made (children m.place m.prank Root) names rows ≡ Ok news → fold meta m (news ++ (values_made meta names rows ++ links_made meta names rows)) ≡ Some (import_after m names rows)
   run news is =
       let led = news_led meta sound m names rows fit as_many differ good dead news is in
-      let given : fold meta come (values_made meta names rows) ≡ Some valued = values_lead meta come names rows fit as_many differ led.kinds rows 0 m.attr (none_dropped rows) (λ i f _ small. dead_attr meta m good (name_at names i) (not_there i small) f) in
+      let given : fold meta come (values_made meta names rows) ≡ Some valued = values_lead meta come names rows fit as_many differ led.kinds rows 0 m.attr (drop_none rows) (λ i f _ small. dead_attr meta m good (name_at names i) (not_there i small) f) in
       fold_append meta m come news (values_made meta names rows ++ links_made meta names rows) led.run
       ∙ fold_append meta come valued (values_made meta names rows) (links_made meta names rows) given
       ∙ links_led meta sound valued (steps_keep_good meta sound come valued led.good (values_made meta names rows) given) names rows fit as_many differ led.kinds (λ i f y small. dead_from meta m good (name_at names i) (not_there i small) f y)

@@ -7,22 +7,24 @@ use Rattle.finite_maps.specs.Equal.{text_eq}
 use Rattle.finite_maps.proofs.Cases.{not_so, not_true, true_false}
 use Rattle.finite_maps.proofs.EqualLaws.{and_first, and_second, apart, nat_equality, text_equality}
 use Rattle.model_state.specs.Keys.{Name}
+use Rattle.model_laws.proofs.Inserts.{or_first, or_second}
 use Rattle.model_import.specs.Names.{name_at}
 use Rattle.model_import.specs.Laws.{are_apart}
 
-pub or_first : (a b : Bool) → a || b ≡ false → a ≡ false
-or_first true b h = cc
-or_first false b h = refl
-
-pub or_second : (a b : Bool) → a || b ≡ false → b ≡ false
-or_second true b h = cc
-or_second false b h = h
-
-pub or_both : (a b : Bool) → a ≡ false → b ≡ false → a || b ≡ false
-or_both a b p q = ap (λ c. c || b) p ∙ q
+pub or_later : (a b : Bool) → b ≡ true → a || b ≡ true
+or_later true b h = refl
+or_later false b h = h
 
 -- ---- what is left of a list behind its first n
 module _ {X : Type 0} where
+  pub drop_none : (xs : List X) → drop 0 xs ≡ xs
+  drop_none [] = refl
+  drop_none (x ∷ xs) = refl
+
+  pub take_none : (xs : List X) → take 0 xs ≡ []
+  take_none [] = refl
+  take_none (x ∷ xs) = refl
+
   pub drop_at : (n : ℕ) (xs : List X) (r : X) (rest : List X) → drop n xs ≡ r ∷ rest → slice_get xs n ≡ Some r
   drop_at zero [] r rest h = cc
   drop_at (suc n) [] r rest h = cc

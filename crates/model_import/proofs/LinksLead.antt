@@ -1,6 +1,6 @@
 -- The elements of a document are linked.
 use Rattle.std.proofs.lemmas.Bool.Decides.{nat_tests}
-use Rattle.std.proofs.Common.{◌≡◌, ℕ, zero, suc, ◌+◌, ◌<◌, ◌≤◌, Bool, true, false, cond, not, ◌||◌, List, [], ◌∷◌, map, length, drop, refl, sym, ap, subst, ◌∙◌, arith, nat_eq}
+use Rattle.std.proofs.Common.{◌≡◌, ℕ, zero, suc, ◌+◌, ◌<◌, ◌≤◌, true, false, cond, not, ◌||◌, List, [], ◌∷◌, map, length, refl, sym, ap, subst, ◌∙◌, arith, nat_eq}
 use Rattle.std.specs.Prelude.{Option, None, Some, is_some, slice_get}
 use Rattle.std.specs.List.{list_any}
 use Rattle.std.specs.FinMap.{get}
@@ -30,7 +30,7 @@ use Rattle.model_import.specs.Laws.{are_apart}
 use Rattle.model_import.specs.Links.{index_in, is_made, links_made, mirror_of, refs_at}
 use Rattle.model_import.specs.Names.{name_at}
 use Rattle.model_import.specs.News.{rank_of}
-use Rattle.model_import.proofs.Indexed.{at_less}
+use Rattle.model_import.proofs.Indexed.{at_less, drop_none, or_later}
 use Rattle.model_import.proofs.Linking.{Due, Linked, covered, links_lead, made_there, turns_held, turns_other}
 use Rattle.model_import.proofs.RowCounts.{count_turns, within}
 use Rattle.model_import.proofs.Turns.{Alone, Each, Turn, alone_from, each_both, each_from, each_map, found_from, is_mine, key_of, links_are, rows_are, tally_from, turns_from, turns_set}
@@ -42,11 +42,7 @@ any_at (c ∷ bs) zero b is = ap (λ x. x || list_any (nat_eq b) bs) (ap (nat_eq
   where
     same_item : (c b : ℕ) → ◌≡◌ {A = Option ℕ} (Some c) (Some b) → c ≡ b
     same_item c b is = cc
-any_at (c ∷ bs) (suc j) b is = later (nat_eq b c) _ (any_at bs j b is)
-  where
-    later : (x y : Bool) → y ≡ true → x || y ≡ true
-    later true y h = refl
-    later false y h = h
+any_at (c ∷ bs) (suc j) b is = or_later (nat_eq b c) _ (any_at bs j b is)
 
 -- where each number comes once, it stands at one index
 index_is : (bs : List ℕ) (j n : ℕ) → fits.are_apart bs ≡ true → slice_get bs j ≡ Some n → index_in n bs ≡ j
@@ -84,11 +80,7 @@ feature_there (x ∷ refs) zero q is = ap (λ b. b || list_any (nat_eq q.feature
   where
     same_feature : (x q : DocRefs) → ◌≡◌ {A = Option DocRefs} (Some x) (Some q) → x.feature ≡ q.feature
     same_feature x q is = cc
-feature_there (x ∷ refs) (suc l) q is = later (nat_eq q.feature x.feature) _ (feature_there refs l q is)
-  where
-    later : (x y : Bool) → y ≡ true → x || y ≡ true
-    later true y h = refl
-    later false y h = h
+feature_there (x ∷ refs) (suc l) q is = or_later (nat_eq q.feature x.feature) _ (feature_there refs l q is)
 
 -- the list of a feature that comes once
 list_is : (refs : List DocRefs) (l : ℕ) (q : DocRefs) → fits.are_apart (map (λ (x : DocRefs). x.feature) refs) ≡ true → slice_get refs l ≡ Some q → targets_at q.feature refs ≡ q.targets
@@ -125,7 +117,7 @@ pub record Sits (meta : Meta) (rows : List DocRow) (t : Turn) : Type 0 where
 
 module _ (meta : Meta) (rows : List DocRow) (fit : Fits meta rows) where
   all_sit : Each (Sits meta rows) (turns_from 0 rows)
-  all_sit = each_from (Sits meta rows) rows rows 0 (none_dropped rows) (λ i r is l q at j b here.
+  all_sit = each_from (Sits meta rows) rows rows 0 (drop_none rows) (λ i r is l q at j b here.
       let row = fit.each i r is in
       let refs = row.refs l q at in
       let typed = refs.typed b (any_at q.targets j b here) in
@@ -137,17 +129,9 @@ module _ (meta : Meta) (rows : List DocRow) (fit : Fits meta rows) where
         linked = typed.2;
         among = ap (λ bs. slice_get bs j) (list_is r.refs l q row.refs_apart at) ∙ here;
       })
-    where
-      none_dropped : {X : Type 0} (xs : List X) → drop 0 xs ≡ xs
-      none_dropped [] = refl
-      none_dropped (x ∷ xs) = refl
 
   all_alone : Alone (turns_from 0 rows)
-  all_alone = alone_from rows rows 0 (none_dropped rows) (λ i r is. (fit.each i r is).refs_apart) (λ i r is l q at. ((fit.each i r is).refs l q at).apart)
-    where
-      none_dropped : {X : Type 0} (xs : List X) → drop 0 xs ≡ xs
-      none_dropped [] = refl
-      none_dropped (x ∷ xs) = refl
+  all_alone = alone_from rows rows 0 (drop_none rows) (λ i r is. (fit.each i r is).refs_apart) (λ i r is l q at. ((fit.each i r is).refs l q at).apart)
 
   -- each target is there once
   list_apart : (i : ℕ) (r : DocRow) → slice_get rows i ≡ Some r → (g : ℕ) → fits.are_apart (targets_at g r.refs) ≡ true

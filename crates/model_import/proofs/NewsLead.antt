@@ -39,7 +39,7 @@ use Rattle.model_import.specs.Laws.{are_apart}
 use Rattle.model_import.specs.Names.{name_at}
 use Rattle.model_import.specs.News as news
 use Rattle.model_import.specs.News.{element_made, inside, news_from, place_of, roots_after, standing}
-use Rattle.model_import.proofs.Indexed.{at_less, count_next, count_within, differ_at, drop_all, drop_at, drop_less, drop_next, named, none_at, same_at}
+use Rattle.model_import.proofs.Indexed.{at_less, count_next, count_within, differ_at, drop_all, drop_at, drop_less, drop_next, drop_none, named, none_at, same_at, take_none}
 use Rattle.model_import.proofs.Standing.{Arrives, arrives, with_new}
 use Rattle.model_import.proofs.ValuesLead.{room}
 
@@ -58,10 +58,6 @@ swapped a b =
   where
     apart_numbers : (a b : ℕ) → nat_eq b a ≡ false → nat_eq a b ≡ false
     apart_numbers a b e = grind (arith, nat_tests)
-
-none_taken : {X : Type 0} (xs : List X) → take 0 xs ≡ []
-none_taken [] = refl
-none_taken (x ∷ xs) = refl
 
 module _ (meta : Meta) (sound : Sound meta) (m : State) (names : List Name) (rows : List DocRow) (fit : Fits meta rows) (as_many : length names ≡ length rows) (differ : are_apart names ≡ true) where
   abbrev at : ℕ → Name
@@ -244,7 +240,7 @@ module _ (meta : Meta) (sound : Sound meta) (m : State) (names : List Name) (row
       stand = children_stand meta m good Root;
       behind = λ i r less is. absurd (none i less);
       ahead = λ i later small. none_at (is_live m) names i dead small;
-      stood = λ p f small. none_inside p f small ∙ sym (ap (standing (Some (record { row = p; feature = f }))) (none_taken rows));
+      stood = λ p f small. none_inside p f small ∙ sym (ap (standing (Some (record { row = p; feature = f }))) (take_none rows));
     }
       where
         none : (i : ℕ) → i < 0 → ⊥
@@ -252,8 +248,4 @@ module _ (meta : Meta) (sound : Sound meta) (m : State) (names : List Name) (row
 
     pub news_led : (ss : List Step) → news.news_made (children m.place m.prank Root) names rows ≡ Ok ss
         → Led ss (placed m (kinds_from names 0 m.kind rows) (places_from names 0 m.place rows) (ranks_from names rows 0 (children m.place m.prank Root) m.prank rows))
-    news_led ss made = news_lead rows 0 m.kind m.place m.prank (children m.place m.prank Root) [] ss (none_dropped rows) fit.behind come_none refl made
-      where
-        none_dropped : {X : Type 0} (xs : List X) → drop 0 xs ≡ xs
-        none_dropped [] = refl
-        none_dropped (x ∷ xs) = refl
+    news_led ss made = news_lead rows 0 m.kind m.place m.prank (children m.place m.prank Root) [] ss (drop_none rows) fit.behind come_none refl made

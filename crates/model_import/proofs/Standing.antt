@@ -26,10 +26,10 @@ use Rattle.edit_laws.specs.Places.{Ranks, ranked_places, rerank_places}
 use Rattle.edit_laws.specs.Spot.{end_spot}
 use Rattle.edit_laws.proofs.Creates.{Stand, names_differ, rerank_leads}
 use Rattle.edit_laws.proofs.Pairs.{some_of}
+use Rattle.model_laws.proofs.Inserts.{or_first, or_none, or_second}
 use Rattle.model_import.specs.After.{ranks_after}
 use Rattle.model_import.specs.News as news
 use Rattle.model_import.specs.Roots.{with_ranks}
-use Rattle.model_import.proofs.Indexed.{or_both, or_first, or_second}
 
 -- ---- what is live differs from what is not
 pub live_differ : (s : State) (e x : Name) → is_live s e ≡ false → is_live s x ≡ true → text_eq e x ≡ false
@@ -37,7 +37,7 @@ live_differ s e x dead live = not_so (text_eq e x) (λ same. true_false (is_live
 
 none_stands : (s : State) (e : Name) → is_live s e ≡ false → (xs : List Entry) → Stand s xs → list_any (λ (y : Entry). text_eq e y.id) xs ≡ false
 none_stands s e dead [] stand = refl
-none_stands s e dead (x ∷ xs) stand = or_both (text_eq e x.id) _ (live_differ s e x.id dead stand.0) (none_stands s e dead xs stand.3)
+none_stands s e dead (x ∷ xs) stand = or_none (text_eq e x.id) _ (live_differ s e x.id dead stand.0) (none_stands s e dead xs stand.3)
 
 -- ---- another element gets a rank
 ranks_still : (s : State) (x : Name) (v : Option ℕ) (xs : List Entry) → list_any (λ (y : Entry). text_eq x y.id) xs ≡ false → Stand s xs → Stand (record s { prank = set s.prank x v }) xs
@@ -74,7 +74,7 @@ ranked_other x (y ∷ ys) (r ∷ rs) prank differ =
 none_ranked : (x : Name) (xs : List Entry) (rs : List ℕ) → list_any (λ (y : Entry). text_eq x y.id) xs ≡ false → list_any (λ (y : Entry). text_eq x y.id) (with_ranks xs rs) ≡ false
 none_ranked x [] rs differ = refl
 none_ranked x (y ∷ ys) [] differ = refl
-none_ranked x (y ∷ ys) (r ∷ rs) differ = or_both (text_eq x y.id) _ (or_first (text_eq x y.id) _ differ) (none_ranked x ys rs (or_second (text_eq x y.id) _ differ))
+none_ranked x (y ∷ ys) (r ∷ rs) differ = or_none (text_eq x y.id) _ (or_first (text_eq x y.id) _ differ) (none_ranked x ys rs (or_second (text_eq x y.id) _ differ))
 
 stand_ranked : (s : State) (xs : List Entry) (rs : List ℕ) → Stand s xs → Stand (record s { prank = ranked_places xs rs s.prank }) (with_ranks xs rs)
 stand_ranked s [] rs stand = tt
@@ -88,8 +88,8 @@ stand_ranked s (x ∷ xs) (r ∷ rs) stand = (
 
 -- ---- an element behind the last
 none_more : (x : Name) (xs : List Entry) (y : Entry) → list_any (λ (z : Entry). text_eq x z.id) xs ≡ false → text_eq x y.id ≡ false → list_any (λ (z : Entry). text_eq x z.id) (xs ++ (y ∷ [])) ≡ false
-none_more x [] y none other = or_both (text_eq x y.id) false other refl
-none_more x (z ∷ zs) y none other = or_both (text_eq x z.id) _ (or_first (text_eq x z.id) _ none) (none_more x zs y (or_second (text_eq x z.id) _ none) other)
+none_more x [] y none other = or_none (text_eq x y.id) false other refl
+none_more x (z ∷ zs) y none other = or_none (text_eq x z.id) _ (or_first (text_eq x z.id) _ none) (none_more x zs y (or_second (text_eq x z.id) _ none) other)
 
 stand_last : (s : State) (xs : List Entry) (y : Entry) → is_live s y.id ≡ true → get s.prank y.id ≡ Some y.rank → list_any (λ (z : Entry). text_eq y.id z.id) xs ≡ false → Stand s xs → Stand s (xs ++ (y ∷ []))
 stand_last s [] y live rank none stand = (live, rank, refl, tt)

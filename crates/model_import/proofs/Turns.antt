@@ -10,6 +10,7 @@ use Rattle.ecore_meta.specs.Meta.{Meta}
 use Rattle.model_state.specs.declared.step.Step.{Step}
 use Rattle.model_state.specs.Keys.{Name, RowKey}
 use Rattle.edit_laws.specs.Rows.{Rows}
+use Rattle.model_laws.proofs.Inserts.{or_first, or_second}
 use Rattle.emfjson_model.specs.declared.doc.DocRefs.{DocRefs}
 use Rattle.emfjson_model.specs.declared.doc.DocRow.{DocRow}
 use Rattle.emfjson_model.specs.Fits.{are_apart}
@@ -18,7 +19,7 @@ use Rattle.model_import.specs.After.{refs_set, rows_from, targets_set}
 use Rattle.model_import.specs.Links.{link_to, links_from, refs_made, targets_made}
 use Rattle.model_import.specs.Names.{name_at}
 use Rattle.model_import.specs.News.{rank_of}
-use Rattle.model_import.proofs.Indexed.{drop_at, drop_next, or_first, or_second}
+use Rattle.model_import.proofs.Indexed.{drop_at, drop_next, drop_none, or_later}
 
 -- a row's feature refers to another row, which stands at the index of its list
 pub record Turn : Type 0 where
@@ -136,14 +137,10 @@ module _ (P : Turn → Type 0) where
   each_in n f whole k [] left h = tt
   each_in n f whole k (b ∷ bs) left h = (h k b (drop_at k whole b bs left), each_in n f whole (suc k) bs (drop_next k whole b bs left) h)
 
-  none_dropped : {X : Type 0} (xs : List X) → drop 0 xs ≡ xs
-  none_dropped [] = refl
-  none_dropped (x ∷ xs) = refl
-
   each_of : (n : ℕ) (refs : List DocRefs) → ((l : ℕ) (q : DocRefs) → slice_get refs l ≡ Some q → (j b : ℕ) → slice_get q.targets j ≡ Some b → P (turn n q.feature j b)) → Each P (turns_of n refs)
   each_of n [] h = tt
   each_of n (q ∷ refs) h =
-      each_append P (turns_in n q.feature 0 q.targets) (turns_of n refs) (each_in n q.feature q.targets 0 q.targets (none_dropped q.targets) (h 0 q refl)) (each_of n refs (λ l. h (suc l)))
+      each_append P (turns_in n q.feature 0 q.targets) (turns_of n refs) (each_in n q.feature q.targets 0 q.targets (drop_none q.targets) (h 0 q refl)) (each_of n refs (λ l. h (suc l)))
 
   pub each_from : (rows rest : List DocRow) (n : ℕ) → drop n rows ≡ rest → ((i : ℕ) (r : DocRow) → slice_get rows i ≡ Some r → (l : ℕ) (q : DocRefs) → slice_get r.refs l ≡ Some q → (j b : ℕ) → slice_get q.targets j ≡ Some b → P (turn i q.feature j b))
       → Each P (turns_from n rest)
@@ -231,11 +228,7 @@ of_features n [] = tt
 of_features n (q ∷ refs) =
     each_append _ (turns_in n q.feature 0 q.targets) (turns_of n refs)
     (each_map (λ t. (t.row ≡ n) × (t.feature ≡ q.feature)) (λ t. (t.row ≡ n) × (nat_eq t.feature q.feature || list_any (nat_eq t.feature) (features refs) ≡ true)) (λ t is. (is.0, ap (λ b. b || list_any (nat_eq t.feature) (features refs)) (ap (λ g. nat_eq g q.feature) is.1 ∙ nat_equality.own q.feature))) (turns_in n q.feature 0 q.targets) (in_feature n q.feature 0 q.targets))
-    (each_map (λ t. (t.row ≡ n) × (list_any (nat_eq t.feature) (features refs) ≡ true)) (λ t. (t.row ≡ n) × (nat_eq t.feature q.feature || list_any (nat_eq t.feature) (features refs) ≡ true)) (λ t is. (is.0, or_true (nat_eq t.feature q.feature) _ is.1)) (turns_of n refs) (of_features n refs))
-  where
-    or_true : (a b : Bool) → b ≡ true → a || b ≡ true
-    or_true true b h = refl
-    or_true false b h = h
+    (each_map (λ t. (t.row ≡ n) × (list_any (nat_eq t.feature) (features refs) ≡ true)) (λ t. (t.row ≡ n) × (nat_eq t.feature q.feature || list_any (nat_eq t.feature) (features refs) ≡ true)) (λ t is. (is.0, or_later (nat_eq t.feature q.feature) _ is.1)) (turns_of n refs) (of_features n refs))
 
 alone_of : (n : ℕ) (refs : List DocRefs) → are_apart (features refs) ≡ true → ((l : ℕ) (q : DocRefs) → slice_get refs l ≡ Some q → are_apart q.targets ≡ true) → Alone (turns_of n refs)
 alone_of n [] h each = tt

@@ -26,6 +26,7 @@ use Rattle.model_state.proofs.Orders.{attr_order}
 use Rattle.model_state.proofs.StepTests.{pass, value_equality}
 use Rattle.model_laws.proofs.Many.{part}
 use Rattle.model_laws.proofs.Runs.{fold_append, fold_more}
+use Rattle.model_laws.proofs.Inserts.{or_first, or_second}
 use Rattle.emfjson_model.specs.declared.doc.DocAttr.{DocAttr}
 use Rattle.emfjson_model.specs.declared.doc.DocRow.{DocRow}
 use Rattle.emfjson_model.specs.Fits.{AttrFits, Fits, are_apart}
@@ -33,7 +34,7 @@ use Rattle.model_import.specs.After.{Attrs, attrs_from, attrs_set}
 use Rattle.model_import.specs.Laws as laws
 use Rattle.model_import.specs.Names.{name_at}
 use Rattle.model_import.specs.Values.{attr_made, attrs_made, inserts_made, put_made, values_from}
-use Rattle.model_import.proofs.Indexed.{differ_at, drop_at, drop_less, drop_next, or_first}
+use Rattle.model_import.proofs.Indexed.{differ_at, drop_at, drop_less, drop_next}
 
 -- ---- a value among those of a list
 module _ (p : Value → Bool) where
@@ -48,13 +49,9 @@ differ_middle (d ∷ done) v vs h =
     ap (λ b. b || list_any (value_eq v) done) (apart value_eq value_equality d v here)
     ∙ differ_middle done v vs (and_second (not (list_any (value_eq d) (done ++ (v ∷ vs)))) _ h)
   where
-    second : (a b : Bool) → a || b ≡ false → b ≡ false
-    second true b h = cc
-    second false b h = h
-
     not_there : (ds : List Value) → list_any (value_eq d) (ds ++ (v ∷ vs)) ≡ false → value_eq d v ≡ false
     not_there [] g = or_first (value_eq d v) _ g
-    not_there (x ∷ ds) g = not_there ds (second (value_eq d x) _ g)
+    not_there (x ∷ ds) g = not_there ds (or_second (value_eq d x) _ g)
 
 once : (unique : Bool) (done : List Value) (v : Value) (vs : List Value) → cond unique (is_distinct (done ++ (v ∷ vs))) true ≡ true → unique && list_any (value_eq v) done ≡ false
 once true done v vs h = differ_middle done v vs h
