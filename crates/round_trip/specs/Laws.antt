@@ -1,0 +1,17 @@
+-- A model's text, brought into the empty project, is shown as the same text.
+use Rattle.std.specs.Prelude.{◌≡◌, ◌-◌, ◌^◌, ◌<◌, ℕ, List, Option, Ok, length}
+use Rattle.ecore_meta.specs.Meta.{Meta}
+use Rattle.model_state.specs.declared.operation.Operation.{Operation}
+use Rattle.model_state.specs.Good.{Good, Sound}
+use Rattle.model_state.specs.Keys.{Name}
+use Rattle.model_state.specs.State.{State, nothing}
+use Rattle.emfjson_model.specs.declared.doc.DocRow.{DocRow}
+use Rattle.emfjson_model.specs.Fits.{Fits}
+use Rattle.emfjson_text.specs.Tree.{text}
+use Rattle.model_import.specs.After.{import_after}
+use Rattle.round_trip.specs.Tells.{Tells}
+
+-- what rows that tell a good model leave in the empty project has the text of that model
+abbrev pub TellingsAreShown : Type 0
+TellingsAreShown = (meta : Meta) → Sound meta → (m : State) → Good meta m → (names : List Name) (rows : List DocRow) → Fits meta rows → Tells m names rows → length rows < 2 ^ 32 - 1
+    → text meta (import_after nothing names rows) ≡ text meta m

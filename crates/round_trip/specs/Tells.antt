@@ -1,0 +1,42 @@
+-- The rows of a document that tell a model.
+use Rattle.std.specs.Prelude.{◌≡◌, ℕ, suc, Bool, true, cond, List, [], ◌∷◌, Option, None, Some, length, map, slice_get}
+use Rattle.std.specs.Option.{option_map_or}
+use Rattle.std.specs.FinMap.{get}
+use Rattle.ecore_meta.specs.Meta.{Meta}
+use Rattle.ecore_meta.specs.declared.meta.Value.{Value}
+use Rattle.model_state.specs.declared.step.Place.{Place}
+use Rattle.model_state.specs.Keys.{Name}
+use Rattle.model_state.specs.State.{State, place_eq}
+use Rattle.emfjson_model.specs.declared.doc.DocAttr.{DocAttr}
+use Rattle.emfjson_model.specs.declared.doc.DocRow.{DocRow}
+use Rattle.emfjson_model.specs.Merged.{attr_at, targets_at}
+use Rattle.emfjson_text.specs.Tree.{child_ids, target_ids, values_at}
+use Rattle.model_import.specs.Names.{name_at}
+use Rattle.model_import.specs.News.{place_of}
+
+-- the values that a row gives an attribute, none where it gives none
+abbrev pub first_values : List DocAttr → List Value
+first_values [] = []
+first_values (a ∷ attrs) = a.values
+
+abbrev pub values_told : ℕ → List DocAttr → List Value
+values_told f attrs = first_values (attr_at f attrs)
+
+-- the rows that stand in a place, by their names, in order; the first row has the number n
+abbrev pub standing_in : List Name → Place → ℕ → List DocRow → List Name
+standing_in names p n [] = []
+standing_in names p n (r ∷ rest) = cond (place_eq (place_of names r.parent) p) (name_at names n ∷ standing_in names p (suc n) rest) (standing_in names p (suc n) rest)
+
+-- a row tells an element: its class, its place, its values and the targets of its references, in order
+pub record TellsElement (m : State) (names : List Name) (e : Name) (r : DocRow) : Type 0 where
+  pub id : r.id ≡ Some e
+  pub class : get m.kind e ≡ Some r.class
+  pub place : get m.place e ≡ Some (place_of names r.parent)
+  pub values : (f : ℕ) → values_told f r.attrs ≡ values_at m e f
+  pub targets : (f : ℕ) → map (name_at names) (targets_at f r.refs) ≡ target_ids m e f
+
+-- the rows, whose ids are the names, tell the model: each row an element, and each place's rows its elements in their order
+pub record Tells (m : State) (names : List Name) (rows : List DocRow) : Type 0 where
+  pub as_many : length names ≡ length rows
+  pub each : (n : ℕ) (r : DocRow) (e : Name) → slice_get rows n ≡ Some r → slice_get names n ≡ Some e → TellsElement m names e r
+  pub lists : (p : Place) → standing_in names p 0 rows ≡ child_ids m p

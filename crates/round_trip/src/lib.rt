@@ -1,0 +1,5 @@
+//! The round trip: a model's text, brought into an empty project, is shown as the same text.
+#![tactic(auto)]
+
+mod laws;
+
