@@ -24,7 +24,7 @@ use Rattle.emfjson_model.specs.declared.doc.DocRefs.{DocRefs}
 use Rattle.emfjson_model.specs.declared.doc.DocRow.{DocRow}
 use Rattle.emfjson_model.specs.declared.draft.Draft.{Draft}
 use Rattle.emfjson_model.specs.declared.fault.ModelFault.TheVariants.{BadValue, Bound, WrongType, DupId, BadId}
-use Rattle.emfjson_model.specs.Attributes.{elements, is_null, is_within, set_part, values_in, values_part}
+use Rattle.emfjson_model.specs.Attributes.{elements, is_null, is_within, may_hold, set_part, values_in, values_part}
 use Rattle.emfjson_model.specs.Classes.{class_of, id_of}
 use Rattle.emfjson_model.specs.Document.{doc_of, of_json, resolved}
 use Rattle.emfjson_model.specs.Laws.{IdsAreApart, gives_id, ids_repeat, is_given}
@@ -90,7 +90,7 @@ pub unless_ok : {A : Type 0} (t : Bool) (e : _) (r : Read A) (a : A) → unless 
 unless_ok true e r a h = h
 unless_ok false e r a h = cc
 
-unless_true : {A : Type 0} (t : Bool) (e : _) (r : Read A) (a : A) → unless t e r ≡ Ok a → t ≡ true
+pub unless_true : {A : Type 0} (t : Bool) (e : _) (r : Read A) (a : A) → unless t e r ≡ Ok a → t ≡ true
 unless_true true e r a h = refl
 unless_true false e r a h = cc
 
@@ -153,7 +153,7 @@ held_rows_are (Ok rows) more h = ap (λ (p : Part). Ok p.rows) (of_ok (rows_part
 module _ (meta : Meta) where
   kind_gives : (f : ℕ) (k : Kind) (d : Data) (held : ℕ → ℕ → Read (List Draft)) (more : Part) → feature_part meta f k d held ≡ Ok more → Bare more ⊎ Held held more
   kind_gives f (Attr s default) d held more h = inl (single_bare f (is_null d) (value_in meta s d) (λ v. is_default (kind_of meta f) v) more h)
-  kind_gives f (AttrMany s unique) d held more h = inl (many_bare f (is_null d) (values_in meta s unique (elements d)) (λ vs. is_within (length vs) (upper_of meta f)) more h)
+  kind_gives f (AttrMany s unique) d held more h = inl (many_bare f (is_null d) (values_in meta s unique (elements d)) (λ vs. may_hold meta f (length vs)) more h)
   kind_gives f (Bounded t o) d held more h = inl (bare_is (links_part f (is_one (upper_of meta f)) d) more (links_bare f (is_null d) (entries_of (is_one (upper_of meta f)) d)) (of_ok (links_part f (is_one (upper_of meta f)) d) more h))
   kind_gives f (Free t o) d held more h = inl (bare_is (links_part f (is_one (upper_of meta f)) d) more (links_bare f (is_null d) (entries_of (is_one (upper_of meta f)) d)) (of_ok (links_part f (is_one (upper_of meta f)) d) more h))
   kind_gives f (Contains t o) d held more h = inr (f, t, held_rows_are (held f t) more h)
@@ -229,7 +229,8 @@ module _ (meta : Meta) where
     held_apart ids parent target null more apart h = nothing_grown ids more apart h
     held_apart ids parent target (object ms) more apart h =
         object_apart ids (Some parent) (Some target) ms (λ c below. members_rows meta c (length ids) below no_part ms)
-        (λ c id part a e. members_apart c (length ids) (ids ++ id ∷ []) no_part ms part (subst (λ (is : Ids). repeats is ≡ false) (sym (append-nil (ids ++ id ∷ []))) a) e) more apart h
+        (λ c id part a e. members_apart c (length ids) (ids ++ id ∷ []) no_part ms part (subst (λ (is : Ids). repeats is ≡ false) (sym (append-nil (ids ++ id ∷ []))) a) e) more apart
+        (unless_ok (is_within 1 (upper_of meta parent.feature)) Bound (object_rows meta ids (Some parent) (Some target) ms (λ c below. members_rows meta c (length ids) below no_part ms)) more h)
     held_apart ids parent target (array ds) more apart h =
         items_apart ids (Some parent) (Some target) [] ds more (subst (λ (is : Ids). repeats is ≡ false) (sym (append-nil ids)) apart)
         (unless_ok (is_within (length (list_of ds)) (upper_of meta parent.feature)) Bound (items_rows meta ids (Some parent) (Some target) [] ds) more

@@ -158,7 +158,8 @@ module _ (meta : Meta) where
     held_behind ids parent target null more before h = subst (λ (rs : List Draft). behind (length ids) (parents rs) ≡ true) (rows_ok [] more h) refl
     held_behind ids parent target (object ms) more before h =
         object_behind ids (Some parent) (Some target) ms (λ c below. members_rows meta c (length ids) below no_part ms)
-        (λ c id part less e. members_behind c (length ids) (ids ++ id ∷ []) no_part ms part less refl e) more before h
+        (λ c id part less e. members_behind c (length ids) (ids ++ id ∷ []) no_part ms part less refl e) more before
+        (unless_ok (is_within 1 (upper_of meta parent.feature)) Bound (object_rows meta ids (Some parent) (Some target) ms (λ c below. members_rows meta c (length ids) below no_part ms)) more h)
     held_behind ids parent target (array ds) more before h =
         items_behind ids (Some parent) (Some target) [] ds more before refl
         (unless_ok (is_within (length (list_of ds)) (upper_of meta parent.feature)) Bound (items_rows meta ids (Some parent) (Some target) [] ds) more

@@ -5,10 +5,10 @@ use Rattle.serde_json.specs.Data.{Data}
 use Rattle.ecore_meta.specs.Meta.{Meta}
 use Rattle.ecore_meta.specs.declared.meta.Scalar.{Scalar}
 use Rattle.ecore_meta.specs.declared.meta.Value.{Value}
-use Rattle.model_state.specs.Typing.{is_default, kind_of, upper_of}
+use Rattle.model_state.specs.Typing.{is_default, kind_of}
 use Rattle.emfjson_io.specs.Values.{value_in}
 use Rattle.emfjson_model.specs.declared.fault.ModelFault.TheVariants.{BadValue, Bound}
-use Rattle.emfjson_model.specs.Attributes.{is_null, elements, attr_part, values_part, set_part, single_part, values_in, is_within, many_part}
+use Rattle.emfjson_model.specs.Attributes.{is_null, elements, attr_part, values_part, set_part, single_part, values_in, may_hold, many_part}
 use Rattle.emfjson_model.specs.Parts.{no_part}
 use Rattle.emfjson_model.specs.Reads.{«then», unless, found}
 
@@ -25,17 +25,17 @@ module _ (meta : Meta) (f : ℕ) (s : Scalar) (d : Data) where
 module _ (meta : Meta) (f : ℕ) (s : Scalar) (unique : Bool) (d : Data) where
   pub many_null : is_null d ≡ true → many_part meta f s unique d ≡ Ok no_part
   many_null null =
-      ap (λ (b : Bool). cond b (Ok no_part) («then» (values_in meta s unique (elements d)) (λ vs. unless (is_within (length vs) (upper_of meta f)) Bound (Ok (values_part f vs))))) null
+      ap (λ (b : Bool). cond b (Ok no_part) («then» (values_in meta s unique (elements d)) (λ vs. unless (may_hold meta f (length vs)) Bound (Ok (values_part f vs))))) null
 
-  filled : is_null d ≡ false → many_part meta f s unique d ≡ «then» (values_in meta s unique (elements d)) (λ vs. unless (is_within (length vs) (upper_of meta f)) Bound (Ok (values_part f vs)))
+  filled : is_null d ≡ false → many_part meta f s unique d ≡ «then» (values_in meta s unique (elements d)) (λ vs. unless (may_hold meta f (length vs)) Bound (Ok (values_part f vs)))
   filled null =
-      ap (λ (b : Bool). cond b (Ok no_part) («then» (values_in meta s unique (elements d)) (λ vs. unless (is_within (length vs) (upper_of meta f)) Bound (Ok (values_part f vs))))) null
+      ap (λ (b : Bool). cond b (Ok no_part) («then» (values_in meta s unique (elements d)) (λ vs. unless (may_hold meta f (length vs)) Bound (Ok (values_part f vs))))) null
 
-  pub many_read : (vs : List Value) (b : Bool) (ds : List Data) → is_null d ≡ false → ds ≡ elements d → values_in meta s unique ds ≡ Ok vs → is_within (length vs) (upper_of meta f) ≡ b
+  pub many_read : (vs : List Value) (b : Bool) (ds : List Data) → is_null d ≡ false → ds ≡ elements d → values_in meta s unique ds ≡ Ok vs → may_hold meta f (length vs) ≡ b
       → many_part meta f s unique d ≡ unless b Bound (Ok (values_part f vs))
   many_read vs b ds null are is within =
       filled null
-      ∙ ap (λ r. «then» r (λ vs. unless (is_within (length vs) (upper_of meta f)) Bound (Ok (values_part f vs)))) (ap (values_in meta s unique) (sym are) ∙ is)
+      ∙ ap (λ r. «then» r (λ vs. unless (may_hold meta f (length vs)) Bound (Ok (values_part f vs)))) (ap (values_in meta s unique) (sym are) ∙ is)
       ∙ ap (λ (b : Bool). unless b Bound (Ok (values_part f vs))) within
 
 -- a list without values, and one with some

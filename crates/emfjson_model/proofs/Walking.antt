@@ -107,9 +107,12 @@ module _ (meta : Meta) (ids : Ids) (parent : DocParent) (target : ℕ) where
       ∙ ap (λ (b : Bool). by_tests b (is_within (length (list_of ds)) (upper_of meta parent.feature)) ds) p
       ∙ ap (λ (b : Bool). by_tests one b ds) q
 
-  pub held_object : (d : Data) (ms : Members) → d ≡ object ms → element_rows meta ids (Some parent) (Some target) d ≡ held_rows meta ids parent target d
+  pub held_object : (d : Data) (ms : Members) (within : Bool) → d ≡ object ms → is_within 1 (upper_of meta parent.feature) ≡ within → held_rows meta ids parent target d ≡ unless within Bound (element_rows meta ids (Some parent) (Some target) d)
   unfolding held_rows element_rows
-  held_object d ms is = ap (element_rows meta ids (Some parent) (Some target)) is ∙ sym (ap (held_rows meta ids parent target) is)
+  held_object d ms within is p =
+      ap (held_rows meta ids parent target) is
+      ∙ ap (λ (b : Bool). unless b Bound (element_rows meta ids (Some parent) (Some target) (object ms))) p
+      ∙ ap (λ d. unless within Bound (element_rows meta ids (Some parent) (Some target) d)) (sym is)
 
   pub held_boolean : (d : Data) (b : Bool) → d ≡ boolean b → held_rows meta ids parent target d ≡ Err WrongType
   unfolding held_rows

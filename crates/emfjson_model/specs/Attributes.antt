@@ -55,8 +55,12 @@ abbrev pub is_within : ℕ → Option ℕ → Bool
 is_within n None = true
 is_within n (Some upper) = nat_le n upper
 
+-- so many values are within the bound of the attribute, and no more than any holds
+abbrev pub may_hold : Meta → ℕ → ℕ → Bool
+may_hold meta f n = is_within n (upper_of meta f) && nat_le n 4294967295
+
 -- a many-valued attribute
 abbrev pub many_part : Meta → ℕ → Scalar → Bool → Data → Read Part
 many_part meta f s unique d =
     cond (is_null d) (Ok no_part)
-    («then» (values_in meta s unique (elements d)) (λ vs. unless (is_within (length vs) (upper_of meta f)) Bound (Ok (values_part f vs))))
+    («then» (values_in meta s unique (elements d)) (λ vs. unless (may_hold meta f (length vs)) Bound (Ok (values_part f vs))))

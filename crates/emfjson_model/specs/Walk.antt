@@ -89,7 +89,9 @@ unfoldable mutual
   -- the elements under the key of a containment
   pub held_rows : Meta → Ids → DocParent → ℕ → Data → Read (List Draft)
   held_rows meta ids parent target null = Ok []
-  held_rows meta ids parent target (object ms) = object_rows meta ids (Some parent) (Some target) ms (λ c below. members_rows meta c (length ids) below no_part ms)
+  held_rows meta ids parent target (object ms) =
+      unless (is_within 1 (upper_of meta parent.feature)) Bound
+      (object_rows meta ids (Some parent) (Some target) ms (λ c below. members_rows meta c (length ids) below no_part ms))
   held_rows meta ids parent target (array ds) =
       unless (not (is_one (upper_of meta parent.feature))) WrongType
       (unless (is_within (length (list_of ds)) (upper_of meta parent.feature)) Bound

@@ -5,7 +5,7 @@ ghost use Rattle.model_state.specs.Typing.{value_eq};
 ghost use Rattle.emfjson_io.specs.Values.{value_in};
 ghost use Rattle.emfjson_model.specs.declared.fault.ModelFault.TheVariants.{BadValue};
 ghost use Rattle.emfjson_model.specs.Answers.{Gives, Holds};
-ghost use Rattle.emfjson_model.specs.Attributes.{elements, many_part, new_value, next_value, single_part, values_in, is_within};
+ghost use Rattle.emfjson_model.specs.Attributes.{elements, is_within, many_part, may_hold, new_value, next_value, single_part, values_in};
 ghost use Rattle.emfjson_model.specs.Reads.{found};
 
 use crate::doc::DocAttr;
@@ -35,6 +35,13 @@ pub(crate) fn is_within(count: usize, upper: Option<u32>) -> bool
         None => true,
         Some(upper) => count <= upper as usize,
     }
+}
+
+/// Whether an attribute may hold so many values: none holds more than 2^32 - 1.
+fn may_hold(meta: &Metamodel, feature: u32, count: usize) -> bool
+    ensures { result ≡ may_hold meta.now feature count }
+{
+    is_within(count, upper_of(meta, feature)) && count <= 4294967295
 }
 
 fn value_of(
@@ -161,7 +168,7 @@ pub(crate) fn many_part(
     match values_in(alloc, meta, scalar, unique, elements(json)) {
         Err(fault) => Err(fault),
         Ok(values) => {
-            if !is_within(values.len(), upper_of(meta, feature)) {
+            if !may_hold(meta, feature, values.len()) {
                 return Err(ModelFault::Bound);
             }
             if values.len() == 0 {

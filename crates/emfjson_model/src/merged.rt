@@ -1,6 +1,6 @@
 ghost use Rattle.std.specs.Prelude.{◌≡◌, IfOk, [], ◌++◌, option_to_list};
 ghost use Rattle.emfjson_model.specs.Answers.{Gives};
-ghost use Rattle.emfjson_model.specs.Merged.{attr_at, attrs_by, given_at, merged, merged_all, merged_at, merged_within, naming, next_row, others, row_of, rows_by, targets_at};
+ghost use Rattle.emfjson_model.specs.Merged.{attr_at, attrs_by, given_at, is_set, merged, merged_all, merged_at, merged_within, naming, next_row, others, row_of, rows_by, targets_at};
 
 use crate::attributes::is_within;
 use crate::classes::features_of;
@@ -170,12 +170,21 @@ fn attr_at(alloc: Global, attrs: &[DocAttr], f: u32) -> Result<Option<DocAttr>, 
     Ok(None)
 }
 
+fn is_set(attrs: &[DocAttr], f: u32) -> bool
+    ensures { result ≡ is_set f attrs.now }
+{
+    attrs.iter().any(|attr| f == attr.feature)
+}
+
 /// The attributes by number.
 fn attrs_by(alloc: Global, features: &[u32], attrs: &[DocAttr]) -> Result<List<DocAttr>, AllocError>
-    ensures { IfOk result (λ all. all ≡ attrs_by features.now attrs.now) }
+    ensures { IfOk result (λ all. all ≡ attrs_by attrs.now [] features.now) }
 {
     let mut all = List::new(alloc);
     for f in features {
+        if is_set(all.as_slice(), *f) {
+            continue;
+        }
         if let Some(attr) = attr_at(alloc, attrs, *f)? {
             all.push(attr)?;
         }

@@ -204,7 +204,12 @@ fn held_of(
             }
             items_of(alloc, meta, rows, Some(parent), Some(target), items)
         }
-        Value::Object(_) => element(alloc, meta, rows, Some(parent), Some(target), value),
+        Value::Object(_) => {
+            if !is_within(1, upper_of(meta, parent.feature)) {
+                return Err(ModelFault::Bound);
+            }
+            element(alloc, meta, rows, Some(parent), Some(target), value)
+        }
         Value::Bool(_) => Err(ModelFault::WrongType),
         Value::Number(_) => Err(ModelFault::WrongType),
         Value::String(_) => Err(ModelFault::WrongType),

@@ -1,7 +1,7 @@
-use Rattle.std.proofs.Common.{◌∙◌, refl, sym, ap, ap₂, append-nil, true, map}
+use Rattle.std.proofs.Common.{◌∙◌, refl, sym, ap, append-nil, true, map}
 use Rattle.std.specs.Prelude.{Ok}
 use Rattle.serde_json.specs.View.{view}
-use Rattle.emfjson_model.specs.Attributes.{attr_part, is_within}
+use Rattle.emfjson_model.specs.Attributes.{attr_part, may_hold}
 use Rattle.emfjson_model.specs.Parts.{Part, no_part}
 use Rattle.emfjson_model.proofs.Features.{many_null, many_read, no_values, some_values}
 use Rattle.emfjson_model.proofs.attributes.many_part.Goals as goal
@@ -19,7 +19,7 @@ pub returns-then-len-eq0 : goal.returns-then-len-eq0
 returns-then-len-eq0 c = (
   no_part,
   many_read c.args.meta.now c.args.feature c.args.scalar.now c.args.unique (view c.args.json.now) c.in-Ok.values true (map view c.elements.result.now) (sym c.is_null.ensures ∙ c.if-is_null.false) c.elements.ensures c.in-Ok.ensures
-      (ap₂ is_within (sym c.len.ensures) (sym c.upper_of.ensures) ∙ sym c.is_within.ensures ∙ c.if-not-is_within.false)
+      (ap (may_hold c.args.meta.now c.args.feature) (sym c.len.ensures) ∙ sym c.may_hold.ensures ∙ c.if-not-may_hold.false)
       ∙ ap (λ (p : Part). Ok p) (no_values c.args.feature c.in-Ok.values (sym c.len-in-Ok.ensures ∙ c.if-len-eq0.true)),
   sym (append-nil _),
   sym (append-nil _),
@@ -30,7 +30,7 @@ pub returns-in-Ok-push : goal.returns-in-Ok-push
 returns-in-Ok-push c = (
   attr_part c.args.feature c.in-Ok.values,
   many_read c.args.meta.now c.args.feature c.args.scalar.now c.args.unique (view c.args.json.now) c.in-Ok.values true (map view c.elements.result.now) (sym c.is_null.ensures ∙ c.if-is_null.false) c.elements.ensures c.in-Ok.ensures
-      (ap₂ is_within (sym c.len.ensures) (sym c.upper_of.ensures) ∙ sym c.is_within.ensures ∙ c.if-not-is_within.false)
+      (ap (may_hold c.args.meta.now c.args.feature) (sym c.len.ensures) ∙ sym c.may_hold.ensures ∙ c.if-not-may_hold.false)
       ∙ ap (λ (p : Part). Ok p) (some_values c.args.feature c.in-Ok.values (λ h. c.if-len-eq0.false (c.len-in-Ok.ensures ∙ h))),
   c.in-Ok-push.ensures.ok,
   sym (append-nil _),

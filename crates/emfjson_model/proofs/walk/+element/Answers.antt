@@ -41,9 +41,16 @@ element-returns-in-Ok-id_of t c =
 pub held_of-returns-in-Null : goal.held_of-returns-in-Null
 held_of-returns-in-Null t c = ([], held_null c.args.meta.now (ids_of c.args.rows.now.items) c.args.parent c.args.target (view c.args.value.now) (view_null c.args.value.now c.in-Null.is), sym (append-nil _))
 
-pub held_of-returns-in-Object : goal.held_of-returns-in-Object
-held_of-returns-in-Object t c =
-    walks_is _ _ c.element.result _ _ c.element.ensures (held_object c.args.meta.now (ids_of c.args.rows.now.items) c.args.parent c.args.target (view c.args.value.now) _ (view_object c.args.value.now _ c.in-Object.is))
+pub held_of-returns-then-not-is_within-2 : goal.held_of-returns-then-not-is_within-2
+held_of-returns-then-not-is_within-2 t c =
+    held_object c.args.meta.now (ids_of c.args.rows.now.items) c.args.parent c.args.target (view c.args.value.now) _ false (view_object c.args.value.now _ c.in-Object.is)
+    (ap (is_within 1) (sym c.upper_of.ensures) ∙ sym c.is_within-in-Object.ensures ∙ c.if-not-is_within-2.true)
+
+pub held_of-returns-else-not-is_within-2 : goal.held_of-returns-else-not-is_within-2
+held_of-returns-else-not-is_within-2 t c =
+    walks_is _ _ c.element.result _ _ c.element.ensures
+    (sym (held_object c.args.meta.now (ids_of c.args.rows.now.items) c.args.parent c.args.target (view c.args.value.now) _ true (view_object c.args.value.now _ c.in-Object.is)
+    (ap (is_within 1) (sym c.upper_of.ensures) ∙ sym c.is_within-in-Object.ensures ∙ c.if-not-is_within-2.false)))
 
 pub items_of-returns-in-Err : goal.items_of-returns-in-Err
 items_of-returns-in-Err t c =
