@@ -5,3 +5,6 @@ pub mod Features
 pub mod Walking
 pub mod Apart
 pub mod Behind
+pub mod Keys
+pub mod Every
+pub mod ValuesFit

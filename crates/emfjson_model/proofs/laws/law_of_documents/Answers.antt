@@ -1,5 +1,8 @@
 use Rattle.emfjson_model.proofs.Apart.{ids_apart}
 use Rattle.emfjson_model.proofs.Behind.{parents_first}
+use Rattle.emfjson_model.proofs.Keys.{read_trim}
+use Rattle.emfjson_model.proofs.Every.{every_at}
+use Rattle.emfjson_model.proofs.ValuesFit.{within_same}
 use Rattle.emfjson_model.proofs.laws.law_of_documents.Goals as goal
 
 pub returns : goal.returns
