@@ -88,7 +88,7 @@ length_last (x ∷ ids) id = ap (λ n. suc n) (length_last ids id)
 own_less : (n : ℕ) → nat_lt n (suc n) ≡ true
 own_less n = grind (arith, nat_tests)
 
-rows_ok : (xs ys : List Draft) → ◌≡◌ {A = Read (List Draft)} (Ok xs) (Ok ys) → xs ≡ ys
+pub rows_ok : (xs ys : List Draft) → ◌≡◌ {A = Read (List Draft)} (Ok xs) (Ok ys) → xs ≡ ys
 rows_ok xs ys h = cc
 
 -- rows behind those that are there
@@ -100,7 +100,7 @@ more_behind ids rows more h g =
 none_behind : (ids : Ids) (rows more : List Draft) → more ≡ [] → behind (length ids) (parents rows) ≡ true → behind (length ids) (parents (rows ++ more)) ≡ true
 none_behind ids rows more none h = ap (λ m. behind (length ids) (parents (rows ++ m))) none ∙ ap (λ rs. behind (length ids) (parents rs)) (append-nil rows) ∙ h
 
-still_before : (ids : Ids) (rows : List Draft) (p : Option DocParent) → parent_before (length ids) p ≡ true → parent_before (length (ids ++ ids_of rows)) p ≡ true
+pub still_before : (ids : Ids) (rows : List Draft) (p : Option DocParent) → parent_before (length ids) p ≡ true → parent_before (length (ids ++ ids_of rows)) p ≡ true
 still_before ids rows p h = ap (λ n. parent_before n p) (length_ids ids rows) ∙ before_more p (length ids) (length (parents rows)) h
 
 module _ (meta : Meta) where

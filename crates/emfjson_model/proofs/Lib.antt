@@ -8,3 +8,4 @@ pub mod Behind
 pub mod Keys
 pub mod Every
 pub mod ValuesFit
+pub mod Growing

@@ -3,6 +3,7 @@ use Rattle.emfjson_model.proofs.Behind.{parents_first}
 use Rattle.emfjson_model.proofs.Keys.{read_trim}
 use Rattle.emfjson_model.proofs.Every.{every_at}
 use Rattle.emfjson_model.proofs.ValuesFit.{within_same}
+use Rattle.emfjson_model.proofs.Growing.{walked_grows}
 use Rattle.emfjson_model.proofs.laws.law_of_documents.Goals as goal
 
 pub returns : goal.returns
