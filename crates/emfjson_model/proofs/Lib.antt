@@ -9,3 +9,5 @@ pub mod Keys
 pub mod Every
 pub mod ValuesFit
 pub mod Growing
+pub mod Standing
+pub mod Bounds

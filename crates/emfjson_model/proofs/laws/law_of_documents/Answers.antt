@@ -4,6 +4,8 @@ use Rattle.emfjson_model.proofs.Keys.{read_trim}
 use Rattle.emfjson_model.proofs.Every.{every_at}
 use Rattle.emfjson_model.proofs.ValuesFit.{within_same}
 use Rattle.emfjson_model.proofs.Growing.{walked_grows}
+use Rattle.emfjson_model.proofs.Standing.{kept as stands}
+use Rattle.emfjson_model.proofs.Bounds.{count_append}
 use Rattle.emfjson_model.proofs.laws.law_of_documents.Goals as goal
 
 pub returns : goal.returns
