@@ -11,3 +11,6 @@ pub mod ValuesFit
 pub mod Growing
 pub mod Standing
 pub mod Bounds
+pub mod Numbers
+pub mod Located
+pub mod Pairs

@@ -6,6 +6,9 @@ use Rattle.emfjson_model.proofs.ValuesFit.{within_same}
 use Rattle.emfjson_model.proofs.Growing.{walked_grows}
 use Rattle.emfjson_model.proofs.Standing.{kept as stands}
 use Rattle.emfjson_model.proofs.Bounds.{count_append}
+use Rattle.emfjson_model.proofs.Located.{located_row}
+use Rattle.emfjson_model.proofs.Numbers.{apart_last}
+use Rattle.emfjson_model.proofs.Pairs.{pair_back}
 use Rattle.emfjson_model.proofs.laws.law_of_documents.Goals as goal
 
 pub returns : goal.returns
