@@ -14,3 +14,4 @@ pub mod Bounds
 pub mod Numbers
 pub mod Located
 pub mod Pairs
+pub mod Given

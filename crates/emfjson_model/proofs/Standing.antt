@@ -80,19 +80,19 @@ pub record Within (meta : Meta) (c own : ℕ) (r : Draft) : Type 0 where
   pub takes : contains_to meta (kind_of meta feature) r.class ≡ true
 
 -- of a class with elements, and with attributes that fit
-pub record Sound (meta : Meta) (r : Draft) : Type 0 where
+pub record Typed (meta : Meta) (r : Draft) : Type 0 where
   pub concrete : is_concrete meta r.class ≡ true
   pub attrs : AttrsFit meta r.class r.attrs
 
 abbrev Placed : Meta → ℕ → List Draft → (Draft → Type 0) → Draft → Type 0
-Placed meta n rows Top r = Sound meta r × (Top r ⊎ Inside meta n rows r)
+Placed meta n rows Top r = Typed meta r × (Top r ⊎ Inside meta n rows r)
 
 pub record Rows (meta : Meta) (n : ℕ) (p : Option DocParent) (t : Option ℕ) (count : ℕ) (rows : List Draft) : Type 0 where
-  pub each : AllByRecursion (λ r. Sound meta r × (OnTop meta p t r ⊎ Inside meta n rows r)) rows
+  pub each : AllByRecursion (λ r. Typed meta r × (OnTop meta p t r ⊎ Inside meta n rows r)) rows
 
 pub record Keys (meta : Meta) (c own : ℕ) (last : Option Name) (part : Part) : Type 0 where
   pub attrs : AttrsFit meta c part.attrs
-  pub each : AllByRecursion (λ r. Sound meta r × (Within meta c own r ⊎ Inside meta (suc own) part.rows r)) part.rows
+  pub each : AllByRecursion (λ r. Typed meta r × (Within meta c own r ⊎ Inside meta (suc own) part.rows r)) part.rows
 
 module _ (meta : Meta) where
   inside_by : (n l : ℕ) (xs ys : List Draft) → ((m c : ℕ) → IsAt n xs m c → IsAt l ys m c) → (r : Draft) → Inside meta n xs r → Inside meta l ys r
