@@ -15,3 +15,4 @@ pub mod Numbers
 pub mod Located
 pub mod Pairs
 pub mod Given
+pub mod Merging

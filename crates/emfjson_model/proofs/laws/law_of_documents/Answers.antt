@@ -10,6 +10,7 @@ use Rattle.emfjson_model.proofs.Located.{located_row}
 use Rattle.emfjson_model.proofs.Numbers.{apart_last}
 use Rattle.emfjson_model.proofs.Pairs.{pair_back}
 use Rattle.emfjson_model.proofs.Given.{given_fit}
+use Rattle.emfjson_model.proofs.Merging.{listed}
 use Rattle.emfjson_model.proofs.laws.law_of_documents.Goals as goal
 
 pub returns : goal.returns
