@@ -16,3 +16,6 @@ pub mod Located
 pub mod Pairs
 pub mod Given
 pub mod Merging
+pub mod SetAttrs
+pub mod Made
+pub mod Fitting

@@ -1,15 +1,17 @@
 -- The elements of a document that fit a metamodel and each other: what holds of each document that is read.
-use Rattle.std.specs.Prelude.{◌≡◌, ℕ, suc, Bool, true, false, ◌&&◌, not, List, [], ◌∷◌, Option, None, Some, length, map, nat_eq, slice_get, take}
+use Rattle.std.specs.Prelude.{◌≡◌, ℕ, suc, Bool, true, false, ◌&&◌, not, List, [], ◌∷◌, Option, None, Some, Ok, length, map, nat_eq, slice_get}
 use Rattle.std.specs.List.{count_by, list_any}
 use Rattle.finite_maps.specs.Maps.{is_within}
 use Rattle.finite_maps.specs.Equal.{option_eq}
 use Rattle.ecore_meta.specs.Meta.{Meta}
+use Rattle.ecore_meta.specs.Sound.{Sound}
 use Rattle.model_state.specs.Good.{ValuesOk}
 use Rattle.model_state.specs.Typing.{child_upper, contains_to, has_feature, is_concrete, is_plain, kind_of, links, opposite_of, row_upper, upper_of}
 use Rattle.emfjson_model.specs.declared.doc.DocAttr.{DocAttr}
 use Rattle.emfjson_model.specs.declared.doc.DocParent.{DocParent}
 use Rattle.emfjson_model.specs.declared.doc.DocRefs.{DocRefs}
 use Rattle.emfjson_model.specs.declared.doc.DocRow.{DocRow}
+use Rattle.emfjson_model.specs.Document.{doc_of}
 use Rattle.emfjson_model.specs.Laws.{are_behind, ids_repeat}
 use Rattle.emfjson_model.specs.Merged.{targets_at}
 use Rattle.emfjson_model.specs.References.{parent_eq}
@@ -60,3 +62,7 @@ pub record Fits (meta : Meta) (rows : List DocRow) : Type 0 where
   pub ids_apart : ids_repeat rows ≡ false
   pub bound : (p : DocParent) → is_within (standing (Some p) rows) (child_upper meta p.feature) ≡ true
   pub mirrored : (n : ℕ) (r : DocRow) (f : ℕ) (b : ℕ) (d : DocRow) (g : ℕ) → slice_get rows n ≡ Some r → slice_get rows b ≡ Some d → opposite_of meta f ≡ Some g → list_any (nat_eq b) (targets_at f r.refs) ≡ list_any (nat_eq n) (targets_at g d.refs)
+
+-- the elements of each document that is read fit
+abbrev pub DocumentsFit : Type 0
+DocumentsFit = (meta : Meta) → Sound meta → (text : List ℕ) (rows : List DocRow) → doc_of meta text ≡ Ok rows → Fits meta rows
