@@ -1,7 +1,7 @@
 -- The elements of each document that is read fit.
-use Rattle.std.proofs.Common.{◌≡◌, ℕ, ◌+◌, ◌≤◌, ◌⊎◌, Bool, true, cond, List, [], ◌∷◌, map, nat_eq, refl, sym, ap, ap₂, subst, ◌∙◌, inl, inr, arith}
+use Rattle.std.proofs.Common.{◌≡◌, ℕ, ◌+◌, ◌≤◌, ◌⊎◌, true, cond, List, [], ◌∷◌, map, refl, sym, ap, subst, ◌∙◌, inl, inr, arith}
 use Rattle.std.specs.Prelude.{Option, None, Some, Ok, slice_get}
-use Rattle.std.specs.List.{AllByRecursion, count_by}
+use Rattle.std.specs.List.{count_by}
 use Rattle.std.proofs.lemmas.List.Sums.{sum_by-cons}
 use Rattle.serde_json.specs.Data.{Data}
 use Rattle.serde_json.specs.Read.{read}
@@ -9,7 +9,7 @@ use Rattle.finite_maps.specs.Equal.{option_eq}
 use Rattle.finite_maps.specs.Maps as maps
 use Rattle.ecore_meta.specs.Meta.{Meta}
 use Rattle.ecore_meta.specs.Sound.{Sound}
-use Rattle.model_state.specs.Typing.{child_upper, contains_to, has_feature, is_concrete, kind_of}
+use Rattle.model_state.specs.Typing.{child_upper, has_feature, is_concrete}
 use Rattle.emfjson_model.specs.declared.doc.DocAttr.{DocAttr}
 use Rattle.emfjson_model.specs.declared.doc.DocParent.{DocParent}
 use Rattle.emfjson_model.specs.declared.doc.DocRefs.{DocRefs}
@@ -18,8 +18,7 @@ use Rattle.emfjson_model.specs.declared.draft.Draft.{Draft}
 use Rattle.emfjson_model.specs.Classes.{features_of}
 use Rattle.emfjson_model.specs.Document.{doc_of, of_json, resolved}
 use Rattle.emfjson_model.specs.Fits.{AttrFits, DocumentsFit, Fits, RefsFit, RowFits, StandsFit, are_apart, standing}
-use Rattle.emfjson_model.specs.Merged.{attrs_by, rows_by}
-use Rattle.emfjson_model.specs.Reads.{Read}
+use Rattle.emfjson_model.specs.Merged.{rows_by}
 use Rattle.emfjson_model.specs.References.{given_by, parent_eq}
 use Rattle.emfjson_model.specs.Walk.{walked}
 use Rattle.emfjson_model.proofs.Apart.{ids_apart, rows_keep, then_ok}

@@ -1,9 +1,9 @@
 -- The lists of references that each element gives: one for each plain reference of its class, with targets of its type, each once.
-use Rattle.std.proofs.Common.{◌≡◌, ℕ, suc, Bool, true, false, ◌&&◌, ◌||◌, not, cond, List, [], ◌∷◌, ◌++◌, map, nat_eq, refl, sym, ap, subst, ◌∙◌, ◌⊎◌, inl, inr}
+use Rattle.std.proofs.Common.{◌≡◌, ℕ, suc, Bool, true, false, ◌&&◌, ◌||◌, not, cond, List, [], ◌∷◌, ◌++◌, nat_eq, refl, sym, ap, subst, ◌∙◌, ◌⊎◌, inl, inr}
 use Rattle.std.specs.Prelude.{Option, None, Some, Ok, option_and_then, slice_get}
 use Rattle.std.specs.List.{list_any}
 use Rattle.std.specs.Option.{option_map_or}
-use Rattle.finite_maps.proofs.Cases.{not_so, true_false}
+use Rattle.finite_maps.proofs.Cases.{true_false}
 use Rattle.finite_maps.proofs.EqualLaws.{and_both, and_first, and_second, nat_equality}
 use Rattle.ecore_meta.specs.Meta.{Meta}
 use Rattle.ecore_meta.specs.declared.meta.Class.{Class}
@@ -16,12 +16,12 @@ use Rattle.emfjson_model.specs.declared.fault.ModelFault.TheVariants.{BadRef, Wr
 use Rattle.emfjson_model.specs.Classes.{features_of}
 use Rattle.emfjson_model.specs.Fits.{are_apart}
 use Rattle.emfjson_model.specs.Merged.{targets_at}
-use Rattle.emfjson_model.specs.Reads.{Read, «then», collected, unless}
+use Rattle.emfjson_model.specs.Reads.{Read, collected, unless}
 use Rattle.emfjson_model.specs.References.{class_at, entries_at, given_by, located, new_target, plain_features, plain_more, refs_at, refs_of, target_of, targets_of}
 use Rattle.emfjson_model.proofs.Apart.{then_ok, unless_ok, unless_true}
 use Rattle.emfjson_model.proofs.Keys.{and_then_some}
 use Rattle.emfjson_model.proofs.Located.{IsRow, located_row}
-use Rattle.emfjson_model.proofs.Numbers.{apart_last, has, has_either, has_left, has_one, has_right, is_either, not_is, not_not, or_split, same_bool}
+use Rattle.emfjson_model.proofs.Numbers.{apart_last, has, has_either, has_left, has_one, has_right, is_either, not_is, not_not}
 use Rattle.emfjson_model.proofs.Pairs.{Paired, all_pairs}
 
 -- ---- the plain references of a class

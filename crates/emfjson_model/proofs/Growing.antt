@@ -1,9 +1,9 @@
 -- What holds of the rows of a walk, by what its parts keep to.
 use Rattle.std.proofs.lemmas.Bool.Decides.{nat_tests}
 use Rattle.std.proofs.lemmas.List.{length-map}
-use Rattle.std.proofs.Common.{◌≡◌, ℕ, ◌+◌, suc, Bool, true, false, ◌||◌, cond, List, [], ◌∷◌, ◌++◌, length, codes, nat_eq, nat_lt, refl, sym, ap, ap₂, subst, ◌∙◌, append-nil, length-append, arith}
-use Rattle.std.specs.Prelude.{Option, None, Some, Ok, Err, not, slice_get}
-use Rattle.std.specs.List.{AllByRecursion, list_any}
+use Rattle.std.proofs.Common.{◌≡◌, ℕ, ◌+◌, suc, Bool, true, false, ◌||◌, cond, List, [], ◌∷◌, ◌++◌, length, codes, nat_eq, refl, sym, ap, subst, ◌∙◌, length-append, arith}
+use Rattle.std.specs.Prelude.{Option, None, Some, Ok, not, slice_get}
+use Rattle.std.specs.List.{list_any}
 use Rattle.std.specs.Option.{option_map_or}
 use Rattle.std.specs.Str.{bytes_eq}
 use Rattle.serde_json.specs.Data.{Data, null, boolean, number, string, array, object, Items, no_items, item, Members, no_members, member}
@@ -201,9 +201,9 @@ module _ (meta : Meta) (Rows : ℕ → Option DocParent → Option ℕ → ℕ �
         members_grows c own ids (Some k) (joined part one.0) ms more trim.2 long
         (key_grows c own last k part d held one.0 trim.0 so
         (λ f target rows e.
-            let p : DocParent = record { row = own; feature = f } in
-            subst (λ n. Under n p target rows) (count_ids ids part.rows ∙ ap (λ n. n + length part.rows) long)
-            (held_grows (ids ++ ids_of part.rows) p target d rows trim.1 (still_before ids part.rows (Some p) (ap (λ n. parent_before n (Some p)) long ∙ own_before own p refl)) e))
+        let p : DocParent = record { row = own; feature = f } in
+        subst (λ n. Under n p target rows) (count_ids ids part.rows ∙ ap (λ n. n + length part.rows) long)
+        (held_grows (ids ++ ids_of part.rows) p target d rows trim.1 (still_before ids part.rows (Some p) (ap (λ n. parent_before n (Some p)) long ∙ own_before own p refl)) e))
         one.1) one.2
 
     held_grows : (ids : Ids) (parent : DocParent) (target : ℕ) (d : Data) (more : List Draft) → Trim d → parent_before (length ids) (Some parent) ≡ true → held_rows meta ids parent target d ≡ Ok more → Under (length ids) parent target more

@@ -1,5 +1,5 @@
 -- What a reference finds is a row.
-use Rattle.std.proofs.Common.{◌≡◌, ℕ, zero, suc, ◌+◌, Bool, true, false, ◌==◌, cond, List, [], ◌∷◌, codes, refl, sym, ap, subst, ◌∙◌, arith}
+use Rattle.std.proofs.Common.{◌≡◌, ℕ, zero, suc, ◌+◌, Bool, true, false, ◌==◌, cond, List, [], ◌∷◌, codes, refl, sym, ap, ◌∙◌, arith}
 use Rattle.std.specs.Prelude.{Option, None, Some, option_and_then, slice_get}
 use Rattle.std.specs.List.{slice_split}
 use Rattle.ecore_meta.specs.Meta.{Meta, feature_named}
@@ -9,7 +9,7 @@ use Rattle.model_state.specs.Typing.{contains_kind, kind_of, upper_of}
 use Rattle.emfjson_model.specs.declared.doc.DocParent.{DocParent}
 use Rattle.emfjson_model.specs.declared.draft.Draft.{Draft}
 use Rattle.emfjson_model.specs.Links.{is_one}
-use Rattle.emfjson_model.specs.References.{along, along_parts, bare, child_at, child_by, child_named, class_at, has_id, index_of, located, located_bare, located_by, named, number_of, numbers_where, root_at, stands_in, step_from}
+use Rattle.emfjson_model.specs.References.{along, along_parts, bare, child_at, child_by, child_named, class_at, has_id, index_of, located, located_by, number_of, numbers_where, root_at, stands_in, step_from}
 use Rattle.emfjson_model.proofs.Keys.{and_then_some}
 
 -- the number is that of a row

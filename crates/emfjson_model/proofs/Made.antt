@@ -1,8 +1,7 @@
 -- The rows that are made of what the walk gives and of the lists that the elements give.
-use Rattle.std.proofs.Common.{◌≡◌, ℕ, suc, ◌+◌, Bool, true, false, ◌&&◌, ◌||◌, List, [], ◌∷◌, ◌++◌, length, map, nat_eq, refl, sym, ap, ap₂, subst, ◌∙◌, ◌⊎◌, inl, inr, arith}
+use Rattle.std.proofs.Common.{◌≡◌, ℕ, suc, ◌+◌, true, List, [], ◌∷◌, ◌++◌, length, refl, sym, ap, ap₂, subst, ◌∙◌, ◌⊎◌, inl, inr, arith}
 use Rattle.std.specs.Prelude.{Option, None, Some, Ok, slice_get}
 use Rattle.std.specs.Option.{option_map_or}
-use Rattle.finite_maps.proofs.Cases.{true_false}
 use Rattle.finite_maps.proofs.EqualLaws.{and_both, and_first, and_second}
 use Rattle.ecore_meta.specs.Meta.{Meta}
 use Rattle.ecore_meta.specs.Sound.{Sound}
@@ -14,10 +13,10 @@ use Rattle.emfjson_model.specs.declared.doc.DocRow.{DocRow}
 use Rattle.emfjson_model.specs.declared.draft.Draft.{Draft}
 use Rattle.emfjson_model.specs.Fits.{RefsFit, TargetFits, are_apart}
 use Rattle.emfjson_model.specs.Merged.{given_at, merged, merged_all, naming, next_row, others, row_of, rows_by, targets_at}
-use Rattle.emfjson_model.specs.Reads.{Read, «then»}
+use Rattle.emfjson_model.specs.Reads.{Read}
 use Rattle.emfjson_model.specs.References.{given_by}
 use Rattle.emfjson_model.proofs.Apart.{then_ok}
-use Rattle.emfjson_model.proofs.Given.{ListFits, ListsFit, TargetsFit, given_fit, given_typed, has_plain, plain_apart, plain_has, plain_of}
+use Rattle.emfjson_model.proofs.Given.{ListFits, ListsFit, given_fit, given_typed, has_plain, plain_apart, plain_has, plain_of}
 use Rattle.emfjson_model.proofs.Merging.{IsMerged, features, features_same, listed, merged_list, merged_pairs, named_in, named_there, others_apart}
 use Rattle.emfjson_model.proofs.Numbers.{has, has_at, has_either, has_left, has_right, is_either, same_bool}
 use Rattle.emfjson_model.proofs.Pairs.{Paired, all_pairs, pair_back, pair_forth}

@@ -1,18 +1,18 @@
 -- Lists of references with the targets that either side gives.
-use Rattle.std.proofs.Common.{◌≡◌, ℕ, zero, suc, ◌+◌, Bool, true, false, ◌&&◌, ◌||◌, not, cond, List, [], ◌∷◌, ◌++◌, length, map, nat_eq, refl, sym, ap, ap₂, subst, ◌∙◌, ◌⊎◌, inl, inr, arith}
+use Rattle.std.proofs.Common.{◌≡◌, ℕ, zero, suc, ◌+◌, Bool, true, false, ◌&&◌, ◌||◌, not, cond, List, [], ◌∷◌, ◌++◌, length, map, nat_eq, refl, sym, ap, ap₂, subst, ◌∙◌, inl, inr, arith}
 use Rattle.std.specs.Prelude.{Option, None, Some, Ok, slice_get}
 use Rattle.finite_maps.proofs.Cases.{not_so, true_false}
 use Rattle.finite_maps.proofs.EqualLaws.{and_both, and_first, and_second, nat_equality}
 use Rattle.ecore_meta.specs.Meta.{Meta}
-use Rattle.model_state.specs.Typing.{opposite_of, row_upper}
+use Rattle.model_state.specs.Typing.{row_upper}
 use Rattle.emfjson_model.specs.declared.doc.DocRefs.{DocRefs}
 use Rattle.emfjson_model.specs.declared.fault.ModelFault.TheVariants.{Bound}
 use Rattle.emfjson_model.specs.Attributes.{is_within}
 use Rattle.emfjson_model.specs.Fits.{are_apart}
 use Rattle.emfjson_model.specs.Merged.{merged, merged_all, merged_at, merged_within, naming, others, targets_at}
-use Rattle.emfjson_model.specs.Reads.{Read, «then», unless}
+use Rattle.emfjson_model.specs.Reads.{Read}
 use Rattle.emfjson_model.proofs.Apart.{then_ok, unless_ok, unless_true}
-use Rattle.emfjson_model.proofs.Numbers.{apart_append, has, has_either, has_one, is_either, neither, not_is, not_not, or_left, or_right, or_split}
+use Rattle.emfjson_model.proofs.Numbers.{apart_append, has, not_is, not_not, or_left, or_right, or_split}
 use Rattle.emfjson_model.proofs.Pairs.{Paired, all_pairs}
 
 -- the features of lists

@@ -1,6 +1,6 @@
 -- Each row of a walk is of a class with elements, has attributes that fit, and stands in a containment of its parent's class that takes it.
-use Rattle.std.proofs.Common.{◌≡◌, ℕ, zero, suc, ◌+◌, Bool, true, false, List, [], ◌∷◌, ◌++◌, length, refl, sym, ap, subst, ◌∙◌, append-nil, ◌⊎◌, inl, inr, arith}
-use Rattle.std.specs.Prelude.{Option, None, Some, slice_get}
+use Rattle.std.proofs.Common.{◌≡◌, ℕ, zero, suc, ◌+◌, true, List, [], ◌∷◌, ◌++◌, length, refl, sym, ap, subst, ◌∙◌, append-nil, ◌⊎◌, inl, inr, arith}
+use Rattle.std.specs.Prelude.{Option, Some, slice_get}
 use Rattle.std.specs.List.{AllByRecursion}
 use Rattle.ecore_meta.specs.Meta.{Meta}
 use Rattle.ecore_meta.specs.declared.meta.Kind.{Kind}
@@ -10,11 +10,10 @@ use Rattle.model_state.specs.Typing.{contains_to, has_feature, is_concrete, kind
 use Rattle.emfjson_model.specs.declared.doc.DocParent.{DocParent}
 use Rattle.emfjson_model.specs.declared.draft.Draft.{Draft}
 use Rattle.emfjson_model.specs.Classes.{may_stand}
-use Rattle.emfjson_model.specs.Parts.{Part, joined, no_part}
-use Rattle.emfjson_model.specs.Walk.{rows_part}
+use Rattle.emfjson_model.specs.Parts.{Part}
 use Rattle.emfjson_model.proofs.Every.{every_append, every_map}
 use Rattle.emfjson_model.proofs.Growing.{Kept, named_has}
-use Rattle.emfjson_model.proofs.ValuesFit.{AttrsFit, Plain}
+use Rattle.emfjson_model.proofs.ValuesFit.{AttrsFit}
 
 -- among rows from the number n on, the row m has the class c
 pub record IsAt (n : ℕ) (rows : List Draft) (m c : ℕ) : Type 0 where

@@ -137,11 +137,14 @@ module _ (meta : Meta) (c f : ℕ) (has : has_feature meta c f ≡ true) where
       let small = and_second (is_within (length (v ∷ vs)) (upper_of meta f)) (nat_le (length (v ∷ vs)) 4294967295) may in
       record {
         none = refl;
-        attrs = ((
-              has,
-              subst (λ (k : Kind). ValuesOk meta k (upper_of meta f) (v ∷ vs)) (sym kind)
-                  (so.typed, sym (within_same (length (v ∷ vs)) (upper_of meta f)) ∙ within, few (length (v ∷ vs)) small, so.once),
-            ), tt);
+        attrs = (
+          (
+            has,
+            subst (λ (k : Kind). ValuesOk meta k (upper_of meta f) (v ∷ vs)) (sym kind)
+                (so.typed, sym (within_same (length (v ∷ vs)) (upper_of meta f)) ∙ within, few (length (v ∷ vs)) small, so.once),
+          ),
+          tt,
+        );
       }
 
   many_by : (s : Scalar) (unique : Bool) (b : Bool) (r : Read (List Value)) (one : Part) → kind_of meta f ≡ AttrMany s unique → ((vs : List Value) → r ≡ Ok vs → Listed meta s unique vs)

@@ -1,5 +1,5 @@
 -- The elements of a document that fit a metamodel and each other: what holds of each document that is read.
-use Rattle.std.specs.Prelude.{◌≡◌, ℕ, suc, Bool, true, false, ◌&&◌, not, List, [], ◌∷◌, Option, None, Some, Ok, length, map, nat_eq, slice_get}
+use Rattle.std.specs.Prelude.{◌≡◌, ℕ, Bool, true, false, ◌&&◌, not, List, [], ◌∷◌, Option, None, Some, Ok, length, map, nat_eq, slice_get}
 use Rattle.std.specs.List.{count_by, list_any}
 use Rattle.finite_maps.specs.Maps.{is_within}
 use Rattle.finite_maps.specs.Equal.{option_eq}

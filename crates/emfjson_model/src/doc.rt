@@ -29,7 +29,7 @@ pub struct DocParent {
     pub feature: u32,
 }
 
-/// The values of an attribute, one or more.
+/// The values of an attribute, one or more, and fewer than 2^32.
 #[derive(Debug, Drop)]
 pub struct DocAttr {
     pub feature: u32,

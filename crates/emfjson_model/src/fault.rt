@@ -31,7 +31,7 @@ pub enum ModelFault {
     /// An `_id` is not of the form of an id.
     #[error("no id")]
     BadId,
-    /// A list has more entries than its feature's upper bound.
+    /// A list has more entries than its feature's upper bound, or an attribute more than 2^32 - 1.
     #[error("a list is past its upper bound")]
     Bound,
     /// A child is no object, or a child or target is not of the feature's type.

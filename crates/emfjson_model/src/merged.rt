@@ -176,7 +176,7 @@ fn is_set(attrs: &[DocAttr], f: u32) -> bool
     attrs.iter().any(|attr| f == attr.feature)
 }
 
-/// The attributes by number.
+/// The attributes by number, each once.
 fn attrs_by(alloc: Global, features: &[u32], attrs: &[DocAttr]) -> Result<List<DocAttr>, AllocError>
     ensures { IfOk result (λ all. all ≡ attrs_by attrs.now [] features.now) }
 {

@@ -131,6 +131,7 @@ fn has_feature(features: &[u32], f: u32) -> bool
     features.iter().any(|other| f == *other)
 }
 
+/// Those of the features that are plain references, each once.
 fn plain_features(
     alloc: Global,
     meta: &Metamodel,
