@@ -10,3 +10,4 @@ pub mod RowCounts
 pub mod Linking
 pub mod LinksLead
 pub mod ImportLead
+pub mod NameLists

@@ -11,7 +11,7 @@ use Rattle.model_state.specs.State.{State}
 use Rattle.edit_laws.specs.declared.fault.EditFault.{EditFault}
 use Rattle.edit_laws.specs.declared.fault.EditFault.TheVariants.{IdInUse, Memory}
 use Rattle.emfjson_model.specs.declared.doc.DocRow.{DocRow}
-use Rattle.model_import.specs.Names.{AreNames, any_in_use}
+use Rattle.model_import.specs.Names.{AreNames, any_in_use, names_of}
 use Rattle.model_import.specs.News.{news_made}
 use Rattle.model_import.specs.Values.{values_made}
 use Rattle.model_import.specs.Links.{links_made}
@@ -46,3 +46,7 @@ import_of meta m names rows = if any_in_use m rows then Err IdInUse else of_step
 abbrev pub Imports : Meta → State → ℕ → List DocRow → Result (Option Operation) EditFault → Type 0
 Imports meta m ws rows (Ok operation) = (names : List Name) × AreNames m rows ws 1 rows names × (import_of meta m names rows ≡ Ok operation)
 Imports meta m ws rows (Err fault) = (fault ≡ Memory) ⊎ ((any_in_use m rows ≡ true) × (fault ≡ IdInUse)) ⊎ ((names : List Name) × AreNames m rows ws 1 rows names × (import_of meta m names rows ≡ Err fault))
+
+-- what is recorded of a document in a workspace of that number, or why it is refused
+abbrev pub recorded_import : Meta → State → ℕ → List DocRow → Result (Option Operation) EditFault
+recorded_import meta m ws rows = import_of meta m (names_of m ws rows) rows

@@ -1,5 +1,5 @@
 -- The ids that the elements of a document get.
-use Rattle.std.specs.Prelude.{◌≡◌, ℕ, ◌+◌, ◌<◌, ◌≤◌, Bool, true, false, ◌||◌, List, [], ◌∷◌, Option, None, Some, slice_get, unwrap_or}
+use Rattle.std.specs.Prelude.{◌≡◌, ℕ, zero, suc, ◌+◌, ◌<◌, ◌≤◌, Bool, true, false, ◌||◌, List, [], ◌∷◌, Option, None, Some, slice_get, unwrap_or, if◌then◌else◌}
 use Rattle.std.specs.List.{list_any}
 use Rattle.model_state.specs.Keys.{Name}
 use Rattle.model_state.specs.State.{State, is_live}
@@ -41,3 +41,27 @@ in_use m (Some id) = is_live m id
 
 abbrev pub any_in_use : State → List DocRow → Bool
 any_in_use m rows = list_any (λ (r : DocRow). in_use m r.id) rows
+
+-- ---- the same ids as a function
+-- the first of n numbers from k on whose id is not taken, else the one behind them
+abbrev pub first_untaken : State → List DocRow → ℕ → ℕ → ℕ → ℕ
+first_untaken m rows ws zero k = k
+first_untaken m rows ws (suc n) k = if is_taken m rows (numbered ws k) then first_untaken m rows ws n (k + 1) else k
+
+-- the first number from k on whose id is not taken: memory holds fewer elements than there are numbers that are tried
+unfoldable pub next_number : State → List DocRow → ℕ → ℕ → ℕ
+next_number m rows ws k = first_untaken m rows ws 18446744073709551615 k
+
+-- the id that is given, or else the fresh one of the next number, with the ids of those behind it
+abbrev pub name_and_rest : State → List DocRow → ℕ → ℕ → Option Name → (ℕ → List Name) → List Name
+name_and_rest m rows ws k (Some id) rest = id ∷ rest k
+name_and_rest m rows ws k None rest = numbered ws (next_number m rows ws k) ∷ rest (next_number m rows ws k + 1)
+
+-- the ids of some rows in order, where fresh numbers go on from k
+abbrev pub names_from : State → List DocRow → ℕ → ℕ → List DocRow → List Name
+names_from m rows ws k [] = []
+names_from m rows ws k (r ∷ rest) = name_and_rest m rows ws k r.id (λ next. names_from m rows ws next rest)
+
+-- the ids of all rows
+abbrev pub names_of : State → ℕ → List DocRow → List Name
+names_of m ws rows = names_from m rows ws 1 rows
