@@ -1,5 +1,5 @@
 -- The words of a place: read where they stand in front, and standing in front where a place was read.
-use Rattle.std.proofs.Common.{◌≡◌, ◌≢◌, ℕ, List, [], ◌∷◌, ◌++◌, refl, ap, subst, ◌∙◌, true, false, Bool, cond, Result, Ok, Err, arith, codes}
+use Rattle.std.proofs.Common.{◌≡◌, ◌≢◌, ℕ, List, ◌∷◌, ◌++◌, refl, ap, subst, ◌∙◌, true, false, Bool, cond, Result, Ok, Err, arith, codes}
 use Rattle.edits.specs.declared.edit.Destination.{Destination}
 use Rattle.edits.specs.declared.edit.Destination.TheVariants.{Root, Inside}
 use Rattle.script_lang.specs.Left.{Left}

@@ -1,5 +1,5 @@
 -- Which words are tags'.
-use Rattle.std.proofs.Common.{◌≡◌, ◌≢◌, ℕ, List, [], ◌∷◌, None, Some, refl, true, false, Bool, arith}
+use Rattle.std.proofs.Common.{◌≡◌, ◌≢◌, ℕ, List, [], ◌∷◌, None, refl, arith}
 use Rattle.script_lang.specs.Command.{tag_of}
 
 -- a word that does not begin with `@` is no tag's

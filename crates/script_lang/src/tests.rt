@@ -429,18 +429,30 @@ fn shown_edit_of_reference(alloc: Global, edit: &Edit) -> Result<String, Fail> {
     )?)
 }
 
+// What reading a line gives: the command, or the column alone.
+fn read_of(alloc: Global, line: &str) -> Result<String, Fail> {
+    if line.len() > 100 {
+        return Err("too long a line")?;
+    }
+    match parse_line(alloc, line) {
+        Ok(command) => shown(alloc, &command),
+        Err(ParseFault::BadLine { column }) => Ok(format!(in alloc; "{column}")?),
+        Err(ParseFault::Memory) => Err("no memory")?,
+    }
+}
+
+fn wanted_of(alloc: Global, wanted: &Result<&str, u32>) -> Result<String, Fail> {
+    match wanted {
+        Ok(command) => Ok(String::from_str(alloc, command)?),
+        Err(column) => Ok(format!(in alloc; "{column}")?),
+    }
+}
+
 fn are_read(rt: &impl Abort, alloc: Global, rows: &[Row]) -> Result<(), Fail> {
     for (line, wanted) in rows {
-        assert!(rt; line.len() < 100);
-        match (parse_line(alloc, line), wanted) {
-            (Ok(command), Ok(text)) => {
-                assert_eq!(rt; shown(alloc, &command)?.as_str(), *text, "{line}");
-            }
-            (Err(ParseFault::BadLine { column }), Err(at)) => {
-                assert_eq!(rt; column, *at, "{line}");
-            }
-            _ => assert!(rt; false, "{line}"),
-        }
+        let read = read_of(alloc, line)?;
+        let wanted = wanted_of(alloc, wanted)?;
+        assert_eq!(rt; read.as_str(), wanted.as_str(), "{line}");
     }
     Ok(())
 }
