@@ -7,7 +7,7 @@ use Rattle.edits.specs.declared.edit.Edit.{Edit}
 use Rattle.edits.specs.declared.edit.Edit.TheVariants.{Create, Delete, Set, Unset, Add, Remove, Shift, Link, Unlink, Reorder, Move}
 use Rattle.script_lang.specs.Left.{Left}
 use Rattle.script_lang.specs.Words.{is_word, word_at}
-use Rattle.script_lang.specs.Command.{init_at, checkout_at, create_at, delete_at, move_at, set_at, unset_at, add_at, remove_at, shift_at, link_at, unlink_at, reorder_at, begin_at, end_line_at, undo_at, discard_at, changes_at, show_at, cat_at, validate_at, command_of}
+use Rattle.script_lang.specs.Command.{init_at, import_at, checkout_at, create_at, delete_at, move_at, set_at, unset_at, add_at, remove_at, shift_at, link_at, unlink_at, reorder_at, begin_at, end_line_at, undo_at, discard_at, changes_at, show_at, cat_at, validate_at, command_of}
 use Rattle.script_lang.specs.Spelling.{IsCommand, edit_word, edit_fields, spec_word, words_of, spaced, Spells}
 use Rattle.script_lang.proofs.WordLemmas.{word_back}
 use Rattle.script_lang.proofs.Readings.{reads, reached, word_kind, joined, spaced_joined, some_is, Tells}
@@ -15,7 +15,7 @@ use Rattle.script_lang.proofs.FieldLemmas.{same_word}
 use Rattle.script_lang.proofs.ElementLines.{create_read, create_spelled, delete_read, delete_spelled, move_read, move_spelled}
 use Rattle.script_lang.proofs.EditLines.{set_read, set_spelled, unset_read, unset_spelled, add_read, add_spelled, remove_read, remove_spelled, shift_read, shift_spelled}
 use Rattle.script_lang.proofs.ReferenceLines.{link_read, link_spelled, unlink_read, unlink_spelled, reorder_read, reorder_spelled}
-use Rattle.script_lang.proofs.WorkspaceLines.{init_read, init_spelled, checkout_read, checkout_spelled, begin_read, begin_spelled, end_read, end_spelled, undo_read, undo_spelled, discard_read, discard_spelled, changes_read, changes_spelled, show_read, show_spelled, cat_read, cat_spelled, validate_read, validate_spelled}
+use Rattle.script_lang.proofs.WorkspaceLines.{init_read, init_spelled, import_read, import_spelled, checkout_read, checkout_spelled, begin_read, begin_spelled, end_read, end_spelled, undo_read, undo_spelled, discard_read, discard_spelled, changes_read, changes_spelled, show_read, show_spelled, cat_read, cat_spelled, validate_read, validate_spelled}
 
 -- a line is what is left of it in front of its first word
 pub line_joined : (line first : List ℕ) (words : List (List ℕ)) → line ≡ spaced (first ∷ words) → Some line ≡ joined (first ∷ words)
@@ -51,6 +51,8 @@ edit_read line ws (Reorder id feature target index) is words =
 pub line_read : (line : List ℕ) (command : Command) → Spells line command → command_of line ≡ Ok command
 unfolding command_of
 line_read line commands.Init spells = rw (line_joined line (codes "init") [] spells.words) (reads word_kind (codes "init") (omega arith, refl) [] 1 _ _ init_read)
+line_read line (commands.Import ws) spells =
+    rw (line_joined line (codes "import") (decimal ws ∷ []) spells.words) (reads word_kind (codes "import") (omega arith, refl) (decimal ws ∷ []) 1 _ _ (import_read ws spells.form))
 line_read line (commands.Checkout spec) spells =
     rw (line_joined line (codes "checkout") (spec_word spec ∷ []) spells.words)
     (reads word_kind (codes "checkout") (omega arith, refl) (spec_word spec ∷ []) 1 _ _ (checkout_read spec spells.form))
@@ -85,10 +87,11 @@ no_command first left command e = cc
 
 -- what the first word chooses is spelled behind it
 first_spelled : (first : List ℕ) (left : Left) (command : Command)
-    → cond (is_word first (codes "init")) (init_at left) (cond (is_word first (codes "checkout")) (checkout_at left) (cond (is_word first (codes "create")) (create_at left) (cond (is_word first (codes "delete")) (delete_at left) (cond (is_word first (codes "move")) (move_at left) (cond (is_word first (codes "set")) (set_at left) (cond (is_word first (codes "unset")) (unset_at left) (cond (is_word first (codes "add")) (add_at left) (cond (is_word first (codes "remove")) (remove_at left) (cond (is_word first (codes "shift")) (shift_at left) (cond (is_word first (codes "link")) (link_at left) (cond (is_word first (codes "unlink")) (unlink_at left) (cond (is_word first (codes "reorder")) (reorder_at left) (cond (is_word first (codes "begin")) (begin_at left) (cond (is_word first (codes "end")) (end_line_at left) (cond (is_word first (codes "undo")) (undo_at left) (cond (is_word first (codes "discard")) (discard_at left) (cond (is_word first (codes "changes")) (changes_at left) (cond (is_word first (codes "show")) (show_at left) (cond (is_word first (codes "cat")) (cat_at left) (cond (is_word first (codes "validate")) (validate_at left) (Err 1))))))))))))))))))))) ≡ Ok command
+    → cond (is_word first (codes "init")) (init_at left) (cond (is_word first (codes "import")) (import_at left) (cond (is_word first (codes "checkout")) (checkout_at left) (cond (is_word first (codes "create")) (create_at left) (cond (is_word first (codes "delete")) (delete_at left) (cond (is_word first (codes "move")) (move_at left) (cond (is_word first (codes "set")) (set_at left) (cond (is_word first (codes "unset")) (unset_at left) (cond (is_word first (codes "add")) (add_at left) (cond (is_word first (codes "remove")) (remove_at left) (cond (is_word first (codes "shift")) (shift_at left) (cond (is_word first (codes "link")) (link_at left) (cond (is_word first (codes "unlink")) (unlink_at left) (cond (is_word first (codes "reorder")) (reorder_at left) (cond (is_word first (codes "begin")) (begin_at left) (cond (is_word first (codes "end")) (end_line_at left) (cond (is_word first (codes "undo")) (undo_at left) (cond (is_word first (codes "discard")) (discard_at left) (cond (is_word first (codes "changes")) (changes_at left) (cond (is_word first (codes "show")) (show_at left) (cond (is_word first (codes "cat")) (cat_at left) (cond (is_word first (codes "validate")) (validate_at left) (Err 1)))))))))))))))))))))) ≡ Ok command
     → Tells first left command
 first_spelled first left command =
     chosen_or first (codes "init") left command _ _ _ refl (init_spelled left command) (
+    chosen_or first (codes "import") left command _ _ _ refl (import_spelled left command) (
     chosen_or first (codes "checkout") left command _ _ _ refl (checkout_spelled left command) (
     chosen_or first (codes "create") left command _ _ _ refl (create_spelled left command) (
     chosen_or first (codes "delete") left command _ _ _ refl (delete_spelled left command) (
@@ -109,10 +112,11 @@ first_spelled first left command =
     chosen_or first (codes "show") left command _ _ _ refl (show_spelled left command) (
     chosen_or first (codes "cat") left command _ _ _ refl (cat_spelled left command) (
     chosen_or first (codes "validate") left command _ _ _ refl (validate_spelled left command) (
-    no_command first left command)))))))))))))))))))))
+    no_command first left command))))))))))))))))))))))
 
 joined_line : (command : Command) → joined (words_of command) ≡ Some (spaced (words_of command))
 joined_line commands.Init = sym (spaced_joined (codes "init") [])
+joined_line (commands.Import ws) = sym (spaced_joined (codes "import") (decimal ws ∷ []))
 joined_line (commands.Checkout spec) = sym (spaced_joined (codes "checkout") (spec_word spec ∷ []))
 joined_line (commands.Edit ws edit) = sym (spaced_joined (edit_word edit) (decimal ws ∷ edit_fields edit))
 joined_line (commands.Begin ws name) = sym (spaced_joined (codes "begin") (decimal ws ∷ name ∷ []))

@@ -5,7 +5,7 @@ use Rattle.script_lang.specs.declared.command.Spec.{Spec}
 use Rattle.script_lang.specs.declared.command.Command.{Command}
 use Rattle.script_lang.specs.declared.command.Command.TheVariants as commands
 use Rattle.script_lang.specs.Left.{Left}
-use Rattle.script_lang.specs.Command.{init_at, checkout_at, begin_at, end_line_at, undo_at, discard_at, changes_at, show_at, cat_at, validate_at}
+use Rattle.script_lang.specs.Command.{init_at, import_at, checkout_at, begin_at, end_line_at, undo_at, discard_at, changes_at, show_at, cat_at, validate_at}
 use Rattle.script_lang.specs.Spelling.{IsCommand, spec_word}
 use Rattle.script_lang.proofs.Readings.{reads, tells, joined, Tells, told_as}
 use Rattle.script_lang.proofs.FieldLemmas.{number_kind, end_tells}
@@ -58,6 +58,17 @@ end_spelled left command e =
     tells (number_kind 1) left _ command e (λ ws a is_ws at_ws e1.
     let end = end_tells a _ command e1 in
     told_as (codes "end") left (commands.End ws) command (decimal ws ∷ []) is_ws (at_ws [] end.0) refl end.1)
+
+pub import_read : (ws : ℕ) → IsCommand (commands.Import ws) → (column : ℕ) → import_at (record { rest = joined (decimal ws ∷ []); column = column }) ≡ Ok (commands.Import ws)
+unfolding import_at
+import_read ws is column = reads (number_kind 1) ws is [] column _ _ (λ a. refl)
+
+pub import_spelled : (left : Left) (command : Command) → import_at left ≡ Ok command → Tells (codes "import") left command
+unfolding import_at
+import_spelled left command e =
+    tells (number_kind 1) left _ command e (λ ws a is_ws at_ws e1.
+    let end = end_tells a _ command e1 in
+    told_as (codes "import") left (commands.Import ws) command (decimal ws ∷ []) is_ws (at_ws [] end.0) refl end.1)
 
 pub undo_read : (ws : ℕ) → IsCommand (commands.Undo ws) → (column : ℕ) → undo_at (record { rest = joined (decimal ws ∷ []); column = column }) ≡ Ok (commands.Undo ws)
 unfolding undo_at

@@ -41,6 +41,13 @@ init_at left = do
   end ← end_at left
   Ok commands.Init
 
+-- behind `import`: WS
+unfoldable pub import_at : Left → Result Command ℕ
+import_at left = do
+  ws ← number_at 1 left
+  end ← end_at ws.1
+  Ok (commands.Import ws.0)
+
 -- behind `checkout`: SPEC
 unfoldable pub checkout_at : Left → Result Command ℕ
 checkout_at left = do
@@ -229,6 +236,7 @@ unfoldable pub command_of : List ℕ → Result Command ℕ
 command_of line = do
   first ← word_at (record { rest = Some line; column = 1 })
   if is_word first.0 (codes "init") then init_at first.1
+      else if is_word first.0 (codes "import") then import_at first.1
       else if is_word first.0 (codes "checkout") then checkout_at first.1
       else if is_word first.0 (codes "create") then create_at first.1
       else if is_word first.0 (codes "delete") then delete_at first.1

@@ -64,6 +64,7 @@ IsWorkspace ws = (1 ≤ ws) × IsNumber ws
 -- a command that a line can spell
 abbrev pub IsCommand : Command → Type 0
 IsCommand commands.Init = Unit {0}
+IsCommand (commands.Import ws) = IsWorkspace ws
 IsCommand (commands.Checkout spec) = IsSpec spec
 IsCommand (commands.Edit ws edit) = IsWorkspace ws × IsEdit edit
 IsCommand (commands.Begin ws name) = IsWorkspace ws × (is_name name ≡ true)
@@ -130,6 +131,7 @@ edit_fields (Reorder id feature target index) = id ∷ feature ∷ target ∷ de
 -- the words of a command's line
 abbrev pub words_of : Command → List (List ℕ)
 words_of commands.Init = codes "init" ∷ []
+words_of (commands.Import ws) = codes "import" ∷ decimal ws ∷ []
 words_of (commands.Checkout spec) = codes "checkout" ∷ spec_word spec ∷ []
 words_of (commands.Edit ws edit) = edit_word edit ∷ decimal ws ∷ edit_fields edit
 words_of (commands.Begin ws name) = codes "begin" ∷ decimal ws ∷ name ∷ []

@@ -1,7 +1,7 @@
 // A line as a command: one private function a command.
 ghost use Rattle.std.specs.Prelude.{◌≡◌, ◌-◌, ◌<◌, ◌^◌, length, IfOk, IfNone, IfSome, None, Some};
 ghost use Rattle.script_lang.specs.Words.{Gives};
-ghost use Rattle.script_lang.specs.Command.{GivesCommand, GivesSpec, command_of, init_at, checkout_at, create_at, delete_at, move_at, destination_at, set_at, unset_at, add_at, remove_at, shift_at, link_at, unlink_at, reorder_at, begin_at, end_line_at, undo_at, discard_at, changes_at, show_at, cat_at, validate_at, spec_of, spec_at, tag_of};
+ghost use Rattle.script_lang.specs.Command.{GivesCommand, GivesSpec, command_of, init_at, import_at, checkout_at, create_at, delete_at, move_at, destination_at, set_at, unset_at, add_at, remove_at, shift_at, link_at, unlink_at, reorder_at, begin_at, end_line_at, undo_at, discard_at, changes_at, show_at, cat_at, validate_at, spec_of, spec_at, tag_of};
 ghost use Rattle.script_lang.specs.declared.command.Spec.TheVariants.{Tag};
 
 use crate::words::{Words, bad_line, number_of};
@@ -25,6 +25,7 @@ pub fn parse_line(alloc: Global, line: &str) -> Result<Command, ParseFault>
     let first = words.word()?;
     match first {
         "init" => init(&words),
+        "import" => import(&mut words),
         "checkout" => checkout(alloc, &mut words),
         "create" => create(alloc, &mut words),
         "delete" => delete(alloc, &mut words),
@@ -55,6 +56,15 @@ fn init(words: &Words<'_>) -> Result<Command, ParseFault>
 {
     words.end()?;
     Ok(Command::Init)
+}
+
+#[tactic(auto, unfolding(crate::specs::Command::import_at))]
+fn import(words: &mut Words<'_>) -> Result<Command, ParseFault>
+    ensures { GivesCommand result (import_at words.old) }
+{
+    let ws = words.workspace()?;
+    words.end()?;
+    Ok(Command::Import { ws })
 }
 
 #[tactic(auto, unfolding(crate::specs::Command::checkout_at))]

@@ -9,12 +9,17 @@ use std::test::Fail;
 // A line, and the command that it spells as `shown` writes it, or the column of the first word that does not fit.
 type Row = (&'static str, Result<&'static str, u32>);
 
-const FIRST_LINES: [Row; 25] = [
+const FIRST_LINES: [Row; 30] = [
     ("init", Ok("Init")),
     ("init ", Err(6)),
     ("init x", Err(6)),
     (" init", Err(1)),
     ("", Err(1)),
+    ("import 1", Ok("1 Import")),
+    ("import", Err(7)),
+    ("import 0", Err(8)),
+    ("import 1 ", Err(10)),
+    ("import 1 x", Err(10)),
     ("fly", Err(1)),
     ("Set 1 b title x", Err(1)),
     ("sets 1 b title x", Err(1)),
@@ -269,6 +274,7 @@ fn shown_spec(alloc: Global, word: &str, spec: &Spec) -> Result<String, Fail> {
 fn shown(alloc: Global, command: &Command) -> Result<String, Fail> {
     let text = match command {
         Command::Init => String::from_str(alloc, "Init")?,
+        Command::Import { ws } => format!(in alloc; "{ws} Import")?,
         Command::Checkout { spec } => shown_spec(alloc, "Checkout", spec)?,
         Command::Cat { spec } => shown_spec(alloc, "Cat", spec)?,
         Command::Show { ws } => format!(in alloc; "{ws} Show")?,
