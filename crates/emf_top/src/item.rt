@@ -63,10 +63,11 @@ impl Item {
 fn takes_block(line: &str) -> bool
     ensures { result ≡ takes_block line.now }
 {
-    match line.split_once(' ') {
-        None => line == "init",
-        Some((word, _)) => word == "init",
-    }
+    let word = match line.split_once(' ') {
+        None => line,
+        Some((word, _)) => word,
+    };
+    word == "init" || word == "import"
 }
 
 /// A copy of what was read last.

@@ -1,6 +1,8 @@
 mod composites;
 mod edits;
+mod imports;
 mod references;
+mod trees;
 
 use crate::{Status, run};
 use host_port::{FuseHost, Host, MemoryHost, TalkHost};

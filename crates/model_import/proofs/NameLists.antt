@@ -1,5 +1,6 @@
 -- The ids of a document's elements are a function of the model and the document.
-use Rattle.std.proofs.Common.{◌≡◌, ℕ, zero, suc, ◌+◌, ◌<◌, ◌≤◌, Bool, true, false, List, [], ◌∷◌, ◌⊎◌, ⊎_elim, inl, inr, refl, sym, ap, subst, ◌∙◌, arith}
+use Rattle.std.proofs.lemmas.Bool.Decides.{nat_tests}
+use Rattle.std.proofs.Common.{◌≡◌, ℕ, zero, suc, ◌+◌, ◌<◌, ◌≤◌, nat_eq, Bool, true, false, List, [], ◌∷◌, ◌⊎◌, ⊎_elim, inl, inr, refl, sym, ap, subst, ◌∙◌, arith}
 use Rattle.std.specs.Prelude.{Option, None, Some, Result, Ok, Err, if◌then◌else◌}
 use Rattle.ecore_meta.specs.Meta.{Meta}
 use Rattle.model_state.specs.declared.operation.Operation.{Operation}
@@ -29,7 +30,17 @@ first_is m rows ws (suc n) from k next low =
     ⊎_elim here (λ lt. later lt (first_is m rows ws n (from + 1) k (behind lt) (fewer from n k low))) (split from k next.from_there)
   where
     split : (from k : ℕ) → from ≤ k → (from ≡ k) ⊎ (from < k)
-    split from k le = omega arith
+    split from k le = by (nat_eq from k) refl
+      where
+        by : (b : Bool) → nat_eq from k ≡ b → (from ≡ k) ⊎ (from < k)
+        by true is = inl (same from k is)
+          where
+            same : (from k : ℕ) → nat_eq from k ≡ true → from ≡ k
+            same from k is = grind (arith, nat_tests)
+        by false is = inr (less from k le is)
+          where
+            less : (from k : ℕ) → from ≤ k → nat_eq from k ≡ false → from < k
+            less from k le is = grind (arith, nat_tests)
 
     here : from ≡ k → first_untaken m rows ws (suc n) from ≡ k
     here same = if_false (is_taken m rows (numbered ws from)) _ _ (ap (λ j. is_taken m rows (numbered ws j)) same ∙ next.free) ∙ same

@@ -1,5 +1,5 @@
 ghost use Rattle.std.specs.Prelude.{◌≡◌, IfOk, length};
-ghost use Rattle.model_import.specs.Import.{Answers, Imports, composite, of_steps, steps_made};
+ghost use Rattle.model_import.specs.Import.{Answers, Imports, composite, of_steps, recorded_import, steps_made};
 
 use crate::links::add_links;
 use crate::names::{any_in_use, names};
@@ -73,6 +73,26 @@ fn recorded<L: Look>(
     }
 }
 
+/// What is recorded of a document with the ids that its elements get.
+fn imported<L: Look>(
+    alloc: Global,
+    look: &L,
+    meta: &Metamodel,
+    ws: u32,
+    doc: &Doc,
+) -> Result<Option<Operation>, EditFault>
+    ensures { Imports meta.now (L.state look.now) ws doc.now.rows result }
+{
+    let rows = doc.rows.as_slice();
+    if any_in_use(look, rows) {
+        return Err(EditFault::IdInUse);
+    }
+    match names(alloc, look, rows, ws) {
+        Err(_) => Err(EditFault::Memory),
+        Ok(names) => recorded(alloc, look, meta, names.as_slice(), rows),
+    }
+}
+
 /// Records that a document is brought in, as one composite of the name `import`: its roots come behind the last element at the
 /// root, and elements without an id get fresh ones of the workspace. A document without elements makes no operation.
 ///
@@ -88,13 +108,7 @@ pub fn import_doc<L: Look>(
     doc: &Doc,
 ) -> Result<Option<Operation>, EditFault>
     ensures made { Imports meta.now (L.state look.now) ws doc.now.rows result }
+    ensures recorded { Answers result (recorded_import meta.now (L.state look.now) ws doc.now.rows) }
 {
-    let rows = doc.rows.as_slice();
-    if any_in_use(look, rows) {
-        return Err(EditFault::IdInUse);
-    }
-    match names(alloc, look, rows, ws) {
-        Err(_) => Err(EditFault::Memory),
-        Ok(names) => recorded(alloc, look, meta, names.as_slice(), rows),
-    }
+    imported(alloc, look, meta, ws, doc)
 }

@@ -1,5 +1,5 @@
 -- Which lines of a script are skipped, and which take a block.
-use Rattle.std.specs.Prelude.{ℕ, List, [], ◌∷◌, ◌==◌, Bool, true, nat_eq, codes}
+use Rattle.std.specs.Prelude.{ℕ, List, [], ◌∷◌, ◌==◌, ◌||◌, Bool, true, nat_eq, codes}
 use Rattle.std.specs.List.{before_first}
 use Rattle.std.specs.Cmp.Lexicographic.{pointwise}
 use Rattle.script_lang.specs.Words.{is_space}
@@ -11,4 +11,4 @@ is_skipped (b ∷ line) = b == 35
 
 -- the first word is that of a command with a block
 unfoldable pub takes_block : List ℕ → Bool
-takes_block line = pointwise nat_eq (before_first is_space line) (codes "init")
+takes_block line = let word = before_first is_space line in pointwise nat_eq word (codes "init") || pointwise nat_eq word (codes "import")

@@ -24,6 +24,10 @@ use Rattle.edits.specs.declared.edit.Recorded.{Recorded}
 use Rattle.edit_laws.specs.declared.fault.EditFault.{EditFault}
 use Rattle.edit_laws.specs.declared.fault.EditFault.TheVariants as faults
 use Rattle.recorder.specs.Recording.{recorded}
+use Rattle.emfjson_model.specs.declared.doc.DocRow.{DocRow}
+use Rattle.emfjson_model.specs.declared.fault.ModelFault.{ModelFault}
+use Rattle.emfjson_model.specs.Document.{doc_of, fault_number as model_fault_number}
+use Rattle.model_import.specs.Import.{recorded_import}
 use Rattle.data_lines.specs.Lines.{operation_lines, open_lines}
 use Rattle.data_lines.specs.Validation.{validate_lines}
 use Rattle.emfjson_text.specs.Tree.{text}
@@ -301,6 +305,23 @@ edit_in s meta ws (Some workspace) edit = edited s ws (recorded meta (model_of m
 unfoldable pub decide_edit : State → Meta → ℕ → edits.Edit → Decision
 decide_edit s meta ws edit = edit_in s meta ws (workspace_of s ws) edit
 
+-- how many elements came
+abbrev pub imported : State → ℕ → List DocRow → Result (Option Operation) EditFault → Decision
+imported s ws rows (Err fault) = refused (refusal_of fault)
+imported s ws rows (Ok operation) = with_operation s ws (decimal (length rows)) operation
+
+abbrev pub import_read : State → Meta → ℕ → Workspace → Result (List DocRow) ModelFault → Decision
+import_read s meta ws workspace (Err fault) = refused (refusals.BadModel (model_fault_number fault))
+import_read s meta ws workspace (Ok rows) = imported s ws rows (recorded_import meta (model_of meta workspace) ws rows)
+
+abbrev pub import_in : State → Meta → ℕ → Option Workspace → List ℕ → Decision
+import_in s meta ws None text = refused refusals.NoWorkspace
+import_in s meta ws (Some workspace) text = import_read s meta ws workspace (doc_of meta text)
+
+-- `import WS`: the elements that the block says come into the working model
+unfoldable pub decide_import : State → Meta → ℕ → List ℕ → Decision
+decide_import s meta ws text = import_in s meta ws (workspace_of s ws) text
+
 abbrev pub begun : State → ℕ → List ℕ → Option Workspace → Decision
 begun s ws name None = refused refusals.NoWorkspace
 begun s ws name (Some workspace) = if is_open (Some workspace) then refused refusals.CompositeOpen else with_room s [] [] (Begin ws name)
@@ -373,6 +394,7 @@ abbrev pub decide_begun : State → Meta → Option (List ℕ) → Command → D
 decide_begun s meta block commands.Init = decide_init s (Some meta) (block_text block)
 decide_begun s meta block (commands.Checkout spec) = decide_checkout s meta spec
 decide_begun s meta block (commands.Edit ws edit) = decide_edit s meta ws edit
+decide_begun s meta block (commands.Import ws) = decide_import s meta ws (block_text block)
 decide_begun s meta block (commands.Begin ws name) = decide_begin s ws name
 decide_begun s meta block (commands.End ws) = decide_end s ws
 decide_begun s meta block (commands.Undo ws) = decide_undo s ws

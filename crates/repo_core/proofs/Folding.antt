@@ -21,6 +21,12 @@ use Rattle.edits.specs.Edits.{after}
 use Rattle.recorder.specs.Recording.{recorded}
 use Rattle.recorder.specs.Laws.{steps_in}
 use Rattle.recorder.proofs.Recordings.{recording_leads}
+use Rattle.emfjson_model.specs.declared.doc.DocRow.{DocRow}
+use Rattle.emfjson_model.specs.Document.{doc_of}
+use Rattle.emfjson_model.proofs.Fitting.{documents_fit}
+use Rattle.model_import.specs.After.{import_after}
+use Rattle.model_import.specs.Import.{Imports}
+use Rattle.model_import.proofs.ImportLead.{imports_lead}
 
 -- steps with one that can't be taken lead nowhere
 pub fold_none : (meta : Meta) (m : State) (ss : List Step) (e : StepFault) → fault_along meta m ss ≡ Some e → fold meta m ss ≡ None
@@ -108,3 +114,10 @@ pub recorded_follows : (meta : Meta) → Sound meta → (m : State) → Good met
 recorded_follows meta sound m good ws edit r o is operation_is =
     let leads = recording_leads meta sound m good ws edit r is in
     one_follows meta m (after meta m leads.effect) o (subst (λ (x : Option Operation). fold meta m (steps_in x) ≡ Some (after meta m leads.effect)) operation_is leads.run)
+
+-- what is recorded of a document that was read can be taken
+pub imported_follows : (meta : Meta) → Sound meta → (m : State) → Good meta m → (ws : ℕ) (text : List ℕ) (rows : List DocRow) (o : Operation) → doc_of meta text ≡ Ok rows → Imports meta m ws rows (Ok (Some o))
+    → is_some (fold_package meta m (o ∷ [])) ≡ true
+imported_follows meta sound m good ws text rows o is imports =
+    let leads = imports_lead meta sound m good ws rows (documents_fit meta sound text rows is) imports.0 imports.1 (Some o) imports.2 in
+    one_follows meta m (import_after m imports.0 rows) o leads.run

@@ -1,6 +1,6 @@
 -- Which events could be made, by what was found about them.
 use Rattle.std.proofs.Common.{◌≡◌, ◌≢◌, ℕ, suc, ◌<◌, ◌∷◌, List, [], map, Bool, true, false, length, Option, Some, None, is_some, refl, sym, ◌∙◌, ap, arith, Ok}
-use Rattle.std.specs.Prelude.{slice_get, not, ◌&&◌, ◌||◌}
+use Rattle.std.specs.Prelude.{IfSome, slice_get, not, ◌&&◌, ◌||◌}
 use Rattle.std.specs.Option.{option_map}
 use Rattle.std.proofs.Math.ListN.{get_or}
 use Rattle.std.proofs.lemmas.Option.{slice_get-map}
@@ -113,3 +113,8 @@ module _ (s : State) (m : Option Meta) (ws : List Kept) (k i : ℕ) (old d : Kep
       by : (m : Option Meta) → is_some m ≡ true → playable_with s m (Discard k) ≡ (is_open (Some (plain_of old)) || has_operations (Some (plain_of old)))
       by None begun = absurd cc
       by (Some meta) begun = ap (λ (w : Option Workspace). is_open w || has_operations w) (at_is s ws k i old d is numbered below old_is)
+
+-- what holds of the operation, where there is one
+pub each_could : (o : Option Operation) (Holds : Operation → Type 0) → ((x : Operation) → o ≡ Some x → Holds x) → IfSome o Holds
+each_could None Holds h = tt
+each_could (Some x) Holds h = h x refl

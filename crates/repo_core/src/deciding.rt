@@ -1,9 +1,10 @@
 //! What a command is answered, and the event that it makes.
 ghost use Rattle.std.specs.Prelude.{◌≡◌, ◌≢◌, ◌+◌, ◌-◌, ◌≤◌, ◌<◌, ◌^◌, ℕ, List, [], ◌∷◌, IfOk, IfNone, IfSome, OnOk, ◌++◌, None, IsTrue, length, true, false, Some, Option, Ok, Err, codes};
+ghost use Rattle.std.specs.Fmt.{decimal};
 ghost use Rattle.std.specs.Option.{option_copied, option_map};
 ghost use Rattle.ecore_json.specs.Metamodel.{metamodel_of};
-ghost use Rattle.op_form.specs.declared.event.Event.TheVariants.{Init, Checkout, Edit, Begin, End, Undo, Discard};
-ghost use Rattle.plain_repository.specs.Repository.{State, workspace_of, playable_with, refused, told, first_text, with_room, decide_init, unknown, decide_checkout, decide_edit, decide_begin, decide_end, decide_undo, decide_discard, lines_of_open, decide_changes, decide_show, decide_cat, decide_validate, refusal_of, id_words, decide_command, decide_line, block_text};
+ghost use Rattle.op_form.specs.declared.event.Event.TheVariants.{Init, Checkout, Begin, End, Undo, Discard};
+ghost use Rattle.plain_repository.specs.Repository.{State, workspace_of, playable_with, refused, told, first_text, with_operation, with_room, decide_init, unknown, decide_checkout, decide_edit, decide_import, decide_begin, decide_end, decide_undo, decide_discard, lines_of_open, decide_changes, decide_show, decide_cat, decide_validate, refusal_of, id_words, decide_command, decide_line, block_text};
 ghost use Rattle.data_lines.specs.Typed.{AreTyped};
 ghost use Rattle.model_state.specs.Names.{is_name};
 ghost use Rattle.script_lang.specs.Spelling.{IsCommand};
@@ -17,8 +18,10 @@ use ecore_json::{EcoreFault, read_metamodel};
 use ecore_meta::{List, Metamodel, Text};
 use edit_laws::EditFault;
 use edits::{Edit, Recorded};
+use emfjson_model::{ModelFault, read_model};
 use emfjson_text::write_model;
-use model_state::Id;
+use model_import::import_doc;
+use model_state::{Id, Operation};
 use op_form::{Event, encode_event, has_form};
 use recorder::take_edit;
 use script_lang::{Command, Last, ParseFault, Refusal, Reply, Spec, parse_line};
@@ -137,6 +140,14 @@ fn id_words(alloc: Global, id: &Option<Id>) -> Result<Text, AllocError>
     }
 }
 
+/// A number in decimal digits.
+fn number_words(alloc: Global, n: u64) -> Result<Text, AllocError>
+    ensures { IfOk result (λ words. words ≡ decimal n) }
+{
+    let text = format!(in alloc; "{n}")?;
+    Text::new(alloc, text.as_str())
+}
+
 /// The text of version 0.
 fn first_text(alloc: Global, meta: &Metamodel) -> Result<List<Text>, AllocError>
     ensures { IfOk result (λ lines. lines ≡ first_text meta.now ∷ []) }
@@ -215,6 +226,7 @@ impl Repo {
             Command::Init => Ok(refuse(alloc, Refusal::AlreadyInit)),
             Command::Checkout { spec } => self.decide_checkout(alloc, meta, spec),
             Command::Edit { ws, edit } => self.decide_edit(alloc, meta, *ws, edit),
+            Command::Import { ws } => self.decide_import(alloc, meta, *ws, block_text(block)),
             Command::Begin { ws, name } => self.decide_begin(alloc, *ws, name),
             Command::End { ws } => self.decide_end(alloc, *ws),
             Command::Undo { ws } => self.decide_undo(alloc, *ws),
@@ -296,12 +308,41 @@ impl Repo {
             },
         };
         let words = id_words(alloc, &id)?;
-        let Some(operation) = operation else {
-            return Ok(tell(List::new(alloc), words));
+        self.with_operation(alloc, ws, words, operation)
+    }
+
+    #[tactic(auto, unfolding(plain_repository::specs::Repository::decide_import))]
+    fn decide_import(
+        &self,
+        alloc: Global,
+        meta: &Metamodel,
+        ws: u32,
+        text: &str,
+    ) -> Result<Decision, AllocError>
+        requires begun { self.now.meta ≡ Some meta.now }
+        requires short { length text.now < 2 ^ 32 - 1 }
+        ensures decision { IfOk result (λ d. seen d ≡ decide_import self.now meta.now ws text.now) }
+        ensures made { IfOk result (λ d. CanMakeIt self.now d.made) }
+    {
+        let Some(workspace) = self.workspace(ws) else {
+            return Ok(refuse(alloc, Refusal::NoWorkspace));
         };
-        let mut package = List::new(alloc);
-        package.push(operation)?;
-        self.with_room(alloc, List::new(alloc), words, Event::Edit { ws, package })
+        let doc = match read_model(alloc, text, meta) {
+            Ok(doc) => doc,
+            Err(ModelFault::Memory) => return Err(AllocError),
+            Err(fault) => return Ok(refuse(alloc, Refusal::BadModel { n: fault.number() })),
+        };
+        meta.sound();
+        let model = workspace.model(meta);
+        let operation = match import_doc(alloc, model, meta, ws, &doc) {
+            Ok(operation) => operation,
+            Err(fault) => match refusal_of(fault) {
+                Some(refusal) => return Ok(refuse(alloc, refusal)),
+                None => return Err(AllocError),
+            },
+        };
+        let words = number_words(alloc, doc.rows.len() as u64)?;
+        self.with_operation(alloc, ws, words, operation)
     }
 
     #[tactic(auto, unfolding(plain_repository::specs::Repository::decide_begin))]
@@ -454,6 +495,26 @@ impl Repo {
         };
         let lines = validate_lines(alloc, workspace.model(meta), meta)?;
         Ok(tell(lines, Text::new(alloc, "")?))
+    }
+
+    /// Makes an event of what is recorded; where there is no operation, nothing changes.
+    fn with_operation(
+        &self,
+        alloc: Global,
+        ws: u32,
+        words: Text,
+        operation: Option<Operation>,
+    ) -> Result<Decision, AllocError>
+        requires could { IfSome operation (λ o. playable_with self.now self.now.meta (Event.Edit ws (o ∷ [])) ≡ true) }
+        ensures decision { IfOk result (λ d. seen d ≡ with_operation self.now ws words operation) }
+        ensures made { IfOk result (λ d. CanMakeIt self.now d.made) }
+    {
+        let Some(operation) = operation else {
+            return Ok(tell(List::new(alloc), words));
+        };
+        let mut package = List::new(alloc);
+        package.push(operation)?;
+        self.with_room(alloc, List::new(alloc), words, Event::Edit { ws, package })
     }
 
     /// Makes an event, where the history and the journal have room.

@@ -2,7 +2,7 @@
 use Rattle.std.specs.Prelude.{ℕ, List, [], ◌∷◌, ◌++◌, codes}
 use Rattle.std.specs.Fmt.{decimal}
 use Rattle.script_lang.specs.declared.reply.Refusal.{Refusal}
-use Rattle.script_lang.specs.declared.reply.Refusal.TheVariants.{BadLine, NotInit, AlreadyInit, BadMetamodel, NoWorkspace, NoVersion, NoBranch, NoElement, IdInUse, BadId, NoClass, Abstract, NoFeature, WrongKind, BadValue, WrongType, Bound, AlreadyThere, NoEntry, WouldCycle, NothingLocal, CompositeOpen, NoComposite, HistoryFull, TooLarge, JournalFull}
+use Rattle.script_lang.specs.declared.reply.Refusal.TheVariants.{BadLine, NotInit, AlreadyInit, BadMetamodel, NoWorkspace, NoVersion, NoBranch, NoElement, IdInUse, BadId, NoClass, Abstract, NoFeature, WrongKind, BadValue, WrongType, Bound, AlreadyThere, NoEntry, WouldCycle, NothingLocal, CompositeOpen, NoComposite, BadModel, HistoryFull, TooLarge, JournalFull}
 use Rattle.script_lang.specs.declared.reply.Last.{Last}
 use Rattle.script_lang.specs.declared.reply.Last.TheVariants as last
 use Rattle.script_lang.specs.declared.reply.Reply.{Reply}
@@ -32,6 +32,7 @@ refusal_text WouldCycle = codes "22 WouldCycle"
 refusal_text NothingLocal = codes "23 NothingLocal"
 refusal_text CompositeOpen = codes "27 CompositeOpen"
 refusal_text NoComposite = codes "28 NoComposite"
+refusal_text (BadModel n) = codes "29 BadModel " ++ decimal n
 refusal_text HistoryFull = codes "33 HistoryFull"
 refusal_text TooLarge = codes "34 TooLarge"
 refusal_text JournalFull = codes "35 JournalFull"

@@ -55,6 +55,8 @@ pub enum Refusal {
     CompositeOpen,
     /// 28: no composite is open in the workspace.
     NoComposite,
+    /// 29: the block is no model text, for the fault of that number.
+    BadModel { n: u32 },
     /// 33: as many events stand in the history as it can hold.
     HistoryFull,
     /// 34: the event's record would be longer than a record may be.
@@ -95,6 +97,7 @@ impl fmt::Display for Refusal {
             Refusal::NothingLocal => f.write_str("23 NothingLocal"),
             Refusal::CompositeOpen => f.write_str("27 CompositeOpen"),
             Refusal::NoComposite => f.write_str("28 NoComposite"),
+            Refusal::BadModel { n } => write!(f, "29 BadModel {n}"),
             Refusal::HistoryFull => f.write_str("33 HistoryFull"),
             Refusal::TooLarge => f.write_str("34 TooLarge"),
             Refusal::JournalFull => f.write_str("35 JournalFull"),

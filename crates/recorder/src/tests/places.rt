@@ -86,7 +86,11 @@ pub const PLACES: &[Case] = &[
         "move u / 0",
         "Move: move u t.12 4294967296 / 2147483648 t,s -",
     ),
-    (SHELVES, "move s / 1", "Move: rerank s 4294967296 12884901888"),
+    (
+        SHELVES,
+        "move s / 1",
+        "Move: rerank s 4294967296 12884901888",
+    ),
     (SHELVES, "move s /", "Move: rerank s 4294967296 12884901888"),
     (SHELVES, "move s / 0", "nothing"),
     (SHELVES, "move l /", "nothing"),
@@ -131,7 +135,11 @@ pub const PLACES: &[Case] = &[
         "Move: move v s.13 4294967296 t.13 4294967296 s t,s",
     ),
     (SHELVES, "move t s parts 0", "nothing"),
-    (BOOKS, "move c l books 0", "Move: rerank c 8589934592 2147483648"),
+    (
+        BOOKS,
+        "move c l books 0",
+        "Move: rerank c 8589934592 2147483648",
+    ),
     // delete
     (SHELVES, "delete c", "NoElement"),
     (SHELVES, "delete /s", "NoElement"),

@@ -242,7 +242,10 @@ fn line_of_place(alloc: Global, step: &Step) -> Result<String, Fail> {
             let (from, to) = (place(alloc, from)?, place(alloc, to)?);
             let up = containers(alloc, above_from)?;
             let down = containers(alloc, above_to)?;
-            Ok(format!(in alloc; "move {} {from} {from_rank} {to} {to_rank} {up} {down}", e.as_str())?)
+            Ok(format!(in alloc;
+                "move {} {from} {from_rank} {to} {to_rank} {up} {down}",
+                e.as_str()
+            )?)
         }
         _ => Err("a step of another kind")?,
     }
