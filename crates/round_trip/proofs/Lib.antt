@@ -1,1 +1,2 @@
 pub mod ListsInOrder
+pub mod BringingMaps
