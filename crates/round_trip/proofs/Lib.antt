@@ -1,2 +1,3 @@
 pub mod ListsInOrder
 pub mod BringingMaps
+pub mod BringingNames

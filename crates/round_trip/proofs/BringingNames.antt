@@ -1,0 +1,247 @@
+-- The names of rows that tell a model: no two are the same, each element has one, and they stand in the order of the lists.
+use Rattle.std.proofs.Common.{◌≡◌, ◌∙◌, ℕ, zero, suc, ◌+◌, ◌<◌, ◌≤◌, Bool, true, false, cond, ◌&&◌, ◌||◌, not, List, [], ◌∷◌, ◌++◌, drop, length, map, take, nat_eq, refl, sym, ap, subst, arith, rules}
+use Rattle.std.specs.Prelude.{Option, None, Some, is_some, slice_get, sum_by}
+use Rattle.std.specs.List.{count_by, list_any}
+use Rattle.std.specs.FinMap.{FinMap, get}
+use Rattle.std.proofs.lemmas.List.Sums.{sum_by-cons}
+use Rattle.finite_maps.specs.Equal.{option_eq, text_eq}
+use Rattle.finite_maps.specs.Maps.{tally}
+use Rattle.finite_maps.proofs.Cases.{not_false, not_true, true_false}
+use Rattle.finite_maps.proofs.EqualLaws.{and_both, text_equality}
+use Rattle.ecore_meta.specs.Meta.{Meta}
+use Rattle.model_state.specs.declared.entry.Entry.{Entry}
+use Rattle.model_state.specs.declared.step.Place.{Place}
+use Rattle.model_state.specs.declared.step.Place.TheVariants.{Root, Inside}
+use Rattle.model_state.specs.Good.{Good, PlaceOk}
+use Rattle.model_state.specs.Keys.{Name, id_cmp}
+use Rattle.model_state.specs.Listing.{children, entry_cmp, rank_at}
+use Rattle.model_state.specs.State.{State, is_live, place_eq}
+use Rattle.model_state.proofs.Orders.{id_order}
+use Rattle.model_state.proofs.StepTests.{place_equality}
+use Rattle.model_laws.proofs.Inserts.{or_first, or_none, or_second}
+use Rattle.edit_laws.proofs.Lists.{any-in_order, any-map, picked_has}
+use Rattle.emfjson_model.specs.declared.doc.DocParent.{DocParent}
+use Rattle.emfjson_model.specs.declared.doc.DocRow.{DocRow}
+use Rattle.emfjson_model.specs.Fits.{Fits, StandsFit}
+use Rattle.emfjson_model.specs.Laws.{gives_id, ids_repeat, is_given}
+use Rattle.emfjson_model.specs.References.{parent_eq}
+use Rattle.emfjson_text.specs.Tree.{child_ids}
+use Rattle.model_import.specs.Laws.{are_apart}
+use Rattle.model_import.specs.Names.{name_at}
+use Rattle.model_import.specs.News.{inside, place_of, standing}
+use Rattle.model_import.proofs.Indexed.{at_less, drop_at, drop_next, drop_none, named, none_at, same_at, take_next}
+use Rattle.round_trip.specs.Tells.{Tells, TellsElement, standing_in}
+use Rattle.round_trip.proofs.ListsInOrder.{any_index}
+
+-- ---- no two names are the same
+none_gives : (e : Name) (rest : List DocRow) (es : List Name) → length es ≡ length rest → ((n : ℕ) (r : DocRow) (x : Name) → slice_get rest n ≡ Some r → slice_get es n ≡ Some x → r.id ≡ Some x) → list_any (gives_id e) rest ≡ false
+    → list_any (text_eq e) es ≡ false
+none_gives e rest [] many each h = refl
+none_gives e [] (x ∷ es) many each h = absurd (omega (arith, many))
+none_gives e (r ∷ rest) (x ∷ es) many each h =
+    or_none (text_eq e x) _ (sym (ap (option_eq text_eq (Some e)) (each 0 r x refl refl)) ∙ or_first (gives_id e r) _ h)
+    (none_gives e rest es (omega (arith, many)) (λ n. each (suc n)) (or_second (gives_id e r) _ h))
+
+names_differ : (rest : List DocRow) (es : List Name) → length es ≡ length rest → ((n : ℕ) (r : DocRow) (x : Name) → slice_get rest n ≡ Some r → slice_get es n ≡ Some x → r.id ≡ Some x) → ids_repeat rest ≡ false → are_apart es ≡ true
+names_differ rest [] many each h = refl
+names_differ [] (x ∷ es) many each h = absurd (omega (arith, many))
+names_differ (r ∷ rest) (x ∷ es) many each h =
+    and_both (not (list_any (text_eq x) es)) (are_apart es)
+    (not_false _ (none_gives x rest es (omega (arith, many)) (λ n. each (suc n)) (ap (λ o. is_given o rest) (sym (each 0 r x refl refl)) ∙ or_first (is_given r.id rest) _ h)))
+    (names_differ rest es (omega (arith, many)) (λ n. each (suc n)) (or_second (is_given r.id rest) _ h))
+
+-- where a name stands among the names
+abbrev pub index_of : Name → List Name → ℕ
+index_of e [] = 0
+index_of e (x ∷ xs) = cond (text_eq e x) 0 (suc (index_of e xs))
+
+pub index_named : (names : List Name) → are_apart names ≡ true → (i : ℕ) → i < length names → index_of (name_at names i) names ≡ i
+index_named [] ok i less = absurd (omega arith)
+index_named (x ∷ xs) ok zero less = ap (λ b. cond b 0 (suc (index_of x xs))) (text_equality.own x)
+index_named (x ∷ xs) ok (suc i) less =
+    ap (λ b. cond b 0 (suc (index_of (name_at xs i) xs))) (same_at (x ∷ xs) ok (suc i) 0 less (omega arith) ∙ not_zero i)
+    ∙ ap suc (index_named xs (second (not (list_any (text_eq x) xs)) (are_apart xs) ok) i (omega arith))
+  where
+    not_zero : (i : ℕ) → nat_eq (suc i) 0 ≡ false
+    not_zero i = search rules
+
+    second : (a b : Bool) → a && b ≡ true → b ≡ true
+    second true b h = h
+    second false b h = cc
+
+-- ---- how many pass
+tally_append : {X : Type 0} (p : X → Bool) (xs ys : List X) → tally p (xs ++ ys) ≡ tally p xs + tally p ys
+tally_append p [] ys = omega arith
+tally_append p (x ∷ xs) ys = let rest = tally_append p xs ys in omega (arith, rest)
+
+tally_first : {X : Type 0} (p : X → Bool) (n : ℕ) (xs : List X) → tally p (take n xs) ≤ n
+tally_first p zero [] = omega arith
+tally_first p zero (x ∷ xs) = omega arith
+tally_first p (suc n) [] = omega arith
+tally_first p (suc n) (x ∷ xs) = let rest = tally_first p n xs in one (p x) (tally p (take n xs)) n rest
+  where
+    one : (b : Bool) (k n : ℕ) → k ≤ n → cond b 1 0 + k ≤ suc n
+    one true k n h = omega arith
+    one false k n h = omega arith
+
+counted : {X : Type 0} (p q : X → Bool) (xs : List X) → ((j : ℕ) (x : X) → slice_get xs j ≡ Some x → p x ≡ q x) → count_by p xs ≡ tally q xs
+counted p q [] same = refl
+counted p q (x ∷ xs) same = sum_by-cons (λ x. cond (p x) 1 0) x xs ∙ (λ i. cond (same 0 x refl i) 1 0 + counted p q xs (λ j. same (suc j)) i)
+
+take_in : {X : Type 0} (n : ℕ) (xs : List X) (j : ℕ) (x : X) → slice_get (take n xs) j ≡ Some x → slice_get xs j ≡ Some x
+take_in zero [] j x is = is
+take_in zero (y ∷ ys) j x is = cc
+take_in (suc n) [] j x is = is
+take_in (suc n) (y ∷ ys) zero x is = is
+take_in (suc n) (y ∷ ys) (suc j) x is = take_in n ys j x is
+
+-- ---- the rows by their places
+module _ (names : List Name) (rows : List DocRow) where
+  -- how many of the first n rows stand in a place
+  abbrev pub before : Place → ℕ → ℕ
+  before p n = tally (λ (r : DocRow). place_eq (place_of names r.parent) p) (take n rows)
+
+  pub before_next : (p : Place) (n : ℕ) (r : DocRow) (rest : List DocRow) → drop n rows ≡ r ∷ rest → (b : Bool) → place_eq (place_of names r.parent) p ≡ b → before p (suc n) ≡ before p n + cond b 1 0
+  before_next p n r rest left b is =
+      ap (tally (λ (r : DocRow). place_eq (place_of names r.parent) p)) (take_next n rows r rest left)
+      ∙ tally_append (λ (r : DocRow). place_eq (place_of names r.parent) p) (take n rows) (r ∷ [])
+      ∙ ap (λ c. before p n + (cond c 1 0 + 0)) is
+      ∙ ap (λ k. before p n + k) (last (cond b 1 0))
+    where
+      last : (k : ℕ) → k + 0 ≡ k
+      last k = omega arith
+
+  pub before_few : (p : Place) (n : ℕ) → before p n ≤ n
+  before_few p n = tally_first (λ (r : DocRow). place_eq (place_of names r.parent) p) n rows
+
+  -- a name is that of a row in the place, behind k others there
+  pub record StandsAs (p : Place) (k : ℕ) (x : Name) : Type 0 where
+    pub row : ℕ
+    pub r : DocRow
+    pub is_row : slice_get rows row ≡ Some r
+    pub named : x ≡ name_at names row
+    pub there : place_of names r.parent ≡ p
+    pub behind : before p row ≡ k
+
+  stands_first : (p : Place) (r : DocRow) (rest : List DocRow) (n : ℕ) → drop n rows ≡ r ∷ rest → place_eq (place_of names r.parent) p ≡ true
+      → ((j : ℕ) (x : Name) → slice_get (standing_in names p (suc n) rest) j ≡ Some x → (k : ℕ) → k ≡ before p (suc n) + j → StandsAs p k x)
+      → (j : ℕ) (x : Name) → slice_get (name_at names n ∷ standing_in names p (suc n) rest) j ≡ Some x → (k : ℕ) → k ≡ before p n + j → StandsAs p k x
+  stands_first p r rest n left here later zero x is k at = record {
+    row = n;
+    r = r;
+    is_row = drop_at n rows r rest left;
+    named = same_name x (name_at names n) is;
+    there = place_equality.exact (place_of names r.parent) p here;
+    behind = sym (at ∙ none (before p n));
+  }
+    where
+      same_name : (x y : Name) → ◌≡◌ {A = Option Name} (Some y) (Some x) → x ≡ y
+      same_name x y is = cc
+
+      none : (k : ℕ) → k + 0 ≡ k
+      none k = omega arith
+  stands_first p r rest n left here later (suc j) x is k at = later j x is k (next k (before p n) (before p (suc n)) j at (before_next p n r rest left true here))
+    where
+      next : (k b c j : ℕ) → k ≡ b + suc j → c ≡ b + 1 → k ≡ c + j
+      next k b c j h g = omega arith
+
+  pub stands_as : (p : Place) (rest : List DocRow) (n : ℕ) → drop n rows ≡ rest → (j : ℕ) (x : Name) → slice_get (standing_in names p n rest) j ≡ Some x → (k : ℕ) → k ≡ before p n + j → StandsAs p k x
+  stands_as p [] n left j x is k at = cc
+  stands_as p (r ∷ rest) n left j x is k at =
+      elim (place_eq (place_of names r.parent) p) as (λ b. place_eq (place_of names r.parent) p ≡ b → slice_get (cond b (name_at names n ∷ standing_in names p (suc n) rest) (standing_in names p (suc n) rest)) j ≡ Some x → StandsAs p k x) [
+        | true ↦ λ here is. stands_first p r rest n left here (stands_as p rest (suc n) (drop_next n rows r rest left)) j x is k at
+        | false ↦ λ other is. stands_as p rest (suc n) (drop_next n rows r rest left) j x is k (next k (before p n) (before p (suc n)) j at (before_next p n r rest left false other))
+      ] refl is
+    where
+      next : (k b c j : ℕ) → k ≡ b + j → c ≡ b + 0 → k ≡ c + j
+      next k b c j h g = omega arith
+
+  -- no place has more of them than there are
+  pub standing_few : (p : Place) (rest : List DocRow) (n : ℕ) → length (standing_in names p n rest) ≤ length rest
+  standing_few p [] n = omega arith
+  standing_few p (r ∷ rest) n =
+      let more = standing_few p rest (suc n) in
+      elim (place_eq (place_of names r.parent) p) as (λ b. length (cond b (name_at names n ∷ standing_in names p (suc n) rest) (standing_in names p (suc n) rest)) ≤ suc (length rest)) [
+        | true ↦ omega (arith, more)
+        | false ↦ omega (arith, more)
+      ]
+
+-- ---- rows that fit stand in one place where they have one parent
+module _ (names : List Name) (differ : are_apart names ≡ true) where
+  abbrev InRange : Option DocParent → Type 0
+  InRange None = Unit {0}
+  InRange (Some p) = p.row < length names
+
+  same_parents : (a b : Option DocParent) → InRange a → InRange b → option_eq parent_eq a b ≡ place_eq (place_of names a) (place_of names b)
+  same_parents None None g h = refl
+  same_parents None (Some q) g h = sym (ap (λ o. place_eq Root (inside o q.feature)) (named names q.row h))
+  same_parents (Some p) None g h = sym (ap (λ o. place_eq (inside o p.feature) Root) (named names p.row g))
+  same_parents (Some p) (Some q) g h =
+      sym (ap (λ o. place_eq (inside o p.feature) (place_of names (Some q))) (named names p.row g)
+      ∙ ap (λ o. place_eq (Inside (name_at names p.row) p.feature) (inside o q.feature)) (named names q.row h)
+      ∙ ap (λ b. b && nat_eq p.feature q.feature) (same_at names differ p.row q.row g h))
+
+  module _ (meta : Meta) (rows : List DocRow) (fit : Fits meta rows) (as_many : length names ≡ length rows) where
+    in_range : (c : ℕ) (o : Option DocParent) → StandsFit meta rows c o → InRange o
+    in_range c None stands = tt
+    in_range c (Some p) stands = let less = at_less rows p.row stands.0 stands.1 in omega (arith, less, as_many)
+
+    row_in_range : (i : ℕ) (r : DocRow) → slice_get rows i ≡ Some r → InRange r.parent
+    row_in_range i r is = in_range r.class r.parent (fit.each i r is).stands
+
+    pub standing_before : (n : ℕ) (i : ℕ) (r : DocRow) → slice_get rows i ≡ Some r → standing r.parent (take n rows) ≡ before names rows (place_of names r.parent) n
+    standing_before n i r is =
+        counted (λ (x : DocRow). option_eq parent_eq x.parent r.parent) (λ (x : DocRow). place_eq (place_of names x.parent) (place_of names r.parent)) (take n rows)
+        (λ j x at. same_parents x.parent r.parent (row_in_range j x (take_in n rows j x at)) (row_in_range i r is))
+
+-- ---- each row tells its element, and each element has a row
+pub record HasRow (names : List Name) (rows : List DocRow) (e : Name) : Type 0 where
+  pub row : ℕ
+  pub r : DocRow
+  pub is_row : slice_get rows row ≡ Some r
+  pub named : e ≡ name_at names row
+
+module _ (m : State) (names : List Name) (rows : List DocRow) (tells : Tells m names rows) where
+  pub row_small : (i : ℕ) (r : DocRow) → slice_get rows i ≡ Some r → i < length names
+  row_small i r is = let less = at_less rows i r is in let many = tells.as_many in omega (arith, less, many)
+
+  pub told_at : (i : ℕ) (r : DocRow) → slice_get rows i ≡ Some r → TellsElement m names (name_at names i) r
+  told_at i r is = tells.each i r (name_at names i) is (named names i (row_small i r is))
+
+  pub names_apart : ids_repeat rows ≡ false → are_apart names ≡ true
+  names_apart apart = names_differ rows names tells.as_many (λ n r x is at. (tells.each n r x is at).id) apart
+
+  any_id : (e : Name) (xs : List Entry) → list_any (λ (x : Entry). text_eq e x.id) xs ≡ list_any (text_eq e) (map (λ (x : Entry). x.id) xs)
+  any_id e [] = refl
+  any_id e (x ∷ xs) = ap (λ b. text_eq e x.id || b) (any_id e xs)
+
+  pub child_at : (e : Name) (p : Place) → get m.place e ≡ Some p → (j : ℕ) × (slice_get (child_ids m p) j ≡ Some e)
+  child_at e p is =
+      any_index e (child_ids m p)
+      (sym (any_id e (children m.place m.prank p))
+      ∙ any-in_order entry_cmp (λ (x : Entry). text_eq e x.id) _
+      ∙ any-map (λ (x : Entry). text_eq e x.id) (λ (s : Name × Place). record { rank = rank_at m.prank s.0; id = s.0 }) _
+      ∙ picked_has id_order (λ (s : Name × Place). place_eq p s.1) m.place (λ (s : Name × Place). text_eq e s.0) e p is (place_equality.own p) (text_equality.own e))
+
+  pub child_stands : (p : Place) (j : ℕ) (e : Name) → slice_get (child_ids m p) j ≡ Some e → StandsAs names rows p j e
+  child_stands p j e is = stands_as names rows p rows 0 (drop_none rows) j e (ap (λ xs. slice_get xs j) (tells.lists p) ∙ is) j (none (before names rows p 0) j (before_few names rows p 0))
+    where
+      none : (b j : ℕ) → b ≤ 0 → j ≡ b + j
+      none b j h = omega arith
+
+  pub child_few : (p : Place) → length (child_ids m p) ≤ length rows
+  child_few p = subst (λ xs. length xs ≤ length rows) (tells.lists p) (standing_few names rows p rows 0)
+
+  placed_row : (e : Name) (p : Place) → get m.place e ≡ Some p → HasRow names rows e
+  placed_row e p is =
+      let child = child_at e p is in
+      let stands = child_stands p child.0 e child.1 in
+      record { row = stands.row; r = stands.r; is_row = stands.is_row; named = stands.named }
+
+  pub live_row : (meta : Meta) → Good meta m → (e : Name) → is_live m e ≡ true → HasRow names rows e
+  live_row meta good e live = by_place (get m.kind e) (get m.place e) (get m.prank e) refl (good.places.stands e) live
+    where
+      by_place : (c : Option ℕ) (o : Option Place) (r : Option ℕ) → get m.place e ≡ o → PlaceOk meta m.kind c o r → is_some c ≡ true → HasRow names rows e
+      by_place None o r is ok live = cc
+      by_place (Some c) None r is ok live = absurd ok
+      by_place (Some c) (Some p) r is ok live = placed_row e p is
