@@ -40,6 +40,13 @@ even_rank n small = ap (λ (b : Bool). rank_between (n * 4294967296) (cond b (So
     next : (n : ℕ) → n * 4294967296 + 4294967296 ≡ (n + 1) * 4294967296
     next n = omega arith
 
+-- so there is behind fewer than 2^32 - 1 that are spread evenly
+pub even_end : (xs : List Entry) → ranks_of xs ≡ evened 1 xs → length xs < 4294967295 → rank_for (ranks_of xs) (length xs) ≡ Some ((length xs + 1) * 4294967296)
+even_end xs even small = ap (λ rs. rank_for rs (length xs)) even ∙ even_for xs (length xs) (itself_le (length xs)) ∙ even_rank (length xs) small
+  where
+    itself_le : (n : ℕ) → n ≤ n
+    itself_le n = omega arith
+
 -- else they are spread evenly, and the new one with them
 pub new_end : (xs : List Entry) → rank_for (ranks_of xs) (length xs) ≡ None → length xs < 4294967295 → end_spot xs ≡ record { ranks = evened 1 xs; rank = Some ((length xs + 1) * 4294967296) }
 new_end xs none small =

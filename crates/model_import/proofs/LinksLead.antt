@@ -36,7 +36,7 @@ use Rattle.model_import.proofs.RowCounts.{count_turns, within}
 use Rattle.model_import.proofs.Turns.{Alone, Each, Turn, alone_from, each_both, each_from, each_map, found_from, is_mine, key_of, links_are, rows_are, tally_from, turns_from, turns_set}
 
 -- ---- lists by index
-any_at : (bs : List ℕ) (j b : ℕ) → slice_get bs j ≡ Some b → list_any (nat_eq b) bs ≡ true
+pub any_at : (bs : List ℕ) (j b : ℕ) → slice_get bs j ≡ Some b → list_any (nat_eq b) bs ≡ true
 any_at [] j b is = cc
 any_at (c ∷ bs) zero b is = ap (λ x. x || list_any (nat_eq b) bs) (ap (nat_eq b) (same_item c b is) ∙ nat_equality.own b)
   where
@@ -45,7 +45,7 @@ any_at (c ∷ bs) zero b is = ap (λ x. x || list_any (nat_eq b) bs) (ap (nat_eq
 any_at (c ∷ bs) (suc j) b is = or_later (nat_eq b c) _ (any_at bs j b is)
 
 -- where each number comes once, it stands at one index
-index_is : (bs : List ℕ) (j n : ℕ) → fits.are_apart bs ≡ true → slice_get bs j ≡ Some n → index_in n bs ≡ j
+pub index_is : (bs : List ℕ) (j n : ℕ) → fits.are_apart bs ≡ true → slice_get bs j ≡ Some n → index_in n bs ≡ j
 index_is [] j n ok is = cc
 index_is (c ∷ bs) zero n ok is = ap (λ t. cond t 0 (suc (index_in n bs))) (ap (nat_eq n) (same_item c n is) ∙ nat_equality.own n)
   where
@@ -83,7 +83,7 @@ feature_there (x ∷ refs) zero q is = ap (λ b. b || list_any (nat_eq q.feature
 feature_there (x ∷ refs) (suc l) q is = or_later (nat_eq q.feature x.feature) _ (feature_there refs l q is)
 
 -- the list of a feature that comes once
-list_is : (refs : List DocRefs) (l : ℕ) (q : DocRefs) → fits.are_apart (map (λ (x : DocRefs). x.feature) refs) ≡ true → slice_get refs l ≡ Some q → targets_at q.feature refs ≡ q.targets
+pub list_is : (refs : List DocRefs) (l : ℕ) (q : DocRefs) → fits.are_apart (map (λ (x : DocRefs). x.feature) refs) ≡ true → slice_get refs l ≡ Some q → targets_at q.feature refs ≡ q.targets
 list_is [] l q ok is = cc
 list_is (x ∷ refs) zero q ok is =
     ap (λ b. cond b x.targets (targets_at q.feature refs)) (ap (nat_eq q.feature) (ap (λ (z : DocRefs). z.feature) (same_refs x q is)) ∙ nat_equality.own q.feature) ∙ ap (λ (z : DocRefs). z.targets) (same_refs x q is)
@@ -116,7 +116,7 @@ pub record Sits (meta : Meta) (rows : List DocRow) (t : Turn) : Type 0 where
   pub among : slice_get (targets_at t.feature source.refs) t.index ≡ Some t.target
 
 module _ (meta : Meta) (rows : List DocRow) (fit : Fits meta rows) where
-  all_sit : Each (Sits meta rows) (turns_from 0 rows)
+  pub all_sit : Each (Sits meta rows) (turns_from 0 rows)
   all_sit = each_from (Sits meta rows) rows rows 0 (drop_none rows) (λ i r is l q at j b here.
       let row = fit.each i r is in
       let refs = row.refs l q at in
@@ -130,11 +130,11 @@ module _ (meta : Meta) (rows : List DocRow) (fit : Fits meta rows) where
         among = ap (λ bs. slice_get bs j) (list_is r.refs l q row.refs_apart at) ∙ here;
       })
 
-  all_alone : Alone (turns_from 0 rows)
+  pub all_alone : Alone (turns_from 0 rows)
   all_alone = alone_from rows rows 0 (drop_none rows) (λ i r is. (fit.each i r is).refs_apart) (λ i r is l q at. ((fit.each i r is).refs l q at).apart)
 
   -- each target is there once
-  list_apart : (i : ℕ) (r : DocRow) → slice_get rows i ≡ Some r → (g : ℕ) → fits.are_apart (targets_at g r.refs) ≡ true
+  pub list_apart : (i : ℕ) (r : DocRow) → slice_get rows i ≡ Some r → (g : ℕ) → fits.are_apart (targets_at g r.refs) ≡ true
   list_apart i r is g = at_feature (λ f bs. fits.are_apart bs ≡ true) g refl r.refs (λ l q at. ((fit.each i r is).refs l q at).apart)
 
   list_within : (i : ℕ) (r : DocRow) → slice_get rows i ≡ Some r → (g : ℕ) → is_within (length (targets_at g r.refs)) (row_upper meta g) ≡ true

@@ -1,3 +1,4 @@
 pub mod ListsInOrder
 pub mod BringingMaps
 pub mod BringingNames
+pub mod BringingRanks
