@@ -1,7 +1,7 @@
 -- What rows that tell a model leave in the empty project is alike to the model, so it has the same text.
 use Rattle.std.proofs.Common.{◌≡◌, ◌∙◌, ℕ, ◌+◌, ◌<◌, ◌≤◌, true, List, [], ◌∷◌, length, refl, sym, ap, arith}
 use Rattle.std.specs.Prelude.{Option, None, Some, is_some, slice_get, unwrap_or}
-use Rattle.std.specs.FinMap.{FinMap, empty, get}
+use Rattle.std.specs.FinMap.{empty, get}
 use Rattle.finite_maps.proofs.MapLaws.{same}
 use Rattle.ecore_meta.specs.Meta.{Meta}
 use Rattle.ecore_meta.specs.declared.meta.Kind.{Kind}
@@ -14,7 +14,7 @@ use Rattle.model_state.specs.Keys.{AttrKey, Name, attr_cmp, id_cmp}
 use Rattle.model_state.specs.Listing.{children, rank_at}
 use Rattle.model_state.specs.State.{State, is_live, nothing}
 use Rattle.model_state.specs.Typing.{kind_of, upper_of}
-use Rattle.model_state.proofs.Orders.{attr_order, id_order}
+use Rattle.model_state.proofs.Orders.{id_order}
 use Rattle.emfjson_model.specs.declared.doc.DocAttr.{DocAttr}
 use Rattle.emfjson_model.specs.declared.doc.DocRow.{DocRow}
 use Rattle.emfjson_model.specs.Fits.{Fits}
@@ -27,18 +27,18 @@ use Rattle.model_import.specs.Names.{name_at}
 use Rattle.model_import.specs.News.{place_of, rank_of}
 use Rattle.model_import.proofs.Indexed.{drop_none}
 use Rattle.round_trip.specs.Laws.{TellingsAreShown}
-use Rattle.round_trip.specs.Tells.{Tells, values_told}
-use Rattle.round_trip.proofs.BringingMaps.{Within, from_has, kinds_are, none_within, places_are, set_from, values_are, values_have, within_from, within_is, within_values}
+use Rattle.round_trip.specs.Tells.{Tells}
+use Rattle.round_trip.proofs.BringingMaps.{from_has, kinds_are, none_within, places_are, set_from, values_are, values_have, within_from, within_is, within_values}
 use Rattle.round_trip.proofs.BringingNames.{HasRow, before, child_few, child_stands, live_row, names_apart, told_at}
 use Rattle.round_trip.proofs.BringingRanks.{ranks_are}
 use Rattle.round_trip.proofs.BringingRows.{targets_same}
 use Rattle.round_trip.proofs.ListsInOrder.{children_shown}
 
 -- values that an attribute may hold are one or more
-pub record OneOrMore (vs : List Value) : Type 0 where
-  pub first : Value
-  pub more : List Value
-  pub is : vs ≡ first ∷ more
+record OneOrMore (vs : List Value) : Type 0 where
+  first : Value
+  more : List Value
+  is : vs ≡ first ∷ more
 
 some_values : (meta : Meta) (k : Kind) (upper : Option ℕ) (vs : List Value) → ValuesOk meta k upper vs → OneOrMore vs
 some_values meta k upper (v ∷ vs) ok = record { first = v; more = vs; is = refl }

@@ -1,6 +1,6 @@
 -- Maps that are made by writes, each of which tells what another map holds.
-use Rattle.std.proofs.Common.{◌≡◌, ◌∙◌, ℕ, zero, suc, ◌+◌, Bool, true, false, cond, ◌||◌, List, [], ◌∷◌, drop, map, nat_eq, not, refl, sym, ap, subst, arith}
-use Rattle.std.specs.Prelude.{Option, None, Some, is_some, slice_get, unwrap_or}
+use Rattle.std.proofs.Common.{◌≡◌, ◌∙◌, ℕ, zero, suc, ◌+◌, true, false, cond, ◌||◌, List, [], ◌∷◌, drop, map, nat_eq, not, refl, sym, ap, subst, arith}
+use Rattle.std.specs.Prelude.{Option, None, Some, is_some, slice_get}
 use Rattle.std.specs.List.{list_any}
 use Rattle.std.specs.FinMap.{FinMap, empty, get, get-empty}
 use Rattle.std.specs.declared.cmp.Ordering.{Ordering}
@@ -55,6 +55,7 @@ within_is {K} {X} {R} told m inside q covers = by_case (get m q) (told q) (insid
 
 -- ---- one value for each row
 module _ {X : Type 0} (names : List Name) (value : DocRow → X) where
+  -- each of the rows from the n-th on has its value, under its name
   abbrev pub set_from : ℕ → FinMap id_cmp X → List DocRow → FinMap id_cmp X
   set_from n m [] = m
   set_from n m (r ∷ rest) = set_from (suc n) (set m (name_at names n) (Some (value r))) rest

@@ -1,19 +1,19 @@
 -- The names of rows that tell a model: no two are the same, each element has one, and they stand in the order of the lists.
-use Rattle.std.proofs.Common.{◌≡◌, ◌∙◌, ℕ, zero, suc, ◌+◌, ◌<◌, ◌≤◌, Bool, true, false, cond, ◌&&◌, ◌||◌, not, List, [], ◌∷◌, ◌++◌, drop, length, map, take, nat_eq, refl, sym, ap, subst, arith, rules}
-use Rattle.std.specs.Prelude.{Option, None, Some, is_some, slice_get, sum_by}
+use Rattle.std.proofs.Common.{◌≡◌, ◌∙◌, ℕ, zero, suc, ◌+◌, ◌<◌, ◌≤◌, Bool, true, false, cond, ◌&&◌, not, List, [], ◌∷◌, ◌++◌, drop, length, take, nat_eq, refl, sym, ap, subst, arith, rules}
+use Rattle.std.specs.Prelude.{Option, None, Some, is_some, slice_get}
 use Rattle.std.specs.List.{count_by, list_any}
-use Rattle.std.specs.FinMap.{FinMap, get}
+use Rattle.std.specs.FinMap.{get}
 use Rattle.std.proofs.lemmas.List.Sums.{sum_by-cons}
 use Rattle.finite_maps.specs.Equal.{option_eq, text_eq}
 use Rattle.finite_maps.specs.Maps.{tally}
-use Rattle.finite_maps.proofs.Cases.{not_false, not_true, true_false}
+use Rattle.finite_maps.proofs.Cases.{not_false}
 use Rattle.finite_maps.proofs.EqualLaws.{and_both, text_equality}
 use Rattle.ecore_meta.specs.Meta.{Meta}
 use Rattle.model_state.specs.declared.entry.Entry.{Entry}
 use Rattle.model_state.specs.declared.step.Place.{Place}
 use Rattle.model_state.specs.declared.step.Place.TheVariants.{Root, Inside}
 use Rattle.model_state.specs.Good.{Good, PlaceOk}
-use Rattle.model_state.specs.Keys.{Name, id_cmp}
+use Rattle.model_state.specs.Keys.{Name}
 use Rattle.model_state.specs.Listing.{children, entry_cmp, rank_at}
 use Rattle.model_state.specs.State.{State, is_live, place_eq}
 use Rattle.model_state.proofs.Orders.{id_order}
@@ -29,11 +29,12 @@ use Rattle.emfjson_text.specs.Tree.{child_ids}
 use Rattle.model_import.specs.Laws.{are_apart}
 use Rattle.model_import.specs.Names.{name_at}
 use Rattle.model_import.specs.News.{inside, place_of, standing}
-use Rattle.model_import.proofs.Indexed.{at_less, drop_at, drop_next, drop_none, named, none_at, same_at, take_next}
+use Rattle.model_import.proofs.Indexed.{at_less, drop_at, drop_next, drop_none, named, same_at, take_next}
 use Rattle.round_trip.specs.Tells.{Tells, TellsElement, standing_in}
-use Rattle.round_trip.proofs.ListsInOrder.{any_index}
+use Rattle.round_trip.proofs.ListsInOrder.{any_id, any_index}
 
 -- ---- no two names are the same
+-- a name that none of the rows gives is none of theirs
 none_gives : (e : Name) (rest : List DocRow) (es : List Name) → length es ≡ length rest → ((n : ℕ) (r : DocRow) (x : Name) → slice_get rest n ≡ Some r → slice_get es n ≡ Some x → r.id ≡ Some x) → list_any (gives_id e) rest ≡ false
     → list_any (text_eq e) es ≡ false
 none_gives e rest [] many each h = refl
@@ -168,6 +169,7 @@ module _ (names : List Name) (rows : List DocRow) where
 
 -- ---- rows that fit stand in one place where they have one parent
 module _ (names : List Name) (differ : are_apart names ≡ true) where
+  -- the parent is the root or one of the rows
   abbrev InRange : Option DocParent → Type 0
   InRange None = Unit {0}
   InRange (Some p) = p.row < length names
@@ -195,6 +197,7 @@ module _ (names : List Name) (differ : are_apart names ≡ true) where
         (λ j x at. same_parents x.parent r.parent (row_in_range j x (take_in n rows j x at)) (row_in_range i r is))
 
 -- ---- each row tells its element, and each element has a row
+-- a row has the name
 pub record HasRow (names : List Name) (rows : List DocRow) (e : Name) : Type 0 where
   pub row : ℕ
   pub r : DocRow
@@ -210,10 +213,6 @@ module _ (m : State) (names : List Name) (rows : List DocRow) (tells : Tells m n
 
   pub names_apart : ids_repeat rows ≡ false → are_apart names ≡ true
   names_apart apart = names_differ rows names tells.as_many (λ n r x is at. (tells.each n r x is at).id) apart
-
-  any_id : (e : Name) (xs : List Entry) → list_any (λ (x : Entry). text_eq e x.id) xs ≡ list_any (text_eq e) (map (λ (x : Entry). x.id) xs)
-  any_id e [] = refl
-  any_id e (x ∷ xs) = ap (λ b. text_eq e x.id || b) (any_id e xs)
 
   pub child_at : (e : Name) (p : Place) → get m.place e ≡ Some p → (j : ℕ) × (slice_get (child_ids m p) j ≡ Some e)
   child_at e p is =

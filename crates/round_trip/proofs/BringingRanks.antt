@@ -1,8 +1,8 @@
 -- The ranks of elements that are brought into the empty project: each is that of a new list, by how many rows stand before it in its place.
-use Rattle.std.proofs.Common.{◌≡◌, ◌∙◌, ℕ, zero, suc, ◌+◌, ◌*◌, ◌<◌, ◌≤◌, Bool, true, false, cond, List, [], ◌∷◌, ◌++◌, drop, length, map, take, refl, sym, ap, subst, arith}
-use Rattle.std.specs.Prelude.{Option, None, Some, is_some, slice_get, option_map}
+use Rattle.std.proofs.Common.{◌≡◌, ◌∙◌, ℕ, zero, suc, ◌+◌, ◌*◌, ◌<◌, ◌≤◌, true, false, List, [], ◌∷◌, ◌++◌, drop, length, map, take, refl, sym, ap, subst, arith}
+use Rattle.std.specs.Prelude.{Option, Some, is_some, slice_get, option_map}
 use Rattle.std.specs.List.{AllByRecursion, filter}
-use Rattle.std.specs.FinMap.{FinMap, empty, entries, get, get-empty}
+use Rattle.std.specs.FinMap.{empty, entries, get, get-empty}
 use Rattle.finite_maps.specs.Maps.{set}
 use Rattle.finite_maps.specs.Sorts.{in_order}
 use Rattle.finite_maps.proofs.Cases.{some_none}
@@ -14,7 +14,6 @@ use Rattle.model_state.specs.Keys.{Name, id_cmp}
 use Rattle.model_state.specs.Listing.{children, entry_cmp, rank_at}
 use Rattle.model_state.specs.State.{place_eq}
 use Rattle.model_state.proofs.Orders.{id_order}
-use Rattle.model_state.proofs.StepTests.{place_equality}
 use Rattle.edit_laws.specs.Places.{Ranks, ranked_places}
 use Rattle.edit_laws.specs.Spot.{Spot, end_spot, evened, rank_for, ranks_of}
 use Rattle.edit_laws.proofs.Lists.{entries_held}
@@ -24,7 +23,6 @@ use Rattle.model_import.specs.After.{ranks_after, ranks_from}
 use Rattle.model_import.specs.Laws.{are_apart}
 use Rattle.model_import.specs.Names.{name_at}
 use Rattle.model_import.specs.News.{place_of, rank_of, roots_after, standing}
-use Rattle.model_import.specs.Roots.{root_after}
 use Rattle.model_import.proofs.Ends.{after_kept, even_end, kept_end}
 use Rattle.model_import.proofs.Indexed.{at_less, drop_at, drop_less, drop_next, drop_none}
 use Rattle.round_trip.proofs.BringingMaps.{Within, none_within, set_grows, set_here, within_is, within_set}
@@ -59,6 +57,7 @@ all_last P [] y all here = (here, tt)
 all_last P (x ∷ xs) y all here = (all.0, all_last P xs y all.1 here)
 
 module _ (told : Name → Option ℕ) where
+  -- the entry's rank is the one that is told
   abbrev ToldAt : Entry → Type 0
   ToldAt x = told x.id ≡ Some x.rank
 
@@ -75,6 +74,7 @@ module _ (meta : Meta) (names : List Name) (rows : List DocRow) (fit : Fits meta
   abbrev pub rank_at_row : ℕ → Option ℕ
   rank_at_row i = option_map (λ (r : DocRow). rank_of (before names rows (place_of names r.parent) i)) (slice_get rows i)
 
+  -- that of an element, by its name
   abbrev pub rank_told : Name → Option ℕ
   rank_told e = rank_at_row (index_of e names)
 

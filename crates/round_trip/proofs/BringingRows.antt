@@ -1,19 +1,18 @@
 -- The references of rows that tell a model, brought into the empty project: the same rows, ranked as new lists.
-use Rattle.std.proofs.Common.{◌≡◌, ◌∙◌, ℕ, zero, suc, ◌+◌, ◌<◌, ◌≤◌, Bool, true, false, ◌&&◌, ◌||◌, not, List, [], ◌∷◌, length, map, nat_eq, refl, sym, ap, subst, arith}
-use Rattle.std.specs.Prelude.{Option, None, Some, is_some, slice_get, ⊤}
+use Rattle.std.proofs.Common.{◌≡◌, ◌∙◌, ℕ, zero, suc, ◌+◌, ◌<◌, ◌≤◌, Bool, true, false, not, List, [], ◌∷◌, length, map, nat_eq, refl, sym, ap, subst, arith}
+use Rattle.std.specs.Prelude.{Option, None, Some, is_some, slice_get}
 use Rattle.std.specs.List.{AllByRecursion, IsDistinct, list_any}
 use Rattle.std.specs.Option.{option_map_or}
-use Rattle.std.specs.FinMap.{FinMap, empty, get, get-empty}
+use Rattle.std.specs.FinMap.{empty, get, get-empty}
 use Rattle.std.proofs.lemmas.Map.Steps.{length-le_from_distinct_below}
-use Rattle.finite_maps.specs.Equal.{text_eq}
-use Rattle.finite_maps.proofs.Cases.{not_true, some_none, true_false}
-use Rattle.finite_maps.proofs.EqualLaws.{and_first, and_second, nat_equality}
+use Rattle.finite_maps.proofs.Cases.{not_true, true_false}
+use Rattle.finite_maps.proofs.EqualLaws.{and_first, and_second}
 use Rattle.ecore_meta.specs.Meta.{Meta}
 use Rattle.model_state.specs.declared.entry.Entry.{Entry}
 use Rattle.model_state.specs.Good.{Good, RowOk}
 use Rattle.model_state.specs.Keys.{Name, RowKey, row_cmp}
 use Rattle.model_state.specs.Listing.{targets}
-use Rattle.model_state.specs.State.{State, is_live}
+use Rattle.model_state.specs.State.{State}
 use Rattle.model_laws.proofs.Inserts.{or_first, or_second}
 use Rattle.edit_laws.specs.Rows.{Rows}
 use Rattle.edit_laws.proofs.Lists.{targets_has, targets_held}
@@ -25,7 +24,7 @@ use Rattle.emfjson_model.specs.Merged.{targets_at}
 use Rattle.emfjson_text.specs.Tree.{entry_ids, target_ids}
 use Rattle.model_import.specs.After.{rows_from}
 use Rattle.model_import.specs.Laws.{are_apart}
-use Rattle.model_import.specs.Links.{index_in, refs_at}
+use Rattle.model_import.specs.Links.{refs_at}
 use Rattle.model_import.specs.Names.{name_at}
 use Rattle.model_import.specs.News.{rank_of}
 use Rattle.model_import.proofs.Indexed.{at_less}
@@ -34,7 +33,7 @@ use Rattle.model_import.proofs.LinksLead.{Sits, all_alone, all_sit, any_at, inde
 use Rattle.model_import.proofs.Turns.{Each, Turn, each_both, each_map, found_from, key_of, rows_are, turns_from, turns_set}
 use Rattle.round_trip.specs.Tells.{Tells}
 use Rattle.round_trip.proofs.BringingNames.{HasRow, live_row, row_small, told_at}
-use Rattle.round_trip.proofs.ListsInOrder.{any_index, targets_shown}
+use Rattle.round_trip.proofs.ListsInOrder.{any_id, any_index, targets_shown}
 
 -- ---- lists by index
 map_at : {X Y : Type 0} (h : X → Y) (xs : List X) (j : ℕ) (x : X) → slice_get xs j ≡ Some x → slice_get (map h xs) j ≡ Some (h x)
@@ -75,10 +74,6 @@ held_there row a f (x ∷ xs) all zero b is = subst (λ z. is_some (get row (a, 
     same_item : (x b : Name) → ◌≡◌ {A = Option Name} (Some x) (Some b) → x ≡ b
     same_item x b is = cc
 held_there row a f (x ∷ xs) all (suc j) b is = held_there row a f xs all.1 j b is
-
-any_id : (b : Name) (xs : List Entry) → list_any (λ (x : Entry). text_eq b x.id) xs ≡ list_any (text_eq b) (entry_ids xs)
-any_id b [] = refl
-any_id b (x ∷ xs) = ap (λ t. text_eq b x.id || t) (any_id b xs)
 
 live_source : (meta : Meta) (f : ℕ) (c d o : Option ℕ) → RowOk meta c f d o → is_some o ≡ true → is_some c ≡ true
 live_source meta f (Some c) d o ok there = refl

@@ -1,20 +1,20 @@
 -- Lists by rank show the ids in order where the ranks rise along them: the elements of a place, and the targets of a feature.
-use Rattle.std.proofs.Common.{◌≡◌, ◌∙◌, ℕ, zero, suc, ◌+◌, ◌<◌, ◌≤◌, Bool, true, false, ◌&&◌, ◌||◌, cond, List, [], ◌∷◌, length, map, refl, sym, ap, arith}
+use Rattle.std.proofs.Common.{◌≡◌, ◌∙◌, ℕ, suc, ◌+◌, ◌<◌, ◌≤◌, Bool, true, false, ◌&&◌, ◌||◌, cond, List, [], ◌∷◌, length, map, refl, sym, ap, arith}
 use Rattle.std.specs.Prelude.{Option, None, Some, is_some, slice_get, unwrap_or}
-use Rattle.std.specs.List.{AllByRecursion, filter, list_any}
+use Rattle.std.specs.List.{AllByRecursion, list_any}
 use Rattle.std.specs.Cmp.{nat_cmp_is}
-use Rattle.std.specs.Ordering.{is_lt, nat_cmp, ordering_then}
+use Rattle.std.specs.Ordering.{is_lt, ordering_then}
 use Rattle.std.specs.declared.cmp.Ordering.TheVariants.{Greater}
-use Rattle.std.specs.FinMap.{FinMap, entries, get}
+use Rattle.std.specs.FinMap.{entries, get}
 use Rattle.finite_maps.specs.Equal.{text_eq}
 use Rattle.finite_maps.specs.Maps.{count, passes, tally}
-use Rattle.finite_maps.specs.Sorts.{in_order, picked}
+use Rattle.finite_maps.specs.Sorts.{picked}
 use Rattle.finite_maps.proofs.CountLaws.{count_alike}
 use Rattle.finite_maps.proofs.EqualLaws.{text_equality}
 use Rattle.finite_maps.proofs.SortLaws.{Rises, rises-in_order, same_risen, tally-in_order, tally-map}
 use Rattle.model_state.specs.declared.entry.Entry.{Entry}
 use Rattle.model_state.specs.declared.step.Place.{Place}
-use Rattle.model_state.specs.Keys.{Name, RowKey, id_cmp, row_cmp}
+use Rattle.model_state.specs.Keys.{Name, RowKey, id_cmp}
 use Rattle.model_state.specs.Listing.{children, entry_cmp, is_of, rank_at, row_entry, targets}
 use Rattle.model_state.specs.State.{place_eq}
 use Rattle.model_state.proofs.Orders.{entry_order, row_order}
@@ -24,9 +24,9 @@ use Rattle.edit_laws.proofs.Lists.{all-in_order, tally-filter, targets_held}
 use Rattle.emfjson_text.specs.Tree.{entry_ids}
 use Rattle.model_import.specs.After.{Places}
 use Rattle.model_import.specs.News.{rank_of}
-use Rattle.model_import.proofs.Indexed.{or_later}
 
 -- ---- names by index
+-- a name that is in a list stands at an index
 pub any_index : (e : Name) (xs : List Name) → list_any (text_eq e) xs ≡ true → (j : ℕ) × (slice_get xs j ≡ Some e)
 any_index e [] h = cc
 any_index e (x ∷ xs) h =
@@ -35,19 +35,16 @@ any_index e (x ∷ xs) h =
       | false ↦ λ _ later. let rest = any_index e xs later in (suc rest.0, rest.1)
     ] refl h
 
-pub index_any : (e : Name) (xs : List Name) (j : ℕ) → slice_get xs j ≡ Some e → list_any (text_eq e) xs ≡ true
-index_any e [] j is = cc
-index_any e (x ∷ xs) zero is = ap (λ b. b || list_any (text_eq e) xs) (ap (text_eq e) (same_item x e is) ∙ text_equality.own e)
-  where
-    same_item : (x e : Name) → ◌≡◌ {A = Option Name} (Some x) (Some e) → x ≡ e
-    same_item x e is = cc
-index_any e (x ∷ xs) (suc j) is = or_later (text_eq e x) _ (index_any e xs j is)
+pub any_id : (e : Name) (xs : List Entry) → list_any (λ (x : Entry). text_eq e x.id) xs ≡ list_any (text_eq e) (entry_ids xs)
+any_id e [] = refl
+any_id e (x ∷ xs) = ap (λ b. text_eq e x.id || b) (any_id e xs)
 
 -- ---- ranks that rise
 rank_less : (n k : ℕ) → n < k → k < 4294967295 → rank_of n < rank_of k
 rank_less n k less small = omega arith
 
 module _ (rank : Name → ℕ) where
+  -- an entry by its id
   abbrev pub entry_at : Name → Entry
   entry_at e = record { rank = rank e; id = e }
 

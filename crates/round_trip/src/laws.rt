@@ -1,0 +1,6 @@
+ghost use Rattle.round_trip.specs.Laws.{TellingsAreShown};
+
+/// What rows that tell a good model leave in the empty project has the text of that model.
+pub fn law_of_tellings()
+    ensures { TellingsAreShown }
+{}

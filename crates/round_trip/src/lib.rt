@@ -3,3 +3,4 @@
 
 mod laws;
 
+pub use laws::law_of_tellings;
