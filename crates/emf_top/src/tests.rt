@@ -1,5 +1,5 @@
+mod attributes;
 mod composites;
-mod edits;
 mod imports;
 mod references;
 mod trees;
