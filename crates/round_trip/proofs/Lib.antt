@@ -4,3 +4,4 @@ pub mod BringingNames
 pub mod BringingRanks
 pub mod BringingRows
 pub mod Bringing
+pub mod ReadingPlain
