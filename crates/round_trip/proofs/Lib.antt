@@ -5,3 +5,7 @@ pub mod BringingRanks
 pub mod BringingRows
 pub mod Bringing
 pub mod ReadingPlain
+pub mod KeysPairs
+pub mod KeysTypes
+pub mod KeysRise
+pub mod ReadingTrees

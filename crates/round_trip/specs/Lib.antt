@@ -1,2 +1,3 @@
 pub mod Tells
+pub mod Named
 pub mod Laws

@@ -4,3 +4,4 @@
 mod laws;
 
 pub use laws::law_of_tellings;
+pub use laws::law_of_reading_back;

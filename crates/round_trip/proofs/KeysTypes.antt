@@ -1,0 +1,75 @@
+-- The types of the rows, links and keys, which their crates use alone: named by the lists and functions that have them.
+use Rattle.std.proofs.Common.{◌≡◌, ℕ, suc, false, List, [], ◌∷◌, map, refl, codes}
+use Rattle.finite_maps.specs.Sorts.{in_order}
+use Rattle.ecore_meta.specs.Meta.{Meta, name_at}
+use Rattle.emfjson_model.specs.Parts.{no_part}
+use Rattle.emfjson_text.specs.Keys.{key_cmp, key_name, key_number, keys_of, class_features}
+
+abbrev pub item_of : {A : Type 0} → List A → Type 0
+item_of {A} xs = A
+
+abbrev pub taken_by : {A B : Type 0} → (A → B) → Type 0
+taken_by {A} {B} f = A
+
+-- an element as the walk finds it
+abbrev pub Draft : Type 0
+Draft = item_of no_part.rows
+
+-- the links of a reference as the walk finds them
+abbrev pub Links : Type 0
+Links = item_of no_part.links
+
+-- a key of an element's object
+abbrev pub Key : Type 0
+Key = taken_by key_number
+
+-- ---- the keys of a class with one feature, whose name is empty: the feature, the id, the class
+abbrev probe : ℕ → Meta
+probe f = record { uri = []; classes = record { name = []; is_abstract = false; features = f ∷ [] } ∷ []; features = []; supers = []; literals = [] }
+
+abbrev IsFull : {A : Type 0} → List A → Type 0
+IsFull [] = ⊥
+IsFull (x ∷ xs) = Unit {0}
+
+abbrev head : {A : Type 0} (xs : List A) → IsFull xs → A
+head [] full = absurd full
+head (x ∷ xs) full = x
+
+abbrev tail : {A : Type 0} → List A → List A
+tail [] = []
+tail (x ∷ xs) = xs
+
+unfoldable pub Feature : ℕ → Key
+unfolding keys_of
+Feature f = head (keys_of (probe f) 0) tt
+
+unfoldable pub Ident : Key
+unfolding keys_of
+Ident = head (tail (keys_of (probe 0) 0)) tt
+
+unfoldable pub Class : Key
+unfolding keys_of
+Class = head (tail (tail (keys_of (probe 0) 0))) tt
+
+-- the keys of an object, in order
+pub keys_are : (meta : Meta) (c : ℕ) → keys_of meta c ≡ in_order (key_cmp meta) (Ident ∷ Class ∷ map Feature (class_features meta c))
+unfolding keys_of Ident Class Feature
+keys_are meta c = refl
+
+pub feature_number : (f : ℕ) → key_number (Feature f) ≡ suc (suc f)
+unfolding keys_of Feature
+feature_number f = refl
+
+-- their names
+module _ (meta : Meta) where
+  pub ident_name : key_name meta Ident ≡ codes "_id"
+  unfolding keys_of Ident
+  ident_name = refl
+
+  pub class_name : key_name meta Class ≡ codes "eClass"
+  unfolding keys_of Class
+  class_name = refl
+
+  pub feature_name : (f : ℕ) → key_name meta (Feature f) ≡ name_at meta.features f
+  unfolding keys_of Feature
+  feature_name f = refl

@@ -1,0 +1,21 @@
+-- What holds of the names of every metamodel that is read.
+use Rattle.std.specs.Prelude.{◌≡◌, ℕ, ◌==◌, ◌||◌, false, Option, None, Some, map, codes, slice_get}
+use Rattle.std.specs.List.{list_any}
+use Rattle.std.specs.Str.{bytes_eq}
+use Rattle.ecore_meta.specs.Meta.{Meta, name_at}
+use Rattle.ecore_meta.specs.Names.{has_repeat}
+use Rattle.ecore_meta.specs.Typing.{kind_of, upper_of}
+use Rattle.ecore_meta.specs.declared.meta.Class.{Class}
+use Rattle.ecore_meta.specs.declared.meta.Kind.TheVariants.{Free}
+use Rattle.emfjson_io.specs.Laws.{TextsAreApart}
+use Rattle.emfjson_model.specs.Classes.{features_of}
+
+-- names of classes differ and have no slash; the features of a class differ by name, and none is named as the class or the id; the literals of an enum
+-- differ by text; references of the kind that has no bound have none
+pub record IsNamed (meta : Meta) : Type 0 where
+  pub classes : has_repeat (map (λ c. c.name) meta.classes) ≡ false
+  pub slashes : (n : ℕ) (class : Class) → slice_get meta.classes n ≡ Some class → list_any (λ b. b == 47) class.name ≡ false
+  pub features : (c : ℕ) → has_repeat (map (name_at meta.features) (features_of meta c)) ≡ false
+  pub keys : (f : ℕ) → bytes_eq (name_at meta.features f) (codes "eClass") || bytes_eq (name_at meta.features f) (codes "_id") ≡ false
+  pub literals : TextsAreApart meta
+  pub unbounded : (f target : ℕ) (opposite : Option ℕ) → kind_of meta f ≡ Free target opposite → upper_of meta f ≡ None
