@@ -5,7 +5,9 @@ pub mod BringingRanks
 pub mod BringingRows
 pub mod Bringing
 pub mod ReadingPlain
+pub mod ReadingTrees
 pub mod KeysPairs
 pub mod KeysTypes
 pub mod KeysRise
-pub mod ReadingTrees
+pub mod WalksRows
+pub mod WalksSteps
