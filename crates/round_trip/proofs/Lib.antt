@@ -11,3 +11,4 @@ pub mod KeysTypes
 pub mod KeysRise
 pub mod WalksRows
 pub mod WalksSteps
+pub mod KeysFound
