@@ -12,3 +12,5 @@ pub mod KeysRise
 pub mod WalksRows
 pub mod WalksSteps
 pub mod KeysFound
+pub mod ReadingParts
+pub mod ReadingKinds

@@ -42,7 +42,7 @@ width_whole : (half : ℕ) → half ≤ 2 ^ 63 → (n : ℤ) → in_width half n
 width_whole half small (pos n) h = let below : n < half = ltb-true n half h in omega arith
 width_whole half small (negsuc n) h = let below : n < half = ltb-true n half h in omega arith
 
-plain_value : (meta : Meta) (s : Scalar) (v : Value) → fits meta s v ≡ true → IsPlain (data_of meta s v)
+pub plain_value : (meta : Meta) (s : Scalar) (v : Value) → fits meta s v ≡ true → IsPlain (data_of meta s v)
 plain_value meta s (Text t) h = tt
 plain_value meta s (Flag b) h = tt
 plain_value meta s (Literal n) h = tt
