@@ -14,3 +14,5 @@ pub mod WalksSteps
 pub mod KeysFound
 pub mod ReadingParts
 pub mod ReadingKinds
+pub mod WalksCounts
+pub mod WalksWhole
