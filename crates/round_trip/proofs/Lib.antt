@@ -16,3 +16,5 @@ pub mod ReadingParts
 pub mod ReadingKinds
 pub mod WalksCounts
 pub mod WalksWhole
+pub mod WalksLevels
+pub mod WalksNames
