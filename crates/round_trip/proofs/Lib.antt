@@ -18,3 +18,6 @@ pub mod WalksCounts
 pub mod WalksWhole
 pub mod WalksLevels
 pub mod WalksNames
+pub mod KeysApart
+pub mod WalksApart
+pub mod WalksRoots

@@ -28,6 +28,9 @@ module _ (m : State) where
   pub under_own : (e : Name) → Under m e e
   under_own e = (0, refl)
 
+  pub above_up : (e c x : Name) (k : ℕ) → up m c ≡ Some e → above m k x ≡ Some c → above m (suc k) x ≡ Some e
+  above_up e c x k is at = ap (option_and_then (up m)) at ∙ is
+
   pub under_up : (e c x : Name) → up m c ≡ Some e → Under m c x → Under m e x
   under_up e c x is u = (suc u.0, ap (option_and_then (up m)) u.1 ∙ is)
 

@@ -43,7 +43,7 @@ use Rattle.round_trip.proofs.WalksRows.{Come, among, class_at, keys_attrs, keys_
 use Rattle.round_trip.proofs.WalksSteps.{KeyOk, Walked, members_walk}
 
 -- ---- how deep
-abbrev IsWithinIf : ℕ → Option Data → Type 0
+abbrev pub IsWithinIf : ℕ → Option Data → Type 0
 IsWithinIf n None = Unit {0}
 IsWithinIf n (Some d) = depth d ≤ n
 
