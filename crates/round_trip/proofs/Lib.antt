@@ -21,3 +21,5 @@ pub mod WalksNames
 pub mod KeysApart
 pub mod WalksApart
 pub mod WalksRoots
+pub mod WalksPlaces
+pub mod ReadingValues
