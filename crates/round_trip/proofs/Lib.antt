@@ -23,3 +23,4 @@ pub mod WalksApart
 pub mod WalksRoots
 pub mod WalksPlaces
 pub mod ReadingValues
+pub mod WalksDown

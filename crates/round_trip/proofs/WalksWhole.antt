@@ -53,7 +53,7 @@ max_first a b n h = grind arith
 max_second : (a b n : ℕ) → max a b ≤ n → b ≤ n
 max_second a b n h = grind arith
 
-depths : (name : Key → List ℕ) (p : Key → Option Data) (n : ℕ) (ks : List Key) → members_depth (members name p ks) ≤ n → AllByRecursion (λ k. IsWithinIf n (p k)) ks
+pub depths : (name : Key → List ℕ) (p : Key → Option Data) (n : ℕ) (ks : List Key) → members_depth (members name p ks) ≤ n → AllByRecursion (λ k. IsWithinIf n (p k)) ks
 depths name p n [] h = tt
 depths name p n (k ∷ ks) h = by_part (p k) (depths name p n ks) h
   where
