@@ -31,7 +31,7 @@ class_number : key_number Class ≡ 1
 unfolding keys_of Class
 class_number = refl
 
-feature_number : (f : ℕ) → key_number (Feature f) ≡ suc (suc f)
+pub feature_number : (f : ℕ) → key_number (Feature f) ≡ suc (suc f)
 unfolding keys_of Feature
 feature_number f = refl
 

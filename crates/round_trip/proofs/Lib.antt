@@ -24,3 +24,4 @@ pub mod WalksRoots
 pub mod WalksPlaces
 pub mod ReadingValues
 pub mod WalksDown
+pub mod WalksLists
