@@ -25,3 +25,5 @@ pub mod WalksPlaces
 pub mod ReadingValues
 pub mod WalksDown
 pub mod WalksLists
+pub mod ReadingSpots
+pub mod ReadingLinks
