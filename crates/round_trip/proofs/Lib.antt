@@ -27,3 +27,4 @@ pub mod WalksDown
 pub mod WalksLists
 pub mod ReadingSpots
 pub mod ReadingLinks
+pub mod ReadingMerged

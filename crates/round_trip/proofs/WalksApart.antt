@@ -42,7 +42,7 @@ text_differ x y h e = let own : text_eq x y ≡ true = subst (λ z. text_eq x z 
 
 -- ---- the elements of a place are there once
 module _ (meta : Meta) (m : State) (good : Good meta m) where
-  entry_differs : (x : Entry) (xs : List Entry) → list_any (λ (y : Entry). text_eq x.id y.id) xs ≡ false → AllByRecursion (Differ x.id) (map (λ (y : Entry). y.id) xs)
+  pub entry_differs : (x : Entry) (xs : List Entry) → list_any (λ (y : Entry). text_eq x.id y.id) xs ≡ false → AllByRecursion (Differ x.id) (map (λ (y : Entry). y.id) xs)
   entry_differs x [] h = tt
   entry_differs x (y ∷ ys) h =
       let parts = or_parts (text_eq x.id y.id) (list_any (λ (y : Entry). text_eq x.id y.id) ys) h in

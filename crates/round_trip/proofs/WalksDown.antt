@@ -37,7 +37,7 @@ use Rattle.round_trip.proofs.WalksRows.{class_at}
 use Rattle.round_trip.proofs.WalksWhole.{IsWithinIf, depths, listed_depths, placed}
 
 -- ---- the elements of a place are all that stand in it
-entry_stands : (d : Name) (xs : List Entry) → list_any (λ (x : Entry). text_eq d x.id) xs ≡ true → Stands d (map (λ (x : Entry). x.id) xs)
+pub entry_stands : (d : Name) (xs : List Entry) → list_any (λ (x : Entry). text_eq d x.id) xs ≡ true → Stands d (map (λ (x : Entry). x.id) xs)
 entry_stands d [] h = cc
 entry_stands d (x ∷ xs) h = by_test (text_eq d x.id) refl (entry_stands d xs) h
   where
