@@ -28,3 +28,5 @@ pub mod WalksLists
 pub mod ReadingSpots
 pub mod ReadingLinks
 pub mod ReadingMerged
+pub mod WalksShort
+pub mod ReadingTold

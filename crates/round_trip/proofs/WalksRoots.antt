@@ -37,7 +37,7 @@ module _ (meta : Meta) (below : ℕ → Option DocParent → Name → List Draft
       walked_object (shown c) (objects c) ∙ all.0 [] (subst (λ rs. Come [] (ids_of rs)) (sym alone) come) ∙ ap (λ rs. Ok rs) alone
   list_walked (c ∷ d ∷ cs) all come = items_walk meta below shown None None [] (c ∷ d ∷ cs) [] 0 refl all come
 
-one_or_list_within : (n : ℕ) (ds : List Data) → depth (one_or_list true ds) ≤ n → IsWithinIf n (listed true ds)
+pub one_or_list_within : (n : ℕ) (ds : List Data) → depth (one_or_list true ds) ≤ n → IsWithinIf n (listed true ds)
 one_or_list_within n [] h = tt
 one_or_list_within n (d ∷ ds) h = h
 
