@@ -67,7 +67,7 @@ module _ (meta : Meta) where
       let name = then_ok (id_of ids (get_member (codes "_id") ms)) (λ id. own_rows parent id class.0 (inside class.0 (ids ++ id ∷ []))) more class.2 in
       let part = then_ok (inside class.0 (ids ++ name.0 ∷ [])) (λ (p : Part). Ok (record { id = name.0; class = class.0; parent = parent; attrs = p.attrs; links = p.links } ∷ p.rows)) more name.2 in
       let own : Draft = record { id = name.0; class = class.0; parent = parent; attrs = part.0.attrs; links = part.0.links } in
-      let is = ap length (rows_ok (own ∷ part.0.rows) more part.2) in
+      let is : suc (length part.0.rows) ≡ length more = ap length {x = own ∷ part.0.rows} (rows_ok (own ∷ part.0.rows) more part.2) in
       let l = short class.0 (ids ++ name.0 ∷ []) part.0 part.1 in
       omega arith
 

@@ -1,5 +1,5 @@
 -- A model's text, brought into the empty project, is shown as the same text.
-use Rattle.std.specs.Prelude.{◌≡◌, ◌-◌, ◌^◌, ◌<◌, ◌≤◌, List, Some, length}
+use Rattle.std.specs.Prelude.{◌≡◌, ◌-◌, ◌^◌, ◌<◌, ◌≤◌, List, Some, Ok, length}
 use Rattle.serde_json.specs.Data.{depth}
 use Rattle.serde_json.specs.Read.{read, max_depth}
 use Rattle.ecore_meta.specs.Meta.{Meta}
@@ -7,10 +7,11 @@ use Rattle.model_state.specs.Good.{Good, Sound}
 use Rattle.model_state.specs.Keys.{Name}
 use Rattle.model_state.specs.State.{State, nothing}
 use Rattle.emfjson_model.specs.declared.doc.DocRow.{DocRow}
+use Rattle.emfjson_model.specs.Document.{doc_of}
 use Rattle.emfjson_model.specs.Fits.{Fits}
 use Rattle.emfjson_text.specs.Tree.{text, tree}
 use Rattle.model_import.specs.After.{import_after}
-use Rattle.round_trip.specs.Named.{IsNamed}
+use Rattle.round_trip.specs.Named.{HasIds, IsNamed}
 use Rattle.round_trip.specs.Tells.{Tells}
 
 -- what rows that tell a good model leave in the empty project has the text of that model
@@ -21,3 +22,8 @@ TellingsAreShown = (meta : Meta) → Sound meta → (m : State) → Good meta m 
 -- the text of a good model reads as its tree, where that nests no deeper than JSON is read
 abbrev pub TextsReadBack : Type 0
 TextsReadBack = (meta : Meta) → IsNamed meta → (m : State) → Good meta m → depth (tree meta m) ≤ max_depth → read (text meta m) ≡ Some (tree meta m)
+
+-- a good model of elements with ids has a text that says rows, which tell the model, and are no more than the text has bytes
+abbrev pub TextsAreTold : Type 0
+TextsAreTold = (meta : Meta) → IsNamed meta → (m : State) → Good meta m → HasIds m → depth (tree meta m) ≤ max_depth
+    → (names : List Name) × (rows : List DocRow) × (doc_of meta (text meta m) ≡ Ok rows) × Tells m names rows × (length rows ≤ length (text meta m))

@@ -1,5 +1,5 @@
--- What holds of the names of every metamodel that is read.
-use Rattle.std.specs.Prelude.{◌≡◌, ℕ, ◌==◌, ◌||◌, false, Option, None, Some, map, codes, slice_get}
+-- What holds of the names of every metamodel that is read, and of the names of a model.
+use Rattle.std.specs.Prelude.{◌≡◌, ℕ, ◌==◌, ◌||◌, true, false, Option, None, Some, map, codes, slice_get}
 use Rattle.std.specs.List.{list_any}
 use Rattle.std.specs.Str.{bytes_eq}
 use Rattle.ecore_meta.specs.Meta.{Meta, name_at}
@@ -7,8 +7,15 @@ use Rattle.ecore_meta.specs.Names.{has_repeat}
 use Rattle.ecore_meta.specs.Typing.{kind_of, upper_of}
 use Rattle.ecore_meta.specs.declared.meta.Class.{Class}
 use Rattle.ecore_meta.specs.declared.meta.Kind.TheVariants.{Free}
+use Rattle.model_state.specs.Ident.{is_id}
+use Rattle.model_state.specs.Keys.{Name}
+use Rattle.model_state.specs.State.{State, is_live}
 use Rattle.emfjson_io.specs.Laws.{TextsAreApart}
 use Rattle.emfjson_model.specs.Classes.{features_of}
+
+-- each element's name has the form of an id
+abbrev pub HasIds : State → Type 0
+HasIds m = (e : Name) → is_live m e ≡ true → is_id e ≡ true
 
 -- names of classes differ and have no slash; the features of a class differ by name, and none is named as the class or the id; the literals of an enum
 -- differ by text; references of the kind that has no bound have none

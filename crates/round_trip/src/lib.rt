@@ -5,3 +5,4 @@ mod laws;
 
 pub use laws::law_of_tellings;
 pub use laws::law_of_reading_back;
+pub use laws::{law_of_reading, law_of_reading_back};
