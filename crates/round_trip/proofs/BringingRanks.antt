@@ -1,6 +1,6 @@
 -- The ranks of elements that are brought into the empty project: each is that of a new list, by how many rows stand before it in its place.
 use Rattle.std.proofs.Common.{◌≡◌, ◌∙◌, ℕ, zero, suc, ◌+◌, ◌*◌, ◌<◌, ◌≤◌, true, false, List, [], ◌∷◌, ◌++◌, drop, length, map, take, refl, sym, ap, subst, arith}
-use Rattle.std.specs.Prelude.{Option, Some, is_some, slice_get, option_map}
+use Rattle.std.specs.Prelude.{Bool, Option, Some, Ok, Err, is_some, slice_get, option_map, if◌then◌else◌}
 use Rattle.std.specs.List.{AllByRecursion, filter}
 use Rattle.std.specs.FinMap.{empty, entries, get, get-empty}
 use Rattle.finite_maps.specs.Maps.{set}
@@ -10,19 +10,21 @@ use Rattle.ecore_meta.specs.Meta.{Meta}
 use Rattle.model_state.specs.declared.entry.Entry.{Entry}
 use Rattle.model_state.specs.declared.step.Place.{Place}
 use Rattle.model_state.specs.declared.step.Place.TheVariants.{Root, Inside}
+use Rattle.model_state.specs.declared.step.Step.{Step}
 use Rattle.model_state.specs.Keys.{Name, id_cmp}
 use Rattle.model_state.specs.Listing.{children, entry_cmp, rank_at}
 use Rattle.model_state.specs.State.{place_eq}
 use Rattle.model_state.proofs.Orders.{id_order}
 use Rattle.edit_laws.specs.Places.{Ranks, ranked_places}
 use Rattle.edit_laws.specs.Spot.{Spot, end_spot, evened, rank_for, ranks_of}
+use Rattle.edit_laws.specs.declared.fault.EditFault.TheVariants.{Bound}
 use Rattle.edit_laws.proofs.Lists.{entries_held}
 use Rattle.emfjson_model.specs.declared.doc.DocRow.{DocRow}
 use Rattle.emfjson_model.specs.Fits.{Fits}
 use Rattle.model_import.specs.After.{ranks_after, ranks_from}
 use Rattle.model_import.specs.Laws.{are_apart}
 use Rattle.model_import.specs.Names.{name_at}
-use Rattle.model_import.specs.News.{place_of, rank_of, roots_after, standing}
+use Rattle.model_import.specs.News.{element_made, has_room, news_from, news_made, place_of, rank_of, roots_after, standing}
 use Rattle.model_import.proofs.Ends.{after_kept, even_end, kept_end}
 use Rattle.model_import.proofs.Indexed.{at_less, drop_at, drop_less, drop_next, drop_none}
 use Rattle.round_trip.proofs.BringingMaps.{Within, none_within, set_grows, set_here, within_is, within_set}
@@ -154,6 +156,31 @@ module _ (meta : Meta) (names : List Name) (rows : List DocRow) (fit : Fits meta
     came Root xs prank k is stand roots = root_came xs prank k is roots
     came (Inside a f) xs prank k is stand roots = inside_came a f xs prank k is stand roots
 
+  -- there is room for each
+  root_room : (n : ℕ) (r : DocRow) (rest : List DocRow) → drop n rows ≡ r ∷ rest → (xs : List Entry) → Roots n xs → (p : Place) → has_room xs p ≡ true
+  root_room n r rest left xs roots Root =
+      let many = roots.many in
+      let less = drop_less n rows r rest left in
+      let most = before_few names rows Root n in
+      let small : length xs < 4294967295 = omega (arith, many, less, most, few) in
+      ap (λ (s : Spot). is_some s.rank) (kept_end xs ((length xs + 1) * 4294967296) (even_end xs roots.even small))
+  root_room n r rest left xs roots (Inside a f) = refl
+
+  news_come : (rest : List DocRow) (n : ℕ) (xs : List Entry) (steps : List Step) → drop n rows ≡ rest → Roots n xs → (all : List Step) × (news_from names rows steps n xs rest ≡ Ok all)
+  news_come [] n xs steps left roots = (steps, refl)
+  news_come (r ∷ rest) n xs steps left roots =
+      let p = place_of names r.parent in
+      let k = standing r.parent (take n rows) in
+      let one = came n r rest left p xs empty k refl (standing_before names differ meta rows fit as_many n n r (drop_at n rows r rest left)) roots in
+      let more = news_come rest (suc n) (roots_after xs p (name_at names n)) (steps ++ element_made xs p (name_at names n) r.class k) (drop_next n rows r rest left) one.roots in
+      (more.0, room (has_room xs p) (root_room n r rest left xs roots p) ∙ more.1)
+    where
+      room : (b : Bool) → b ≡ true
+          → (if b then news_from names rows (steps ++ element_made xs (place_of names r.parent) (name_at names n) r.class (standing r.parent (take n rows))) (suc n) (roots_after xs (place_of names r.parent) (name_at names n)) rest else Err Bound)
+          ≡ news_from names rows (steps ++ element_made xs (place_of names r.parent) (name_at names n) r.class (standing r.parent (take n rows))) (suc n) (roots_after xs (place_of names r.parent) (name_at names n)) rest
+      room true is = refl
+      room false is = cc
+
   -- all have come
   record AllCame (n : ℕ) (rest : List DocRow) (old new : Ranks) : Type 0 where
     inside : Within rank_told old → Within rank_told new
@@ -212,3 +239,7 @@ module _ (meta : Meta) (names : List Name) (rows : List DocRow) (fit : Fits meta
     where
       own : (i : ℕ) → i ≡ 0 + i
       own i = omega arith
+
+  -- each element comes, as there is room for all
+  pub all_come : (all : List Step) × (news_made (children empty empty Root) names rows ≡ Ok all)
+  all_come = let come = news_come rows 0 [] [] (drop_none rows) no_roots in (come.0, ap (λ xs. news_made xs names rows) no_children ∙ come.1)

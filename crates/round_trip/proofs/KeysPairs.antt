@@ -8,7 +8,6 @@ use Rattle.std.proofs.lemmas.Slice.Eq.{bytes_eq-Decides}
 use Rattle.finite_maps.specs.Sorts.{put_in, in_order}
 use Rattle.ecore_meta.specs.Names.{Name}
 
-
 pub bytes_same : (x y : Name) → bytes_eq x y ≡ true → x ≡ y
 bytes_same x y h = search (rules, bytes_eq-Decides)
 
@@ -49,4 +48,3 @@ module _ {A : Type 0} (P : A → A → Type 0) where
     pub pairs_in_order : (xs : List A) → Pairs xs → Pairs (in_order cmp xs)
     pairs_in_order [] pairs = tt
     pairs_in_order (x ∷ xs) pairs = pairs_put x (in_order cmp xs) (all_in_order cmp (P x) xs pairs.0) (pairs_in_order xs pairs.1)
-

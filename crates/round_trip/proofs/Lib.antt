@@ -30,3 +30,4 @@ pub mod ReadingLinks
 pub mod ReadingMerged
 pub mod WalksShort
 pub mod ReadingTold
+pub mod Coming

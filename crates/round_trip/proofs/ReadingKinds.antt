@@ -1,17 +1,11 @@
 -- What stands under a feature gives what it is to give.
-use Rattle.std.proofs.Common.{◌≡◌, ℕ, suc, ◌+◌, ◌<◌, ◌≤◌, Bool, true, false, cond, not, ◌&&◌, ◌||◌, List, [], ◌∷◌, ◌++◌, length, map, refl, sym, ap, subst, ◌∙◌, codes, arith, append_assoc, append-nil, ltb-true, le-leb}
-use Rattle.std.specs.Prelude.{Option, None, Some, is_some, option_and_then, Ok, nat_eq, nat_le}
-use Rattle.std.specs.List.{AllByRecursion, list_all, list_any}
-use Rattle.std.proofs.lemmas.Bool.{or_parts}
+use Rattle.std.proofs.Common.{◌≡◌, ℕ, ◌≤◌, Bool, true, false, not, ◌&&◌, List, [], ◌∷◌, length, map, refl, sym, ap, subst, ◌∙◌, arith, append-nil}
+use Rattle.std.specs.Prelude.{Option, None, Some, Ok, nat_le}
+use Rattle.std.specs.List.{AllByRecursion}
 use Rattle.std.proofs.lemmas.List.{length-map}
-use Rattle.std.proofs.lemmas.List.Folds.{list_any-append}
 use Rattle.std.proofs.lemmas.Bool.Decides.{nat_tests}
 use Rattle.finite_maps.specs.Maps as maps
-use Rattle.finite_maps.proofs.Cases.{not_true}
-use Rattle.finite_maps.proofs.EqualLaws.{apart, and_first, and_second, nat_equality}
-use Rattle.serde_json.specs.Data.{Data, array, object, Members, depth}
-use Rattle.serde_json.specs.Find.{as_array}
-use Rattle.serde_json.specs.Read.{max_depth}
+use Rattle.serde_json.specs.Data.{Data, array, object, Members}
 use Rattle.serde_json.specs.View.{items_of}
 use Rattle.ecore_json.specs.Rows.{list_of}
 use Rattle.ecore_meta.specs.Meta.{Meta}
@@ -20,38 +14,39 @@ use Rattle.ecore_meta.specs.declared.meta.Kind.{Kind}
 use Rattle.ecore_meta.specs.declared.meta.Kind.TheVariants.{Attr, AttrMany, Bounded, Free, Contains, Container, Skip}
 use Rattle.ecore_meta.specs.declared.meta.Scalar.{Scalar}
 use Rattle.ecore_meta.specs.declared.meta.Value.{Value}
-use Rattle.ecore_meta.specs.declared.meta.Value.TheVariants.{Text, Flag, Whole, Literal}
 use Rattle.model_state.specs.declared.step.Place.TheVariants.{Inside}
-use Rattle.model_state.specs.Good.{is_distinct}
 use Rattle.model_state.specs.Keys.{Name}
 use Rattle.model_state.specs.State.{State}
-use Rattle.model_state.specs.Typing.{is_default, value_eq}
-use Rattle.model_state.proofs.StepTests.{value_equality}
-use Rattle.emfjson_io.specs.Values.{data_of, value_in}
-use Rattle.emfjson_io.proofs.Again.{written_read}
+use Rattle.model_state.specs.Typing.{is_default}
+use Rattle.emfjson_io.specs.Values.{data_of}
 use Rattle.emfjson_model.specs.declared.doc.DocParent.{DocParent}
 use Rattle.emfjson_model.specs.declared.fault.ModelFault.TheVariants.{BadValue, Bound, WrongType}
-use Rattle.emfjson_model.specs.Attributes.{attr_part, elements, is_null, is_within, new_value, next_value, values_in, values_part}
-use Rattle.emfjson_model.specs.Links.{entries_of, entry_of, is_one, links_part}
+use Rattle.emfjson_model.specs.Attributes.{is_within}
+use Rattle.emfjson_model.specs.Links.{entry_of, is_one, links_part}
 use Rattle.emfjson_model.specs.Parts.{Part, no_part, Ids, ids_of}
-use Rattle.emfjson_model.specs.Reads.{Read, «then», unless, found, collected}
+use Rattle.emfjson_model.specs.Reads.{«then», unless, found}
 use Rattle.emfjson_model.specs.Walk.{element_rows, feature_part, held_rows, items_rows, rows_part}
 use Rattle.emfjson_model.proofs.Features.{single_set, many_read}
 use Rattle.emfjson_text.specs.Tree.{child_ids, content, first_value, is_single, listed, one_or_all, reference, target_ids, values_at}
-use Rattle.emfjson_text.specs.Tree as written
 use Rattle.round_trip.specs.Named.{IsNamed}
 use Rattle.round_trip.proofs.KeysTypes.{Draft}
-use Rattle.round_trip.proofs.ReadingPlain.{read_compact}
-use Rattle.round_trip.proofs.ReadingTrees.{AreOk, all_from, all_so, plain_value}
+use Rattle.round_trip.proofs.ReadingTrees.{AreOk, all_from}
 use Rattle.round_trip.proofs.WalksRows.{Come, forest, kind_attrs, kind_links, kind_rows, set_attr, set_links}
-use Rattle.round_trip.proofs.WalksSteps.{Walked, come_first, items_walk}
-
+use Rattle.round_trip.proofs.WalksSteps.{Walked, items_walk}
 use Rattle.round_trip.proofs.ReadingParts.{held_once, list_items, not_null, one_within, same_one, value_again, values_again}
 
 -- the same bound
 pub same_within : (n : ℕ) (upper : Option ℕ) → maps.is_within n upper ≡ true → is_within n upper ≡ true
 same_within n None h = refl
 same_within n (Some u) h = h
+
+both : (a b : Bool) → a ≡ true → b ≡ true → a && b ≡ true
+both true true h k = refl
+both true false h k = cc
+both false b h k = cc
+
+few : (n : ℕ) → n ≤ 4294967295 → nat_le n 4294967295 ≡ true
+few n h = grind (arith, nat_tests)
 
 -- ---- links
 entries_again : (bs : List Name) → map entry_of (map reference bs) ≡ map (λ b. Some b) bs
@@ -68,9 +63,9 @@ links_again f false b bs h = ap (λ es. record no_part { links = record { featur
 abbrev pub IsObject : Data → Type 0
 IsObject d = (ms : Members) × (d ≡ object ms)
 
-held_object : (meta : Meta) (ids : Ids) (p : DocParent) (target : ℕ) (d : Data) → IsObject d → held_rows meta ids p target d ≡ element_rows meta ids (Some p) (Some target) d
+held_object : (meta : Meta) (ids : Ids) (p : DocParent) (target : ℕ) (d : Data) → IsObject d → is_within 1 (upper_of meta p.feature) ≡ true → held_rows meta ids p target d ≡ element_rows meta ids (Some p) (Some target) d
 unfolding element_rows held_rows
-held_object meta ids p target d o = subst (λ x. held_rows meta ids p target x ≡ element_rows meta ids (Some p) (Some target) x) (sym o.1) refl
+held_object meta ids p target d o within = subst (λ x. held_rows meta ids p target x ≡ element_rows meta ids (Some p) (Some target) x) (sym o.1) (ap (λ b. unless b Bound (element_rows meta ids (Some p) (Some target) (object o.0))) within)
 
 module _ (meta : Meta) (below : ℕ → Option DocParent → Name → List Draft) (whole : Name → Data) (objects : (c : Name) → IsObject (whole c)) where
   alone : (k : ℕ) (parent : Option DocParent) (c : Name) → below k parent c ≡ forest below k parent (c ∷ [])
@@ -81,7 +76,7 @@ module _ (meta : Meta) (below : ℕ → Option DocParent → Name → List Draft
       → held_rows meta ids p target (one_or_all single (whole c) (map whole cs)) ≡ Ok (forest below (length ids) (Some p) (c ∷ cs))
   unfolding held_rows
   held_again p target true c [] one within all ids come =
-      held_object meta ids p target (whole c) (objects c)
+      held_object meta ids p target (whole c) (objects c) within
       ∙ all.0 ids (subst (λ rs. Come ids (ids_of rs)) (sym (alone (length ids) (Some p) c)) come)
       ∙ ap (λ rs. Ok rs) (alone (length ids) (Some p) c)
   held_again p target true c (d ∷ cs) one within all ids come = absurd (one_within (upper_of meta p.feature) (length cs) one within)
@@ -126,7 +121,7 @@ module _ (meta : Meta) (named : IsNamed meta) (m : State) (below : ℕ → Optio
   many_ok s unique [] at ok = (ap (λ xs. set_attr f xs) at, refl, λ n. refl)
   many_ok s unique (v ∷ vs) at ok = λ ids come.
       many_read meta f s unique (array (items_of (map (data_of meta s) (v ∷ vs)))) (v ∷ vs) true (map (data_of meta s) (v ∷ vs)) refl (sym (list_items (map (data_of meta s) (v ∷ vs))))
-      (values_again meta named s unique [] (v ∷ vs) (all_from (fits meta s) (v ∷ vs) ok.0) (held_once unique (v ∷ vs) ok.3)) (same_within (length (v ∷ vs)) (upper_of meta f) ok.1)
+      (values_again meta named s unique [] (v ∷ vs) (all_from (fits meta s) (v ∷ vs) ok.0) (held_once unique (v ∷ vs) ok.3)) (both (is_within (length (v ∷ vs)) (upper_of meta f)) (nat_le (length (v ∷ vs)) 4294967295) (same_within (length (v ∷ vs)) (upper_of meta f) ok.1) (few (length (v ∷ vs)) ok.2))
       ∙ ap (λ xs. Ok (record { attrs = set_attr f xs; links = []; rows = [] })) (sym at)
 
   links_told : List Name → Part

@@ -1,49 +1,35 @@
 -- What stands under a feature gives what it is to give.
-use Rattle.std.proofs.Common.{◌≡◌, ℕ, suc, ◌+◌, ◌<◌, ◌≤◌, Bool, true, false, cond, not, ◌&&◌, ◌||◌, List, [], ◌∷◌, ◌++◌, length, map, refl, sym, ap, subst, ◌∙◌, codes, arith, append_assoc, append-nil, ltb-true, le-leb}
-use Rattle.std.specs.Prelude.{Option, None, Some, is_some, option_and_then, Ok, nat_eq, nat_le}
-use Rattle.std.specs.List.{AllByRecursion, list_all, list_any}
+use Rattle.std.proofs.Common.{◌≡◌, ℕ, suc, ◌≤◌, Bool, true, false, cond, not, ◌&&◌, ◌||◌, List, [], ◌∷◌, ◌++◌, map, refl, sym, ap, subst, ◌∙◌, arith, append_assoc, append-nil}
+use Rattle.std.specs.Prelude.{Option, None, Some, option_and_then, Ok, nat_le}
+use Rattle.std.specs.List.{AllByRecursion, list_any}
 use Rattle.std.proofs.lemmas.Bool.{or_parts}
-use Rattle.std.proofs.lemmas.List.{length-map}
 use Rattle.std.proofs.lemmas.List.Folds.{list_any-append}
 use Rattle.std.proofs.lemmas.Bool.Decides.{nat_tests}
 use Rattle.finite_maps.proofs.Cases.{not_true}
 use Rattle.finite_maps.proofs.EqualLaws.{apart, and_first, and_second, nat_equality}
-use Rattle.serde_json.specs.Data.{Data, array, object, Members, depth}
-use Rattle.serde_json.specs.Find.{as_array}
+use Rattle.serde_json.specs.Data.{Data, depth}
 use Rattle.serde_json.specs.Read.{max_depth}
 use Rattle.serde_json.specs.View.{items_of}
 use Rattle.ecore_json.specs.Rows.{list_of}
 use Rattle.ecore_meta.specs.Meta.{Meta}
-use Rattle.ecore_meta.specs.Typing.{fits, kind_of, upper_of}
-use Rattle.ecore_meta.specs.declared.meta.Kind.{Kind}
-use Rattle.ecore_meta.specs.declared.meta.Kind.TheVariants.{Attr, AttrMany, Bounded, Free, Contains, Container, Skip}
+use Rattle.ecore_meta.specs.Typing.{fits}
 use Rattle.ecore_meta.specs.declared.meta.Scalar.{Scalar}
 use Rattle.ecore_meta.specs.declared.meta.Value.{Value}
 use Rattle.ecore_meta.specs.declared.meta.Value.TheVariants.{Text, Flag, Whole, Literal}
-use Rattle.model_state.specs.declared.step.Place.TheVariants.{Inside}
 use Rattle.model_state.specs.Good.{is_distinct}
-use Rattle.model_state.specs.Keys.{Name}
-use Rattle.model_state.specs.State.{State}
-use Rattle.model_state.specs.Typing.{is_default, value_eq}
+use Rattle.model_state.specs.Typing.{value_eq}
 use Rattle.model_state.proofs.StepTests.{value_equality}
 use Rattle.emfjson_io.specs.Values.{data_of, value_in}
 use Rattle.emfjson_io.proofs.Again.{written_read}
-use Rattle.emfjson_model.specs.declared.doc.DocParent.{DocParent}
-use Rattle.emfjson_model.specs.declared.fault.ModelFault.TheVariants.{BadValue, Bound, WrongType}
-use Rattle.emfjson_model.specs.Attributes.{attr_part, elements, is_null, is_within, new_value, next_value, values_in, values_part}
-use Rattle.emfjson_model.specs.Links.{entries_of, entry_of, is_one, links_part}
-use Rattle.emfjson_model.specs.Parts.{Part, no_part, Ids, ids_of}
-use Rattle.emfjson_model.specs.Reads.{Read, «then», unless, found, collected}
-use Rattle.emfjson_model.specs.Walk.{element_rows, feature_part, held_rows, items_rows, rows_part}
-use Rattle.emfjson_model.proofs.Features.{single_set, many_read}
+use Rattle.emfjson_model.specs.declared.fault.ModelFault.TheVariants.{BadValue}
+use Rattle.emfjson_model.specs.Attributes.{is_null, is_within, new_value, next_value}
+use Rattle.emfjson_model.specs.Links.{is_one}
+use Rattle.emfjson_model.specs.Reads.{«then», unless, collected}
 use Rattle.emfjson_text.specs.Tree.{child_ids, content, first_value, is_single, listed, one_or_all, reference, target_ids, values_at}
 use Rattle.emfjson_text.specs.Tree as written
 use Rattle.round_trip.specs.Named.{IsNamed}
-use Rattle.round_trip.proofs.KeysTypes.{Draft}
 use Rattle.round_trip.proofs.ReadingPlain.{read_compact}
-use Rattle.round_trip.proofs.ReadingTrees.{AreOk, all_from, all_so, plain_value}
-use Rattle.round_trip.proofs.WalksRows.{Come, forest, kind_attrs, kind_links, kind_rows}
-use Rattle.round_trip.proofs.WalksSteps.{Walked, come_first, items_walk}
+use Rattle.round_trip.proofs.ReadingTrees.{plain_value}
 
 -- ---- values
 pub list_items : (ds : List Data) → list_of (items_of ds) ≡ ds

@@ -1,6 +1,6 @@
 -- An element is found by its id.
-use Rattle.std.proofs.Common.{◌≡◌, ℕ, zero, suc, ◌+◌, ◌==◌, Bool, true, false, cond, not, ◌&&◌, ◌||◌, List, [], ◌∷◌, ◌++◌, length, map, refl, sym, ap, subst, ◌∙◌, arith, nat_eq, codes, ◌⊎◌, inl, inr, eq-eqb, append_assoc, append-nil}
-use Rattle.std.specs.Prelude.{Option, None, Some, Ok, slice_get, nat_le}
+use Rattle.std.proofs.Common.{◌≡◌, ℕ, zero, suc, ◌+◌, ◌==◌, Bool, true, false, cond, not, ◌&&◌, ◌||◌, List, [], ◌∷◌, ◌++◌, length, map, refl, sym, ap, subst, ◌∙◌, arith, nat_eq, ◌⊎◌, inl, inr, eq-eqb, append_assoc, append-nil}
+use Rattle.std.specs.Prelude.{None, Some, Ok, slice_get, nat_le}
 use Rattle.std.specs.List.{AllByRecursion, list_all, list_any}
 use Rattle.std.specs.Option.{option_map_or}
 use Rattle.std.proofs.lemmas.List.Folds.{list_any-append}
@@ -131,8 +131,8 @@ module _ (meta : Meta) (m : State) (names : List Name) (rows : List Draft) (ids 
   one_more f b ready done [] readies differ new = tt
   one_more f b ready done (x ∷ bs) readies differ new = (
     list_any-append (nat_eq (spot names x)) done (spot names b ∷ [])
-    ∙ ap (λ t. t || (nat_eq (spot names x) (spot names b) || false)) new.0
-    ∙ ap (λ t. t || false) (not_so (nat_eq (spot names x) (spot names b)) (λ e. differ.0 (sym (spot_same x b names readies.0.there ready.there (nat_equality.exact (spot names x) (spot names b) e))))),
+        ∙ ap (λ t. t || (nat_eq (spot names x) (spot names b) || false)) new.0
+        ∙ ap (λ t. t || false) (not_so (nat_eq (spot names x) (spot names b)) (λ e. differ.0 (sym (spot_same x b names readies.0.there ready.there (nat_equality.exact (spot names x) (spot names b) e))))),
     one_more f b ready done bs readies.1 differ.1 new.1,
   )
 

@@ -1,13 +1,13 @@
 -- The rows of the document that a good model's text is tell the model.
-use Rattle.std.proofs.Common.{◌≡◌, ℕ, zero, suc, ◌+◌, ◌-◌, ◌<◌, ◌≤◌, ◌^◌, Bool, true, false, cond, List, [], ◌∷◌, length, map, refl, sym, ap, subst, ◌∙◌, arith}
-use Rattle.std.specs.Prelude.{Option, None, Some, Ok, slice_get, unwrap_or}
+use Rattle.std.proofs.Common.{◌≡◌, ℕ, suc, ◌+◌, ◌≤◌, true, cond, List, [], ◌∷◌, length, map, refl, sym, ap, subst, ◌∙◌, arith}
+use Rattle.std.specs.Prelude.{None, Some, Ok, slice_get, unwrap_or}
 use Rattle.std.specs.FinMap.{get}
 use Rattle.std.specs.List.{AllByRecursion}
 use Rattle.std.specs.Option.{option_map}
 use Rattle.std.proofs.lemmas.List.{length-map}
 use Rattle.std.proofs.lemmas.Option.{slice_get-map}
-use Rattle.serde_json.specs.Data.{Data, depth}
-use Rattle.serde_json.specs.Read.{max_depth, read}
+use Rattle.serde_json.specs.Data.{depth}
+use Rattle.serde_json.specs.Read.{max_depth}
 use Rattle.ecore_meta.specs.Meta.{Meta}
 use Rattle.model_state.specs.declared.step.Place.{Place}
 use Rattle.model_state.specs.declared.step.Place.TheVariants.{Root}
@@ -19,11 +19,10 @@ use Rattle.model_import.specs.Names.{name_at}
 use Rattle.model_import.specs.News.{place_of}
 use Rattle.emfjson_model.specs.declared.doc.DocRow.{DocRow}
 use Rattle.emfjson_model.specs.Document.{doc_of, of_json, resolved}
-use Rattle.emfjson_model.specs.Merged.{targets_at}
 use Rattle.emfjson_model.specs.Parts.{ids_of}
 use Rattle.emfjson_model.specs.Reads.{«then»}
 use Rattle.emfjson_text.specs.Laws.{IsNested}
-use Rattle.emfjson_text.specs.Tree.{child_ids, listed, target_ids, text, tree, whole}
+use Rattle.emfjson_text.specs.Tree.{child_ids, target_ids, text, tree, whole}
 use Rattle.emfjson_text.proofs.Nested.{text_is_whole}
 use Rattle.round_trip.specs.Named.{IsNamed}
 use Rattle.round_trip.specs.Tells.{Tells, TellsElement, standing_in}
@@ -40,7 +39,7 @@ use Rattle.round_trip.proofs.WalksLists.{all_covered, at_place, kept, names_kept
 use Rattle.round_trip.proofs.WalksNames.{forest_names, tree_named, tree_names}
 use Rattle.round_trip.proofs.WalksPlaces.{IsRow, RowOk, model_names, model_ok}
 use Rattle.round_trip.proofs.WalksRoots.{model_rows, one_or_list_within, roots_walked}
-use Rattle.round_trip.proofs.WalksRows.{class_at, forest, own_row, tree_rows}
+use Rattle.round_trip.proofs.WalksRows.{class_at, tree_rows}
 use Rattle.round_trip.proofs.WalksShort.{walked_short}
 use Rattle.round_trip.proofs.WalksWhole.{listed_depths}
 

@@ -1,5 +1,5 @@
 -- The row of an element tells its values.
-use Rattle.std.proofs.Common.{◌≡◌, ℕ, zero, suc, Bool, true, false, cond, ◌||◌, List, [], ◌∷◌, ◌++◌, map, refl, sym, ap, subst, ◌∙◌, nat_eq, ◌⊎◌, inl, inr}
+use Rattle.std.proofs.Common.{◌≡◌, ℕ, zero, suc, Bool, true, false, cond, ◌||◌, List, [], ◌∷◌, ◌++◌, refl, sym, ap, subst, ◌∙◌, nat_eq, ◌⊎◌, inl, inr}
 use Rattle.std.specs.Prelude.{Option, None, Some, slice_get, unwrap_or}
 use Rattle.std.specs.FinMap.{get}
 use Rattle.std.specs.List.{AllByRecursion, list_any}
@@ -16,7 +16,8 @@ use Rattle.model_state.specs.Keys.{Name}
 use Rattle.model_state.specs.State.{State}
 use Rattle.emfjson_model.specs.declared.doc.DocAttr.{DocAttr}
 use Rattle.emfjson_model.specs.Classes.{features_of}
-use Rattle.emfjson_model.specs.Merged.{attr_at, attrs_by}
+use Rattle.emfjson_model.specs.Merged.{attr_at, attrs_by, attrs_more, is_set}
+use Rattle.emfjson_model.proofs.SetAttrs.{by_keeps}
 use Rattle.emfjson_text.specs.Keys.{key_number, keys_of}
 use Rattle.emfjson_text.specs.Tree.{values_at}
 use Rattle.round_trip.specs.Tells.{first_values, values_told}
@@ -64,23 +65,31 @@ has_at f (a ∷ attrs) h = by_test (nat_eq f a.feature) refl (has_at f attrs) h
     by_test false e more (inl same) = let yes : nat_eq f a.feature ≡ true = subst (λ x. nat_eq f x ≡ true) same (nat_equality.own f) in cc
     by_test false e more (inr h) = more h
 
-has_by : (f : ℕ) (fs : List ℕ) (attrs : List DocAttr) → Stands f fs → Has f attrs → Has f (attrs_by fs attrs)
-has_by f [] attrs s h = absurd s
-has_by f (g ∷ fs) attrs (inl e) h = subst (λ x. Has f (attr_at x attrs ++ attrs_by fs attrs)) e (has_first f (attr_at f attrs) (attrs_by fs attrs) (has_at f attrs h))
-has_by f (g ∷ fs) attrs (inr s) h = has_second f (attr_at g attrs) (attrs_by fs attrs) (has_by f fs attrs s h)
+-- one that is there stays, whatever comes behind it
+has_kept : (f : ℕ) (attrs all : List DocAttr) (fs : List ℕ) → Has f all → Has f (attrs_by attrs all fs)
+has_kept f attrs all [] h = h
+has_kept f attrs all (g ∷ fs) h = has_kept f attrs (attrs_more attrs all g) fs (kept (is_set g all))
+  where
+    kept : (b : Bool) → Has f (cond b all (all ++ attr_at g attrs))
+    kept true = h
+    kept false = has_first f all (attr_at g attrs) h
 
-module _ (P : DocAttr → Type 0) where
-  all_at_feature : (f : ℕ) (attrs : List DocAttr) → AllByRecursion P attrs → AllByRecursion P (attr_at f attrs)
-  all_at_feature f [] all = tt
-  all_at_feature f (a ∷ attrs) all =
-      elim (nat_eq f a.feature) as (λ b. AllByRecursion P (cond {A = List DocAttr} b (a ∷ []) (attr_at f attrs))) [
-        | true ↦ (all.0, tt)
-        | false ↦ all_at_feature f attrs all.1
-      ]
+set_has_it : (g : ℕ) (all : List DocAttr) → is_set g all ≡ true → Has g all
+set_has_it g [] h = cc
+set_has_it g (a ∷ all) h = by_test (nat_eq g a.feature) refl (set_has_it g all) h
+  where
+    by_test : (b : Bool) → nat_eq g a.feature ≡ b → (is_set g all ≡ true → Has g all) → b || is_set g all ≡ true → Has g (a ∷ all)
+    by_test true is more h = inl (nat_equality.exact g a.feature is)
+    by_test false is more h = inr (more h)
 
-  all_by : (fs : List ℕ) (attrs : List DocAttr) → AllByRecursion P attrs → AllByRecursion P (attrs_by fs attrs)
-  all_by [] attrs all = tt
-  all_by (f ∷ fs) attrs all = all_append P (attr_at f attrs) (attrs_by fs attrs) (all_at_feature f attrs all) (all_by fs attrs all)
+has_by : (f : ℕ) (attrs all : List DocAttr) (fs : List ℕ) → Stands f fs → Has f attrs → Has f (attrs_by attrs all fs)
+has_by f attrs all [] s h = absurd s
+has_by f attrs all (g ∷ fs) (inl e) h = has_kept f attrs (attrs_more attrs all g) fs (subst (λ x. Has x (attrs_more attrs all g)) (sym e) (now (is_set g all) refl))
+  where
+    now : (b : Bool) → is_set g all ≡ b → Has g (cond b all (all ++ attr_at g attrs))
+    now true is = set_has_it g all is
+    now false is = has_second g all (attr_at g attrs) (has_at g attrs (subst (λ x. Has x attrs) e h))
+has_by f attrs all (g ∷ fs) (inr s) h = has_by f attrs (attrs_more attrs all g) fs s h
 
 -- ---- the values of an element
 module _ (meta : Meta) (m : State) (e : Name) where
@@ -146,12 +155,12 @@ module _ (meta : Meta) (m : State) (e : Name) where
   entry_has c f (Some []) ok is = inl (ap (λ o. unwrap_or o []) is)
   entry_has c f (Some (v ∷ vs)) ok is = inr (in_class meta c f ok.0, kind_has f (kind_of meta f) (upper_of meta f) v vs ok.1 (ap (λ o. unwrap_or o []) is))
 
-  pub values_are_told : Good meta m → (c : ℕ) → get m.kind e ≡ Some c → (f : ℕ) → values_told f (attrs_by (features_of meta c) (keys_attrs meta m e (keys_of meta c))) ≡ values_at m e f
+  pub values_are_told : Good meta m → (c : ℕ) → get m.kind e ≡ Some c → (f : ℕ) → values_told f (attrs_by (keys_attrs meta m e (keys_of meta c)) [] (features_of meta c)) ≡ values_at m e f
   values_are_told good c kind f =
       let attrs = keys_attrs meta m e (keys_of meta c) in
       let ok : AttrOk meta (Some c) f (get m.attr (e, f)) = subst (λ k. AttrOk meta k f (get m.attr (e, f))) kind (good.attrs.typed e f) in
-      first_told f (attrs_by (features_of meta c) attrs) (all_by IsTold (features_of meta c) attrs (keys_told (keys_of meta c))) (by_entry (entry_has c f (get m.attr (e, f)) ok refl))
+      first_told f (attrs_by attrs [] (features_of meta c)) (by_keeps IsTold attrs [] (features_of meta c) (keys_told (keys_of meta c)) tt) (by_entry (entry_has c f (get m.attr (e, f)) ok refl))
     where
-      by_entry : (values_at m e f ≡ []) ⊎ (Stands f (features_of meta c) × Has f (kind_attrs m e f (kind_of meta f))) → (values_at m e f ≡ []) ⊎ Has f (attrs_by (features_of meta c) (keys_attrs meta m e (keys_of meta c)))
+      by_entry : (values_at m e f ≡ []) ⊎ (Stands f (features_of meta c) × Has f (kind_attrs m e f (kind_of meta f))) → (values_at m e f ≡ []) ⊎ Has f (attrs_by (keys_attrs meta m e (keys_of meta c)) [] (features_of meta c))
       by_entry (inl none) = inl none
-      by_entry (inr h) = inr (has_by f (features_of meta c) (keys_attrs meta m e (keys_of meta c)) h.0 (key_has f h.1 (keys_of meta c) (feature_stands meta c f h.0)))
+      by_entry (inr h) = inr (has_by f (keys_attrs meta m e (keys_of meta c)) [] (features_of meta c) h.0 (key_has f h.1 (keys_of meta c) (feature_stands meta c f h.0)))

@@ -1,5 +1,5 @@
 -- No name comes twice in the tree of a good model.
-use Rattle.std.proofs.Common.{◌≡◌, ℕ, zero, suc, Bool, true, false, ◌||◌, List, [], ◌∷◌, ◌++◌, map, refl, sym, ap, subst, ◌∙◌}
+use Rattle.std.proofs.Common.{◌≡◌, ℕ, zero, suc, true, false, ◌||◌, List, [], ◌∷◌, ◌++◌, map, refl, sym, ap, subst, ◌∙◌}
 use Rattle.std.specs.Prelude.{Option, None, Some}
 use Rattle.std.specs.FinMap.{get}
 use Rattle.std.specs.List.{AllByRecursion, list_any}
@@ -30,7 +30,7 @@ use Rattle.round_trip.proofs.KeysPairs.{Pairs}
 use Rattle.round_trip.proofs.KeysTypes.{Key}
 use Rattle.round_trip.proofs.ReadingTrees.{all_of, all_so}
 use Rattle.round_trip.proofs.WalksLevels.{Level, Under, above, inside_level, inside_up, not_inside, root_level, same_above, under_own, under_up, above_up}
-use Rattle.round_trip.proofs.WalksNames.{all_flat, flat, forest_names, key_names, kind_names, names_step, pairs_flat, tree_named, tree_names}
+use Rattle.round_trip.proofs.WalksNames.{all_flat, flat, forest_names, key_names, kind_names, pairs_flat, tree_named, tree_names}
 use Rattle.round_trip.proofs.WalksRows.{Come, among, by_number, class_at, forest, tree_rows}
 
 -- different names
@@ -93,8 +93,8 @@ module _ (meta : Meta) (m : State) where
   under_tree (suc n) e = (
     under_own m e,
     all_flat (key_names meta m (tree_names meta m n) e) (Under m e) (keys_of meta (class_at meta m e))
-    (all_of (λ key. AllByRecursion (Under m e) (key_names meta m (tree_names meta m n) e key))
-    (λ key. all_so (InKey e (key_number key)) (Under m e) (in_under e (key_number key)) (key_names meta m (tree_names meta m n) e key) (key_in (tree_names meta m n) (under_tree n) e key)) (keys_of meta (class_at meta m e))),
+        (all_of (λ key. AllByRecursion (Under m e) (key_names meta m (tree_names meta m n) e key))
+        (λ key. all_so (InKey e (key_number key)) (Under m e) (in_under e (key_number key)) (key_names meta m (tree_names meta m n) e key) (key_in (tree_names meta m n) (under_tree n) e key)) (keys_of meta (class_at meta m e))),
   )
 
 -- ---- no name twice
@@ -141,9 +141,9 @@ module _ (meta : Meta) (named : IsNamed meta) (m : State) (good : Good meta m) w
     names_apart : (keys : List Key) → Pairs NumbersApart keys → Pairs Differ (e ∷ flat (key_names meta m below e) keys)
     names_apart keys numbers = (
       all_flat (key_names meta m below e) (Differ e) keys
-      (all_of (λ key. AllByRecursion (Differ e) (key_names meta m below e key)) (λ key. all_so (InKey meta m e (key_number key)) (Differ e) (not_own (key_number key)) (key_names meta m below e key) (key_in meta m below under e key)) keys),
+          (all_of (λ key. AllByRecursion (Differ e) (key_names meta m below e key)) (λ key. all_so (InKey meta m e (key_number key)) (Differ e) (not_own (key_number key)) (key_names meta m below e key) (key_in meta m below under e key)) keys),
       pairs_flat (key_names meta m below e) Differ NumbersApart (λ key x. InKey meta m e (key_number key) x) keys_cross keys numbers (all_of (λ key. Pairs Differ (key_names meta m below e key)) (λ key. number_apart (key_number key)) keys)
-      (all_of (λ key. AllByRecursion (InKey meta m e (key_number key)) (key_names meta m below e key)) (key_in meta m below under e) keys),
+          (all_of (λ key. AllByRecursion (InKey meta m e (key_number key)) (key_names meta m below e key)) (key_in meta m below under e) keys),
     )
 
   pub tree_apart : (n : ℕ) (e : Name) (j : ℕ) → Level m e j → Pairs Differ (tree_names meta m n e)

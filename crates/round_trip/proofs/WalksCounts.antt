@@ -14,7 +14,6 @@ use Rattle.finite_maps.specs.Sorts.{put_in, in_order, picked}
 use Rattle.finite_maps.proofs.EqualLaws.{nat_equality}
 use Rattle.ecore_meta.specs.Meta.{Meta}
 use Rattle.ecore_meta.specs.Typing.{kind_of, upper_of}
-use Rattle.ecore_meta.specs.declared.meta.Kind.{Kind}
 use Rattle.ecore_meta.specs.declared.meta.Kind.TheVariants.{Bounded, Free, Contains}
 use Rattle.model_state.specs.declared.entry.Entry.{Entry}
 use Rattle.model_state.specs.declared.step.Place.{Place}

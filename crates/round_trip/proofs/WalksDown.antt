@@ -1,11 +1,11 @@
 -- Each element stands in the tree of each that is around it.
-use Rattle.std.proofs.Common.{◌≡◌, ℕ, zero, suc, ◌≤◌, Bool, true, false, cond, ◌||◌, List, [], ◌∷◌, ◌++◌, map, refl, sym, ap, subst, ◌∙◌, arith, ◌⊎◌, inl, inr}
+use Rattle.std.proofs.Common.{◌≡◌, ℕ, zero, suc, ◌≤◌, Bool, true, false, ◌||◌, List, [], ◌∷◌, ◌++◌, map, refl, sym, ap, subst, ◌∙◌, arith, ◌⊎◌, inl, inr}
 use Rattle.std.specs.Prelude.{Option, None, Some, option_and_then, unwrap_or}
 use Rattle.std.specs.FinMap.{get}
-use Rattle.std.specs.List.{AllByRecursion, list_any}
+use Rattle.std.specs.List.{list_any}
 use Rattle.finite_maps.specs.Equal.{text_eq}
 use Rattle.finite_maps.specs.Sorts.{picked}
-use Rattle.finite_maps.proofs.EqualLaws.{IsEquality, text_equality}
+use Rattle.finite_maps.proofs.EqualLaws.{text_equality}
 use Rattle.serde_json.specs.Data.{depth, object, members_depth}
 use Rattle.ecore_meta.specs.Meta.{Meta}
 use Rattle.ecore_meta.specs.Typing.{kind_of}
@@ -25,11 +25,11 @@ use Rattle.model_state.proofs.Orders.{id_order}
 use Rattle.model_state.proofs.StepTests.{place_equality}
 use Rattle.edit_laws.proofs.Lists.{any-in_order, any-map, picked_has}
 use Rattle.emfjson_model.specs.Classes.{features_of}
-use Rattle.emfjson_text.specs.Keys.{class_features, key_name, keys_of}
+use Rattle.emfjson_text.specs.Keys.{key_name, keys_of}
 use Rattle.emfjson_text.specs.Laws.{IsNested}
 use Rattle.emfjson_text.specs.Tree.{child_ids, content, is_single, listed, members, object_of, part, whole}
 use Rattle.round_trip.proofs.KeysFound.{Stands, all_stand, feature_stands}
-use Rattle.round_trip.proofs.KeysTypes.{Key, Feature}
+use Rattle.round_trip.proofs.KeysTypes.{Feature}
 use Rattle.round_trip.proofs.ReadingValues.{in_class}
 use Rattle.round_trip.proofs.WalksLevels.{above, up}
 use Rattle.round_trip.proofs.WalksNames.{flat, key_names, kind_names, names_step, tree_names}

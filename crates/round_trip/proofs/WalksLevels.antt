@@ -1,11 +1,11 @@
 -- Elements under others, and how deep they stand.
 use Rattle.std.proofs.Common.{◌≡◌, ℕ, zero, suc, ◌+◌, List, [], ◌∷◌, length, refl, sym, ap, subst, ◌∙◌, arith}
 use Rattle.std.specs.Prelude.{Option, None, Some, option_and_then}
-use Rattle.std.specs.FinMap.{FinMap, get}
+use Rattle.std.specs.FinMap.{get}
 use Rattle.model_state.specs.declared.step.Place.{Place}
 use Rattle.model_state.specs.declared.step.Place.TheVariants.{Root, Inside}
 use Rattle.model_state.specs.Chains.{IsChain, parent_of}
-use Rattle.model_state.specs.Keys.{Name, id_cmp}
+use Rattle.model_state.specs.Keys.{Name}
 use Rattle.model_state.specs.State.{State}
 
 -- the element around
@@ -67,7 +67,7 @@ module _ (m : State) where
       none : (j : ℕ) → j ≡ 0 + j
       none j = omega arith
   lift_level (suc k) x c j is l = by_above (above m k x) refl is
-    (λ y at up_is. lift_level k x y (suc j) at (up_level (get m.place y) y c j refl up_is l))
+      (λ y at up_is. lift_level k x y (suc j) at (up_level (get m.place y) y c j refl up_is l))
     where
       more : (k j : ℕ) → k + suc j ≡ suc k + j
       more k j = omega arith

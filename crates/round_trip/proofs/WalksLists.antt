@@ -1,15 +1,14 @@
 -- The names of a model that stand in a place are its elements, in their order.
-use Rattle.std.proofs.Common.{◌≡◌, ℕ, zero, suc, ◌+◌, ◌≤◌, Bool, true, false, cond, List, [], ◌∷◌, ◌++◌, map, refl, sym, ap, subst, ◌∙◌, arith, append-nil, ◌⊎◌, inl, inr}
+use Rattle.std.proofs.Common.{◌≡◌, ℕ, zero, suc, ◌+◌, ◌≤◌, Bool, true, false, cond, List, [], ◌∷◌, ◌++◌, refl, sym, ap, subst, ◌∙◌, arith, append-nil, ◌⊎◌, inl, inr}
 use Rattle.std.specs.Prelude.{Option, None, Some, option_and_then}
 use Rattle.std.specs.FinMap.{FinMap, get}
 use Rattle.std.specs.List.{AllByRecursion}
 use Rattle.finite_maps.proofs.Cases.{not_so}
-use Rattle.finite_maps.proofs.EqualLaws.{IsEquality}
 use Rattle.serde_json.specs.Data.{depth}
 use Rattle.ecore_meta.specs.Meta.{Meta}
 use Rattle.model_state.specs.declared.step.Place.{Place}
 use Rattle.model_state.specs.declared.step.Place.TheVariants.{Root, Inside}
-use Rattle.model_state.specs.Chains.{IsChain, parent_of}
+use Rattle.model_state.specs.Chains.{IsChain}
 use Rattle.model_state.specs.Good.{Good, PlaceOk}
 use Rattle.model_state.specs.Keys.{Name, id_cmp}
 use Rattle.model_state.specs.State.{State, place_eq}

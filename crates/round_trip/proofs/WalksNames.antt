@@ -1,5 +1,5 @@
 -- The names of the elements in a tree, in the order of their rows.
-use Rattle.std.proofs.Common.{◌≡◌, ℕ, zero, suc, ◌+◌, List, [], ◌∷◌, ◌++◌, length, map, refl, sym, ap, ap₂, ◌∙◌, arith}
+use Rattle.std.proofs.Common.{◌≡◌, ℕ, zero, suc, ◌+◌, List, [], ◌∷◌, ◌++◌, length, map, refl, sym, ap, ap₂, ◌∙◌}
 use Rattle.std.specs.Prelude.{Option, Some}
 use Rattle.std.specs.List.{AllByRecursion}
 use Rattle.std.proofs.lemmas.List.{map-append}
@@ -17,7 +17,7 @@ use Rattle.emfjson_text.specs.Keys.{key_number, keys_of}
 use Rattle.emfjson_text.specs.Tree.{child_ids}
 use Rattle.round_trip.proofs.KeysPairs.{Pairs}
 use Rattle.round_trip.proofs.KeysTypes.{Draft, Key}
-use Rattle.round_trip.proofs.WalksRows.{by_number, class_at, forest, kind_rows, key_rows, keys_rows, own_row, tree_rows}
+use Rattle.round_trip.proofs.WalksRows.{by_number, class_at, forest, kind_rows, key_rows, keys_rows, tree_rows}
 
 -- ---- lists one after another
 abbrev pub flat : {A B : Type 0} → (A → List B) → List A → List B

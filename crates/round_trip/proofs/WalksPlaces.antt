@@ -1,5 +1,5 @@
 -- Each row is that of a live element, and its parent is where the element stands.
-use Rattle.std.proofs.Common.{◌≡◌, ℕ, zero, suc, ◌+◌, List, [], ◌∷◌, ◌++◌, length, map, refl, sym, ap, subst, ◌∙◌, arith, append_assoc, length-append}
+use Rattle.std.proofs.Common.{◌≡◌, ℕ, zero, suc, ◌+◌, List, [], ◌∷◌, ◌++◌, length, refl, sym, ap, subst, ◌∙◌, arith, append_assoc, length-append}
 use Rattle.std.specs.Prelude.{Option, None, Some, slice_get, unwrap_or}
 use Rattle.std.specs.FinMap.{get}
 use Rattle.std.specs.List.{AllByRecursion}
@@ -15,7 +15,6 @@ use Rattle.model_state.specs.Keys.{Name}
 use Rattle.model_state.specs.State.{State}
 use Rattle.model_import.specs.News.{inside, place_of}
 use Rattle.emfjson_model.specs.declared.doc.DocParent.{DocParent}
-use Rattle.emfjson_model.specs.Parts.{ids_of}
 use Rattle.emfjson_text.specs.Keys.{key_number, keys_of}
 use Rattle.emfjson_text.specs.Tree.{child_ids}
 use Rattle.emfjson_text.proofs.Children.{each_child}
@@ -135,7 +134,7 @@ module _ (meta : Meta) (m : State) (good : Good meta m) (names : List Name) wher
   rows_are_ok (suc n) k parent e place at = (
     (e, record { parent = parent; is = refl; class = class_of_placed e (place_of names parent) place; place = place }),
     keys_ok n (rows_are_ok n) k e (stand_here names k e (flat (key_names meta m (tree_names meta m n) e) (keys_of meta (class_at meta m e))) at) (suc k) (keys_of meta (class_at meta m e))
-    (stand_next names k e (flat (key_names meta m (tree_names meta m n) e) (keys_of meta (class_at meta m e))) at),
+        (stand_next names k e (flat (key_names meta m (tree_names meta m n) e) (keys_of meta (class_at meta m e))) at),
   )
 
 -- the rows of a good model

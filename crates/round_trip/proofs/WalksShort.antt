@@ -1,5 +1,5 @@
 -- A text has at least as many bytes as elements: each element is an object of its own.
-use Rattle.std.proofs.Common.{◌≡◌, ℕ, suc, ◌+◌, ◌≤◌, Bool, true, false, not, List, [], ◌∷◌, ◌++◌, length, map, refl, sym, ap, subst, ◌∙◌, codes, arith, length-append, ◌⊎◌, inl, inr}
+use Rattle.std.proofs.Common.{◌≡◌, ℕ, suc, ◌+◌, ◌≤◌, Bool, true, false, not, List, [], ◌∷◌, ◌++◌, length, ap, codes, arith, length-append, inl, inr}
 use Rattle.std.specs.Prelude.{Option, None, Some, Ok}
 use Rattle.json.specs.Print.{quoted}
 use Rattle.serde_json.specs.Data.{Data, null, boolean, number, string, array, object, Items, no_items, item, Members, no_members, member}
@@ -106,7 +106,8 @@ module _ (meta : Meta) where
     held_short : (ids : Ids) (parent : DocParent) (target : ℕ) (d : Data) (more : List Draft) → held_rows meta ids parent target d ≡ Ok more → length more ≤ length (compact_text d)
     held_short ids parent target null more h = nothing_more more (length (compact_text null)) (rows_ok [] more h)
     held_short ids parent target (object ms) more h =
-        object_short ids (Some parent) (Some target) ms (λ c below. members_rows meta c (length ids) below no_part ms) (λ c below part e. members_short c (length ids) below no_part false ms part e) more h
+        object_short ids (Some parent) (Some target) ms (λ c below. members_rows meta c (length ids) below no_part ms) (λ c below part e. members_short c (length ids) below no_part false ms part e) more
+        (unless_ok (is_within 1 (upper_of meta parent.feature)) Bound (object_rows meta ids (Some parent) (Some target) ms (λ c below. members_rows meta c (length ids) below no_part ms)) more h)
     held_short ids parent target (array ds) more h =
         array_more ds more (items_short ids (Some parent) (Some target) [] false ds more
         (unless_ok (is_within (length (list_of ds)) (upper_of meta parent.feature)) Bound (items_rows meta ids (Some parent) (Some target) [] ds) more

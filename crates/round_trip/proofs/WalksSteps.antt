@@ -1,5 +1,5 @@
 -- The walk over a list of elements and over the keys of an object, from what it gives at each.
-use Rattle.std.proofs.Common.{◌≡◌, ℕ, suc, ◌+◌, List, [], ◌∷◌, ◌++◌, length, map, refl, sym, ap, subst, ◌∙◌, arith, append_assoc, append-nil, length-append}
+use Rattle.std.proofs.Common.{◌≡◌, ℕ, ◌+◌, List, [], ◌∷◌, ◌++◌, length, map, sym, ap, subst, ◌∙◌, arith, append_assoc, append-nil, length-append}
 use Rattle.std.specs.Prelude.{Option, None, Some, Ok}
 use Rattle.std.specs.List.{AllByRecursion}
 use Rattle.std.proofs.lemmas.List.{length-map}
@@ -15,7 +15,7 @@ use Rattle.emfjson_model.specs.Walk.{element_rows, held_rows, items_rows, key_na
 use Rattle.emfjson_model.proofs.Walking.{ids_append}
 use Rattle.emfjson_text.specs.Keys.{key_name}
 use Rattle.emfjson_text.specs.Tree.{members, with_member}
-use Rattle.round_trip.proofs.KeysTypes.{Draft, Links, Key}
+use Rattle.round_trip.proofs.KeysTypes.{Draft, Key}
 use Rattle.round_trip.proofs.WalksRows.{Come, forest, key_attrs, key_links, key_part_told, key_rows, keys_attrs, keys_links, keys_rows, told}
 
 -- ids that come are some and then others
@@ -57,7 +57,7 @@ module _ (meta : Meta) (below : ℕ → Option DocParent → Name → List Draft
       let rest = forest below (k + length here) parent cs in
       let parts = come_parts (ids ++ ids_of rows) here rest come in
       let first : element_rows meta (ids ++ ids_of rows) parent default (whole c) ≡ Ok here =
-          subst (λ n. Come (ids ++ ids_of rows) (ids_of (below n parent c)) → element_rows meta (ids ++ ids_of rows) parent default (whole c) ≡ Ok (below n parent c)) (sym at) (all.0 (ids ++ ids_of rows)) parts.0 in
+      subst (λ n. Come (ids ++ ids_of rows) (ids_of (below n parent c)) → element_rows meta (ids ++ ids_of rows) parent default (whole c) ≡ Ok (below n parent c)) (sym at) (all.0 (ids ++ ids_of rows)) parts.0 in
       ap (λ r. «then» r (λ more. items_rows meta ids parent default (rows ++ more) (items_of (map whole cs)))) first
       ∙ items_walk ids cs (rows ++ here) (k + length here) (ap (λ n. n + length here) at ∙ counted ids rows here) all.1 (subst (λ zs. Come zs (ids_of rest)) (behind_rows ids rows here) parts.1)
       ∙ ap (λ rs. Ok rs) (append_assoc rows here rest)
@@ -106,7 +106,7 @@ module _ (meta : Meta) (m : State) (e : Name) (below : ℕ → Option DocParent 
       let rest = keys_rows meta m e below own (k + length here) keys in
       let parts = come_parts (ids ++ ids_of sofar.rows) here rest come in
       let first : at_key (ids ++ ids_of sofar.rows) (key_name meta key) d ≡ Ok (key_part_told meta m e below own k key) =
-          subst (λ n. Come (ids ++ ids_of sofar.rows) (ids_of (key_rows meta m e below own n key)) → at_key (ids ++ ids_of sofar.rows) (key_name meta key) d ≡ Ok (key_part_told meta m e below own n key)) (sym at) (ok (ids ++ ids_of sofar.rows)) parts.0 in
+      subst (λ n. Come (ids ++ ids_of sofar.rows) (ids_of (key_rows meta m e below own n key)) → at_key (ids ++ ids_of sofar.rows) (key_name meta key) d ≡ Ok (key_part_told meta m e below own n key)) (sym at) (ok (ids ++ ids_of sofar.rows)) parts.0 in
       ap (λ r. «then» r (λ more. members_rows meta c own ids (joined sofar more) (members (key_name meta) p keys))) first
       ∙ goes (joined sofar (key_part_told meta m e below own k key)) (k + length here) (ap (λ n. n + length here) at ∙ counted ids sofar.rows here)
       (subst (λ zs. Come zs (ids_of rest)) (behind_rows ids sofar.rows here) parts.1)

@@ -1,12 +1,10 @@
 -- The walk over a good model's tree gives the rows of its elements.
-use Rattle.std.proofs.Common.{◌≡◌, ℕ, zero, suc, max, ◌≤◌, Bool, true, false, cond, not, ◌||◌, List, [], ◌∷◌, ◌++◌, length, map, refl, sym, ap, subst, ◌∙◌, codes, arith, append-nil, length-append, inl, inr}
+use Rattle.std.proofs.Common.{◌≡◌, ℕ, zero, suc, max, ◌≤◌, Bool, true, false, cond, not, List, [], ◌∷◌, ◌++◌, length, map, refl, sym, ap, subst, ◌∙◌, codes, arith, append-nil, length-append, inl, inr}
 use Rattle.std.specs.Prelude.{Option, None, Some, is_some, unwrap_or, Ok, slice_get}
 use Rattle.std.specs.FinMap.{FinMap, get}
-use Rattle.std.specs.List.{AllByRecursion, list_any}
+use Rattle.std.specs.List.{AllByRecursion}
 use Rattle.std.specs.Option.{option_map_or}
-use Rattle.std.specs.Str.{bytes_eq}
-use Rattle.finite_maps.specs.Equal.{option_eq, text_eq}
-use Rattle.serde_json.specs.Data.{Data, string, object, Members, no_members, depth, members_depth, items_depth}
+use Rattle.serde_json.specs.Data.{Data, string, object, no_members, depth, members_depth, items_depth}
 use Rattle.serde_json.specs.Find.{get_member}
 use Rattle.serde_json.specs.View.{items_of}
 use Rattle.ecore_meta.specs.Meta.{Meta, feature_named, name_at}
@@ -15,7 +13,7 @@ use Rattle.ecore_meta.specs.declared.meta.Class.{Class as ClassOf}
 use Rattle.ecore_meta.specs.declared.meta.Kind.{Kind}
 use Rattle.ecore_meta.specs.declared.meta.Kind.TheVariants.{Attr, AttrMany, Bounded, Free, Contains, Container, Skip}
 use Rattle.model_state.specs.declared.step.Place.{Place}
-use Rattle.model_state.specs.declared.step.Place.TheVariants.{Root, Inside}
+use Rattle.model_state.specs.declared.step.Place.TheVariants.{Inside}
 use Rattle.model_state.specs.Good.{Good, PlaceOk, StandsOk}
 use Rattle.model_state.specs.Ident.{is_id}
 use Rattle.model_state.specs.Keys.{Name, id_cmp}
@@ -23,23 +21,23 @@ use Rattle.model_state.specs.State.{State, is_live}
 use Rattle.model_state.specs.Typing.{is_concrete, contains_to}
 use Rattle.emfjson_model.specs.declared.doc.DocParent.{DocParent}
 use Rattle.emfjson_model.specs.declared.fault.ModelFault.TheVariants.{NoClass, Abstract, WrongType, DupId, BadId}
-use Rattle.emfjson_model.specs.Classes.{class_of, class_spelt, id_of, may_stand}
-use Rattle.emfjson_model.specs.Parts.{Part, no_part, Ids, ids_of}
-use Rattle.emfjson_model.specs.Reads.{Read, «then», unless, found}
+use Rattle.emfjson_model.specs.Classes.{class_of, id_of, may_stand}
+use Rattle.emfjson_model.specs.Parts.{no_part, Ids, ids_of}
+use Rattle.emfjson_model.specs.Reads.{«then», unless, found}
 use Rattle.emfjson_model.specs.Walk.{element_rows, feature_key, held_rows, key_named, key_part, members_rows, own_rows}
 use Rattle.emfjson_text.specs.Keys.{class_features, key_name, key_cmp, keys_of}
 use Rattle.emfjson_text.specs.Laws.{IsNested}
-use Rattle.emfjson_text.specs.Tree.{child_ids, class_text, content, is_single, listed, members, object_of, one_or_all, part, values_at, whole, with_member}
+use Rattle.emfjson_text.specs.Tree.{child_ids, class_text, content, is_single, listed, members, object_of, part, values_at, whole, with_member}
 use Rattle.emfjson_text.proofs.Children.{each_child}
 use Rattle.round_trip.specs.Named.{IsNamed}
 use Rattle.round_trip.proofs.KeysFound.{Stands, all_stand, class_again, class_stands, feature_found, feature_stands, ident_stands, member_at}
 use Rattle.round_trip.proofs.KeysPairs.{all_in_order}
 use Rattle.round_trip.proofs.KeysRise.{keys_rise}
-use Rattle.round_trip.proofs.KeysTypes.{Draft, Key, Ident, Class, Feature, keys_are}
+use Rattle.round_trip.proofs.KeysTypes.{Draft, Key, Ident, Class, Feature}
 use Rattle.round_trip.proofs.ReadingKinds.{ContentFits, FeatureOk, IsObject, feature_ok}
 use Rattle.round_trip.proofs.ReadingTrees.{AreOk, values_ok}
 use Rattle.round_trip.proofs.WalksCounts.{bounded_few, children_within, free_few}
-use Rattle.round_trip.proofs.WalksRows.{Come, among, class_at, keys_attrs, keys_links, keys_rows, own_row, told, tree_rows}
+use Rattle.round_trip.proofs.WalksRows.{Come, among, class_at, keys_attrs, keys_links, keys_rows, told, tree_rows}
 use Rattle.round_trip.proofs.WalksSteps.{KeyOk, Walked, members_walk}
 
 -- ---- how deep
@@ -135,7 +133,7 @@ module _ (meta : Meta) (named : IsNamed meta) (m : State) (good : Good meta m) (
     content_fits f (Contains target opposite) kind deep = (
       children_within meta m good e f target opposite kind,
       all_both (λ x. get m.place x ≡ Some (Inside e f)) (λ x. depth (whole meta m x) ≤ n) (Walked meta (tree_rows meta m n) (whole meta m) (Some (record { row = own; feature = f })) (Some target)) (child_walked f target opposite kind)
-      (child_ids m (Inside e f)) (each_child m (Inside e f)) (listed_depths (whole meta m) n (is_single meta f) (child_ids m (Inside e f)) deep),
+          (child_ids m (Inside e f)) (each_child m (Inside e f)) (listed_depths (whole meta m) n (is_single meta f) (child_ids m (Inside e f)) deep),
     )
     content_fits f (Container target opposite) kind deep = tt
     content_fits f Skip kind deep = tt
@@ -157,8 +155,7 @@ module _ (meta : Meta) (named : IsNamed meta) (m : State) (good : Good meta m) (
     features_due [] in_class deep = tt
     features_due (f ∷ fs) in_class deep =
         let h = in_class f (inl refl) in
-        let deep_here : IsWithinIf n (content meta m (whole meta m) e f (kind_of meta f)) = all_stand (λ k. IsWithinIf n (part meta m (whole meta m) e c k)) (keys_of meta c) deep (Feature f) (feature_stands meta c f h) in
-        (
+        let deep_here : IsWithinIf n (content meta m (whole meta m) e f (kind_of meta f)) = all_stand (λ k. IsWithinIf n (part meta m (whole meta m) e c k)) (keys_of meta c) deep (Feature f) (feature_stands meta c f h) in (
           feature_due f h (content meta m (whole meta m) e f (kind_of meta f)) (feature_ok meta named m (tree_rows meta m n) (whole meta m) objects own e f (kind_of meta f) refl (content_fits f (kind_of meta f) refl deep_here)),
           features_due fs (λ g s. in_class g (inr s)) deep,
         )
@@ -193,7 +190,7 @@ module _ (meta : Meta) (named : IsNamed meta) (m : State) (good : Good meta m) (
       let id_there : get_member (codes "_id") ms ≡ Some (string e) = member_at meta p (keys_of meta c) (keys_rise meta named c) Ident (string e) (ident_stands meta c) refl in
       let rows = keys_rows meta m e (tree_rows meta m n) own (suc own) (keys_of meta c) in
       let keys_read : members_rows meta c own inside no_part ms ≡ Ok (told meta m e (tree_rows meta m n) own (suc own) (keys_of meta c)) =
-          members_walk meta m e (tree_rows meta m n) own c p inside (keys_of meta c) (keys_due n below own e c deep) no_part (suc own) (counted ids (Some e)) (subst (λ zs. Come zs (ids_of rows)) (sym (append-nil inside)) come.1) in
+      members_walk meta m e (tree_rows meta m n) own c p inside (keys_of meta c) (keys_due n below own e c deep) no_part (suc own) (counted ids (Some e)) (subst (λ zs. Come zs (ids_of rows)) (sym (append-nil inside)) come.1) in
       ap (λ o. «then» (class_of meta default o) (λ c. «then» (id_of ids (get_member (codes "_id") ms)) (λ id. own_rows parent id c (members_rows meta c own (ids ++ id ∷ []) no_part ms)))) class_there
       ∙ ap (λ r. «then» r (λ c. «then» (id_of ids (get_member (codes "_id") ms)) (λ id. own_rows parent id c (members_rows meta c own (ids ++ id ∷ []) no_part ms)))) (class_read meta named default c concrete may)
       ∙ ap (λ r. «then» r (λ id. own_rows parent id c (members_rows meta c own (ids ++ id ∷ []) no_part ms))) (ap (id_of ids) id_there ∙ id_read ids e come.0 (forms e (ap is_some kind)))

@@ -1,16 +1,19 @@
 -- A model's text, brought into the empty project, is shown as the same text.
-use Rattle.std.specs.Prelude.{◌≡◌, ◌-◌, ◌^◌, ◌<◌, ◌≤◌, List, Some, Ok, length}
+use Rattle.std.specs.Prelude.{◌≡◌, ◌-◌, ◌^◌, ◌<◌, ◌≤◌, ℕ, List, Option, Some, Ok, length}
 use Rattle.serde_json.specs.Data.{depth}
 use Rattle.serde_json.specs.Read.{read, max_depth}
 use Rattle.ecore_meta.specs.Meta.{Meta}
 use Rattle.model_state.specs.Good.{Good, Sound}
 use Rattle.model_state.specs.Keys.{Name}
 use Rattle.model_state.specs.State.{State, nothing}
+use Rattle.model_state.specs.Steps.{fold}
+use Rattle.model_state.specs.declared.operation.Operation.{Operation}
 use Rattle.emfjson_model.specs.declared.doc.DocRow.{DocRow}
 use Rattle.emfjson_model.specs.Document.{doc_of}
 use Rattle.emfjson_model.specs.Fits.{Fits}
 use Rattle.emfjson_text.specs.Tree.{text, tree}
-use Rattle.model_import.specs.After.{import_after}
+use Rattle.model_import.specs.After.{import_after, steps_in}
+use Rattle.model_import.specs.Import.{recorded_import}
 use Rattle.round_trip.specs.Named.{HasIds, IsNamed}
 use Rattle.round_trip.specs.Tells.{Tells}
 
@@ -27,3 +30,18 @@ TextsReadBack = (meta : Meta) → IsNamed meta → (m : State) → Good meta m �
 abbrev pub TextsAreTold : Type 0
 TextsAreTold = (meta : Meta) → IsNamed meta → (m : State) → Good meta m → HasIds m → depth (tree meta m) ≤ max_depth
     → (names : List Name) × (rows : List DocRow) × (doc_of meta (text meta m) ≡ Ok rows) × Tells m names rows × (length rows ≤ length (text meta m))
+
+-- a text brought into the empty project: it is read, it is recorded without a refusal, its steps can be taken, and the model that they leave has that text
+pub record ComesBack (meta : Meta) (ws : ℕ) (text_in : List ℕ) : Type 0 where
+  pub rows : List DocRow
+  pub operation : Option Operation
+  pub left : State
+  pub read : doc_of meta text_in ≡ Ok rows
+  pub recorded : recorded_import meta nothing ws rows ≡ Ok operation
+  pub run : fold meta nothing (steps_in operation) ≡ Some left
+  pub shown : text meta left ≡ text_in
+
+-- so it is with the text of a good model of elements with ids that nests no deeper than JSON is read, and is shorter than the texts that are read
+abbrev pub TextsComeBack : Type 0
+TextsComeBack = (meta : Meta) → Sound meta → IsNamed meta → (m : State) → Good meta m → HasIds m → depth (tree meta m) ≤ max_depth → length (text meta m) < 2 ^ 32 - 1
+    → (ws : ℕ) → ComesBack meta ws (text meta m)

@@ -1,8 +1,6 @@
 -- The rows of a document that tell a model.
-use Rattle.std.specs.Prelude.{◌≡◌, ℕ, suc, Bool, true, cond, List, [], ◌∷◌, Option, None, Some, length, map, slice_get}
-use Rattle.std.specs.Option.{option_map_or}
+use Rattle.std.specs.Prelude.{◌≡◌, ℕ, suc, cond, List, [], ◌∷◌, Some, length, map, slice_get}
 use Rattle.std.specs.FinMap.{get}
-use Rattle.ecore_meta.specs.Meta.{Meta}
 use Rattle.ecore_meta.specs.declared.meta.Value.{Value}
 use Rattle.model_state.specs.declared.step.Place.{Place}
 use Rattle.model_state.specs.Keys.{Name}

@@ -1,8 +1,7 @@
-//! The round trip: a model's text, brought into an empty project, is shown as the same text.
+//! The round trip: a model's text, brought into an empty project, is shown as the same text. Laws alone: a law is the contract of
+//! a function that does nothing.
 #![tactic(auto)]
 
 mod laws;
 
-pub use laws::law_of_tellings;
-pub use laws::law_of_reading_back;
-pub use laws::{law_of_reading, law_of_reading_back};
+pub use laws::{law_of_reading, law_of_reading_back, law_of_round_trips, law_of_tellings};
