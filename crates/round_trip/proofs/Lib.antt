@@ -31,3 +31,4 @@ pub mod ReadingMerged
 pub mod WalksShort
 pub mod ReadingTold
 pub mod Coming
+pub mod NamedBuilt
