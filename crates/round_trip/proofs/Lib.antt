@@ -32,3 +32,4 @@ pub mod WalksShort
 pub mod ReadingTold
 pub mod Coming
 pub mod NamedBuilt
+pub mod NamedRead

@@ -1,7 +1,9 @@
 -- A model's text, brought into the empty project, is shown as the same text.
 use Rattle.std.specs.Prelude.{◌≡◌, ◌-◌, ◌^◌, ◌<◌, ◌≤◌, ℕ, List, Option, Some, Ok, length}
+use Rattle.std.specs.Prelude.{◌≡◌, ◌-◌, ◌^◌, ◌<◌, ◌≤◌, ℕ, List, Some, Ok, length}
 use Rattle.serde_json.specs.Data.{depth}
 use Rattle.serde_json.specs.Read.{read, max_depth}
+use Rattle.ecore_json.specs.Metamodel.{metamodel_of}
 use Rattle.ecore_meta.specs.Meta.{Meta}
 use Rattle.model_state.specs.Good.{Good, Sound}
 use Rattle.model_state.specs.Keys.{Name}
@@ -45,3 +47,6 @@ pub record ComesBack (meta : Meta) (ws : ℕ) (text_in : List ℕ) : Type 0 wher
 abbrev pub TextsComeBack : Type 0
 TextsComeBack = (meta : Meta) → Sound meta → IsNamed meta → (m : State) → Good meta m → HasIds m → depth (tree meta m) ≤ max_depth → length (text meta m) < 2 ^ 32 - 1
     → (ws : ℕ) → ComesBack meta ws (text meta m)
+-- what a metamodel is asked here for holds of each that is read
+abbrev pub MetamodelsAreNamed : Type 0
+MetamodelsAreNamed = (text : List ℕ) (meta : Meta) → metamodel_of text ≡ Ok meta → IsNamed meta

@@ -4,6 +4,14 @@ ghost use Rattle.round_trip.specs.Laws.{TellingsAreShown, TextsAreTold, TextsCom
 pub fn law_of_tellings()
     ensures { TellingsAreShown }
 {}
+ghost use Rattle.round_trip.specs.Laws.{MetamodelsAreNamed, TextsAreTold, TextsReadBack};
+use emfjson_io::law_of_values;
+/// The law of names: what the laws of reading ask of a metamodel holds of each that is read.
+pub fn law_of_metamodels()
+    ensures { MetamodelsAreNamed }
+{
+    law_of_values();
+}
 
 /// The law of texts that are read: the text of a good model reads as its tree.
 pub fn law_of_reading_back()
