@@ -1,6 +1,6 @@
 -- Every metamodel that is built of fit names has what holds of names.
-use Rattle.std.proofs.Common.{◌≡◌, ℕ, ℤ, zero, suc, ◌+◌, pos, negsuc, length, codes, ◌==◌, Bool, true, false, cond, ◌||◌, List, [], ◌∷◌, ◌++◌, map, refl, sym, ap, subst, ◌∙◌}
-use Rattle.std.specs.Prelude.{Option, None, Some, slice_get, if◌then◌else◌, option_and_then}
+use Rattle.std.proofs.Common.{◌≡◌, ℕ, zero, suc, ◌+◌, pos, negsuc, length, codes, ◌==◌, Bool, true, false, cond, ◌||◌, List, [], ◌∷◌, map, refl, ap, subst, ◌∙◌}
+use Rattle.std.specs.Prelude.{Option, None, Some, slice_get, option_and_then}
 use Rattle.std.specs.List.{AllByRecursion, list_any}
 use Rattle.std.specs.Option.{option_map_or}
 use Rattle.std.specs.Ordering.{int_eq}
@@ -12,16 +12,14 @@ use Rattle.ecore_meta.specs.Drafts.{class_target, draft, drafts, drafts_from, ec
 use Rattle.ecore_meta.specs.Faults.{clash, contains_back, draft_name, dup_name, fault, features_of, is_skipped, literals_in, no_type, own_of, repeats_within, super_cycle, unsupported}
 use Rattle.ecore_meta.specs.Meta.{name_at}
 use Rattle.ecore_meta.specs.Names.{Name, has_repeat, number_of}
-use Rattle.ecore_meta.specs.Typing.{kind_of, upper_of}
 use Rattle.ecore_meta.specs.declared.fault.MetaFault.{MetaFault}
 use Rattle.ecore_meta.specs.declared.fault.MetaFault.TheVariants.{DupName, Unsupported as UnsupportedFault, NoType, SuperCycle, Clash}
 use Rattle.ecore_meta.specs.declared.meta.Class.{Class as ClassOf}
 use Rattle.ecore_meta.specs.declared.meta.EnumLiteral.{EnumLiteral}
 use Rattle.ecore_meta.specs.declared.meta.Feature.{Feature}
 use Rattle.ecore_meta.specs.declared.meta.Kind.{Kind}
-use Rattle.ecore_meta.specs.declared.meta.Kind.TheVariants.{Attr, AttrMany, Bounded, Free, Contains, Container, Skip}
+use Rattle.ecore_meta.specs.declared.meta.Kind.TheVariants.{Attr, AttrMany, Bounded, Free, Contains, Skip}
 use Rattle.ecore_meta.specs.declared.meta.Scalar.{Scalar}
-use Rattle.ecore_meta.specs.declared.rows.ClassifierRow.{ClassifierRow}
 use Rattle.ecore_meta.specs.declared.rows.ClassifierRow.TheVariants.{Class, Enum, Plain}
 use Rattle.ecore_meta.specs.declared.rows.FeatureRow.{FeatureRow}
 use Rattle.ecore_meta.specs.declared.rows.LiteralRow.{LiteralRow}

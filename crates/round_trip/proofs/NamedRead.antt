@@ -1,6 +1,6 @@
 -- Every metamodel that is read has fit names.
-use Rattle.std.proofs.Common.{◌≡◌, ℕ, zero, suc, ◌==◌, Bool, true, false, cond, not, ◌&&◌, ◌||◌, List, [], ◌∷◌, length, map, refl, sym, ap, subst, ◌∙◌, codes, arith, nat_eq}
-use Rattle.std.specs.Prelude.{Option, None, Some, is_some, Result, Ok, Err, option_and_then, nat_le}
+use Rattle.std.proofs.Common.{◌≡◌, ℕ, ◌==◌, Bool, true, false, cond, not, ◌&&◌, ◌||◌, List, [], ◌∷◌, length, map, refl, sym, ap, subst, ◌∙◌, codes, arith}
+use Rattle.std.specs.Prelude.{Option, None, Some, is_some, Ok, option_and_then, nat_le}
 use Rattle.std.specs.List.{AllByRecursion, list_all, list_any}
 use Rattle.std.specs.Option.{option_map_or}
 use Rattle.std.specs.Char.{is_ascii_alphabetic}
@@ -33,7 +33,7 @@ use Rattle.ecore_json.specs.Walk as Walk
 use Rattle.ecore_json.specs.Walk.{array_fault, classifier_shape, feature_shape, first_lacking, has, is_a, items_fault, keys_fault, left_out, object_fault, package_fault, shape_at, text_in, value_fault}
 use Rattle.emfjson_io.specs.Laws.{BuiltTextsAreApart}
 use Rattle.round_trip.specs.Named.{IsNamed, NamesFit, is_reserved}
-use Rattle.round_trip.proofs.KeysTypes.{item_of, taken_by}
+use Rattle.round_trip.proofs.KeysTypes.{taken_by}
 use Rattle.round_trip.proofs.NamedBuilt.{built_named}
 
 abbrev value_in : {A : Type 0} → Option A → Type 0
