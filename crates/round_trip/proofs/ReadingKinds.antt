@@ -4,8 +4,6 @@ use Rattle.std.specs.Prelude.{Option, None, Some, Ok, nat_le}
 use Rattle.std.specs.List.{AllByRecursion}
 use Rattle.std.proofs.lemmas.List.{length-map}
 use Rattle.std.proofs.lemmas.Bool.Decides.{nat_tests}
-use Rattle.std.proofs.Common.{◌≡◌, ℕ, ◌≤◌, Bool, true, false, not, List, [], ◌∷◌, length, map, refl, sym, ap, subst, ◌∙◌, arith, append-nil}
-use Rattle.std.specs.Prelude.{Option, None, Some, Ok}
 use Rattle.finite_maps.specs.Maps as maps
 use Rattle.serde_json.specs.Data.{Data, array, object, Members}
 use Rattle.serde_json.specs.View.{items_of}

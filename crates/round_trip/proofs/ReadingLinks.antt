@@ -3,8 +3,6 @@ use Rattle.std.proofs.Common.{◌≡◌, ℕ, zero, suc, Bool, true, false, cond
 use Rattle.std.specs.Prelude.{Option, None, Some, is_some, Ok, unwrap_or}
 use Rattle.std.specs.FinMap.{get}
 use Rattle.std.specs.List.{AllByRecursion, list_any}
-use Rattle.std.proofs.Common.{◌≡◌, ℕ, zero, suc, Bool, true, false, cond, List, [], ◌∷◌, ◌++◌, map, refl, sym, ap, subst, ◌∙◌, nat_eq, ◌⊎◌, inl, inr, append_assoc, append-nil}
-use Rattle.std.specs.List.{AllByRecursion}
 use Rattle.finite_maps.proofs.EqualLaws.{and_first, and_second, nat_equality}
 use Rattle.ecore_meta.specs.Meta.{Meta, has_feature}
 use Rattle.ecore_meta.specs.Typing.{kind_of, plain_to}
@@ -22,7 +20,6 @@ use Rattle.emfjson_model.specs.Classes.{features_of}
 use Rattle.emfjson_model.specs.Merged.{targets_at}
 use Rattle.emfjson_model.specs.Reads.{Read, «then», collected}
 use Rattle.emfjson_model.specs.References.{entries_at, plain_features, plain_more}
-use Rattle.emfjson_model.specs.References.{entries_at, plain_features}
 use Rattle.emfjson_text.specs.Keys.{key_number, keys_of}
 use Rattle.emfjson_text.specs.Tree.{target_ids}
 use Rattle.round_trip.proofs.KeysFound.{Stands, feature_stands}

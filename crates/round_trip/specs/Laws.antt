@@ -47,6 +47,7 @@ pub record ComesBack (meta : Meta) (ws : ℕ) (text_in : List ℕ) : Type 0 wher
 abbrev pub TextsComeBack : Type 0
 TextsComeBack = (meta : Meta) → Sound meta → IsNamed meta → (m : State) → Good meta m → HasIds m → depth (tree meta m) ≤ max_depth → length (text meta m) < 2 ^ 32 - 1
     → (ws : ℕ) → ComesBack meta ws (text meta m)
+
 -- what a metamodel is asked here for holds of each that is read
 abbrev pub MetamodelsAreNamed : Type 0
 MetamodelsAreNamed = (text : List ℕ) (meta : Meta) → metamodel_of text ≡ Ok meta → IsNamed meta

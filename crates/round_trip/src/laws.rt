@@ -1,11 +1,7 @@
-ghost use Rattle.round_trip.specs.Laws.{TellingsAreShown, TextsAreTold, TextsComeBack, TextsReadBack};
+ghost use Rattle.round_trip.specs.Laws.{MetamodelsAreNamed, TellingsAreShown, TextsAreTold, TextsComeBack, TextsReadBack};
 
-/// What rows that tell a good model leave in the empty project has the text of that model.
-pub fn law_of_tellings()
-    ensures { TellingsAreShown }
-{}
-ghost use Rattle.round_trip.specs.Laws.{MetamodelsAreNamed, TextsAreTold, TextsReadBack};
 use emfjson_io::law_of_values;
+
 /// The law of names: what the laws of reading ask of a metamodel holds of each that is read.
 pub fn law_of_metamodels()
     ensures { MetamodelsAreNamed }
@@ -21,6 +17,11 @@ pub fn law_of_reading_back()
 /// The law of reading: the document that the text of a good model says tells the model.
 pub fn law_of_reading()
     ensures { TextsAreTold }
+{}
+
+/// What rows that tell a good model leave in the empty project has the text of that model.
+pub fn law_of_tellings()
+    ensures { TellingsAreShown }
 {}
 
 /// The law of round trips: the text of a good model, brought into the empty project, leaves a model that is shown as the same text.

@@ -4,5 +4,6 @@
 
 mod laws;
 
-pub use laws::{law_of_reading, law_of_reading_back, law_of_round_trips, law_of_tellings};
-pub use laws::{law_of_metamodels, law_of_reading, law_of_reading_back};
+pub use laws::{
+    law_of_metamodels, law_of_reading, law_of_reading_back, law_of_round_trips, law_of_tellings,
+};
