@@ -11,6 +11,8 @@ mod moves;
 mod place;
 mod rows;
 mod spots;
+#[cfg(test)]
+mod tests;
 mod values;
 mod walk;
 

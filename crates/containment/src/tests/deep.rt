@@ -1,0 +1,128 @@
+// Deep models and wide ones.
+ghost use Rattle.std.specs.Prelude.{◌≡◌, IfOk};
+ghost use Rattle.ecore_meta.specs.Sound.{Sound};
+ghost use Rattle.model_state.specs.Good.{Good};
+ghost use Rattle.step_apply.specs.View.{plain_state};
+
+use crate::tests::parts::{nested, parts};
+use crate::{delete_steps, is_place, move_steps, subtree};
+use ecore_meta::Metamodel;
+use model_laws::replay;
+use model_state::{Id, Look, Place, Step};
+use std::alloc::Global;
+use std::test::Fail;
+use step_apply::Plain;
+
+fn taken(alloc: Global, meta: &Metamodel, steps: &[Step]) -> Result<Plain, Fail>
+    requires { Sound meta.now }
+    ensures { IfOk result (λ p. Good meta.now (plain_state p)) }
+{
+    let mut plain = Plain::new(alloc);
+    replay(&mut plain, meta, steps)?;
+    Ok(plain)
+}
+
+// The first of n elements stands at the root, and each other inside the one before it.
+fn chain_of(alloc: Global, meta: &Metamodel, n: u32) -> Result<Plain, Fail>
+    requires { Sound meta.now }
+    ensures { IfOk result (λ p. Good meta.now (plain_state p)) }
+{
+    let mut steps = Vec::new(alloc);
+    steps.push(new_root(named(alloc, 0)?))?;
+    for k in 1..n {
+        steps.push(Step::New {
+            e: named(alloc, k)?,
+            class: 0,
+            place: Place::Inside {
+                parent: named(alloc, k - 1)?,
+                feature: 0,
+            },
+            rank: 1,
+        })?;
+    }
+    taken(alloc, meta, steps.as_slice())
+}
+
+fn named(alloc: Global, n: u32) -> Result<Id, Fail> {
+    Ok(Id::read(alloc, format!(in alloc; "e{n}")?.as_str())?)
+}
+
+fn new_root(e: Id) -> Step {
+    Step::New {
+        e,
+        class: 0,
+        place: Place::Root,
+        rank: 1,
+    }
+}
+
+// An element `top` at the root, and n others that refer to it.
+fn star_of(alloc: Global, meta: &Metamodel, n: u32) -> Result<Plain, Fail>
+    requires { Sound meta.now }
+    ensures { IfOk result (λ p. Good meta.now (plain_state p)) }
+{
+    let mut steps = Vec::new(alloc);
+    steps.push(new_root(Id::read(alloc, "top")?))?;
+    for k in 0..n {
+        steps.push(new_root(named(alloc, k)?))?;
+        steps.push(Step::Link {
+            a: named(alloc, k)?,
+            f: 10,
+            ra: 1,
+            b: Id::read(alloc, "top")?,
+            rb: None,
+        })?;
+    }
+    taken(alloc, meta, steps.as_slice())
+}
+
+fn move_element(
+    alloc: Global,
+    meta: &Metamodel,
+    plain: &mut Plain,
+    e: &Id,
+    to: &Place,
+) -> Result<(), Fail>
+    requires sound { Sound meta.now }
+    requires good { Good meta.now (plain_state plain.old) }
+    ensures { Good meta.now (plain_state plain.new) }
+{
+    if plain.class(e).is_none() || !is_place(plain, meta, to) {
+        return Err("no element, or no place")?;
+    }
+    let steps = move_steps(alloc, plain, meta, e, to, None)?;
+    replay(plain, meta, steps.as_slice())?;
+    Ok(())
+}
+
+#[test]
+fn a_chain_of_1000_elements_moves_and_goes(rt: HostRuntime) -> Result<(), Fail> {
+    let alloc = rt.alloc();
+    let meta = nested(alloc)?;
+    let mut plain = chain_of(alloc, &meta, 1000)?;
+    let top = named(alloc, 0)?;
+    move_element(alloc, &meta, &mut plain, &named(alloc, 500)?, &Place::Root)?;
+    assert_eq!(rt; subtree(alloc, &plain, &meta, &top)?.len(), 500);
+    let back = Place::Inside {
+        parent: named(alloc, 499)?,
+        feature: 0,
+    };
+    move_element(alloc, &meta, &mut plain, &named(alloc, 500)?, &back)?;
+    let steps = delete_steps(alloc, &plain, &meta, &top)?;
+    assert_eq!(rt; steps.len(), 1000);
+    replay(&mut plain, &meta, steps.as_slice())?;
+    assert_eq!(rt; plain.ids(alloc)?.len(), 0);
+    Ok(())
+}
+
+#[test]
+fn an_element_with_400_references_to_it_goes(rt: HostRuntime) -> Result<(), Fail> {
+    let alloc = rt.alloc();
+    let meta = parts(alloc)?;
+    let mut plain = star_of(alloc, &meta, 400)?;
+    let steps = delete_steps(alloc, &plain, &meta, &Id::read(alloc, "top")?)?;
+    assert_eq!(rt; steps.len(), 401);
+    replay(&mut plain, &meta, steps.as_slice())?;
+    assert_eq!(rt; plain.ids(alloc)?.len(), 400);
+    Ok(())
+}
