@@ -1,12 +1,11 @@
 -- The children of an element are those that stand right inside it, each once.
 use Rattle.std.proofs.Common.{◌≡◌, ℕ, Bool, true, false, cond, List, [], ◌∷◌, ◌++◌, refl, sym, ap, subst, ◌∙◌, ◌&&◌, ◌||◌, length, map, inl, inr}
-use Rattle.std.specs.Prelude.{Option, None, Some, is_some, slice_get}
+use Rattle.std.specs.Prelude.{Option, None, Some}
 use Rattle.std.specs.List.{filter, list_any, AllByRecursion}
 use Rattle.std.specs.FinMap.{FinMap, get, entries}
-use Rattle.std.specs.Option.{option_map_or}
 use Rattle.finite_maps.specs.Equal.{text_eq}
 use Rattle.finite_maps.proofs.Cases.{true_false}
-use Rattle.finite_maps.proofs.EqualLaws.{and_both, nat_equality, text_equality}
+use Rattle.finite_maps.proofs.EqualLaws.{and_both, text_equality}
 use Rattle.ecore_meta.specs.Meta.{Meta}
 use Rattle.ecore_meta.specs.declared.meta.Feature.{Feature}
 use Rattle.ecore_meta.specs.declared.meta.Kind.{Kind}
@@ -15,7 +14,7 @@ use Rattle.model_state.specs.declared.entry.Entry.{Entry}
 use Rattle.model_state.specs.declared.step.Place.{Place}
 use Rattle.model_state.specs.declared.step.Place.TheVariants.{Inside}
 use Rattle.model_state.specs.Keys.{Name, id_cmp}
-use Rattle.model_state.specs.Listing.{children, rank_at, entry_cmp}
+use Rattle.model_state.specs.Listing.{children, entry_cmp}
 use Rattle.model_state.specs.State.{State, place_eq}
 use Rattle.model_state.specs.Steps.{class_has}
 use Rattle.model_state.specs.Typing.{kind_of, contains_kind, contains_to}
@@ -24,9 +23,9 @@ use Rattle.model_state.proofs.Orders.{id_order}
 use Rattle.model_state.proofs.StepTests.{place_equality}
 use Rattle.edit_laws.proofs.Lists.{Apart, apart_from, any-in_order, any-map, all-in_order, entries_held, picked_has}
 use Rattle.edit_laws.proofs.Creates.{spot_of, one_child}
-use Rattle.containment.specs.Subtree.{children_by, children_of, features_of, ids_of, is_among, numbers}
-use Rattle.containment.proofs.Members.{In, Distinct, in_left, in_right, in_either, in_filter, kept_in, distinct_join, distinct_filter, numbers_distinct, numbers_have, within_list, among_in}
-use Rattle.containment.proofs.Trees.{AllInside, inside_at, HasChildren}
+use Rattle.containment.specs.Subtree.{children_by, features_of, ids_of, is_among, numbers}
+use Rattle.containment.proofs.Members.{In, Distinct, in_left, in_right, in_either, kept_in, distinct_join, distinct_filter, numbers_distinct, numbers_have, within_list, among_in}
+use Rattle.containment.proofs.Trees.{AllInside, HasChildren}
 
 -- ---- features by number
 pub features_distinct : (meta : Meta) (p : Kind → Bool) (c : Option ℕ) → Distinct (features_of meta p c)

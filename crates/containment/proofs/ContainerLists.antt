@@ -1,5 +1,5 @@
 -- The containers of a place are its chain.
-use Rattle.std.proofs.Common.{◌≡◌, ℕ, ◌<◌, ◌≤◌, suc, zero, true, List, [], ◌∷◌, refl, sym, ap, subst, ◌∙◌, arith, length}
+use Rattle.std.proofs.Common.{◌≡◌, ℕ, ◌<◌, ◌≤◌, suc, zero, List, [], ◌∷◌, refl, sym, ap, subst, ◌∙◌, arith, length}
 use Rattle.std.specs.Prelude.{Option, None, Some}
 use Rattle.std.specs.FinMap.{FinMap, get}
 use Rattle.ecore_meta.specs.Meta.{Meta}
@@ -10,7 +10,7 @@ use Rattle.model_state.specs.Listing.{ids}
 use Rattle.model_state.specs.State.{State}
 use Rattle.model_state.specs.Good.{Good}
 use Rattle.model_state.specs.Chains.{IsChain}
-use Rattle.containment.specs.Containers.{containers_of, containers_within}
+use Rattle.containment.specs.Containers.{containers_within}
 use Rattle.containment.specs.Laws.{ContainersAreChain}
 use Rattle.containment.proofs.Levels.{bounded}
 use Rattle.containment.proofs.Trees.{Up}

@@ -1,5 +1,5 @@
 -- Places have containers.
-use Rattle.std.proofs.Common.{◌≡◌, ℕ, true, false, List, [], ◌∷◌, refl, sym, ap, subst, ◌∙◌}
+use Rattle.std.proofs.Common.{◌≡◌, ℕ, true, List, [], ◌∷◌, refl, sym, ap, subst, ◌∙◌}
 use Rattle.std.specs.Prelude.{Option, None, Some, is_some}
 use Rattle.std.specs.FinMap.{FinMap, get}
 use Rattle.finite_maps.specs.Equal.{text_eq}
@@ -9,7 +9,7 @@ use Rattle.model_state.specs.declared.step.Place.{Place}
 use Rattle.model_state.specs.declared.step.Place.TheVariants.{Root, Inside}
 use Rattle.model_state.specs.Keys.{Name, id_cmp}
 use Rattle.model_state.specs.State.{State, is_live}
-use Rattle.model_state.specs.Steps.{chain_is, class_has, place_live}
+use Rattle.model_state.specs.Steps.{chain_is, place_live}
 use Rattle.model_state.specs.Good.{Good, PlaceOk}
 use Rattle.model_state.specs.Chains.{IsChain}
 use Rattle.model_laws.proofs.Births.{has_class}

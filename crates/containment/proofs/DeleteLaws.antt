@@ -1,14 +1,12 @@
 -- The steps of a deletion lead to the model without the subtree, and the subtree is what stands at or below the element.
-use Rattle.std.proofs.Common.{◌≡◌, ℕ, Bool, true, false, cond, suc, zero, List, [], ◌∷◌, ◌++◌, refl, sym, ap, subst, ◌∙◌, ◌||◌, inl, inr}
-use Rattle.std.specs.Prelude.{Option, None, Some, is_some}
+use Rattle.std.proofs.Common.{◌≡◌, ℕ, Bool, true, false, cond, suc, zero, List, [], ◌∷◌, refl, sym, ap, subst, ◌∙◌, ◌||◌, inl, inr}
+use Rattle.std.specs.Prelude.{Option, None, Some}
 use Rattle.std.specs.FinMap.{FinMap, get}
 use Rattle.finite_maps.specs.Sorts.{without}
-use Rattle.finite_maps.proofs.Cases.{not_so, true_false}
+use Rattle.finite_maps.proofs.Cases.{true_false}
 use Rattle.finite_maps.proofs.MapLaws.{same}
 use Rattle.finite_maps.proofs.NestedLaws.{get-without}
 use Rattle.ecore_meta.specs.Meta.{Meta}
-use Rattle.ecore_meta.specs.declared.meta.Value.{Value}
-use Rattle.model_state.specs.declared.step.Place.{Place}
 use Rattle.model_state.specs.declared.step.Place.TheVariants.{Inside}
 use Rattle.model_state.specs.Keys.{Name, AttrKey, RowKey, id_cmp}
 use Rattle.model_state.specs.State.{State, is_live}
@@ -23,17 +21,17 @@ use Rattle.edit_laws.proofs.Clears.{Leads}
 use Rattle.edit_laws.proofs.Creates.{placed_live}
 use Rattle.containment.specs.Deletes.{removal_after, removal_made, gone_made, incoming_made, is_attribute, is_touched, outgoing_made, slots_of, values_made}
 use Rattle.containment.specs.Subtree.{is_among, subtree_of}
-use Rattle.containment.proofs.Forests.{IsForest, IsSubtree}
+use Rattle.containment.proofs.Forests.{IsSubtree}
 use Rattle.containment.proofs.Levels.{in_order, subtree_is}
 use Rattle.containment.specs.Laws.{DeleteLeads, SubtreeIsBelow, SubtreeIsInOrder, SubtreeIsLive}
 use Rattle.containment.proofs.Children.{has_children}
 use Rattle.containment.proofs.ElementsGone.{AllLive, Bare, elements_lead, stripped}
-use Rattle.containment.proofs.IncomingRows.{Fresh, gathered, incoming_leads, is_gone}
+use Rattle.containment.proofs.IncomingRows.{Fresh, incoming_leads, is_gone}
 use Rattle.containment.proofs.Members.{In, Distinct, among_in, in_among, not_among}
 use Rattle.containment.proofs.Outgoing.{outgoing_leads}
 use Rattle.containment.proofs.Slots.{no_opposites, rows_left, slots_distinct}
 use Rattle.containment.proofs.Trees.{HasChildren, Ordered, Up, all_below, chain_up, forest_below, forest_has, forest_ordered, up_in}
-use Rattle.containment.proofs.ValuesGone.{Attrs, Kept, attributes, emptied, kept_all, values_lead, values_left}
+use Rattle.containment.proofs.ValuesGone.{Attrs, attributes, kept_all, values_lead, values_left}
 
 module _ (meta : Meta) (m : State) (good : Good meta m) (e : Name) (xs : List Name) (subtree : IsSubtree meta m e xs) where
   known : HasChildren meta m

@@ -1,21 +1,20 @@
 -- The elements go, the last first.
-use Rattle.std.proofs.Common.{◌≡◌, ℕ, Bool, true, false, cond, List, [], ◌∷◌, ◌++◌, refl, sym, ap, subst, ◌∙◌, ◌||◌, nat_eq, inl, inr}
+use Rattle.std.proofs.Common.{◌≡◌, ℕ, Bool, true, false, cond, List, [], ◌∷◌, refl, sym, ap, subst, ◌∙◌, ◌||◌, nat_eq, inl, inr}
 use Rattle.std.specs.Prelude.{Option, None, Some, is_some, unwrap_or}
 use Rattle.std.specs.FinMap.{FinMap, get}
 use Rattle.std.specs.Ordering.{eq_by_cmp}
 use Rattle.finite_maps.specs.Equal.{option_eq, text_eq}
-use Rattle.finite_maps.specs.Maps.{count, set}
+use Rattle.finite_maps.specs.Maps.{set}
 use Rattle.finite_maps.specs.Sorts.{without}
 use Rattle.finite_maps.proofs.Cases.{not_so, true_false}
 use Rattle.finite_maps.proofs.CountLaws.{count_none}
-use Rattle.finite_maps.proofs.EqualLaws.{apart, nat_equality, option_equality, text_equality}
-use Rattle.finite_maps.proofs.MapLaws.{same, same_key, own_key, by_key, get-set_same, get-set_other}
+use Rattle.finite_maps.proofs.EqualLaws.{option_equality, text_equality}
+use Rattle.finite_maps.proofs.MapLaws.{same, own_key, by_key, get-set_same, get-set_other}
 use Rattle.finite_maps.proofs.NestedLaws.{get-without}
 use Rattle.ecore_meta.specs.Meta.{Meta}
 use Rattle.ecore_meta.specs.declared.meta.Value.{Value}
 use Rattle.model_state.specs.declared.step.Place.{Place}
 use Rattle.model_state.specs.declared.step.Place.TheVariants.{Root, Inside}
-use Rattle.model_state.specs.declared.step.Step.TheVariants.{Gone}
 use Rattle.model_state.specs.Keys.{Name, AttrKey, RowKey, id_cmp}
 use Rattle.model_state.specs.Listing.{rank_at}
 use Rattle.model_state.specs.State.{State, inner_count, is_inside, is_live, link_count, place_eq, value_count}
@@ -25,11 +24,10 @@ use Rattle.model_state.proofs.Orders.{attr_order, id_order, row_order}
 use Rattle.model_state.proofs.StepTests.{number_equality, pass, place_equality}
 use Rattle.model_laws.proofs.Runs.{fold_append, fold_more}
 use Rattle.edit_laws.specs.Rows.{Rows}
-use Rattle.edit_laws.proofs.Creates.{names_differ}
 use Rattle.containment.specs.Deletes.{gone_made, gone_step}
 use Rattle.containment.specs.Subtree.{is_among}
 use Rattle.containment.proofs.Containers.{live_place}
-use Rattle.containment.proofs.Members.{In, among_in, in_among, not_among}
+use Rattle.containment.proofs.Members.{In, in_among, not_among}
 use Rattle.containment.proofs.Trees.{HasChildren, Ordered}
 use Rattle.containment.proofs.ValuesGone.{Attrs}
 

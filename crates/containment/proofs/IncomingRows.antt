@@ -1,6 +1,6 @@
 -- The rows to elements that are left are unlinked.
-use Rattle.std.proofs.Common.{◌≡◌, ℕ, Bool, true, false, cond, not, List, [], ◌∷◌, ◌++◌, refl, sym, ap, subst, ◌∙◌, ◌||◌, ◌&&◌, map}
-use Rattle.std.specs.Prelude.{Option, None, Some, is_some, T}
+use Rattle.std.proofs.Common.{◌≡◌, ℕ, Bool, true, false, cond, not, List, [], ◌∷◌, refl, sym, ap, subst, ◌∙◌, ◌||◌, ◌&&◌, map}
+use Rattle.std.specs.Prelude.{Option, None, Some, T}
 use Rattle.std.specs.List.{filter, AllByRecursion}
 use Rattle.std.specs.declared.cmp.Ordering.{Ordering}
 use Rattle.std.specs.declared.cmp.Ordering.TheVariants.{Less, Equal, Greater}
@@ -10,15 +10,15 @@ use Rattle.std.specs.FinMap.Entries.{below_all}
 use Rattle.finite_maps.specs.Equal.{text_eq}
 use Rattle.finite_maps.specs.Maps.{set}
 use Rattle.finite_maps.specs.Sorts.{without}
-use Rattle.finite_maps.proofs.Cases.{not_false, not_so, some_none, true_false}
+use Rattle.finite_maps.proofs.Cases.{not_false, not_so, true_false}
 use Rattle.finite_maps.proofs.EqualLaws.{apart, text_equality}
-use Rattle.finite_maps.proofs.MapLaws.{same, same_key, own_key, by_key, get-set_same, get-set_other}
+use Rattle.finite_maps.proofs.MapLaws.{same, same_key, by_key, get-set_same, get-set_other}
 use Rattle.finite_maps.proofs.NestedLaws.{get-without}
 use Rattle.ecore_meta.specs.Meta.{Meta}
 use Rattle.model_state.specs.declared.entry.Incoming.{Incoming}
 use Rattle.model_state.specs.declared.step.Step.{Step}
 use Rattle.model_state.specs.Keys.{Name, AttrKey, RowKey, row_cmp}
-use Rattle.model_state.specs.Listing.{row_incoming, incoming}
+use Rattle.model_state.specs.Listing.{row_incoming}
 use Rattle.model_state.specs.State.{State}
 use Rattle.model_state.specs.Typing.{opposite_of}
 use Rattle.model_state.specs.Good.{Good, Sound}

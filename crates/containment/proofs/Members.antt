@@ -1,7 +1,7 @@
 -- Items of lists, and lists that have each item once.
-use Rattle.std.proofs.Common.{◌≡◌, ℕ, ◌+◌, ◌<◌, suc, zero, Bool, true, false, cond, not, List, [], ◌∷◌, ◌++◌, refl, sym, ap, subst, ◌∙◌, ◌||◌, arith, map, length, inl, inr}
-use Rattle.std.specs.Prelude.{Option, None, Some, slice_get, ◌⊎◌}
-use Rattle.std.specs.List.{filter, list_any}
+use Rattle.std.proofs.Common.{◌≡◌, ℕ, ◌<◌, suc, zero, Bool, true, false, cond, List, [], ◌∷◌, ◌++◌, refl, sym, ap, subst, ◌∙◌, ◌||◌, arith, map, length, inl, inr}
+use Rattle.std.specs.Prelude.{slice_get, ◌⊎◌}
+use Rattle.std.specs.List.{filter}
 use Rattle.std.specs.Option.{option_map_or}
 use Rattle.finite_maps.specs.Equal.{text_eq}
 use Rattle.finite_maps.proofs.Cases.{not_so, true_false}

@@ -7,7 +7,7 @@ use Rattle.std.specs.List.{filter, list_any, AllByRecursion}
 use Rattle.std.specs.FinMap.{get}
 use Rattle.finite_maps.specs.Equal.{text_eq}
 use Rattle.finite_maps.specs.Sorts.{without}
-use Rattle.finite_maps.proofs.Cases.{not_false, not_true, some_none, true_false}
+use Rattle.finite_maps.proofs.Cases.{not_false}
 use Rattle.finite_maps.proofs.EqualLaws.{text_equality}
 use Rattle.finite_maps.proofs.MapLaws.{same}
 use Rattle.finite_maps.proofs.NestedLaws.{get-without}
@@ -20,7 +20,7 @@ use Rattle.model_state.specs.Typing.{opposite_of}
 use Rattle.model_state.specs.Good.{Good, Sound}
 use Rattle.model_state.proofs.Orders.{row_order}
 use Rattle.edit_laws.specs.Rows.{Rows, around, clear, mirror_rank, unlinks}
-use Rattle.edit_laws.proofs.Clears.{Leads, stays, Held, Covers, cleared, cleared_is, unlinks_lead}
+use Rattle.edit_laws.proofs.Clears.{Leads, stays, Held, Covers, cleared_is, unlinks_lead}
 use Rattle.edit_laws.proofs.Joins.{leads_on}
 use Rattle.edit_laws.proofs.Lists.{Apart, targets_held, targets_has, targets_apart}
 use Rattle.containment.specs.Deletes.{is_touched, targets_left, outgoing_made}

@@ -1,7 +1,7 @@
 -- Refusals at a place.
 use Rattle.std.proofs.lemmas.Bool.Decides.{nat_tests}
-use Rattle.std.proofs.Common.{◌≡◌, ℕ, Bool, true, false, cond, not, List, [], ◌∷◌, refl, sym, ap, ◌∙◌, ◌||◌, arith, nat_le, length}
-use Rattle.std.specs.Prelude.{Option, None, Some, is_some, unwrap_or}
+use Rattle.std.proofs.Common.{◌≡◌, ℕ, Bool, true, false, cond, not, List, refl, ap, ◌∙◌, arith, nat_le, length}
+use Rattle.std.specs.Prelude.{Option, None, Some, is_some}
 use Rattle.std.specs.FinMap.{FinMap, get, entries}
 use Rattle.finite_maps.specs.Maps.{count, tally}
 use Rattle.finite_maps.specs.Sorts.{picked}
@@ -13,7 +13,7 @@ use Rattle.model_state.specs.Keys.{Name, id_cmp}
 use Rattle.model_state.specs.Listing.{children, entry_cmp}
 use Rattle.model_state.specs.State.{State, place_eq}
 use Rattle.model_state.specs.Steps.{may_move}
-use Rattle.edit_laws.specs.Spot.{spot, end_spot}
+use Rattle.edit_laws.specs.Spot.{end_spot}
 use Rattle.edit_laws.proofs.Lists.{tally-filter}
 use Rattle.edit_laws.proofs.Creates.{spot_of}
 use Rattle.opposites.proofs.RankLaws.{length_tally, true_too}

@@ -1,14 +1,12 @@
 -- Edits that are not refused.
 use Rattle.std.proofs.Common.{◌≡◌, ℕ, Bool, true, false, cond, List, [], ◌∷◌, refl, sym, ap, subst, ◌∙◌, ◌||◌, length}
-use Rattle.std.specs.Prelude.{Option, None, Some, is_some, unwrap_or}
+use Rattle.std.specs.Prelude.{Option, None, Some, unwrap_or}
 use Rattle.std.specs.FinMap.{get}
-use Rattle.finite_maps.proofs.Cases.{not_true, some_none}
-use Rattle.finite_maps.proofs.EqualLaws.{text_equality}
+use Rattle.finite_maps.proofs.Cases.{not_true}
 use Rattle.ecore_meta.specs.Meta.{Meta}
 use Rattle.model_state.specs.declared.entry.Entry.{Entry}
 use Rattle.model_state.specs.declared.step.Place.{Place}
 use Rattle.model_state.specs.declared.step.Place.TheVariants.{Root}
-use Rattle.model_state.specs.declared.step.Step.{Step}
 use Rattle.model_state.specs.Keys.{Name}
 use Rattle.model_state.specs.State.{State, is_live, place_eq}
 use Rattle.model_state.specs.Steps.{fold}
@@ -22,7 +20,7 @@ use Rattle.edit_laws.proofs.Creates.{create_meets}
 use Rattle.edit_laws.proofs.MoveEdits.{move_within_meets, move_to_meets}
 use Rattle.containment.specs.declared.fault.MoveFault.{MoveFault}
 use Rattle.containment.specs.Refusals.{IsPlace, first_refusal, create_tests, move_tests, within_tests, arrival_tests, place_of}
-use Rattle.containment.specs.Moves.{IsMove, move_after, move_made}
+use Rattle.containment.specs.Moves.{move_after, move_made}
 use Rattle.containment.specs.Laws.{CreateLeads, MoveLeads}
 use Rattle.containment.proofs.Containers.{live_place, one_chain, parent_live, chain_passes}
 

@@ -1,7 +1,6 @@
 -- The features of the elements of a subtree, and the rows that they take away.
-use Rattle.std.proofs.Common.{◌≡◌, ℕ, Bool, true, false, cond, List, [], ◌∷◌, ◌++◌, refl, sym, ap, subst, ◌∙◌, ◌||◌, ◌&&◌, map, nat_eq, inl, inr}
+use Rattle.std.proofs.Common.{◌≡◌, ℕ, Bool, true, false, cond, List, [], ◌∷◌, refl, sym, ap, subst, ◌∙◌, ◌||◌, ◌&&◌, map, nat_eq, inl, inr}
 use Rattle.std.specs.Prelude.{Option, None, Some, is_some}
-use Rattle.std.specs.List.{list_any}
 use Rattle.std.specs.FinMap.{get}
 use Rattle.finite_maps.specs.Equal.{text_eq}
 use Rattle.finite_maps.specs.Sorts.{without}
@@ -18,10 +17,10 @@ use Rattle.model_state.specs.Steps.{class_has, may_link}
 use Rattle.model_state.specs.Typing.{kind_of, is_plain, opposite_of, plain_to}
 use Rattle.model_state.specs.Good.{Good, Sound, RowOk}
 use Rattle.model_state.proofs.Orders.{row_order}
-use Rattle.edit_laws.specs.Rows.{Rows, around, is_mirror}
+use Rattle.edit_laws.specs.Rows.{around, is_mirror}
 use Rattle.containment.specs.Deletes.{is_touched, slots_of}
 use Rattle.containment.specs.Subtree.{features_of, is_among}
-use Rattle.containment.proofs.Members.{In, Distinct, in_left, in_right, in_either, in_map, map_in, distinct_join, among_in, in_among, not_among, among_not}
+use Rattle.containment.proofs.Members.{In, Distinct, in_left, in_right, in_either, in_map, map_in, distinct_join, among_in, in_among}
 use Rattle.containment.proofs.Children.{features_distinct, feature_listed}
 use Rattle.containment.proofs.IncomingRows.{is_gone, NoOpposites, gathered}
 

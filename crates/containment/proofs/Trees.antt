@@ -1,6 +1,6 @@
 -- What stands above and below an element, and the elements of a subtree.
 use Rattle.std.proofs.Common.{◌≡◌, ℕ, ◌+◌, suc, zero, List, [], ◌∷◌, ◌++◌, refl, sym, ap, subst, ◌∙◌, arith, length, inl, inr}
-use Rattle.std.specs.Prelude.{None, Some, ◌⊎◌}
+use Rattle.std.specs.Prelude.{None, Some}
 use Rattle.std.specs.FinMap.{FinMap, get}
 use Rattle.ecore_meta.specs.Meta.{Meta}
 use Rattle.model_state.specs.declared.step.Place.{Place}

@@ -1,5 +1,5 @@
 -- The attributes of elements are emptied, one after another.
-use Rattle.std.proofs.Common.{◌≡◌, ℕ, Bool, true, false, cond, List, [], ◌∷◌, ◌++◌, refl, sym, ap, subst, ◌∙◌, ◌||◌, ◌&&◌, length, inl, inr}
+use Rattle.std.proofs.Common.{◌≡◌, ℕ, Bool, true, false, cond, List, [], ◌∷◌, refl, sym, ap, subst, ◌∙◌, ◌||◌, ◌&&◌, length, inl, inr}
 use Rattle.std.specs.Prelude.{Option, None, Some}
 use Rattle.std.specs.FinMap.{FinMap, get}
 use Rattle.std.specs.Ordering.{eq_by_cmp}
@@ -7,7 +7,7 @@ use Rattle.finite_maps.specs.Equal.{option_eq}
 use Rattle.finite_maps.specs.Maps.{set}
 use Rattle.finite_maps.specs.Sorts.{without}
 use Rattle.finite_maps.proofs.Cases.{not_so, true_false}
-use Rattle.finite_maps.proofs.MapLaws.{same, same_key, own_key, by_key, get-set_same, get-set_other}
+use Rattle.finite_maps.proofs.MapLaws.{same, same_key, by_key, get-set_same, get-set_other}
 use Rattle.finite_maps.proofs.NestedLaws.{get-without}
 use Rattle.ecore_meta.specs.Meta.{Meta}
 use Rattle.ecore_meta.specs.declared.meta.Kind.{Kind}
@@ -19,7 +19,7 @@ use Rattle.model_state.specs.Keys.{Name, AttrKey, attr_cmp, id_cmp}
 use Rattle.model_state.specs.Lists.{values_of}
 use Rattle.model_state.specs.State.{State}
 use Rattle.model_state.specs.Steps.{class_has, fold}
-use Rattle.model_state.specs.Typing.{kind_of, is_attr, is_many, upper_of, value_eq}
+use Rattle.model_state.specs.Typing.{kind_of, is_attr, upper_of, value_eq}
 use Rattle.model_state.specs.Good.{Good, Sound, AttrOk, ValuesOk}
 use Rattle.model_state.proofs.Orders.{attr_order}
 use Rattle.model_laws.proofs.Runs.{fold_append, steps_keep_good}
@@ -28,7 +28,7 @@ use Rattle.edit_laws.specs.ManyValues.{clear_made, dels}
 use Rattle.edit_laws.proofs.AttributeEdits.{put_meets}
 use Rattle.edit_laws.proofs.ManyEdits.{clear_meets}
 use Rattle.containment.specs.Deletes.{emptied_made, values_made, is_attribute, slots_of}
-use Rattle.containment.specs.Subtree.{features_of, is_among, numbers}
+use Rattle.containment.specs.Subtree.{is_among, numbers}
 use Rattle.containment.proofs.Members.{In, Distinct, in_filter, among_in, in_among}
 use Rattle.containment.proofs.Children.{feature_listed}
 use Rattle.containment.proofs.Slots.{slot_in, in_slots}

@@ -1,5 +1,5 @@
 -- An element goes, with all that it contains: the steps, and the model after it, said without steps.
-use Rattle.std.specs.Prelude.{ℕ, Bool, not, cond, ◌||◌, List, [], ◌∷◌, ◌++◌, map, unwrap_or, None}
+use Rattle.std.specs.Prelude.{Bool, not, cond, ◌||◌, List, [], ◌∷◌, ◌++◌, map, unwrap_or, None}
 use Rattle.std.specs.List.{filter, list_any}
 use Rattle.std.specs.FinMap.{get}
 use Rattle.finite_maps.specs.Sorts.{without}

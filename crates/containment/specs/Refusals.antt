@@ -6,8 +6,8 @@ use Rattle.model_state.specs.declared.entry.Entry.{Entry}
 use Rattle.model_state.specs.declared.step.Place.{Place}
 use Rattle.model_state.specs.declared.step.Place.TheVariants.{Root, Inside}
 use Rattle.model_state.specs.Keys.{Name}
-use Rattle.model_state.specs.State.{State, place_eq, is_live}
-use Rattle.model_state.specs.Steps.{class_has, may_move, may_stand, has_room, place_live}
+use Rattle.model_state.specs.State.{State, place_eq}
+use Rattle.model_state.specs.Steps.{class_has, may_move, may_stand, has_room}
 use Rattle.model_state.specs.Typing.{kind_of, contains_kind}
 use Rattle.model_state.specs.Listing.{children}
 use Rattle.edit_laws.specs.Spot.{spot, end_spot}

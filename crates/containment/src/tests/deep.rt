@@ -76,41 +76,95 @@ fn star_of(alloc: Global, meta: &Metamodel, n: u32) -> Result<Plain, Fail>
     taken(alloc, meta, steps.as_slice())
 }
 
-fn move_element(
+// The element of that number and all inside it go to the place.
+fn move_numbered(
     alloc: Global,
     meta: &Metamodel,
     plain: &mut Plain,
-    e: &Id,
+    n: u32,
     to: &Place,
 ) -> Result<(), Fail>
     requires sound { Sound meta.now }
     requires good { Good meta.now (plain_state plain.old) }
     ensures { Good meta.now (plain_state plain.new) }
 {
-    if plain.class(e).is_none() || !is_place(plain, meta, to) {
+    let e = named(alloc, n)?;
+    if plain.class(&e).is_none() || !is_place(plain, meta, to) {
         return Err("no element, or no place")?;
     }
-    let steps = move_steps(alloc, plain, meta, e, to, None)?;
+    let steps = move_steps(alloc, plain, meta, &e, to, None)?;
     replay(plain, meta, steps.as_slice())?;
     Ok(())
 }
 
+// The chain, and then the element in its middle goes to the root.
+fn halves_of(alloc: Global, meta: &Metamodel, n: u32) -> Result<Plain, Fail>
+    requires { Sound meta.now }
+    ensures { IfOk result (λ p. Good meta.now (plain_state p)) }
+{
+    let mut plain = chain_of(alloc, meta, n)?;
+    move_numbered(alloc, meta, &mut plain, n / 2, &Place::Root)?;
+    Ok(plain)
+}
+
+// The halves, and then the second goes back into the last of the first.
+fn mended_of(alloc: Global, meta: &Metamodel, n: u32) -> Result<Plain, Fail>
+    requires { Sound meta.now }
+    ensures { IfOk result (λ p. Good meta.now (plain_state p)) }
+{
+    let mut plain = halves_of(alloc, meta, n)?;
+    let last = Place::Inside {
+        parent: named(alloc, (n / 2).saturating_sub(1))?,
+        feature: 0,
+    };
+    move_numbered(alloc, meta, &mut plain, n / 2, &last)?;
+    Ok(plain)
+}
+
+// How many elements the subtree of the element of that number has.
+fn size_of(alloc: Global, meta: &Metamodel, plain: &Plain, n: u32) -> Result<usize, Fail>
+    requires { Good meta.now (plain_state plain.now) }
+{
+    let e = named(alloc, n)?;
+    Ok(subtree(alloc, plain, meta, &e)?.len())
+}
+
+// The element goes; the number of steps.
+fn delete(alloc: Global, meta: &Metamodel, plain: &mut Plain, e: &Id) -> Result<usize, Fail>
+    requires sound { Sound meta.now }
+    requires good { Good meta.now (plain_state plain.old) }
+{
+    let steps = delete_steps(alloc, plain, meta, e)?;
+    replay(plain, meta, steps.as_slice())?;
+    Ok(steps.len())
+}
+
 #[test]
-fn a_chain_of_1000_elements_moves_and_goes(rt: HostRuntime) -> Result<(), Fail> {
+fn half_a_chain_of_1000_elements_moves_to_the_root(rt: HostRuntime) -> Result<(), Fail> {
+    let alloc = rt.alloc();
+    let meta = nested(alloc)?;
+    let plain = halves_of(alloc, &meta, 1000)?;
+    assert_eq!(rt; size_of(alloc, &meta, &plain, 0)?, 500);
+    assert_eq!(rt; size_of(alloc, &meta, &plain, 500)?, 500);
+    Ok(())
+}
+
+#[test]
+fn half_a_chain_of_1000_elements_moves_back(rt: HostRuntime) -> Result<(), Fail> {
+    let alloc = rt.alloc();
+    let meta = nested(alloc)?;
+    let plain = mended_of(alloc, &meta, 1000)?;
+    assert_eq!(rt; size_of(alloc, &meta, &plain, 0)?, 1000);
+    Ok(())
+}
+
+#[test]
+fn a_chain_of_1000_elements_goes(rt: HostRuntime) -> Result<(), Fail> {
     let alloc = rt.alloc();
     let meta = nested(alloc)?;
     let mut plain = chain_of(alloc, &meta, 1000)?;
     let top = named(alloc, 0)?;
-    move_element(alloc, &meta, &mut plain, &named(alloc, 500)?, &Place::Root)?;
-    assert_eq!(rt; subtree(alloc, &plain, &meta, &top)?.len(), 500);
-    let back = Place::Inside {
-        parent: named(alloc, 499)?,
-        feature: 0,
-    };
-    move_element(alloc, &meta, &mut plain, &named(alloc, 500)?, &back)?;
-    let steps = delete_steps(alloc, &plain, &meta, &top)?;
-    assert_eq!(rt; steps.len(), 1000);
-    replay(&mut plain, &meta, steps.as_slice())?;
+    assert_eq!(rt; delete(alloc, &meta, &mut plain, &top)?, 1000);
     assert_eq!(rt; plain.ids(alloc)?.len(), 0);
     Ok(())
 }
@@ -120,9 +174,8 @@ fn an_element_with_400_references_to_it_goes(rt: HostRuntime) -> Result<(), Fail
     let alloc = rt.alloc();
     let meta = parts(alloc)?;
     let mut plain = star_of(alloc, &meta, 400)?;
-    let steps = delete_steps(alloc, &plain, &meta, &Id::read(alloc, "top")?)?;
-    assert_eq!(rt; steps.len(), 401);
-    replay(&mut plain, &meta, steps.as_slice())?;
+    let top = Id::read(alloc, "top")?;
+    assert_eq!(rt; delete(alloc, &meta, &mut plain, &top)?, 401);
     assert_eq!(rt; plain.ids(alloc)?.len(), 400);
     Ok(())
 }
