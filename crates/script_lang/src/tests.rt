@@ -494,7 +494,7 @@ fn lines_of_workspaces_are_read(rt: HostRuntime) -> Result<(), Fail> {
     are_read(&rt, rt.alloc(), &WORKSPACE_LINES)
 }
 
-const REFUSALS: [(Refusal, &[u8]); 26] = [
+const REFUSALS: [(Refusal, &[u8]); 27] = [
     (Refusal::BadLine { column: 10 }, b"no 1 BadLine 10\n"),
     (Refusal::NotInit, b"no 2 NotInit\n"),
     (Refusal::AlreadyInit, b"no 3 AlreadyInit\n"),
@@ -518,6 +518,7 @@ const REFUSALS: [(Refusal, &[u8]); 26] = [
     (Refusal::NothingLocal, b"no 23 NothingLocal\n"),
     (Refusal::CompositeOpen, b"no 27 CompositeOpen\n"),
     (Refusal::NoComposite, b"no 28 NoComposite\n"),
+    (Refusal::BadModel { n: 10 }, b"no 29 BadModel 10\n"),
     (Refusal::HistoryFull, b"no 33 HistoryFull\n"),
     (Refusal::TooLarge, b"no 34 TooLarge\n"),
     (Refusal::JournalFull, b"no 35 JournalFull\n"),
