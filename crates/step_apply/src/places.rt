@@ -1,7 +1,7 @@
-ghost use Rattle.std.specs.Prelude.{◌≡◌, Some, None, OnOk, OnErr, IfOk, map, is_some, true};
-ghost use Rattle.std.specs.List.{filter};
+ghost use Rattle.std.specs.Prelude.{◌≡◌, Some, None, OnOk, OnErr, IfOk, is_some, true, false};
 ghost use Rattle.model_state.specs.Listing.{children};
-ghost use Rattle.step_apply.specs.Standing.{placed_entry};
+ghost use Rattle.model_state.specs.declared.step.Place.{Place as Spot};
+ghost use Rattle.step_apply.specs.Groups.{standing, stood};
 ghost use Rattle.std.specs.Option.{option_copied, option_map};
 ghost use Rattle.std.specs.FinMap.{get, empty};
 ghost use Rattle.finite_maps.specs.Maps.{set, count};
@@ -10,20 +10,12 @@ ghost use Rattle.std.specs.BTreeMap.{values, IsOrdered};
 ghost use Rattle.model_state.specs.State.{place_eq, is_inside};
 ghost use Rattle.model_state.specs.Keys.{id_cmp};
 
+use crate::groups::Groups;
 use ecore_meta::List;
 use model_state::{Entry, Id, Place, Placed};
 use std::alloc::{AllocError, Global};
 use std::collections::BTreeMap;
 use std::marker::Model;
-
-/// How many elements stand in the place.
-fn standing(tree: &BTreeMap<Id, Placed>, place: &Place) -> usize
-    ensures count { result ≡ count_by (λ p. place_eq place.now p.place) (values tree.now) }
-    ensures ordered { IsOrdered id_cmp tree.now }
-{
-    let _len = tree.len();
-    tree.values().filter(|p| place.is_same(&p.place)).count()
-}
 
 /// How many elements stand inside an element.
 fn standing_inside(tree: &BTreeMap<Id, Placed>, e: &Id) -> usize
@@ -34,31 +26,33 @@ fn standing_inside(tree: &BTreeMap<Id, Placed>, e: &Id) -> usize
     tree.values().filter(|p| p.place.is_inside(e)).count()
 }
 
-/// The elements of the place, in the order of their ids.
-fn those_at(
-    alloc: Global,
-    tree: &BTreeMap<Id, Placed>,
-    place: &Place,
-) -> Result<Vec<Entry>, AllocError>
-    ensures entries { IfOk result (λ v. v.items ≡ map placed_entry (filter (λ e. place_eq place.now e.1.place) tree.now.entries)) }
-    ensures ordered { IsOrdered id_cmp tree.now }
+/// Takes an element that stood as told out of its list.
+fn leave(groups: &mut Groups, old: Option<Placed>, e: &Id)
+    ensures { ((p : Spot) → get (standing groups.old p) e.now ≡ stood p old) → (p : Spot) → standing groups.new p ≡ set (standing groups.old p) e.now None }
 {
-    let mut found = Vec::new(alloc);
-    for (id, placed) in tree {
-        if place.is_same(&placed.place) {
-            found.push(Entry {
-                rank: placed.rank,
-                id: id.copy(alloc)?,
-            })?;
+    if let Some(old) = old {
+        groups.rewrite(&old.place, e, None);
+    }
+}
+
+/// Takes an element that stood as told out of its list, where that isn't the list of the place.
+fn leave_for(groups: &mut Groups, old: Option<Placed>, e: &Id, to: &Place)
+    ensures here { standing groups.new to.now ≡ standing groups.old to.now }
+    ensures there { ((p : Spot) → place_eq to.now p ≡ false → get (standing groups.old p) e.now ≡ stood p old) → (p : Spot) → place_eq to.now p ≡ false → standing groups.new p ≡ set (standing groups.old p) e.now None }
+{
+    if let Some(old) = old {
+        if !old.place.is_same(to) {
+            groups.rewrite(&old.place, e, None);
         }
     }
-    Ok(found)
 }
 
 /// The places of the live elements and their ranks, which contracts see as two finite maps.
 #[derive(Drop)]
 pub struct Places {
+    alloc: Global,
     tree: BTreeMap<Id, Placed>,
+    groups: Groups,
 }
 
 impl Model for Places {
@@ -66,11 +60,15 @@ impl Model for Places {
     ghost use Rattle.finite_maps.specs.Tables.{table_of};
     ghost use Rattle.model_state.specs.Keys.{id_cmp};
 
+    ghost use Rattle.step_apply.specs.Groups.{IsGrouped};
+
     ghost Value = { Spots };
 
     ghost coded = { spots_code };
 
     ghost view = { λ a. record { place = table_of id_cmp (λ x. x.place) a.tree; rank = table_of id_cmp (λ x. x.rank) a.tree } };
+
+    ghost invariant = { λ a. IsGrouped a.tree a.groups };
 }
 
 impl Places {
@@ -79,7 +77,9 @@ impl Places {
         ensures rank { result.rank ≡ empty }
     {
         Places {
+            alloc,
             tree: BTreeMap::new(alloc),
+            groups: Groups::new(alloc),
         }
     }
 
@@ -93,7 +93,7 @@ impl Places {
     pub fn count_at(&self, place: &Place) -> usize
         ensures { result ≡ count (λ e. place_eq place.now e.1) self.now.place }
     {
-        standing(&self.tree, place)
+        self.groups.count(place)
     }
 
     pub fn count_inside(&self, e: &Id) -> usize
@@ -107,8 +107,24 @@ impl Places {
         ensures rank { OnOk result (self.new.rank ≡ set self.old.rank e (Some placed.rank)) }
         ensures err { OnErr result (self.new ≡ self.old) }
     {
-        self.tree.insert(e, placed)?;
-        Ok(())
+        let own = e.copy(self.alloc)?;
+        let to = placed.place.copy(self.alloc)?;
+        self.groups.put(
+            self.alloc,
+            &to,
+            own.copy(self.alloc)?,
+            placed.rank,
+        )?;
+        match self.tree.insert(e, placed) {
+            Err(_) => {
+                self.groups.rewrite(&to, &own, None);
+                Err(AllocError)
+            }
+            Ok(old) => {
+                leave_for(&mut self.groups, old, &own, &to);
+                Ok(())
+            }
+        }
     }
 
     /// Gives an element another rank where it stands.
@@ -117,6 +133,7 @@ impl Places {
         ensures rank { is_some (get self.old.rank e.now) ≡ true → self.new.rank ≡ set self.old.rank e.now (Some rank) }
     {
         if let Some(placed) = self.tree.get_mut(e) {
+            self.groups.rewrite(&placed.place, e, Some(rank));
             placed.rank = rank;
         }
     }
@@ -125,13 +142,14 @@ impl Places {
         ensures place { self.new.place ≡ set self.old.place e.now None }
         ensures rank { self.new.rank ≡ set self.old.rank e.now None }
     {
-        self.tree.remove(e);
+        let old = self.tree.remove(e);
+        leave(&mut self.groups, old, e);
     }
 
     pub fn children(&self, alloc: Global, place: &Place) -> Result<List<Entry>, AllocError>
         ensures { IfOk result (λ l. l ≡ children self.now.place self.now.rank place.now) }
     {
-        let mut found = those_at(alloc, &self.tree, place)?;
+        let mut found = self.groups.list(alloc, place)?;
         found.sort_unstable();
         Ok(List::from_vec(found))
     }

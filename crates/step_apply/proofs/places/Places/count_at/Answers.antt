@@ -1,13 +1,11 @@
-use Rattle.std.proofs.Common.{sym, ap, ◌∙◌}
+use Rattle.std.proofs.Common.{ap, ◌∙◌}
 use Rattle.finite_maps.specs.Maps.{count}
-use Rattle.finite_maps.proofs.TableLaws.{count-table_of}
-use Rattle.model_state.specs.declared.step.Placed.{Placed}
 use Rattle.model_state.specs.State.{place_eq}
-use Rattle.model_state.proofs.Orders.{id_order}
+use Rattle.step_apply.proofs.Regrouped.{spots_count}
 use Rattle.step_apply.proofs.places.Places.count_at.Goals as goal
 
 pub returns : goal.returns
 returns c =
-    c.standing.ensures.count
-    ∙ sym (count-table_of id_order (λ (p : Placed). p.place) (place_eq c.args.place.now) c.self.inside.tree c.standing.ensures.ordered)
+    c.count.ensures
+    ∙ spots_count c.self.inside.tree c.self.inside.groups c.self.invariant c.args.place.now
     ∙ ap (λ m. count (λ e. place_eq c.args.place.now e.1) m.place) c.self.view_is

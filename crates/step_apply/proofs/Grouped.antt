@@ -1,0 +1,34 @@
+-- Ordered maps of the lists of places.
+use Rattle.std.proofs.Common.{◌≡◌, ℕ, true, false, List, [], ◌∷◌, refl, sym, ap, subst, ◌∙◌, arith, length}
+use Rattle.std.specs.Prelude.{Option, None, is_some}
+use Rattle.std.specs.declared.cmp.Ordering.{Ordering}
+use Rattle.std.specs.FinMap.{get, get-empty, entries, empty, len-entries, len-empty}
+use Rattle.std.specs.BTreeMap as tree
+use Rattle.std.specs.BTreeMap.{BTreeMap, is_at}
+use Rattle.finite_maps.specs.Equal.{text_eq}
+use Rattle.finite_maps.specs.Tables.{table}
+use Rattle.finite_maps.proofs.Cases.{not_so, true_false}
+use Rattle.finite_maps.proofs.EqualLaws.{text_equality}
+use Rattle.finite_maps.proofs.MapLaws.{same_key}
+use Rattle.finite_maps.proofs.TableLaws.{get-table}
+use Rattle.model_state.specs.Keys.{Name, id_cmp}
+use Rattle.model_state.proofs.Orders.{id_order}
+use Rattle.step_apply.specs.Groups.{group_of}
+
+-- different names are not found at one another
+pub not_at : (a b : Name) → text_eq a b ≡ false → is_at (id_cmp a) b ≡ false
+not_at a b apart = not_so (is_at (id_cmp a) b) (λ t. true_false (text_eq a b) (subst (λ z. text_eq a z ≡ true) (same_key id_order a b t) (text_equality.own a)) apart)
+
+-- nothing is found where there is no list
+pub none_grouped : (e : Name) (o : Option (BTreeMap Name ℕ)) → o ≡ None → is_some (get (group_of o) e) ≡ true → ⊥
+none_grouped e o none some = true_false (is_some (get (group_of o) e)) some (ap (λ o. is_some (get (group_of o) e)) none ∙ ap is_some (get-empty id_cmp e))
+
+pub some_tabled : (t : BTreeMap Name ℕ) (e : Name) → is_some (get (table id_cmp t) e) ≡ true → is_some (tree.get id_cmp t e) ≡ true
+some_tabled t e some = ap is_some (sym (get-table id_order t e)) ∙ some
+
+no_items : {A : Type 0} (xs : List A) → length xs ≡ 0 → xs ≡ []
+no_items [] h = refl
+no_items (x ∷ xs) h = absurd (omega (arith, h))
+
+pub no_entries : {K X : Type 0} (R : K → K → Ordering) → entries (empty {X = X} {R = R}) ≡ []
+no_entries {X = X} R = no_items _ (sym (len-entries (empty {X = X} {R = R})) ∙ len-empty R X)

@@ -1,0 +1,41 @@
+-- Where elements stand, place by place: ordered maps of the ids of each list and their ranks.
+use Rattle.std.specs.Prelude.{◌≡◌, ℕ, Option, None, Some, cond}
+use Rattle.std.specs.Ordering.{nat_cmp}
+use Rattle.std.specs.FinMap.{FinMap, get, empty}
+use Rattle.std.specs.BTreeMap as tree
+use Rattle.std.specs.BTreeMap.{BTreeMap}
+use Rattle.finite_maps.specs.Tables.{table}
+use Rattle.model_state.specs.declared.step.Place.{Place}
+use Rattle.model_state.specs.declared.step.Place.TheVariants.{Root, Inside}
+use Rattle.model_state.specs.declared.step.Placed.{Placed}
+use Rattle.model_state.specs.Keys.{Name, id_cmp}
+use Rattle.model_state.specs.State.{place_eq}
+use Rattle.step_apply.specs.declared.groups.Groups.{Groups}
+
+-- the elements of one list, and their ranks there
+abbrev pub group_of : Option (BTreeMap Name ℕ) → FinMap id_cmp ℕ
+group_of None = empty
+group_of (Some t) = table id_cmp t
+
+-- those of a feature of one element
+abbrev pub fan_of : Option (BTreeMap ℕ (BTreeMap Name ℕ)) → ℕ → FinMap id_cmp ℕ
+fan_of None f = empty
+fan_of (Some t) f = group_of (tree.get nat_cmp t f)
+
+-- those of a feature of an element
+abbrev pub held : BTreeMap Name (BTreeMap ℕ (BTreeMap Name ℕ)) → Name → ℕ → FinMap id_cmp ℕ
+held t a f = fan_of (tree.get id_cmp t a) f
+
+-- those of a place
+abbrev pub standing : Groups → Place → FinMap id_cmp ℕ
+standing s Root = table id_cmp s.roots
+standing s (Inside a f) = held s.inside a f
+
+-- the rank in a place of the element that stands as given
+abbrev pub stood : Place → Option Placed → Option ℕ
+stood p None = None
+stood p (Some x) = cond (place_eq p x.place) (Some x.rank) None
+
+-- each place has the elements that stand there, and no others
+abbrev pub IsGrouped : BTreeMap Name Placed → Groups → Type 0
+IsGrouped t g = (p : Place) (e : Name) → get (standing g p) e ≡ stood p (tree.get id_cmp t e)
