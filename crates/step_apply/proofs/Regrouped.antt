@@ -91,7 +91,7 @@ module _ (t : BTreeMap Name Placed) (g : Groups) (is : IsGrouped t g) (p : Place
       (λ l. is p l ∙ stood_part p prank l (tree.get id_cmp t l) (get-table_of id_order (λ (x : Placed). x.rank) t l)
       ∙ ap (part (λ (e : Name × Place). place_eq p e.1) (at_rank prank) (λ k. k) l) (sym (get-table_of id_order (λ (x : Placed). x.place) t l)))
 
-map_map : {A B C : Type 0} (f : B → C) (h : A → B) (xs : List A) → map f (map h xs) ≡ map (λ x. f (h x)) xs
+pub map_map : {A B C : Type 0} (f : B → C) (h : A → B) (xs : List A) → map f (map h xs) ≡ map (λ x. f (h x)) xs
 map_map f h [] = refl
 map_map f h (x ∷ xs) = ap (λ ys. f (h x) ∷ ys) (map_map f h xs)
 

@@ -8,7 +8,7 @@ use Rattle.finite_maps.specs.Tables.{table}
 use Rattle.model_state.specs.declared.step.Place.{Place}
 use Rattle.model_state.specs.declared.step.Place.TheVariants.{Root, Inside}
 use Rattle.model_state.specs.declared.step.Placed.{Placed}
-use Rattle.model_state.specs.Keys.{Name, id_cmp}
+use Rattle.model_state.specs.Keys.{Name, RowKey, id_cmp, row_cmp}
 use Rattle.model_state.specs.State.{place_eq}
 use Rattle.step_apply.specs.declared.groups.Groups.{Groups}
 
@@ -39,3 +39,7 @@ stood p (Some x) = cond (place_eq p x.place) (Some x.rank) None
 -- each place has the elements that stand there, and no others
 abbrev pub IsGrouped : BTreeMap Name Placed → Groups → Type 0
 IsGrouped t g = (p : Place) (e : Name) → get (standing g p) e ≡ stood p (tree.get id_cmp t e)
+
+-- the rows are held by source and feature
+abbrev pub IsOut : BTreeMap RowKey ℕ → BTreeMap Name (BTreeMap ℕ (BTreeMap Name ℕ)) → Type 0
+IsOut t out = (a : Name) (f : ℕ) (b : Name) → get (held out a f) b ≡ tree.get row_cmp t (a, f, b)

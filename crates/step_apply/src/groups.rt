@@ -78,7 +78,7 @@ fn put_of(
 }
 
 /// Gives an element that is in the list another rank, or takes it out.
-fn rewrite_in(
+pub(crate) fn rewrite_in(
     inside: &mut BTreeMap<Id, BTreeMap<u32, BTreeMap<Id, u64>>>,
     a: &Id,
     f: u32,
@@ -95,7 +95,7 @@ fn rewrite_in(
 }
 
 /// Puts an element into the list.
-fn put_in(
+pub(crate) fn put_in(
     alloc: Global,
     inside: &mut BTreeMap<Id, BTreeMap<u32, BTreeMap<Id, u64>>>,
     a: &Id,
@@ -121,7 +121,7 @@ fn put_in(
 }
 
 /// The elements of a list, in the order of their ids.
-fn entries_of(alloc: Global, group: &BTreeMap<Id, u64>) -> Result<Vec<Entry>, AllocError>
+pub(crate) fn entries_of(alloc: Global, group: &BTreeMap<Id, u64>) -> Result<Vec<Entry>, AllocError>
     ensures entries { IfOk result (λ v. v.items ≡ map ranked_entry group.now.entries) }
     ensures ordered { IsOrdered id_cmp group.now }
 {
@@ -135,7 +135,7 @@ fn entries_of(alloc: Global, group: &BTreeMap<Id, u64>) -> Result<Vec<Entry>, Al
     Ok(found)
 }
 
-fn group_in<'a>(
+pub(crate) fn group_in<'a>(
     inside: &'a BTreeMap<Id, BTreeMap<u32, BTreeMap<Id, u64>>>,
     a: &Id,
     f: u32,

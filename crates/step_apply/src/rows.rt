@@ -9,27 +9,12 @@ ghost use Rattle.finite_maps.specs.Equal.{text_eq};
 ghost use Rattle.model_state.specs.Keys.{row_cmp};
 ghost use Rattle.model_state.specs.Listing.{is_of, row_entry, row_incoming, targets, incoming};
 
+use crate::groups::{entries_of, group_in, put_in, rewrite_in};
 use ecore_meta::List;
 use model_state::{Entry, Id, Incoming};
 use std::alloc::{AllocError, Global};
 use std::collections::BTreeMap;
 use std::marker::Model;
-
-/// Whether the row is of a feature of an element.
-fn is_row_of(key: &(Id, u32, Id), a: &Id, f: u32) -> bool
-    ensures { result ≡ is_of a.now f key.now }
-{
-    *a == key.0 && f == key.1
-}
-
-/// How many rows are of a feature of an element.
-fn counted_of(tree: &BTreeMap<(Id, u32, Id), u64>, a: &Id, f: u32) -> usize
-    ensures count { result ≡ count_by (λ k. is_of a.now f k) (ordered_map.keys tree.now) }
-    ensures ordered { IsOrdered row_cmp tree.now }
-{
-    let _len = tree.len();
-    tree.keys().filter(|key| is_row_of(key, a, f)).count()
-}
 
 /// Whether the row begins or ends at an element.
 fn is_row_at(key: &(Id, u32, Id), e: &Id) -> bool
@@ -52,28 +37,6 @@ pub fn row_key(alloc: Global, a: &Id, f: u32, b: &Id) -> Result<(Id, u32, Id), A
     ensures { IfOk result (λ k. k ≡ (a.now, f, b.now)) }
 {
     Ok((a.copy(alloc)?, f, b.copy(alloc)?))
-}
-
-/// The targets of a feature of an element, in the order of the rows.
-fn rows_of(
-    alloc: Global,
-    tree: &BTreeMap<(Id, u32, Id), u64>,
-    a: &Id,
-    f: u32,
-) -> Result<Vec<Entry>, AllocError>
-    ensures rows { IfOk result (λ v. v.items ≡ map row_entry (filter (λ e. is_of a.now f e.0) tree.now.entries)) }
-    ensures ordered { IsOrdered row_cmp tree.now }
-{
-    let mut found = Vec::new(alloc);
-    for (key, rank) in tree {
-        if is_row_of(key, a, f) {
-            found.push(Entry {
-                rank: *rank,
-                id: key.2.copy(alloc)?,
-            })?;
-        }
-    }
-    Ok(found)
 }
 
 /// The rows to an element, in their order.
@@ -101,7 +64,9 @@ fn rows_to(
 /// The ranks of the references, which contracts see as a finite map.
 #[derive(Drop)]
 pub struct Rows {
+    alloc: Global,
     tree: BTreeMap<(Id, u32, Id), u64>,
+    out: BTreeMap<Id, BTreeMap<u32, BTreeMap<Id, u64>>>,
 }
 
 impl Model for Rows {
@@ -109,11 +74,15 @@ impl Model for Rows {
     ghost use Rattle.finite_maps.specs.Tables.{table};
     ghost use Rattle.model_state.specs.Keys.{row_cmp};
 
+    ghost use Rattle.step_apply.specs.Groups.{IsOut};
+
     ghost Value = { Ranks };
 
     ghost coded = { ranks_code };
 
     ghost view = { λ a. table row_cmp a.tree };
+
+    ghost invariant = { λ a. IsOut a.tree a.out };
 }
 
 impl Rows {
@@ -121,7 +90,9 @@ impl Rows {
         ensures { result ≡ empty }
     {
         Rows {
+            alloc,
             tree: BTreeMap::new(alloc),
+            out: BTreeMap::new(alloc),
         }
     }
 
@@ -135,21 +106,40 @@ impl Rows {
         ensures ok { OnOk result (self.new ≡ set self.old key (Some rank)) }
         ensures err { OnErr result (self.new ≡ self.old) }
     {
-        self.tree.insert(key, rank)?;
-        Ok(())
+        put_in(
+            self.alloc,
+            &mut self.out,
+            &key.0,
+            key.1,
+            key.2.copy(self.alloc)?,
+            rank,
+        )?;
+        match self.tree.insert(key, rank) {
+            Ok(_) => Ok(()),
+            Err(back) => {
+                let key = &back.value.0;
+                rewrite_in(&mut self.out, &key.0, key.1, &key.2, None);
+                Err(AllocError)
+            }
+        }
     }
 
     pub fn drop_at(&mut self, key: &(Id, u32, Id))
         ensures { self.new ≡ set self.old key.now None }
     {
-        self.tree.remove(key);
+        if self.tree.remove(key).is_some() {
+            rewrite_in(&mut self.out, &key.0, key.1, &key.2, None);
+        }
     }
 
     /// How many targets a feature of an element has.
     pub fn count_of(&self, a: &Id, f: u32) -> usize
         ensures { result ≡ count (λ e. text_eq a.now e.0.0 && nat_eq f e.0.1) self.now }
     {
-        counted_of(&self.tree, a, f)
+        match group_in(&self.out, a, f) {
+            None => 0,
+            Some(group) => group.len(),
+        }
     }
 
     /// How many rows begin or end at an element.
@@ -162,9 +152,14 @@ impl Rows {
     pub fn targets(&self, alloc: Global, a: &Id, f: u32) -> Result<List<Entry>, AllocError>
         ensures { IfOk result (λ l. l ≡ targets self.now a.now f) }
     {
-        let mut found = rows_of(alloc, &self.tree, a, f)?;
-        found.sort_unstable();
-        Ok(List::from_vec(found))
+        match group_in(&self.out, a, f) {
+            None => Ok(List::new(alloc)),
+            Some(group) => {
+                let mut found = entries_of(alloc, group)?;
+                found.sort_unstable();
+                Ok(List::from_vec(found))
+            }
+        }
     }
 
     pub fn incoming(&self, alloc: Global, b: &Id) -> Result<List<Incoming>, AllocError>

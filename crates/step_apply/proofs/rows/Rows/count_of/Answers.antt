@@ -1,13 +1,24 @@
-use Rattle.std.proofs.Common.{ℕ, sym, ap, ◌∙◌}
+use Rattle.std.proofs.Common.{ℕ, sym, ap, ◌∙◌, length}
+use Rattle.std.specs.FinMap.{entries}
 use Rattle.finite_maps.specs.Maps.{count}
-use Rattle.model_state.specs.Keys.{RowKey}
+use Rattle.finite_maps.proofs.TableLaws.{entries-table}
+use Rattle.model_state.specs.Keys.{RowKey, id_cmp}
 use Rattle.model_state.specs.Listing.{is_of}
-use Rattle.model_state.proofs.Orders.{row_order}
-use Rattle.step_apply.proofs.Counted.{count_keys}
+use Rattle.model_state.proofs.Orders.{id_order}
+use Rattle.step_apply.proofs.Grouped.{no_entries}
+use Rattle.step_apply.proofs.Routed.{targets_count}
 use Rattle.step_apply.proofs.rows.Rows.count_of.Goals as goal
 
-pub returns : goal.returns
-returns c =
-    c.counted_of.ensures.count
-    ∙ sym (count_keys row_order (λ (k : RowKey). is_of c.args.a.now c.args.f k) c.self.inside.tree c.counted_of.ensures.ordered)
-    ∙ ap (count (λ (e : RowKey × ℕ). (λ (k : RowKey). is_of c.args.a.now c.args.f k) e.0)) c.self.view_is
+pub returns-in-None : goal.returns-in-None
+returns-in-None c =
+    ap length (sym (no_entries id_cmp)) ∙ ap (λ m. length (entries m)) c.in-None.ensures
+    ∙ targets_count c.self.inside.tree c.self.inside.out c.self.invariant c.args.a.now c.args.f
+    ∙ ap (count (λ (e : RowKey × ℕ). is_of c.args.a.now c.args.f e.0)) c.self.view_is
+
+pub returns-in-Some : goal.returns-in-Some
+returns-in-Some c =
+    c.len.ensures.len
+    ∙ ap length (sym (entries-table id_order c.in-Some.group.now c.len.ensures.ordered))
+    ∙ ap (λ m. length (entries m)) c.in-Some.ensures
+    ∙ targets_count c.self.inside.tree c.self.inside.out c.self.invariant c.args.a.now c.args.f
+    ∙ ap (count (λ (e : RowKey × ℕ). is_of c.args.a.now c.args.f e.0)) c.self.view_is
