@@ -14,7 +14,6 @@ use Rattle.finite_maps.specs.Tables.{table_of}
 use Rattle.finite_maps.proofs.EqualLaws.{apart}
 use Rattle.finite_maps.proofs.MapLaws.{get-set, get-set_same, set_back, set_here}
 use Rattle.finite_maps.proofs.TableLaws.{get-table_of}
-use Rattle.model_state.specs.declared.entry.Entry.{Entry}
 use Rattle.model_state.specs.declared.step.Place.{Place}
 use Rattle.model_state.specs.declared.step.Placed.{Placed}
 use Rattle.model_state.specs.Keys.{Name, id_cmp}
