@@ -4,6 +4,7 @@ use Rattle.std.specs.Ordering.{nat_cmp}
 use Rattle.std.specs.FinMap.{FinMap, get, empty}
 use Rattle.std.specs.BTreeMap as tree
 use Rattle.std.specs.BTreeMap.{BTreeMap}
+use Rattle.finite_maps.specs.Equal.{text_eq}
 use Rattle.finite_maps.specs.Tables.{table}
 use Rattle.model_state.specs.declared.step.Place.{Place}
 use Rattle.model_state.specs.declared.step.Place.TheVariants.{Root, Inside}
@@ -43,3 +44,15 @@ IsGrouped t g = (p : Place) (e : Name) → get (standing g p) e ≡ stood p (tre
 -- the rows are held by source and feature
 abbrev pub IsOut : BTreeMap RowKey ℕ → BTreeMap Name (BTreeMap ℕ (BTreeMap Name ℕ)) → Type 0
 IsOut t out = (a : Name) (f : ℕ) (b : Name) → get (held out a f) b ≡ tree.get row_cmp t (a, f, b)
+
+-- the rows to an element
+abbrev pub rows_of : Option (BTreeMap RowKey ℕ) → FinMap row_cmp ℕ
+rows_of None = empty
+rows_of (Some t) = table row_cmp t
+
+abbrev pub arriving : BTreeMap Name (BTreeMap RowKey ℕ) → Name → FinMap row_cmp ℕ
+arriving t b = rows_of (tree.get id_cmp t b)
+
+-- the rows are held by target
+abbrev pub IsInto : BTreeMap RowKey ℕ → BTreeMap Name (BTreeMap RowKey ℕ) → Type 0
+IsInto t into = (b : Name) (k : RowKey) → get (arriving into b) k ≡ cond (text_eq b k.2) (tree.get row_cmp t k) None

@@ -1,12 +1,14 @@
-ghost use Rattle.std.specs.Prelude.{◌≡◌, Some, None, OnOk, OnErr, IfOk, map, count_by, ◌||◌, ◌&&◌, nat_eq};
+ghost use Rattle.std.specs.Prelude.{is_some, true, false, ◌≡◌, Some, None, OnOk, OnErr, IfOk, map, count_by, ◌||◌, ◌&&◌, nat_eq};
 ghost use Rattle.std.specs.BTreeMap as ordered_map;
 ghost use Rattle.std.specs.Option.{option_copied};
 ghost use Rattle.std.specs.List.{filter};
 ghost use Rattle.std.specs.BTreeMap.{IsOrdered};
 ghost use Rattle.std.specs.FinMap.{get, empty};
 ghost use Rattle.finite_maps.specs.Maps.{set, count};
+ghost use Rattle.finite_maps.specs.Tables.{table};
+ghost use Rattle.step_apply.specs.Groups.{arriving};
 ghost use Rattle.finite_maps.specs.Equal.{text_eq};
-ghost use Rattle.model_state.specs.Keys.{row_cmp};
+ghost use Rattle.model_state.specs.Keys.{Name, row_cmp};
 ghost use Rattle.model_state.specs.Listing.{is_of, row_entry, row_incoming, targets, incoming};
 
 use crate::groups::{entries_of, group_in, put_in, rewrite_in};
@@ -39,24 +41,76 @@ pub fn row_key(alloc: Global, a: &Id, f: u32, b: &Id) -> Result<(Id, u32, Id), A
     Ok((a.copy(alloc)?, f, b.copy(alloc)?))
 }
 
-/// The rows to an element, in their order.
-fn rows_to(
-    alloc: Global,
-    tree: &BTreeMap<(Id, u32, Id), u64>,
+/// Gives a row that is there another rank, or takes it out.
+fn rewrite_row(rows: &mut BTreeMap<(Id, u32, Id), u64>, key: &(Id, u32, Id), rank: Option<u64>)
+    ensures { is_some (ordered_map.get row_cmp rows.old key.now) ≡ true → table row_cmp rows.new ≡ set (table row_cmp rows.old) key.now rank }
+{
+    match rank {
+        None => {
+            rows.remove(key);
+        }
+        Some(rank) => {
+            if let Some(here) = rows.get_mut(key) {
+                *here = rank;
+            }
+        }
+    }
+}
+
+/// Gives a row that is among those to the element another rank, or takes it out.
+fn rewrite_to(
+    into: &mut BTreeMap<Id, BTreeMap<(Id, u32, Id), u64>>,
     b: &Id,
-) -> Result<List<Incoming>, AllocError>
-    ensures rows { IfOk result (λ l. l ≡ map row_incoming (filter (λ e. text_eq b.now e.0.2) tree.now.entries)) }
-    ensures ordered { IsOrdered row_cmp tree.now }
+    key: &(Id, u32, Id),
+    rank: Option<u64>,
+)
+    ensures here { is_some (get (arriving into.old b.now) key.now) ≡ true → arriving into.new b.now ≡ set (arriving into.old b.now) key.now rank }
+    ensures there { (x : Name) → text_eq b.now x ≡ false → arriving into.new x ≡ arriving into.old x }
+{
+    if let Some(rows) = into.get_mut(b) {
+        rewrite_row(rows, key, rank);
+    }
+}
+
+/// Puts a row among those to the element.
+fn put_to(
+    alloc: Global,
+    into: &mut BTreeMap<Id, BTreeMap<(Id, u32, Id), u64>>,
+    b: &Id,
+    key: (Id, u32, Id),
+    rank: u64,
+) -> Result<(), AllocError>
+    ensures here { OnOk result (arriving into.new b.now ≡ set (arriving into.old b.now) key (Some rank)) }
+    ensures there { (x : Name) → text_eq b.now x ≡ false → arriving into.new x ≡ arriving into.old x }
+    ensures err { OnErr result (arriving into.new b.now ≡ arriving into.old b.now) }
+{
+    let own = b.copy(alloc)?;
+    match into.get_mut(b) {
+        Some(rows) => match rows.insert(key, rank) {
+            Ok(_) => Ok(()),
+            Err(_) => Err(AllocError),
+        },
+        None => {
+            let mut rows = BTreeMap::new(alloc);
+            rows.insert(key, rank)?;
+            into.insert(own, rows)?;
+            Ok(())
+        }
+    }
+}
+
+/// The rows as they are listed at their target.
+fn listed(alloc: Global, rows: &BTreeMap<(Id, u32, Id), u64>) -> Result<List<Incoming>, AllocError>
+    ensures rows { IfOk result (λ l. l ≡ map row_incoming rows.now.entries) }
+    ensures ordered { IsOrdered row_cmp rows.now }
 {
     let mut found = List::new(alloc);
-    for (key, rank) in tree {
-        if *b == key.2 {
-            found.push(Incoming {
-                source: key.0.copy(alloc)?,
-                feature: key.1,
-                rank: *rank,
-            })?;
-        }
+    for (key, rank) in rows {
+        found.push(Incoming {
+            source: key.0.copy(alloc)?,
+            feature: key.1,
+            rank: *rank,
+        })?;
     }
     Ok(found)
 }
@@ -67,6 +121,7 @@ pub struct Rows {
     alloc: Global,
     tree: BTreeMap<(Id, u32, Id), u64>,
     out: BTreeMap<Id, BTreeMap<u32, BTreeMap<Id, u64>>>,
+    into: BTreeMap<Id, BTreeMap<(Id, u32, Id), u64>>,
 }
 
 impl Model for Rows {
@@ -74,7 +129,7 @@ impl Model for Rows {
     ghost use Rattle.finite_maps.specs.Tables.{table};
     ghost use Rattle.model_state.specs.Keys.{row_cmp};
 
-    ghost use Rattle.step_apply.specs.Groups.{IsOut};
+    ghost use Rattle.step_apply.specs.Groups.{IsOut, IsInto};
 
     ghost Value = { Ranks };
 
@@ -82,7 +137,7 @@ impl Model for Rows {
 
     ghost view = { λ a. table row_cmp a.tree };
 
-    ghost invariant = { λ a. IsOut a.tree a.out };
+    ghost invariant = { λ a. IsOut a.tree a.out × IsInto a.tree a.into };
 }
 
 impl Rows {
@@ -93,6 +148,7 @@ impl Rows {
             alloc,
             tree: BTreeMap::new(alloc),
             out: BTreeMap::new(alloc),
+            into: BTreeMap::new(alloc),
         }
     }
 
@@ -106,21 +162,24 @@ impl Rows {
         ensures ok { OnOk result (self.new ≡ set self.old key (Some rank)) }
         ensures err { OnErr result (self.new ≡ self.old) }
     {
-        put_in(
-            self.alloc,
-            &mut self.out,
-            &key.0,
-            key.1,
-            key.2.copy(self.alloc)?,
-            rank,
-        )?;
-        match self.tree.insert(key, rank) {
-            Ok(_) => Ok(()),
-            Err(back) => {
-                let key = &back.value.0;
-                rewrite_in(&mut self.out, &key.0, key.1, &key.2, None);
-                Err(AllocError)
+        let own = row_key(self.alloc, &key.0, key.1, &key.2)?;
+        let target = key.2.copy(self.alloc)?;
+        let old = self.tree.get(&key).copied();
+        put_in(self.alloc, &mut self.out, &key.0, key.1, target, rank)?;
+        match put_to(self.alloc, &mut self.into, &key.2, own, rank) {
+            Err(error) => {
+                rewrite_in(&mut self.out, &key.0, key.1, &key.2, old);
+                Err(error)
             }
+            Ok(()) => match self.tree.insert(key, rank) {
+                Ok(_) => Ok(()),
+                Err(back) => {
+                    let key = &back.value.0;
+                    rewrite_in(&mut self.out, &key.0, key.1, &key.2, None);
+                    rewrite_to(&mut self.into, &key.2, key, None);
+                    Err(AllocError)
+                }
+            },
         }
     }
 
@@ -129,6 +188,7 @@ impl Rows {
     {
         if self.tree.remove(key).is_some() {
             rewrite_in(&mut self.out, &key.0, key.1, &key.2, None);
+            rewrite_to(&mut self.into, &key.2, key, None);
         }
     }
 
@@ -165,6 +225,9 @@ impl Rows {
     pub fn incoming(&self, alloc: Global, b: &Id) -> Result<List<Incoming>, AllocError>
         ensures { IfOk result (λ l. l ≡ incoming self.now b.now) }
     {
-        rows_to(alloc, &self.tree, b)
+        match self.into.get(b) {
+            None => Ok(List::new(alloc)),
+            Some(rows) => listed(alloc, rows),
+        }
     }
 }

@@ -12,7 +12,7 @@ use Rattle.step_apply.proofs.rows.Rows.count_of.Goals as goal
 pub returns-in-None : goal.returns-in-None
 returns-in-None c =
     ap length (sym (no_entries id_cmp)) ∙ ap (λ m. length (entries m)) c.in-None.ensures
-    ∙ targets_count c.self.inside.tree c.self.inside.out c.self.invariant c.args.a.now c.args.f
+    ∙ targets_count c.self.inside.tree c.self.inside.out c.self.invariant.0 c.args.a.now c.args.f
     ∙ ap (count (λ (e : RowKey × ℕ). is_of c.args.a.now c.args.f e.0)) c.self.view_is
 
 pub returns-in-Some : goal.returns-in-Some
@@ -20,5 +20,5 @@ returns-in-Some c =
     c.len.ensures.len
     ∙ ap length (sym (entries-table id_order c.in-Some.group.now c.len.ensures.ordered))
     ∙ ap (λ m. length (entries m)) c.in-Some.ensures
-    ∙ targets_count c.self.inside.tree c.self.inside.out c.self.invariant c.args.a.now c.args.f
+    ∙ targets_count c.self.inside.tree c.self.inside.out c.self.invariant.0 c.args.a.now c.args.f
     ∙ ap (count (λ (e : RowKey × ℕ). is_of c.args.a.now c.args.f e.0)) c.self.view_is

@@ -15,7 +15,7 @@ pub returns-in-None : goal.returns-in-None
 returns-in-None c =
     c.new.ensures
     ∙ ap (λ es. in_order entry_cmp (map ranked_entry es)) (sym (no_entries id_cmp) ∙ ap entries c.in-None.ensures)
-    ∙ ap (in_order entry_cmp) (targets_are c.self.inside.tree c.self.inside.out c.self.invariant c.args.a.now c.args.f)
+    ∙ ap (in_order entry_cmp) (targets_are c.self.inside.tree c.self.inside.out c.self.invariant.0 c.args.a.now c.args.f)
     ∙ ap (λ m. targets m c.args.a.now c.args.f) c.self.view_is
 
 pub returns-in_ok-found-in-Some : goal.returns-in_ok-found-in-Some
@@ -24,5 +24,5 @@ returns-in_ok-found-in-Some c =
     ∙ sorted_is entry_order c.in_ok-found-in-Some.found.items c.sort_unstable.new.self.items c.sort_unstable.ensures.permutation c.sort_unstable.ensures.sorted
     ∙ ap (in_order entry_cmp) (c.in_ok-found-in-Some.ensures.entries
     ∙ ap (map ranked_entry) (sym (entries-table id_order c.in-Some.group.now c.entries_of.ensures.ordered) ∙ ap entries c.in-Some.ensures)
-    ∙ targets_are c.self.inside.tree c.self.inside.out c.self.invariant c.args.a.now c.args.f)
+    ∙ targets_are c.self.inside.tree c.self.inside.out c.self.invariant.0 c.args.a.now c.args.f)
     ∙ ap (λ m. targets m c.args.a.now c.args.f) c.self.view_is
