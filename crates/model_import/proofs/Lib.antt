@@ -11,3 +11,4 @@ pub mod Linking
 pub mod LinksLead
 pub mod ImportLead
 pub mod NameLists
+pub mod GivenIds

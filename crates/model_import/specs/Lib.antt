@@ -1,4 +1,5 @@
 pub mod Names
+pub mod Given
 pub mod Roots
 pub mod News
 pub mod Values

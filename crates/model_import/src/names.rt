@@ -5,6 +5,7 @@ ghost use Rattle.edits.specs.FreshIds.{numbered};
 ghost use Rattle.emfjson_model.specs.Laws.{gives_id};
 ghost use Rattle.model_import.specs.Names.{AreNames, IsName, IsNext, any_in_use, in_use, is_taken, name_at};
 
+use crate::given::Given;
 use ecore_meta::List;
 use emfjson_model::DocRow;
 use model_state::{Id, IdFault, Look};
@@ -29,23 +30,14 @@ fn numbered(alloc: Global, ws: u32, k: u64) -> Result<Id, AllocError>
     }
 }
 
-fn gives_id(row: &DocRow, e: &Id) -> bool
-    ensures { result ≡ gives_id e.now row.now }
-{
-    match &row.id {
-        None => false,
-        Some(id) => e == id,
-    }
-}
-
-fn is_given(rows: &[DocRow], e: &Id) -> bool
+fn is_given(rows: &Given, e: &Id) -> bool
     ensures { result ≡ list_any (gives_id e.now) rows.now }
 {
-    rows.iter().any(|row| gives_id(row, e))
+    rows.gives(e)
 }
 
 /// Whether an id is live, or the document gives it.
-fn is_taken<L: Look>(look: &L, rows: &[DocRow], e: &Id) -> bool
+fn is_taken<L: Look>(look: &L, rows: &Given, e: &Id) -> bool
     ensures { result ≡ is_taken (L.state look.now) rows.now e.now }
 {
     look.class(e).is_some() || is_given(rows, e)
@@ -55,7 +47,7 @@ fn is_taken<L: Look>(look: &L, rows: &[DocRow], e: &Id) -> bool
 fn fresh<L: Look>(
     alloc: Global,
     look: &L,
-    rows: &[DocRow],
+    rows: &Given,
     ws: u32,
     from: u64,
 ) -> Result<Named, AllocError>
@@ -75,7 +67,7 @@ fn fresh<L: Look>(
 fn name_of<L: Look>(
     alloc: Global,
     look: &L,
-    rows: &[DocRow],
+    rows: &Given,
     ws: u32,
     from: u64,
     id: &Option<Id>,
@@ -101,10 +93,11 @@ pub(crate) fn names<L: Look>(
     ensures names { IfOk result (λ names. AreNames (L.state look.now) rows.now ws 1 rows.now names) }
     ensures as_many { IfOk result (λ names. length names ≡ length rows.now) }
 {
+    let given = Given::new(alloc, rows)?;
     let mut names = List::new(alloc);
     let mut from: u64 = 1;
     for row in rows {
-        let named = name_of(alloc, look, rows, ws, from, &row.id)?;
+        let named = name_of(alloc, look, &given, ws, from, &row.id)?;
         names.push(named.id)?;
         from = named.next;
     }

@@ -1,7 +1,7 @@
 use Rattle.std.proofs.Common.{◌≡◌, ◌∙◌, ◌++◌, ◌∷◌, [], List, sym, ap, subst, append_assoc, append-nil, length-append, arith, length}
 use Rattle.model_state.specs.Keys.{Name}
 use Rattle.emfjson_model.specs.declared.doc.DocRow.{DocRow}
-use Rattle.model_import.specs.Names.{AreNames}
+use Rattle.model_import.specs.Names.{AreNames, IsName}
 use Rattle.model_import.proofs.Rows.{next, none_left}
 use Rattle.model_import.proofs.names.names.Goals as goal
 
@@ -17,7 +17,7 @@ loop-row-preserved g c =
           subst (λ (ns : List Name). AreNames m rows c.args.ws 1 rows ns) (sym (append_assoc c.loop-row.names (x ∷ []) xs) ∙ ap (λ (ns : List Name). ns ++ xs) (sym pushed))
           (c.loop-row.invariant.so_far (x ∷ xs)
           (subst (λ (rest : List DocRow). AreNames m rows c.args.ws c.loop-row.from rest (x ∷ xs)) (sym (next rows i c.row-item.result c.loop-row-test.true c.row-item.is))
-          (c.in_ok-named.named.next, c.in_ok-named.ensures, h)));
+          (c.in_ok-named.named.next, subst (λ (given : List DocRow). IsName m given c.args.ws c.loop-row.from c.row-item.result.id x c.in_ok-named.named.next) c.in_ok-given.ensures c.in_ok-named.ensures, h)));
       as_many = let e = ap length pushed in let a = length-append c.loop-row.names (x ∷ []) in omega (arith, e, a, c.loop-row.invariant.as_many);
     }
 
