@@ -12,3 +12,4 @@ pub mod LinksLead
 pub mod ImportLead
 pub mod NameLists
 pub mod GivenIds
+pub mod PlaceCounts

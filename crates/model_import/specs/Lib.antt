@@ -2,6 +2,7 @@ pub mod Names
 pub mod Given
 pub mod Roots
 pub mod News
+pub mod Counts
 pub mod Values
 pub mod Links
 pub mod Import

@@ -1,6 +1,7 @@
 //! A document is brought into a model as one composite: its elements come, get their values, and are linked.
 #![tactic(auto)]
 
+mod counts;
 mod given;
 mod import;
 mod laws;

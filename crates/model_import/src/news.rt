@@ -7,10 +7,12 @@ ghost use Rattle.emfjson_model.specs.References.{parent_eq};
 ghost use Rattle.model_state.specs.Listing.{children};
 ghost use Rattle.model_state.specs.declared.step.Place.TheVariants.{Root, Inside};
 ghost use Rattle.model_state.specs.declared.step.Step.TheVariants.{New};
+ghost use Rattle.model_import.specs.Counts.{CountsAlso, counted};
 ghost use Rattle.model_import.specs.Import.{Answers};
 ghost use Rattle.model_import.specs.Names.{name_at};
 ghost use Rattle.model_import.specs.News.{element_made, has_room, news_made, place_of, rank_of, roots_after, standing};
 
+use crate::counts::{count_up, counted};
 use crate::names::name_at;
 use crate::roots::add_root;
 use ecore_meta::List;
@@ -18,6 +20,7 @@ use edit_laws::EditFault;
 use emfjson_model::{DocParent, DocRow};
 use model_state::{Entry, Id, Look, Place, Step};
 use std::alloc::{AllocError, Global};
+use std::collections::BTreeMap;
 
 /// The rank of the k-th entry of a new list, from 0.
 pub(crate) fn rank_of(k: usize) -> u64
@@ -40,38 +43,6 @@ fn place_of(alloc: Global, names: &[Id], parent: Option<DocParent>) -> Result<Pl
             }),
         },
     }
-}
-
-fn is_parent(p: DocParent, q: DocParent) -> bool
-    ensures { result ≡ parent_eq p q }
-{
-    p.row == q.row && p.feature == q.feature
-}
-
-fn stands_in(row: &DocRow, place: Option<DocParent>) -> bool
-    ensures { result ≡ option_eq parent_eq row.now.parent place }
-{
-    match row.parent {
-        None => place.is_none(),
-        Some(parent) => match place {
-            None => false,
-            Some(place) => is_parent(parent, place),
-        },
-    }
-}
-
-/// How many of the rows stand where the parent says.
-fn standing(rows: &[DocRow], parent: Option<DocParent>) -> usize
-    ensures count { result ≡ standing parent rows.now }
-    ensures few { result ≤ length rows.now }
-{
-    let mut count: usize = 0;
-    for row in rows {
-        if stands_in(row, parent) {
-            count += 1;
-        }
-    }
-    count
 }
 
 /// A new element in its place, where it is the k-th unless it comes to the root.
@@ -120,27 +91,31 @@ fn add_inside(
     Ok(())
 }
 
-/// The element of the n-th row.
+/// The element of the n-th row, behind those that stand in its place so far.
 fn add_row(
     alloc: Global,
     names: &[Id],
-    rows: &[DocRow],
     n: usize,
     row: &DocRow,
+    counts: &mut BTreeMap<(usize, u32), usize>,
     roots: &mut List<Entry>,
     steps: &mut List<Step>,
 ) -> Result<(), EditFault>
-    requires there { n < length rows.now }
-    requires named { length names.now ≡ length rows.now }
+    requires named { n < length names.now }
+    requires few { counted counts.old row.now.parent < 18446744073709551615 }
+    ensures counts { OnOk result (CountsAlso counts.old row.now.parent counts.new) }
     ensures room { OnOk result (has_room roots.old (place_of names.now row.now.parent) ≡ true) }
     ensures roots { OnOk result (roots.new ≡ roots_after roots.old (place_of names.now row.now.parent) (name_at names.now n)) }
-    ensures steps { OnOk result (steps.new ≡ steps.old ++ element_made roots.old (place_of names.now row.now.parent) (name_at names.now n) row.now.class (standing row.now.parent (take n rows.now))) }
+    ensures steps { OnOk result (steps.new ≡ steps.old ++ element_made roots.old (place_of names.now row.now.parent) (name_at names.now n) row.now.class (counted counts.old row.now.parent)) }
     ensures refused { IfErr result (λ x. (x ≡ Memory) ⊎ ((x ≡ Bound) × (has_room roots.old (place_of names.now row.now.parent) ≡ false))) }
 {
     match place_of(alloc, names, row.parent) {
         Err(_) => Err(EditFault::Memory),
         Ok(place) => {
-            let k = standing(&rows[..n], row.parent);
+            let k = counted(counts, row.parent);
+            if count_up(counts, row.parent, k).is_err() {
+                return Err(EditFault::Memory);
+            }
             add_element(alloc, place, name_at(names, n), row.class, k, roots, steps)
         }
     }
@@ -173,8 +148,9 @@ fn news_behind(
 {
     let mut roots = roots;
     let mut steps = List::new(alloc);
+    let mut counts = BTreeMap::new(alloc);
     for (n, row) in rows.iter().enumerate() {
-        match add_row(alloc, names, rows, n, row, &mut roots, &mut steps) {
+        match add_row(alloc, names, n, row, &mut counts, &mut roots, &mut steps) {
             Err(fault) => return Err(fault),
             Ok(()) => {}
         }

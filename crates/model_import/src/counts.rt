@@ -1,0 +1,41 @@
+ghost use Rattle.std.specs.Prelude.{◌≡◌, ◌+◌, ◌<◌, OnOk, cond, Some};
+ghost use Rattle.emfjson_model.specs.References.{parent_eq};
+ghost use Rattle.finite_maps.specs.Equal.{option_eq};
+ghost use Rattle.emfjson_model.specs.declared.doc.DocParent.{DocParent};
+ghost use Rattle.model_import.specs.Counts.{CountsAlso, counted};
+
+use emfjson_model::DocParent;
+use std::alloc::{AllocError, Global};
+use std::collections::BTreeMap;
+
+/// How many elements stand in a place, by the counts so far; those at the root are not counted.
+pub(crate) fn counted(counts: &BTreeMap<(usize, u32), usize>, parent: Option<DocParent>) -> usize
+    ensures { result ≡ counted counts.now parent }
+{
+    match parent {
+        None => 0,
+        Some(place) => counts
+            .get(&(place.row, place.feature))
+            .copied()
+            .unwrap_or(0),
+    }
+}
+
+/// One more element stands in the place, where n stood before.
+pub(crate) fn count_up(
+    counts: &mut BTreeMap<(usize, u32), usize>,
+    parent: Option<DocParent>,
+    n: usize,
+) -> Result<(), AllocError>
+    requires before { n ≡ counted counts.old parent }
+    requires few { n < 18446744073709551615 }
+    ensures { OnOk result (CountsAlso counts.old parent counts.new) }
+{
+    match parent {
+        None => {}
+        Some(place) => {
+            counts.insert((place.row, place.feature), n + 1)?;
+        }
+    }
+    Ok(())
+}
