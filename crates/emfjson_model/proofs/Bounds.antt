@@ -24,7 +24,7 @@ use Rattle.emfjson_model.proofs.Growing.{Kept, named_has}
 use Rattle.emfjson_model.proofs.Keys.{Above, above_more, not_own}
 use Rattle.emfjson_model.proofs.ValuesFit.{Plain, within_same}
 
-parent_exact : (p q : DocParent) → parent_eq p q ≡ true → p ≡ q
+pub parent_exact : (p q : DocParent) → parent_eq p q ≡ true → p ≡ q
 parent_exact p q h =
     let rows : p.row ≡ q.row = nat_equality.exact p.row q.row (and_first (nat_eq p.row q.row) (nat_eq p.feature q.feature) h) in
     let features : p.feature ≡ q.feature = nat_equality.exact p.feature q.feature (and_second (nat_eq p.row q.row) (nat_eq p.feature q.feature) h) in

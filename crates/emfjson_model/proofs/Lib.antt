@@ -19,3 +19,4 @@ pub mod Merging
 pub mod SetAttrs
 pub mod Made
 pub mod Fitting
+pub mod Finding

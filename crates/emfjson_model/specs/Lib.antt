@@ -5,6 +5,7 @@ pub mod Attributes
 pub mod Links
 pub mod Walk
 pub mod References
+pub mod Finder
 pub mod Merged
 pub mod Document
 pub mod Answers

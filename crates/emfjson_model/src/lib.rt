@@ -6,6 +6,7 @@ mod classes;
 mod doc;
 mod draft;
 mod fault;
+mod finder;
 mod identity;
 mod laws;
 mod links;

@@ -7,66 +7,11 @@ ghost use Rattle.emfjson_model.specs.References.{parent_eq, along, along_parts, 
 
 use crate::classes::{behind, feature, feature_named};
 use crate::doc::DocParent;
-use crate::draft::Draft;
+use crate::finder::{Finder, child_at};
 use crate::links::is_one;
 use ecore_meta::{Kind, Metamodel};
 use model_state::upper_of;
 use std::alloc::{AllocError, Global};
-
-fn is_parent(p: DocParent, q: DocParent) -> bool
-    ensures { result ≡ parent_eq p q }
-{
-    p.row == q.row && p.feature == q.feature
-}
-
-fn stands_in(row: &Draft, place: Option<DocParent>) -> bool
-    ensures { result ≡ stands_in place row.now }
-{
-    match row.parent {
-        None => place.is_none(),
-        Some(parent) => match place {
-            None => false,
-            Some(place) => is_parent(parent, place),
-        },
-    }
-}
-
-/// The element of that index in a place; no parent is the root.
-fn child_at(rows: &[Draft], place: Option<DocParent>, index: u32) -> Option<usize>
-    ensures { result ≡ child_at rows.now place index }
-{
-    let mut left = index;
-    for (n, row) in rows.iter().enumerate() {
-        if stands_in(row, place) {
-            if left == 0 {
-                return Some(n);
-            }
-            left -= 1;
-        }
-    }
-    None
-}
-
-fn has_id(row: &Draft, id: &str) -> bool
-    ensures { result ≡ has_id id.now row.now }
-{
-    match &row.id {
-        None => false,
-        Some(other) => other.as_str() == id,
-    }
-}
-
-/// The element of that id.
-fn named(rows: &[Draft], id: &str) -> Option<usize>
-    ensures { result ≡ named rows.now id.now }
-{
-    for (n, row) in rows.iter().enumerate() {
-        if has_id(row, id) {
-            return Some(n);
-        }
-    }
-    None
-}
 
 fn are_digits(bytes: &[u8]) -> bool
     ensures { result ≡ list_all is_ascii_digit bytes.now }
@@ -111,7 +56,7 @@ fn is_containment(meta: &Metamodel, f: u32) -> bool
 
 fn child_by(
     meta: &Metamodel,
-    rows: &[Draft],
+    rows: &Finder,
     row: usize,
     f: Option<u32>,
     index: Option<&str>,
@@ -132,21 +77,11 @@ fn child_by(
     }
 }
 
-/// The class of a row.
-pub(crate) fn class_at(rows: &[Draft], row: usize) -> u32
-    ensures { result ≡ class_at rows.now row }
-{
-    match rows.get(row) {
-        None => 0,
-        Some(row) => row.class,
-    }
-}
-
 /// The child of a row that a containment's name, and an index behind it, name.
-fn child_named(meta: &Metamodel, rows: &[Draft], row: usize, parts: &[&str]) -> Option<usize>
+fn child_named(meta: &Metamodel, rows: &Finder, row: usize, parts: &[&str]) -> Option<usize>
     ensures { result ≡ child_named meta.now rows.now row (map (λ t. t.now) parts.now) }
 {
-    let class = class_at(rows, row);
+    let class = rows.class_at(row);
     match parts {
         [] => None,
         [name] => child_by(meta, rows, row, feature_named(meta, class, *name), None),
@@ -177,7 +112,7 @@ fn slashed(alloc: Global, text: &str) -> Result<Vec<&str>, AllocError>
 fn step_from(
     alloc: Global,
     meta: &Metamodel,
-    rows: &[Draft],
+    rows: &Finder,
     step: &str,
     row: usize,
 ) -> Result<Option<usize>, AllocError>
@@ -193,7 +128,7 @@ fn step_from(
 }
 
 /// A root by its number; nothing is the first.
-fn root_at(rows: &[Draft], text: &str) -> Option<usize>
+fn root_at(rows: &Finder, text: &str) -> Option<usize>
     ensures { result ≡ root_at rows.now text.now }
 {
     if text.is_empty() {
@@ -208,7 +143,7 @@ fn root_at(rows: &[Draft], text: &str) -> Option<usize>
 fn step_on(
     alloc: Global,
     meta: &Metamodel,
-    rows: &[Draft],
+    rows: &Finder,
     step: &str,
     here: Option<usize>,
 ) -> Result<Option<usize>, AllocError>
@@ -223,7 +158,7 @@ fn step_on(
 fn along(
     alloc: Global,
     meta: &Metamodel,
-    rows: &[Draft],
+    rows: &Finder,
     steps: &[&str],
     from: Option<usize>,
 ) -> Result<Option<usize>, AllocError>
@@ -240,7 +175,7 @@ fn along(
 fn along_path(
     alloc: Global,
     meta: &Metamodel,
-    rows: &[Draft],
+    rows: &Finder,
     path: &str,
 ) -> Result<Option<usize>, AllocError>
     ensures { IfOk result (λ n. n ≡ along_parts meta.now rows.now (slice_split (λ b. b == 47) path.now)) }
@@ -252,7 +187,7 @@ fn along_path(
 fn along_parts(
     alloc: Global,
     meta: &Metamodel,
-    rows: &[Draft],
+    rows: &Finder,
     parts: &[&str],
 ) -> Result<Option<usize>, AllocError>
     ensures { IfOk result (λ n. n ≡ along_parts meta.now rows.now (map (λ t. t.now) parts.now)) }
@@ -266,13 +201,13 @@ fn along_parts(
 fn located_bare(
     alloc: Global,
     meta: &Metamodel,
-    rows: &[Draft],
+    rows: &Finder,
     text: &str,
 ) -> Result<Option<usize>, AllocError>
     ensures { IfOk result (λ n. n ≡ located_bare meta.now rows.now text.now) }
 {
     match behind("/", text) {
-        None => Ok(named(rows, text)),
+        None => Ok(rows.named(text)),
         Some(path) => along_path(alloc, meta, rows, path),
     }
 }
@@ -281,7 +216,7 @@ fn located_bare(
 pub(crate) fn located(
     alloc: Global,
     meta: &Metamodel,
-    rows: &[Draft],
+    rows: &Finder,
     text: &str,
 ) -> Result<Option<usize>, AllocError>
     ensures { IfOk result (λ n. n ≡ located meta.now rows.now text.now) }

@@ -9,7 +9,8 @@ use crate::classes::{feature, features_of};
 use crate::doc::DocRefs;
 use crate::draft::{Draft, Links};
 use crate::fault::ModelFault;
-use crate::paths::{class_at, located};
+use crate::finder::Finder;
+use crate::paths::located;
 use ecore_meta::{Kind, List, Metamodel, Text};
 use model_state::is_plain;
 use std::alloc::{AllocError, Global};
@@ -37,7 +38,7 @@ pub(crate) fn has(numbers: &[usize], n: usize) -> bool
 
 fn new_target(
     meta: &Metamodel,
-    rows: &[Draft],
+    rows: &Finder,
     f: u32,
     targets: &[usize],
     found: Option<usize>,
@@ -50,7 +51,7 @@ fn new_target(
             if has(targets, n) {
                 return Err(ModelFault::BadRef);
             }
-            if !is_plain_to(meta, f, class_at(rows, n)) {
+            if !is_plain_to(meta, f, rows.class_at(n)) {
                 return Err(ModelFault::WrongType);
             }
             Ok(n)
@@ -62,7 +63,7 @@ fn new_target(
 fn found(
     alloc: Global,
     meta: &Metamodel,
-    rows: &[Draft],
+    rows: &Finder,
     entry: &Option<Text>,
 ) -> Result<Option<usize>, AllocError>
     ensures { IfOk result (λ n. n ≡ option_and_then (located meta.now rows.now) entry.now) }
@@ -77,7 +78,7 @@ fn found(
 fn target_of(
     alloc: Global,
     meta: &Metamodel,
-    rows: &[Draft],
+    rows: &Finder,
     f: u32,
     targets: &[usize],
     entry: &Option<Text>,
@@ -93,7 +94,7 @@ fn target_of(
 fn targets_of(
     alloc: Global,
     meta: &Metamodel,
-    rows: &[Draft],
+    rows: &Finder,
     f: u32,
     entries: &[Option<Text>],
 ) -> Result<List<usize>, ModelFault>
@@ -151,7 +152,7 @@ fn plain_features(
 fn refs_at(
     alloc: Global,
     meta: &Metamodel,
-    rows: &[Draft],
+    rows: &Finder,
     links: &[Links],
     f: u32,
 ) -> Result<DocRefs, ModelFault>
@@ -169,7 +170,7 @@ fn refs_at(
 fn refs_by(
     alloc: Global,
     meta: &Metamodel,
-    rows: &[Draft],
+    rows: &Finder,
     links: &[Links],
     features: &[u32],
 ) -> Result<List<DocRefs>, ModelFault>
@@ -193,7 +194,7 @@ fn refs_by(
 fn refs_of(
     alloc: Global,
     meta: &Metamodel,
-    rows: &[Draft],
+    rows: &Finder,
     row: &Draft,
 ) -> Result<List<DocRefs>, ModelFault>
     ensures { Gives result (refs_of meta.now rows.now [] row.now) }
@@ -212,9 +213,24 @@ pub(crate) fn given_by(
 ) -> Result<List<List<DocRefs>>, ModelFault>
     ensures { Gives result (given_by meta.now rows.now) }
 {
+    match Finder::new(alloc, rows) {
+        Err(_) => Err(ModelFault::Memory),
+        Ok(finder) => given_with(alloc, meta, &finder, rows),
+    }
+}
+
+/// What each of the rows gives, among all elements.
+fn given_with(
+    alloc: Global,
+    meta: &Metamodel,
+    finder: &Finder,
+    rows: &[Draft],
+) -> Result<List<List<DocRefs>>, ModelFault>
+    ensures { Gives result (collected (refs_of meta.now finder.now) [] rows.now) }
+{
     let mut given = List::new(alloc);
     for row in rows {
-        match refs_of(alloc, meta, rows, row) {
+        match refs_of(alloc, meta, finder, row) {
             Err(fault) => return Err(fault),
             Ok(refs) => {
                 if given.push(refs).is_err() {
