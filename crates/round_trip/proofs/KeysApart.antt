@@ -8,7 +8,7 @@ use Rattle.ecore_meta.specs.Names.{has_repeat}
 use Rattle.emfjson_text.specs.Keys.{class_features, key_cmp, key_number, keys_of}
 use Rattle.round_trip.specs.Named.{IsNamed}
 use Rattle.round_trip.proofs.KeysPairs.{Pairs, bytes_differ, pairs_in_order}
-use Rattle.round_trip.proofs.KeysTypes.{Key, Ident, Class, Feature, keys_are}
+use Rattle.round_trip.proofs.KeysTypes.{Key, Ident, Class, Feature, feature_number, keys_are}
 
 -- no feature has both keys
 abbrev pub NumbersApart : Key → Key → Type 0
@@ -30,10 +30,6 @@ ident_number = refl
 class_number : key_number Class ≡ 1
 unfolding keys_of Class
 class_number = refl
-
-pub feature_number : (f : ℕ) → key_number (Feature f) ≡ suc (suc f)
-unfolding keys_of Feature
-feature_number f = refl
 
 module _ (meta : Meta) where
   apart_from : (f : ℕ) (fs : List ℕ) → list_any (bytes_eq (name_at meta.features f)) (map (name_at meta.features) fs) ≡ false → AllByRecursion (NumbersApart (Feature f)) (map Feature fs)

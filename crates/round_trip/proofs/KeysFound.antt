@@ -1,4 +1,5 @@
 -- What stands under a key is found by the key's name, a feature by its name, and a class by its text.
+use Rattle.std.proofs.Math.Bool.{or-true}
 use Rattle.std.proofs.Common.{◌≡◌, ℕ, zero, suc, ◌==◌, ◌||◌, Bool, true, false, cond, List, [], ◌∷◌, ◌++◌, map, refl, sym, ap, subst, ◌∙◌, codes, ◌⊎◌, inl, inr, eq-eqb, append_assoc}
 use Rattle.std.specs.Prelude.{Option, None, Some, option_map, option_and_then, slice_get}
 use Rattle.std.specs.declared.cmp.Ordering.{Ordering}
@@ -94,11 +95,7 @@ module _ (meta : Meta) where
   any_mapped : (q : Name) (f : ℕ) (fs : List ℕ) → bytes_eq q (name_at meta.features f) ≡ true → Stands f fs → list_any (bytes_eq q) (map (name_at meta.features) fs) ≡ true
   any_mapped q f [] is h = absurd h
   any_mapped q f (g ∷ fs) is (inl e) = ap (λ b. b || list_any (bytes_eq q) (map (name_at meta.features) fs)) (subst (λ x. bytes_eq q (name_at meta.features x) ≡ true) e is)
-  any_mapped q f (g ∷ fs) is (inr s) = ap (λ b. bytes_eq q (name_at meta.features g) || b) (any_mapped q f fs is s) ∙ or_true (bytes_eq q (name_at meta.features g))
-    where
-      or_true : (b : Bool) → b || true ≡ true
-      or_true true = refl
-      or_true false = refl
+  any_mapped q f (g ∷ fs) is (inr s) = ap (λ b. bytes_eq q (name_at meta.features g) || b) (any_mapped q f fs is s) ∙ or-true (bytes_eq q (name_at meta.features g))
 
   named_first : (f : ℕ) (fs : List ℕ) → has_repeat (map (name_at meta.features) fs) ≡ false → Stands f fs → first_named meta.features fs (name_at meta.features f) ≡ Some f
   named_first f [] apart h = absurd h
@@ -120,11 +117,7 @@ module _ (meta : Meta) where
 any_there : (p : Name → Bool) (xs : List Name) (n : ℕ) (x : Name) → slice_get xs n ≡ Some x → p x ≡ true → list_any p xs ≡ true
 any_there p [] n x is h = cc
 any_there p (y ∷ ys) zero x is h = let e : y ≡ x = cc in ap (λ b. b || list_any p ys) (ap p e ∙ h)
-any_there p (y ∷ ys) (suc n) x is h = ap (λ b. p y || b) (any_there p ys n x is h) ∙ or_true (p y)
-  where
-    or_true : (b : Bool) → b || true ≡ true
-    or_true true = refl
-    or_true false = refl
+any_there p (y ∷ ys) (suc n) x is h = ap (λ b. p y || b) (any_there p ys n x is h) ∙ or-true (p y)
 
 -- in a list without repeats a name that stands at a place has that number
 number_at : (xs : List Name) (n : ℕ) (x : Name) → has_repeat xs ≡ false → slice_get xs n ≡ Some x → number_of x xs ≡ Some n
@@ -142,16 +135,13 @@ number_at (y ∷ ys) (suc n) x apart is =
         cc
     by_test false e none more = ap (option_map (λ n. suc n)) more
 
+-- a name with a slash
 abbrev has_slash : Name → Bool
 has_slash q = list_any (λ b. b == 47) q
 
 slash_behind : (u rest : Name) → has_slash (u ++ 35 ∷ 47 ∷ rest) ≡ true
 slash_behind [] rest = refl
-slash_behind (b ∷ u) rest = ap (λ t. (b == 47) || t) (slash_behind u rest) ∙ or_true (b == 47)
-  where
-    or_true : (b : Bool) → b || true ≡ true
-    or_true true = refl
-    or_true false = refl
+slash_behind (b ∷ u) rest = ap (λ t. (b == 47) || t) (slash_behind u rest) ∙ or-true (b == 47)
 
 none_named : (q : Name) (xs : List Name) → has_slash q ≡ true → AllByRecursion (λ x. has_slash x ≡ false) xs → number_of q xs ≡ None
 none_named q [] h all = refl
@@ -181,6 +171,7 @@ module _ (meta : Meta) (named : IsNamed meta) where
   either_none true o h = h
   either_none false o h = refl
 
+  -- the name behind `#//`
   abbrev hashed : Name → Name
   hashed name = 35 ∷ 47 ∷ 47 ∷ name
 

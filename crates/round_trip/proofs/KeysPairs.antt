@@ -6,6 +6,7 @@ use Rattle.std.specs.List.{AllByRecursion}
 use Rattle.std.specs.Str.{bytes_eq}
 use Rattle.std.proofs.lemmas.Slice.Eq.{bytes_eq-Decides}
 use Rattle.finite_maps.specs.Sorts.{put_in, in_order}
+use Rattle.edit_laws.proofs.Lists.{all-in_order, all-put_in}
 use Rattle.ecore_meta.specs.Names.{Name}
 
 pub bytes_same : (x y : Name) → bytes_eq x y ≡ true → x ≡ y
@@ -16,19 +17,6 @@ bytes_own x = search (rules, bytes_eq-Decides)
 
 pub bytes_differ : (x y : Name) → bytes_eq x y ≡ false → x ≡ y → ⊥
 bytes_differ x y h e = let own : bytes_eq x y ≡ true = subst (λ z. bytes_eq x z ≡ true) e (bytes_own x) in cc
-
-module _ {A : Type 0} where
-  pub all_put : (cmp : A → A → Ordering) (P : A → Type 0) (x : A) (ys : List A) → P x → AllByRecursion P ys → AllByRecursion P (put_in cmp x ys)
-  all_put cmp P x [] p all = (p, tt)
-  all_put cmp P x (y ∷ ys) p all =
-      elim (is_lt (cmp y x)) as (λ b. AllByRecursion P (cond {A = List A} b (y ∷ put_in cmp x ys) (x ∷ y ∷ ys))) [
-        | true ↦ (all.0, all_put cmp P x ys p all.1)
-        | false ↦ (p, all)
-      ]
-
-  pub all_in_order : (cmp : A → A → Ordering) (P : A → Type 0) (xs : List A) → AllByRecursion P xs → AllByRecursion P (in_order cmp xs)
-  all_in_order cmp P [] all = tt
-  all_in_order cmp P (x ∷ xs) all = all_put cmp P x (in_order cmp xs) all.0 (all_in_order cmp P xs all.1)
 
 -- each two of a list are related
 module _ {A : Type 0} (P : A → A → Type 0) where
@@ -41,10 +29,10 @@ module _ {A : Type 0} (P : A → A → Type 0) where
     pairs_put x [] all pairs = (tt, tt)
     pairs_put x (y ∷ ys) all pairs =
         elim (is_lt (cmp y x)) as (λ b. Pairs (cond {A = List A} b (y ∷ put_in cmp x ys) (x ∷ y ∷ ys))) [
-          | true ↦ (all_put cmp (P y) x ys (turn x y all.0) pairs.0, pairs_put x ys all.1 pairs.1)
+          | true ↦ (all-put_in cmp (P y) x ys (turn x y all.0) pairs.0, pairs_put x ys all.1 pairs.1)
           | false ↦ (all, pairs)
         ]
 
     pub pairs_in_order : (xs : List A) → Pairs xs → Pairs (in_order cmp xs)
     pairs_in_order [] pairs = tt
-    pairs_in_order (x ∷ xs) pairs = pairs_put x (in_order cmp xs) (all_in_order cmp (P x) xs pairs.0) (pairs_in_order xs pairs.1)
+    pairs_in_order (x ∷ xs) pairs = pairs_put x (in_order cmp xs) (all-in_order cmp (P x) xs pairs.0) (pairs_in_order xs pairs.1)

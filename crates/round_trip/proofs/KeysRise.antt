@@ -19,6 +19,7 @@ use Rattle.round_trip.proofs.KeysPairs.{Pairs, pairs_in_order, bytes_differ}
 use Rattle.round_trip.proofs.KeysTypes.{Key, Ident, Class, Feature, keys_are}
 
 module _ (meta : Meta) where
+  -- keys of different names
   abbrev Differ : Key → Key → Type 0
   Differ k l = key_name meta k ≡ key_name meta l → ⊥
 

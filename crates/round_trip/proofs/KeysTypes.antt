@@ -1,13 +1,15 @@
 -- The types of the rows, links and keys, which their crates use alone: named by the lists and functions that have them.
-use Rattle.std.proofs.Common.{◌≡◌, ℕ, suc, false, List, [], ◌∷◌, map, refl, codes}
+use Rattle.std.proofs.Common.{◌≡◌, ℕ, suc, false, List, [], ◌∷◌, map, refl}
 use Rattle.finite_maps.specs.Sorts.{in_order}
-use Rattle.ecore_meta.specs.Meta.{Meta, name_at}
+use Rattle.ecore_meta.specs.Meta.{Meta}
 use Rattle.emfjson_model.specs.Parts.{no_part}
-use Rattle.emfjson_text.specs.Keys.{key_cmp, key_name, key_number, keys_of, class_features}
+use Rattle.emfjson_text.specs.Keys.{key_cmp, key_number, keys_of, class_features}
 
+-- the type of the items of a list
 abbrev pub item_of : {A : Type 0} → List A → Type 0
 item_of {A} xs = A
 
+-- the type of what a function takes
 abbrev pub taken_by : {A B : Type 0} → (A → B) → Type 0
 taken_by {A} {B} f = A
 
@@ -27,26 +29,32 @@ Key = taken_by key_number
 abbrev probe : ℕ → Meta
 probe f = record { uri = []; classes = record { name = []; is_abstract = false; features = f ∷ [] } ∷ []; features = []; supers = []; literals = [] }
 
+-- the list has an item
 abbrev IsFull : {A : Type 0} → List A → Type 0
 IsFull [] = ⊥
 IsFull (x ∷ xs) = Unit {0}
 
+-- its first item
 abbrev head : {A : Type 0} (xs : List A) → IsFull xs → A
 head [] full = absurd full
 head (x ∷ xs) full = x
 
+-- the items behind it
 abbrev tail : {A : Type 0} → List A → List A
 tail [] = []
 tail (x ∷ xs) = xs
 
+-- the key of a feature
 unfoldable pub Feature : ℕ → Key
 unfolding keys_of
 Feature f = head (keys_of (probe f) 0) tt
 
+-- the key of the id
 unfoldable pub Ident : Key
 unfolding keys_of
 Ident = head (tail (keys_of (probe 0) 0)) tt
 
+-- the key of the class
 unfoldable pub Class : Key
 unfolding keys_of
 Class = head (tail (tail (keys_of (probe 0) 0))) tt
@@ -56,20 +64,7 @@ pub keys_are : (meta : Meta) (c : ℕ) → keys_of meta c ≡ in_order (key_cmp 
 unfolding keys_of Ident Class Feature
 keys_are meta c = refl
 
+-- the number of a feature's key
 pub feature_number : (f : ℕ) → key_number (Feature f) ≡ suc (suc f)
 unfolding keys_of Feature
 feature_number f = refl
-
--- their names
-module _ (meta : Meta) where
-  pub ident_name : key_name meta Ident ≡ codes "_id"
-  unfolding keys_of Ident
-  ident_name = refl
-
-  pub class_name : key_name meta Class ≡ codes "eClass"
-  unfolding keys_of Class
-  class_name = refl
-
-  pub feature_name : (f : ℕ) → key_name meta (Feature f) ≡ name_at meta.features f
-  unfolding keys_of Feature
-  feature_name f = refl

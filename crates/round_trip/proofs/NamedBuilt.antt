@@ -123,9 +123,11 @@ name_free (d ∷ ds) h (suc f) = name_free ds h.1 f
 abbrev type_of : {A : Type 0} → A → Type 0
 type_of {A} x = A
 
+-- what a feature of a document is of
 abbrev Target : Type 0
 Target = type_of (own_class None)
 
+-- what a name stands for among the classifiers
 abbrev Known : Type 0
 Known = item_of (numbered 0 0 0 [])
 
@@ -158,6 +160,7 @@ module _ (literals : List (List EnumLiteral)) (ds : List Draft) (d : Draft) wher
     elements_only : (n t : ℕ) (o : Option ℕ) → reference ds d n ≡ Free t o → int_eq d.upper (negsuc 0) ≡ true
     elements_only n t o h = reference_only d.containment (contains_back ds d.end) (int_eq d.upper (negsuc 0)) (container n d.end) n (end_number d.end) t o (held n t o) h
 
+    -- so it is where a classifier is the type of a reference or an attribute
     abbrev Both : Known → Type 0
     Both k = IsUnbounded (own_class (Some k)) × IsUnbounded (own_scalar (Some k))
 

@@ -36,16 +36,19 @@ use Rattle.round_trip.specs.Named.{IsNamed, NamesFit, is_reserved}
 use Rattle.round_trip.proofs.KeysTypes.{taken_by}
 use Rattle.round_trip.proofs.NamedBuilt.{built_named}
 
+-- the type of the value of an option
 abbrev value_in : {A : Type 0} → Option A → Type 0
 value_in {A} o = A
 
--- a fault of the walk, the shape of an object, and a place of objects
+-- a fault of the walk
 abbrev Fault : Type 0
 Fault = value_in (package_fault [] null)
 
+-- the shape of an object
 abbrev Shape : Type 0
 Shape = taken_by required
 
+-- a place of objects
 abbrev Place : Type 0
 Place = taken_by (object_fault [])
 
@@ -60,6 +63,7 @@ no_fail false e h = refl
 
 -- ---- an object without a fault
 module _ (own : Name) (s : Shape) (lacking : Option Name) where
+  -- the fault of the value at a key
   abbrev judged : Name → Data → Option Fault
   judged k d = value_fault own (wants s k) d (λ p. object_fault own p d) (λ p. array_fault own p d)
 
@@ -149,25 +153,32 @@ abbrev IsThere : {A : Type 0} → Option A → Type 0
 IsThere None = ⊥
 IsThere (Some a) = Unit {0}
 
+-- the value of an option that has one
 abbrev the : {A : Type 0} (o : Option A) → IsThere o → A
 the None there = absurd there
 the (Some a) there = a
 
+-- an object that says its class of Ecore
 abbrev said : Name → Data
 said t = object (member (codes "eClass") (string t) no_members)
 
+-- the shape of a class
 abbrev ClassShape : Shape
 ClassShape = the (classifier_shape (said ecore_class)) tt
 
+-- the shape of an enum
 abbrev EnumShape : Shape
 EnumShape = the (classifier_shape (said ecore_enum)) tt
 
+-- the shape of a data type
 abbrev DataTypeShape : Shape
 DataTypeShape = the (classifier_shape (said ecore_data_type)) tt
 
+-- the shape of an attribute
 abbrev AttributeShape : Shape
 AttributeShape = the (feature_shape (said ecore_attribute)) tt
 
+-- the shape of a reference
 abbrev ReferenceShape : Shape
 ReferenceShape = the (feature_shape (said ecore_reference)) tt
 

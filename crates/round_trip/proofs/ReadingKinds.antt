@@ -90,6 +90,7 @@ module _ (meta : Meta) (below : ℕ → Option DocParent → Name → List Draft
 
 -- ---- each kind of feature
 module _ (meta : Meta) (named : IsNamed meta) (m : State) (below : ℕ → Option DocParent → Name → List Draft) (whole : Name → Data) (objects : (c : Name) → IsObject (whole c)) (own : ℕ) (e : Name) (f : ℕ) where
+  -- the parent of the elements in the feature
   abbrev here : DocParent
   here = record { row = own; feature = f }
 

@@ -49,9 +49,11 @@ has_second f [] ys h = h
 has_second f (x ∷ xs) ys h = inr (has_second f xs ys h)
 
 module _ (meta : Meta) (m : State) (e : Name) where
+  -- the targets of a reference, as entries
   abbrev ids_at : ℕ → List (Option Name)
   ids_at f = map (λ x. Some x) (target_ids m e f)
 
+  -- the entries are the targets of the feature
   abbrev IsTold : Links → Type 0
   IsTold l = l.entries ≡ ids_at l.feature
 

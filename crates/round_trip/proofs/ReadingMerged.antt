@@ -1,4 +1,5 @@
 -- The rows of a document: the references are looked up, and the lists merged with what the other side gives, which adds nothing.
+use Rattle.std.proofs.Math.Bool.{or-true}
 use Rattle.std.proofs.Common.{◌≡◌, ℕ, zero, suc, ◌+◌, Bool, true, false, cond, not, ◌&&◌, ◌||◌, List, [], ◌∷◌, ◌++◌, length, map, refl, sym, ap, subst, ◌∙◌, arith, nat_eq, ◌⊎◌, inl, inr, append_assoc, append-nil, length-append}
 use Rattle.std.specs.Prelude.{Option, None, Some, is_some, Ok, slice_get, unwrap_or}
 use Rattle.std.specs.FinMap.{get}
@@ -54,9 +55,11 @@ all_map P h (x ∷ xs) all = (all.0, all_map P h xs all.1)
 
 module _ (meta : Meta) (m : State) (good : Good meta m) (forms : (e : Name) → is_live m e ≡ true → is_id e ≡ true) (names : List Name) (apart : Pairs Differ names) (covered : (x : Name) (c : ℕ) → get m.kind x ≡ Some c → Stands x names)
     (rows : List Draft) (ids : ids_of rows ≡ map (λ x. Some x) names) (all : AllByRecursion (RowOk meta m names) rows) where
+  -- the targets of a reference, by number
   abbrev spots : Name → ℕ → List ℕ
   spots e f = map (spot names) (target_ids m e f)
 
+  -- the list of a reference
   abbrev list_told : Name → ℕ → DocRefs
   list_told e f = record { feature = f; targets = spots e f }
 
@@ -64,6 +67,7 @@ module _ (meta : Meta) (m : State) (good : Good meta m) (forms : (e : Name) → 
   abbrev pub refs_told : Name → List DocRefs
   refs_told e = map (list_told e) (plain_features meta [] (features_of meta (class_at meta m e)))
 
+  -- what the element of a row gives
   abbrev pub refs_of_row : Draft → List DocRefs
   refs_of_row r = refs_told (unwrap_or r.id [])
 
@@ -116,11 +120,7 @@ module _ (meta : Meta) (m : State) (good : Good meta m) (forms : (e : Name) → 
   spot_any : (x : Name) (bs : List Name) → Stands x bs → list_any (nat_eq (spot names x)) (map (spot names) bs) ≡ true
   spot_any x [] s = absurd s
   spot_any x (b ∷ bs) (inl e) = ap (λ t. t || list_any (nat_eq (spot names x)) (map (spot names) bs)) (subst (λ z. nat_eq (spot names x) (spot names z) ≡ true) e (nat_equality.own (spot names x)))
-  spot_any x (b ∷ bs) (inr s) = ap (λ t. nat_eq (spot names x) (spot names b) || t) (spot_any x bs s) ∙ or_true (nat_eq (spot names x) (spot names b))
-    where
-      or_true : (b : Bool) → b || true ≡ true
-      or_true true = refl
-      or_true false = refl
+  spot_any x (b ∷ bs) (inr s) = ap (λ t. nat_eq (spot names x) (spot names b) || t) (spot_any x bs s) ∙ or-true (nat_eq (spot names x) (spot names b))
 
   row_target : (a : Name) (f : ℕ) (b : Name) (o : Option ℕ) → get m.row (a, f, b) ≡ o → is_some o ≡ true → Stands b (target_ids m a f)
   row_target a f b None is h = cc
@@ -160,6 +160,7 @@ module _ (meta : Meta) (m : State) (good : Good meta m) (forms : (e : Name) → 
       later : (n i : ℕ) → n + suc i ≡ suc n + i
       later n i = omega arith
 
+  -- what all elements give
   abbrev given : List (List DocRefs)
   given = map refs_of_row rows
 

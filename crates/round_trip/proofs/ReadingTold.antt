@@ -45,6 +45,7 @@ use Rattle.round_trip.proofs.WalksWhole.{listed_depths}
 
 module _ (meta : Meta) (m : State) (good : Good meta m) (forms : (e : Name) → is_live m e ≡ true → is_id e ≡ true) (names : List Name) (apart : Pairs Differ names) (covered : (x : Name) (c : ℕ) → get m.kind x ≡ Some c → Stands x names)
     (rows : List Draft) (ids : ids_of rows ≡ map (λ x. Some x) names) (all : AllByRecursion (RowOk meta m names) rows) where
+  -- the row of a document
   abbrev shown : Draft → DocRow
   shown = final meta m good forms names apart covered rows ids all
 

@@ -25,14 +25,15 @@ use Rattle.model_state.specs.Good.{AttrOk, Good, ValuesOk}
 use Rattle.model_state.specs.Keys.{Name}
 use Rattle.model_state.specs.State.{State}
 use Rattle.emfjson_io.specs.Values.{data_of}
+use Rattle.edit_laws.proofs.Lists.{all-in_order}
 use Rattle.emfjson_text.specs.Keys.{class_features, key_name, keys_of}
 use Rattle.emfjson_text.specs.Tree.{child_ids, content, element, first_value, is_single, listed, members, object_of, one_or_list, part, reference, target_ids, text, tree, values_at, whole, with_member}
 use Rattle.round_trip.specs.Named.{IsNamed}
-use Rattle.round_trip.proofs.KeysPairs.{all_in_order}
 use Rattle.round_trip.proofs.KeysRise.{InOrder, IsAfter, keys_rise}
 use Rattle.round_trip.proofs.KeysTypes.{Key, Ident, Class, Feature}
 use Rattle.round_trip.proofs.ReadingPlain.{IsBelow, IsPlain, ArePlain, IsWhole, Rise, read_compact}
 
+-- what may stand under a key is plain
 abbrev IsPlainIf : Option Data → Type 0
 IsPlainIf None = Unit {0}
 IsPlainIf (Some d) = IsPlain d
@@ -135,7 +136,7 @@ module _ (meta : Meta) (m : State) (good : Good meta m) (below : Name → Data) 
 
   plain_parts : (e : Name) (c : ℕ) → AllByRecursion (λ k. IsPlainIf (part meta m below e c k)) (keys_of meta c)
   unfolding keys_of Ident Class Feature
-  plain_parts e c = all_in_order _ (λ k. IsPlainIf (part meta m below e c k)) (Ident ∷ Class ∷ map Feature (class_features meta c)) (tt, (tt, plain_features e c (class_features meta c)))
+  plain_parts e c = all-in_order _ (λ k. IsPlainIf (part meta m below e c k)) (Ident ∷ Class ∷ map Feature (class_features meta c)) (tt, (tt, plain_features e c (class_features meta c)))
 
 -- ---- objects
 module _ (meta : Meta) (p : Key → Option Data) where

@@ -93,6 +93,7 @@ has_by f attrs all (g ∷ fs) (inr s) h = has_by f attrs (attrs_more attrs all g
 
 -- ---- the values of an element
 module _ (meta : Meta) (m : State) (e : Name) where
+  -- the values are those of the feature
   abbrev IsTold : DocAttr → Type 0
   IsTold a = a.values ≡ values_at m e a.feature
 

@@ -61,6 +61,7 @@ module _ (meta : Meta) (m : State) where
   abbrev pub InChild : Name → ℕ → Name → Type 0
   InChild e f x = (c : Name) × (get m.place c ≡ Some (Inside e f)) × Under m c x
 
+  -- an element under one in the feature of the key of that number
   abbrev pub InKey : Name → ℕ → Name → Type 0
   InKey e n x = (f : ℕ) × (n ≡ suc (suc f)) × InChild e f x
 

@@ -81,6 +81,7 @@ down m k x e is = by_above (above m k x) refl is
     by_above None at is = cc
     by_above (Some d) at is = let p = inside_of (get m.place d) e is in (d, p.0, at, p.1)
 
+-- a containment
 abbrev pub IsContains : Kind → Type 0
 IsContains k = (t : ℕ) × (o : Option ℕ) × (k ≡ Contains t o)
 

@@ -17,6 +17,7 @@ abbrev pub above : State → ℕ → Name → Option Name
 above m zero x = Some x
 above m (suc k) x = option_and_then (up m) (above m k x)
 
+-- the second element is the first, or inside it
 abbrev pub Under : State → Name → Name → Type 0
 Under m e x = (k : ℕ) × (above m k x ≡ Some e)
 

@@ -18,10 +18,10 @@ use Rattle.emfjson_text.specs.Laws.{IsNested}
 use Rattle.emfjson_text.specs.Tree.{child_ids, whole}
 use Rattle.emfjson_text.proofs.Children.{each_child}
 use Rattle.round_trip.specs.Named.{IsNamed}
-use Rattle.round_trip.proofs.KeysApart.{NumbersApart, feature_number, keys_apart}
+use Rattle.round_trip.proofs.KeysApart.{NumbersApart, keys_apart}
 use Rattle.round_trip.proofs.KeysFound.{Stands, all_stand, feature_stands}
 use Rattle.round_trip.proofs.KeysPairs.{Pairs}
-use Rattle.round_trip.proofs.KeysTypes.{Key, Feature}
+use Rattle.round_trip.proofs.KeysTypes.{Key, Feature, feature_number}
 use Rattle.round_trip.proofs.ReadingTrees.{all_of, all_so}
 use Rattle.round_trip.proofs.WalksApart.{Differ, InKey, children_differ, key_in, under_tree}
 use Rattle.round_trip.proofs.WalksDown.{Holds, child_depth, child_stands, covered, down, holds, key_is, some_depth, stands_flat}
@@ -36,14 +36,17 @@ above_shift m x y (suc k) is = ap (option_and_then (up m)) (above_shift m x y k 
 
 -- ---- the names of a place
 module _ (m : State) (p : Place) where
+  -- the place of an element is this one
   abbrev pub at_place : Option Place → Bool
   at_place None = false
   at_place (Some q) = place_eq q p
 
+  -- the names of the elements that stand in the place
   abbrev pub kept : List Name → List Name
   kept [] = []
   kept (x ∷ xs) = cond (at_place (get m.place x)) (x ∷ kept xs) (kept xs)
 
+  -- an element that stands elsewhere
   abbrev IsAway : Name → Type 0
   IsAway x = get m.place x ≡ Some p → ⊥
 
@@ -106,6 +109,7 @@ module _ (meta : Meta) (named : IsNamed meta) (m : State) (good : Good meta m) (
       deeper c y number i l k = let same = one_level m y (i.2.2.0 + suc j) j (lift_level m i.2.2.0 y i.2.0 (suc j) i.2.2.1 (inside_level m c i.2.0 i.0 j i.2.1 l)) k in omega arith
 
   module _ (x : Name) (f : ℕ) (held : Holds meta m x f) where
+    -- the place of the children of the element in the feature
     abbrev here : Place
     here = Inside x f
 
@@ -182,6 +186,7 @@ module _ (meta : Meta) (named : IsNamed meta) (m : State) (good : Good meta m) (
       root_above m x chain.0 (subst (λ o. IsChain m.place o chain.0) (sym p.1) chain.1)
 
   module _ (n : ℕ) (deep : AllByRecursion (λ c. depth (whole meta m c) ≤ n) (child_ids m Root)) where
+    -- the names of the elements, in the order of their rows
     abbrev names : List Name
     names = flat (tree_names meta m n) (child_ids m Root)
 

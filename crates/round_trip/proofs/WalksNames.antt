@@ -58,6 +58,7 @@ module _ {A B : Type 0} (g : A → List B) where
 
 -- ---- the names
 module _ (m : State) (below : Name → List Name) (e : Name) (f : ℕ) where
+  -- the names under a feature
   abbrev pub kind_names : Kind → List Name
   kind_names (Attr scalar default) = []
   kind_names (AttrMany scalar unique) = []
@@ -68,9 +69,11 @@ module _ (m : State) (below : Name → List Name) (e : Name) (f : ℕ) where
   kind_names Skip = []
 
 module _ (meta : Meta) (m : State) where
+  -- the names under a key
   abbrev pub key_names : (Name → List Name) → Name → Key → List Name
   key_names below e key = by_number (λ f. kind_names m below e f (kind_of meta f)) (key_number key)
 
+  -- the names of an element and of those inside, down to a depth
   unfoldable pub tree_names : ℕ → Name → List Name
   tree_names zero e = []
   tree_names (suc n) e = e ∷ flat (key_names (tree_names n) e) (keys_of meta (class_at meta m e))
@@ -83,6 +86,7 @@ module _ (meta : Meta) (m : State) where
 abbrev some : Name → Option Name
 some x = Some x
 
+-- rows that have the names, wherever they stand
 abbrev Names : (ℕ → Option DocParent → Name → List Draft) → (Name → List Name) → Type 0
 Names rows names = (k : ℕ) (parent : Option DocParent) (e : Name) → ids_of (rows k parent e) ≡ map some (names e)
 

@@ -56,6 +56,7 @@ module _ (meta : Meta) (m : State) (names : List Name) where
     pub class : get m.kind e ≡ Some (class_at meta m e)
     pub place : get m.place e ≡ Some (place_of names parent)
 
+  -- a row of some element
   abbrev pub RowOk : Draft → Type 0
   RowOk r = (e : Name) × IsRow r e
 
@@ -139,6 +140,7 @@ module _ (meta : Meta) (m : State) (good : Good meta m) (names : List Name) wher
 
 -- the rows of a good model
 module _ (meta : Meta) (m : State) (good : Good meta m) (n : ℕ) where
+  -- the names of the elements, in the order of their rows
   abbrev pub model_names : List Name
   model_names = flat (tree_names meta m n) (child_ids m Root)
 

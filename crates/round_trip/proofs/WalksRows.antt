@@ -20,10 +20,12 @@ use Rattle.emfjson_text.specs.Tree.{child_ids, target_ids, values_at}
 use Rattle.round_trip.proofs.KeysTypes.{Draft, Links, Key}
 
 -- ---- what stands under a feature
+-- the values of an attribute, where it has some
 abbrev pub set_attr : ℕ → List Value → List DocAttr
 set_attr f [] = []
 set_attr f (v ∷ vs) = record { feature = f; values = v ∷ vs } ∷ []
 
+-- the entries of a reference, where it has some
 abbrev pub set_links : ℕ → List Name → List Links
 set_links f [] = []
 set_links f (b ∷ bs) = record { feature = f; entries = map (λ x. Some x) (b ∷ bs) } ∷ []
@@ -40,6 +42,7 @@ forest below k parent [] = []
 forest below k parent (c ∷ cs) = below k parent c ++ forest below (k + length (below k parent c)) parent cs
 
 module _ (m : State) (e : Name) (f : ℕ) where
+  -- the values of a feature of the kind
   abbrev pub kind_attrs : Kind → List DocAttr
   kind_attrs (Attr scalar default) = set_attr f (values_at m e f)
   kind_attrs (AttrMany scalar unique) = set_attr f (values_at m e f)
@@ -49,6 +52,7 @@ module _ (m : State) (e : Name) (f : ℕ) where
   kind_attrs (Container target opposite) = []
   kind_attrs Skip = []
 
+  -- its entries
   abbrev pub kind_links : Kind → List Links
   kind_links (Attr scalar default) = []
   kind_links (AttrMany scalar unique) = []
@@ -58,6 +62,7 @@ module _ (m : State) (e : Name) (f : ℕ) where
   kind_links (Container target opposite) = []
   kind_links Skip = []
 
+  -- the rows of the elements in it, behind so many rows
   abbrev pub kind_rows : (ℕ → Option DocParent → Name → List Draft) → ℕ → ℕ → Kind → List Draft
   kind_rows below own k (Attr scalar default) = []
   kind_rows below own k (AttrMany scalar unique) = []
@@ -69,21 +74,26 @@ module _ (m : State) (e : Name) (f : ℕ) where
 
 -- ---- what stands under the keys of an object
 module _ (meta : Meta) (m : State) (e : Name) where
+  -- the values under a key
   abbrev pub key_attrs : Key → List DocAttr
   key_attrs key = by_number (λ f. kind_attrs m e f (kind_of meta f)) (key_number key)
 
+  -- the entries under a key
   abbrev pub key_links : Key → List Links
   key_links key = by_number (λ f. kind_links m e f (kind_of meta f)) (key_number key)
 
+  -- the values under some keys
   abbrev pub keys_attrs : List Key → List DocAttr
   keys_attrs [] = []
   keys_attrs (key ∷ keys) = key_attrs key ++ keys_attrs keys
 
+  -- the entries under some keys
   abbrev pub keys_links : List Key → List Links
   keys_links [] = []
   keys_links (key ∷ keys) = key_links key ++ keys_links keys
 
   module _ (below : ℕ → Option DocParent → Name → List Draft) (own : ℕ) where
+    -- the rows of the elements under a key, behind so many rows
     abbrev pub key_rows : ℕ → Key → List Draft
     key_rows k key = by_number (λ f. kind_rows m e f below own k (kind_of meta f)) (key_number key)
 
@@ -92,9 +102,11 @@ module _ (meta : Meta) (m : State) (e : Name) where
     keys_rows k [] = []
     keys_rows k (key ∷ keys) = key_rows k key ++ keys_rows (k + length (key_rows k key)) keys
 
+    -- what a key gives
     abbrev pub key_part_told : ℕ → Key → Part
     key_part_told k key = record { attrs = key_attrs key; links = key_links key; rows = key_rows k key }
 
+    -- what some keys give
     abbrev pub told : ℕ → List Key → Part
     told k keys = record { attrs = keys_attrs keys; links = keys_links keys; rows = keys_rows k keys }
 
@@ -104,6 +116,7 @@ module _ (meta : Meta) (m : State) where
   abbrev pub class_at : Name → ℕ
   class_at e = unwrap_or (get m.kind e) 0
 
+  -- the row of an element
   abbrev pub own_row : Option DocParent → Name → Draft
   own_row parent e = record {
     id = Some e;

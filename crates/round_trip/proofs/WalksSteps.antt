@@ -70,6 +70,7 @@ joined_assoc : (p q r : Part) → joined (joined p q) r ≡ joined p (joined q r
 joined_assoc p q r = λ i. record { attrs = append_assoc p.attrs q.attrs r.attrs i; links = append_assoc p.links q.links r.links i; rows = append_assoc p.rows q.rows r.rows i }
 
 module _ (meta : Meta) (m : State) (e : Name) (below : ℕ → Option DocParent → Name → List Draft) (own c : ℕ) (p : Key → Option Data) where
+  -- what the value at a key gives
   abbrev at_key : Ids → List ℕ → Data → Read Part
   at_key ids name d = key_part meta (key_named meta c name) d (λ f target. held_rows meta ids (record { row = own; feature = f }) target d)
 

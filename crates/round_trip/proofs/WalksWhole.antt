@@ -25,13 +25,13 @@ use Rattle.emfjson_model.specs.Classes.{class_of, id_of, may_stand}
 use Rattle.emfjson_model.specs.Parts.{no_part, Ids, ids_of}
 use Rattle.emfjson_model.specs.Reads.{«then», unless, found}
 use Rattle.emfjson_model.specs.Walk.{element_rows, feature_key, held_rows, key_named, key_part, members_rows, own_rows}
+use Rattle.edit_laws.proofs.Lists.{all-in_order}
 use Rattle.emfjson_text.specs.Keys.{class_features, key_name, key_cmp, keys_of}
 use Rattle.emfjson_text.specs.Laws.{IsNested}
 use Rattle.emfjson_text.specs.Tree.{child_ids, class_text, content, is_single, listed, members, object_of, part, values_at, whole, with_member}
 use Rattle.emfjson_text.proofs.Children.{each_child}
 use Rattle.round_trip.specs.Named.{IsNamed}
 use Rattle.round_trip.proofs.KeysFound.{Stands, all_stand, class_again, class_stands, feature_found, feature_stands, ident_stands, member_at}
-use Rattle.round_trip.proofs.KeysPairs.{all_in_order}
 use Rattle.round_trip.proofs.KeysRise.{keys_rise}
 use Rattle.round_trip.proofs.KeysTypes.{Draft, Key, Ident, Class, Feature}
 use Rattle.round_trip.proofs.ReadingKinds.{ContentFits, FeatureOk, IsObject, feature_ok}
@@ -138,6 +138,7 @@ module _ (meta : Meta) (named : IsNamed meta) (m : State) (good : Good meta m) (
     content_fits f (Container target opposite) kind deep = tt
     content_fits f Skip kind deep = tt
 
+    -- what stands under a key gives what it is to give
     abbrev Due : Key → Type 0
     Due key = KeyOk meta m e (tree_rows meta m n) own c (part meta m (whole meta m) e c) key (part meta m (whole meta m) e c key)
 
@@ -162,7 +163,7 @@ module _ (meta : Meta) (named : IsNamed meta) (m : State) (good : Good meta m) (
 
     keys_due : AllByRecursion (λ k. IsWithinIf n (part meta m (whole meta m) e c k)) (keys_of meta c) → AllByRecursion Due (keys_of meta c)
     unfolding keys_of Ident Class Feature
-    keys_due deep = all_in_order (key_cmp meta) Due (Ident ∷ Class ∷ map Feature (class_features meta c)) ((λ ids come. refl), ((λ ids come. refl), features_due (class_features meta c) (λ f s. s) deep))
+    keys_due deep = all-in_order (key_cmp meta) Due (Ident ∷ Class ∷ map Feature (class_features meta c)) ((λ ids come. refl), ((λ ids come. refl), features_due (class_features meta c) (λ f s. s) deep))
 
   -- the row of an element of a class, and the rows inside
   abbrev rows_of : ℕ → ℕ → Option DocParent → Name → ℕ → List Draft
