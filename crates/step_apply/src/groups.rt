@@ -158,13 +158,7 @@ impl Groups {
         }
     }
 
-    pub fn put(
-        &mut self,
-        alloc: Global,
-        place: &Place,
-        e: Id,
-        rank: u64,
-    ) -> Result<(), AllocError>
+    pub fn put(&mut self, alloc: Global, place: &Place, e: Id, rank: u64) -> Result<(), AllocError>
         ensures here { OnOk result (standing self.new place.now ≡ set (standing self.old place.now) e (Some rank)) }
         ensures there { (p : Spot) → place_eq place.now p ≡ false → standing self.new p ≡ standing self.old p }
         ensures err { OnErr result (standing self.new place.now ≡ standing self.old place.now) }

@@ -59,7 +59,6 @@ impl Model for Places {
     ghost use Rattle.step_apply.specs.Spots.{Spots, spots_code};
     ghost use Rattle.finite_maps.specs.Tables.{table_of};
     ghost use Rattle.model_state.specs.Keys.{id_cmp};
-
     ghost use Rattle.step_apply.specs.Groups.{IsGrouped};
 
     ghost Value = { Spots };
@@ -109,12 +108,8 @@ impl Places {
     {
         let own = e.copy(self.alloc)?;
         let to = placed.place.copy(self.alloc)?;
-        self.groups.put(
-            self.alloc,
-            &to,
-            own.copy(self.alloc)?,
-            placed.rank,
-        )?;
+        self.groups
+            .put(self.alloc, &to, own.copy(self.alloc)?, placed.rank)?;
         match self.tree.insert(e, placed) {
             Err(_) => {
                 self.groups.rewrite(&to, &own, None);

@@ -128,7 +128,6 @@ impl Model for Rows {
     ghost use Rattle.step_apply.specs.Spots.{Ranks, ranks_code};
     ghost use Rattle.finite_maps.specs.Tables.{table};
     ghost use Rattle.model_state.specs.Keys.{row_cmp};
-
     ghost use Rattle.step_apply.specs.Groups.{IsOut, IsInto};
 
     ghost Value = { Ranks };
