@@ -1,3 +1,4 @@
 pub mod FreshIds
 pub mod Edits
+pub mod Answers
 pub mod Laws

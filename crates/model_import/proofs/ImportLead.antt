@@ -19,7 +19,7 @@ use Rattle.edit_laws.specs.declared.fault.EditFault.{EditFault}
 use Rattle.edit_laws.specs.declared.fault.EditFault.TheVariants.{IdInUse}
 use Rattle.emfjson_model.specs.declared.doc.DocRow.{DocRow}
 use Rattle.emfjson_model.specs.Fits.{Fits}
-use Rattle.model_import.specs.After.{attrs_from, import_after, kinds_from, places_from, ranks_from, steps_in}
+use Rattle.model_import.specs.After.{attrs_from, import_after, kinds_from, places_from, ranks_from}
 use Rattle.model_import.specs.Import.{and_then, composite, of_steps, steps_made}
 use Rattle.model_import.specs.Laws.{ImportsLead, are_apart}
 use Rattle.model_import.specs.Links.{links_made}
@@ -31,6 +31,7 @@ use Rattle.model_import.proofs.LinksLead.{links_led}
 use Rattle.model_import.proofs.NewNames.{names_new}
 use Rattle.model_import.proofs.NewsLead.{news_led, placed}
 use Rattle.model_import.proofs.ValuesLead.{values_lead}
+use Rattle.edits.specs.Answers.{steps_in}
 
 -- ---- from what is recorded to its steps
 allowed : (b : Bool) (r : Result (Option Operation) EditFault) (operation : Option Operation) → (if b then Err IdInUse else r) ≡ Ok operation → (b ≡ false) × (r ≡ Ok operation)

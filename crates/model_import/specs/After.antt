@@ -88,8 +88,3 @@ import_after m names rows = record {
   attr = attrs_from names 0 m.attr rows;
   row = rows_from names 0 m.row rows;
 }
-
--- the steps of what is recorded, none where there is no operation
-abbrev pub steps_in : Option Operation → List Step
-steps_in None = []
-steps_in (Some o) = steps_of o

@@ -16,11 +16,6 @@ use Rattle.model_import.specs.News.{news_made}
 use Rattle.model_import.specs.Values.{values_made}
 use Rattle.model_import.specs.Links.{links_made}
 
--- the answer is the one that is due, or want of memory
-abbrev pub Answers : {A : Type 0} → Result A EditFault → Result A EditFault → Type 0
-Answers (Ok x) due = due ≡ Ok x
-Answers (Err fault) due = (fault ≡ Memory) ⊎ (due ≡ Err fault)
-
 -- the elements come, then they get their values, then they are linked
 abbrev pub and_then : Result (List Step) EditFault → List Step → Result (List Step) EditFault
 and_then (Err fault) more = Err fault

@@ -11,9 +11,10 @@ use Rattle.model_state.specs.Steps.{fold}
 use Rattle.emfjson_model.specs.declared.doc.DocRow.{DocRow}
 use Rattle.emfjson_model.specs.Fits.{Fits}
 use Rattle.emfjson_model.specs.Laws.{ids_repeat}
-use Rattle.model_import.specs.After.{import_after, steps_in}
+use Rattle.model_import.specs.After.{import_after}
 use Rattle.model_import.specs.Import.{import_of}
 use Rattle.model_import.specs.Names.{AreNames, any_in_use}
+use Rattle.edits.specs.Answers.{steps_in}
 
 -- no name comes twice
 abbrev pub are_apart : List Name → Bool

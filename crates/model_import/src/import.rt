@@ -1,5 +1,6 @@
 ghost use Rattle.std.specs.Prelude.{◌≡◌, IfOk, length};
-ghost use Rattle.model_import.specs.Import.{Answers, Imports, composite, of_steps, recorded_import, steps_made};
+ghost use Rattle.model_import.specs.Import.{Imports, composite, of_steps, recorded_import, steps_made};
+ghost use Rattle.edits.specs.Answers.{Answers};
 
 use crate::links::add_links;
 use crate::names::{any_in_use, names};

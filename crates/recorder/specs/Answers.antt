@@ -6,11 +6,6 @@ use Rattle.edit_laws.specs.declared.fault.EditFault.{EditFault}
 use Rattle.edit_laws.specs.declared.fault.EditFault.TheVariants.{BadId, BadValue, Memory}
 use Rattle.recorder.specs.declared.feature.Named.{Named}
 
--- the answer is the one that is due, or want of memory
-abbrev pub Answers : {A : Type 0} → Result A EditFault → Result A EditFault → Type 0
-Answers (Ok x) due = due ≡ Ok x
-Answers (Err fault) due = (fault ≡ Memory) ⊎ (due ≡ Err fault)
-
 -- the feature that is due, or want of memory, or why there is none
 abbrev pub AnswersFeature : Result Named EditFault → Result ℕ EditFault → Type 0
 AnswersFeature (Ok named) due = due ≡ Ok named.feature

@@ -1,11 +1,8 @@
 -- What is recorded leads to the model that the edit is to leave.
-use Rattle.std.specs.Prelude.{◌≡◌, ◌↔◌, ℕ, List, [], Option, None, Some, is_some, Ok}
+use Rattle.std.specs.Prelude.{◌≡◌, ◌↔◌, ℕ, None, Some, is_some, Ok}
 use Rattle.std.specs.FinMap.{get}
 use Rattle.ecore_meta.specs.Meta.{Meta}
-use Rattle.model_state.specs.declared.operation.Operation.{Operation}
-use Rattle.model_state.specs.declared.step.Step.{Step}
 use Rattle.model_state.specs.Keys.{Name}
-use Rattle.model_state.specs.Packages.{steps_of}
 use Rattle.model_state.specs.State.{State}
 use Rattle.model_state.specs.Steps.{fold}
 use Rattle.model_state.specs.Good.{Good, Sound}
@@ -15,11 +12,7 @@ use Rattle.edits.specs.declared.edit.Edit.{Edit}
 use Rattle.edits.specs.declared.edit.Recorded.{Recorded}
 use Rattle.edits.specs.Edits.{Effect, effect_of, after}
 use Rattle.recorder.specs.Recording.{recorded}
-
--- the steps of an operation, if there is one
-abbrev pub steps_in : Option Operation → List Step
-steps_in None = []
-steps_in (Some operation) = steps_of operation
+use Rattle.edits.specs.Answers.{steps_in}
 
 -- the steps lead from the model to the one after the effect of the edit, there is no operation exactly where that changes nothing, and the model after it is good
 pub record LeadsOn (meta : Meta) (m : State) (ws : ℕ) (edit : Edit) (r : Recorded) : Type 0 where

@@ -8,7 +8,7 @@ ghost use Rattle.model_state.specs.declared.operation.OpKind.TheVariants.{Attrib
 ghost use Rattle.emfjson_io.specs.Values.{value_of};
 ghost use Rattle.edit_laws.specs.Attributes.{held, put_made, taken};
 ghost use Rattle.edits.specs.Edits.{operation_of, recording_of, set_effect};
-ghost use Rattle.recorder.specs.Answers.{Answers};
+ghost use Rattle.edits.specs.Answers.{Answers};
 
 use crate::feature::{Named, feature, read};
 use crate::operation::operation;

@@ -6,7 +6,8 @@ ghost use Rattle.edit_laws.specs.Spot.{end_spot};
 ghost use Rattle.edit_laws.specs.Places.{rerank_places};
 ghost use Rattle.edits.specs.FreshIds.{id_or_fresh};
 ghost use Rattle.edits.specs.Edits.{create_effect, new_effect, recording_of};
-ghost use Rattle.recorder.specs.Answers.{Answers, AnswersId};
+ghost use Rattle.recorder.specs.Answers.{AnswersId};
+ghost use Rattle.edits.specs.Answers.{Answers};
 
 use crate::fresh::fresh_id;
 use crate::operation::operation;

@@ -10,7 +10,7 @@ ghost use Rattle.emfjson_io.specs.Values.{value_of};
 ghost use Rattle.edit_laws.specs.ManyValues.{dels, values_in};
 ghost use Rattle.model_state.specs.declared.operation.OpKind.TheVariants.{ManyAttribute};
 ghost use Rattle.edits.specs.Edits.{Clears, operation_of, add_effect, insert_effect, recording, recording_of, remove_effect, shift_effect};
-ghost use Rattle.recorder.specs.Answers.{Answers};
+ghost use Rattle.edits.specs.Answers.{Answers};
 
 use crate::feature::{Named, feature, read};
 use crate::operation::operation;

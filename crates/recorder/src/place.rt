@@ -5,7 +5,7 @@ ghost use Rattle.containment.specs.Refusals.{IsPlace, IsRefusal, move_refusal, p
 ghost use Rattle.containment.specs.Moves.{move_made};
 ghost use Rattle.containment.specs.Containers.{containers_of};
 ghost use Rattle.edits.specs.Edits.{delete_effect, move_effect, place_at, recording_of};
-ghost use Rattle.recorder.specs.Answers.{Answers};
+ghost use Rattle.edits.specs.Answers.{Answers};
 
 use crate::feature::{Named, live};
 use crate::operation::operation;

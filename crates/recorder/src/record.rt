@@ -2,9 +2,9 @@ ghost use Rattle.std.specs.Prelude.{IfOk};
 ghost use Rattle.model_state.specs.Good.{Good};
 ghost use Rattle.model_state.specs.Typing.{kind_of};
 ghost use Rattle.edits.specs.Edits.{recording_of, unset_effect};
-ghost use Rattle.recorder.specs.Answers.{Answers};
 ghost use Rattle.recorder.specs.Laws.{KeepsGood};
 ghost use Rattle.recorder.specs.Recording.{recorded};
+ghost use Rattle.edits.specs.Answers.{Answers};
 
 use crate::feature::Named;
 use crate::{attribute, create, many, place, reference};

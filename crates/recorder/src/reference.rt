@@ -10,7 +10,7 @@ ghost use Rattle.emfjson_io.specs.Values.{value_of};
 ghost use Rattle.edit_laws.specs.declared.fault.EditFault.TheVariants.{Memory, NoEntry};
 ghost use Rattle.edit_laws.specs.References.{is_one};
 ghost use Rattle.edits.specs.Edits.{Forgets, is_listed, link_effect, operation_of, recording, recording_of, refer_effect, reorder_effect, target_in, unlink_effect};
-ghost use Rattle.recorder.specs.Answers.{Answers};
+ghost use Rattle.edits.specs.Answers.{Answers};
 
 use crate::feature::{Named, live, read};
 use crate::operation::operation;

@@ -19,7 +19,6 @@ use Rattle.edits.specs.declared.edit.Edit.{Edit}
 use Rattle.edits.specs.declared.edit.Recorded.{Recorded}
 use Rattle.edits.specs.Edits.{after}
 use Rattle.recorder.specs.Recording.{recorded}
-use Rattle.recorder.specs.Laws.{steps_in}
 use Rattle.recorder.proofs.Recordings.{recording_leads}
 use Rattle.emfjson_model.specs.declared.doc.DocRow.{DocRow}
 use Rattle.emfjson_model.specs.Document.{doc_of}
@@ -27,6 +26,7 @@ use Rattle.emfjson_model.proofs.Fitting.{documents_fit}
 use Rattle.model_import.specs.After.{import_after}
 use Rattle.model_import.specs.Import.{Imports}
 use Rattle.model_import.proofs.ImportLead.{imports_lead}
+use Rattle.edits.specs.Answers.{steps_in}
 
 -- steps with one that can't be taken lead nowhere
 pub fold_none : (meta : Meta) (m : State) (ss : List Step) (e : StepFault) → fault_along meta m ss ≡ Some e → fold meta m ss ≡ None

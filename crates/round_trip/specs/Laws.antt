@@ -14,10 +14,11 @@ use Rattle.emfjson_model.specs.declared.doc.DocRow.{DocRow}
 use Rattle.emfjson_model.specs.Document.{doc_of}
 use Rattle.emfjson_model.specs.Fits.{Fits}
 use Rattle.emfjson_text.specs.Tree.{text, tree}
-use Rattle.model_import.specs.After.{import_after, steps_in}
+use Rattle.model_import.specs.After.{import_after}
 use Rattle.model_import.specs.Import.{recorded_import}
 use Rattle.round_trip.specs.Named.{HasIds, IsNamed}
 use Rattle.round_trip.specs.Tells.{Tells}
+use Rattle.edits.specs.Answers.{steps_in}
 
 -- what rows that tell a good model leave in the empty project has the text of that model
 abbrev pub TellingsAreShown : Type 0
