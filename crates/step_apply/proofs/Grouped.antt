@@ -26,7 +26,7 @@ none_grouped e o none some = true_false (is_some (get (group_of o) e)) some (ap 
 pub some_tabled : (t : BTreeMap Name ℕ) (e : Name) → is_some (get (table id_cmp t) e) ≡ true → is_some (tree.get id_cmp t e) ≡ true
 some_tabled t e some = ap is_some (sym (get-table id_order t e)) ∙ some
 
-no_items : {A : Type 0} (xs : List A) → length xs ≡ 0 → xs ≡ []
+pub no_items : {A : Type 0} (xs : List A) → length xs ≡ 0 → xs ≡ []
 no_items [] h = refl
 no_items (x ∷ xs) h = absurd (omega (arith, h))
 

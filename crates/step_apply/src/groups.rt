@@ -1,9 +1,10 @@
-ghost use Rattle.std.specs.Prelude.{ℕ, ◌≡◌, Some, OnOk, OnErr, IfOk, map, length, true, false, is_some, nat_eq};
+ghost use Rattle.std.specs.Prelude.{ℕ, ◌≡◌, None, Some, OnOk, OnErr, IfOk, map, length, true, false, is_some, nat_eq};
+ghost use Rattle.std.specs.List.{list_all};
 ghost use Rattle.std.specs.Ordering.{nat_cmp};
 ghost use Rattle.std.specs.FinMap.{get, entries, empty};
 ghost use Rattle.std.specs.Option.{option_copied};
 ghost use Rattle.std.specs.BTreeMap as ordered_map;
-ghost use Rattle.std.specs.BTreeMap.{IsOrdered, btree_map_len};
+ghost use Rattle.std.specs.BTreeMap.{IsOrdered, btree_map_len, values};
 ghost use Rattle.finite_maps.specs.Equal.{text_eq};
 ghost use Rattle.finite_maps.specs.Maps.{set};
 ghost use Rattle.finite_maps.specs.Tables.{table};
@@ -145,6 +146,23 @@ pub(crate) fn group_in<'a>(
     match inside.get(a) {
         None => None,
         Some(fan) => fan.get(&f),
+    }
+}
+
+/// Whether no list has an element.
+fn are_empty(fan: &BTreeMap<u32, BTreeMap<Id, u64>>) -> bool
+    ensures { result ≡ list_all (λ g. nat_eq (btree_map_len g) 0) (values fan.now) }
+{
+    fan.values().all(|group| group.len() == 0)
+}
+
+/// Whether no list of the element has an element.
+pub(crate) fn is_bare(inside: &BTreeMap<Id, BTreeMap<u32, BTreeMap<Id, u64>>>, a: &Id) -> bool
+    ensures { result ≡ true → (f : ℕ) → (b : Name) → get (held inside.now a.now f) b ≡ None }
+{
+    match inside.get(a) {
+        None => true,
+        Some(fan) => are_empty(fan),
     }
 }
 

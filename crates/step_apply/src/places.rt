@@ -10,7 +10,7 @@ ghost use Rattle.std.specs.BTreeMap.{values, IsOrdered};
 ghost use Rattle.model_state.specs.State.{place_eq, is_inside};
 ghost use Rattle.model_state.specs.Keys.{id_cmp};
 
-use crate::groups::Groups;
+use crate::groups::{Groups, is_bare};
 use ecore_meta::List;
 use model_state::{Entry, Id, Place, Placed};
 use std::alloc::{AllocError, Global};
@@ -48,6 +48,9 @@ fn leave_for(groups: &mut Groups, old: Option<Placed>, e: &Id, to: &Place)
 }
 
 /// The places of the live elements and their ranks, which contracts see as two finite maps.
+///
+/// Beside the place of each element stand the elements of each place. So to find, put or take out an element, and
+/// to count a place, costs a logarithm, and to list a place costs the sorting of what stands there.
 #[derive(Drop)]
 pub struct Places {
     alloc: Global,
@@ -95,9 +98,14 @@ impl Places {
         self.groups.count(place)
     }
 
+    /// How many elements stand inside an element. This costs as many steps as features of the element were used
+    /// where none stands inside, and otherwise goes over all elements.
     pub fn count_inside(&self, e: &Id) -> usize
         ensures { result ≡ count (λ x. is_inside e.now x.1) self.now.place }
     {
+        if is_bare(&self.groups.inside, e) {
+            return 0;
+        }
         standing_inside(&self.tree, e)
     }
 

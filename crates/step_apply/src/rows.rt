@@ -8,10 +8,10 @@ ghost use Rattle.finite_maps.specs.Maps.{set, count};
 ghost use Rattle.finite_maps.specs.Tables.{table};
 ghost use Rattle.step_apply.specs.Groups.{arriving};
 ghost use Rattle.finite_maps.specs.Equal.{text_eq};
-ghost use Rattle.model_state.specs.Keys.{Name, row_cmp};
+ghost use Rattle.model_state.specs.Keys.{Name, RowKey, row_cmp};
 ghost use Rattle.model_state.specs.Listing.{is_of, row_entry, row_incoming, targets, incoming};
 
-use crate::groups::{entries_of, group_in, put_in, rewrite_in};
+use crate::groups::{entries_of, group_in, is_bare, put_in, rewrite_in};
 use ecore_meta::List;
 use model_state::{Entry, Id, Incoming};
 use std::alloc::{AllocError, Global};
@@ -99,6 +99,16 @@ fn put_to(
     }
 }
 
+/// Whether no row ends at the element.
+fn is_no_target(into: &BTreeMap<Id, BTreeMap<(Id, u32, Id), u64>>, b: &Id) -> bool
+    ensures { result ≡ true → (k : RowKey) → get (arriving into.now b.now) k ≡ None }
+{
+    match into.get(b) {
+        None => true,
+        Some(rows) => rows.len() == 0,
+    }
+}
+
 /// The rows as they are listed at their target.
 fn listed(alloc: Global, rows: &BTreeMap<(Id, u32, Id), u64>) -> Result<List<Incoming>, AllocError>
     ensures rows { IfOk result (λ l. l ≡ map row_incoming rows.now.entries) }
@@ -116,6 +126,10 @@ fn listed(alloc: Global, rows: &BTreeMap<(Id, u32, Id), u64>) -> Result<List<Inc
 }
 
 /// The ranks of the references, which contracts see as a finite map.
+///
+/// Beside each row stand the rows of each feature of an element and the rows to each element. So to find, put or
+/// take out a row, and to count a feature's targets, costs a logarithm, and to list them or the rows to an element
+/// costs no more than the sorting of what is listed.
 #[derive(Drop)]
 pub struct Rows {
     alloc: Global,
@@ -201,10 +215,14 @@ impl Rows {
         }
     }
 
-    /// How many rows begin or end at an element.
+    /// How many rows begin or end at an element. This costs as many steps as features of the element were used
+    /// where there is none, and otherwise goes over all rows.
     pub fn count_at(&self, e: &Id) -> usize
         ensures { result ≡ count (λ x. text_eq e.now x.0.0 || text_eq e.now x.0.2) self.now }
     {
+        if is_bare(&self.out, e) && is_no_target(&self.into, e) {
+            return 0;
+        }
         counted_at(&self.tree, e)
     }
 
