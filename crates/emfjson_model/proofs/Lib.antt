@@ -20,3 +20,4 @@ pub mod SetAttrs
 pub mod Made
 pub mod Fitting
 pub mod Finding
+pub mod Naming

@@ -7,6 +7,7 @@ pub mod Walk
 pub mod References
 pub mod Finder
 pub mod Merged
+pub mod Sources
 pub mod Document
 pub mod Answers
 pub mod Laws

@@ -128,7 +128,7 @@ fn names_of(alloc: Global, rows: &[Draft]) -> Result<BTreeMap<String, usize>, Al
 }
 
 /// The numbers in a place, which are taken out.
-fn take_numbers(
+pub(crate) fn take_numbers(
     alloc: Global,
     children: &mut BTreeMap<(usize, u32), List<usize>>,
     place: DocParent,

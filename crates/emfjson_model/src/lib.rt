@@ -14,6 +14,7 @@ mod merged;
 mod paths;
 mod read;
 mod references;
+mod sources;
 #[cfg(test)]
 mod tests;
 mod walk;

@@ -1,6 +1,7 @@
-ghost use Rattle.std.specs.Prelude.{◌≡◌, IfOk, [], ◌++◌, option_to_list};
+ghost use Rattle.std.specs.Prelude.{◌≡◌, IfOk, [], ◌++◌, nat_eq, not, option_to_list};
+ghost use Rattle.std.specs.List.{filter, list_any};
 ghost use Rattle.emfjson_model.specs.Answers.{Gives};
-ghost use Rattle.emfjson_model.specs.Merged.{attr_at, attrs_by, given_at, is_set, merged, merged_all, merged_at, merged_within, naming, next_row, others, row_of, rows_by, targets_at};
+ghost use Rattle.emfjson_model.specs.Merged.{attr_at, attrs_by, is_set, merged, merged_all, merged_at, merged_within, naming, next_row, others, row_of, rows_by};
 
 use crate::attributes::is_within;
 use crate::classes::features_of;
@@ -8,43 +9,40 @@ use crate::doc::{DocAttr, DocRefs, DocRow};
 use crate::draft::Draft;
 use crate::fault::ModelFault;
 use crate::references::has;
+use crate::sources::Sources;
 use ecore_meta::{List, Metamodel, Value};
 use model_state::{Id, opposite_of, row_upper};
 use std::alloc::{AllocError, Global};
 
-fn targets_at(refs: &[DocRefs], f: u32) -> &[usize]
-    ensures { result.now ≡ targets_at f refs.now }
+/// Those of the numbers that are not among the targets.
+fn without(alloc: Global, numbers: &[usize], targets: &[usize]) -> Result<List<usize>, AllocError>
+    ensures { IfOk result (λ ns. ns ≡ filter (λ n. not (list_any (nat_eq n) targets.now)) numbers.now) }
 {
-    for r in refs {
-        if f == r.feature {
-            return r.targets.as_slice();
+    let mut others = List::new(alloc);
+    for n in numbers {
+        if !has(targets, *n) {
+            others.push(*n)?;
         }
     }
-    &[]
+    Ok(others)
 }
 
 /// The elements that name `row` by the feature `g` and are not among the targets.
 fn naming(
     alloc: Global,
-    given: &[List<DocRefs>],
+    given: &Sources,
     row: usize,
     g: u32,
     targets: &[usize],
 ) -> Result<List<usize>, AllocError>
     ensures { IfOk result (λ ns. ns ≡ naming g row targets.now 0 given.now) }
 {
-    let mut numbers = List::new(alloc);
-    for (n, refs) in given.iter().enumerate() {
-        if has(targets_at(refs.as_slice(), g), row) && !has(targets, n) {
-            numbers.push(n)?;
-        }
-    }
-    Ok(numbers)
+    without(alloc, given.naming(row, g), targets)
 }
 
 fn others(
     alloc: Global,
-    given: &[List<DocRefs>],
+    given: &Sources,
     row: usize,
     opposite: Option<u32>,
     targets: &[usize],
@@ -74,7 +72,7 @@ fn joined(alloc: Global, xs: &[usize], ys: &[usize]) -> Result<List<usize>, Allo
 fn merged(
     alloc: Global,
     meta: &Metamodel,
-    given: &[List<DocRefs>],
+    given: &Sources,
     row: usize,
     refs: &DocRefs,
 ) -> Result<List<usize>, AllocError>
@@ -89,7 +87,7 @@ fn merged(
 fn merged_within(
     alloc: Global,
     meta: &Metamodel,
-    given: &[List<DocRefs>],
+    given: &Sources,
     row: usize,
     refs: &DocRefs,
 ) -> Result<List<usize>, ModelFault>
@@ -109,7 +107,7 @@ fn merged_within(
 fn merged_at(
     alloc: Global,
     meta: &Metamodel,
-    given: &[List<DocRefs>],
+    given: &Sources,
     row: usize,
     refs: &DocRefs,
 ) -> Result<DocRefs, ModelFault>
@@ -128,7 +126,7 @@ fn merged_at(
 fn merged_all(
     alloc: Global,
     meta: &Metamodel,
-    given: &[List<DocRefs>],
+    given: &Sources,
     row: usize,
     refs: &[DocRefs],
 ) -> Result<List<DocRefs>, ModelFault>
@@ -222,27 +220,18 @@ fn row_of(
     })
 }
 
-fn given_at(given: &[List<DocRefs>], n: usize) -> &[DocRefs]
-    ensures { result.now ≡ given_at given.now n }
-{
-    match given.get(n) {
-        None => &[],
-        Some(refs) => refs.as_slice(),
-    }
-}
-
 /// The next row with its lists, behind those before it.
 fn next_row(
     alloc: Global,
     meta: &Metamodel,
-    given: &[List<DocRefs>],
+    given: &Sources,
     rows: &[DocRow],
     draft: &Draft,
 ) -> Result<DocRow, ModelFault>
     ensures { Gives result (next_row meta.now given.now rows.now draft.now) }
 {
     let n = rows.len();
-    match merged_all(alloc, meta, given, n, given_at(given, n)) {
+    match merged_all(alloc, meta, given, n, given.at(n)) {
         Err(fault) => Err(fault),
         Ok(refs) => match row_of(alloc, meta, draft, refs) {
             Err(_) => Err(ModelFault::Memory),
@@ -256,6 +245,20 @@ pub(crate) fn rows_by(
     alloc: Global,
     meta: &Metamodel,
     given: &[List<DocRefs>],
+    drafts: &[Draft],
+) -> Result<List<DocRow>, ModelFault>
+    ensures { Gives result (rows_by meta.now given.now drafts.now) }
+{
+    match Sources::new(alloc, given) {
+        Err(_) => Err(ModelFault::Memory),
+        Ok(sources) => rows_with(alloc, meta, &sources, drafts),
+    }
+}
+
+fn rows_with(
+    alloc: Global,
+    meta: &Metamodel,
+    given: &Sources,
     drafts: &[Draft],
 ) -> Result<List<DocRow>, ModelFault>
     ensures { Gives result (rows_by meta.now given.now drafts.now) }
