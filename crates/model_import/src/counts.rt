@@ -1,7 +1,4 @@
-ghost use Rattle.std.specs.Prelude.{◌≡◌, ◌+◌, ◌<◌, OnOk, cond, Some};
-ghost use Rattle.emfjson_model.specs.References.{parent_eq};
-ghost use Rattle.finite_maps.specs.Equal.{option_eq};
-ghost use Rattle.emfjson_model.specs.declared.doc.DocParent.{DocParent};
+ghost use Rattle.std.specs.Prelude.{◌≡◌, ◌<◌, OnOk};
 ghost use Rattle.model_import.specs.Counts.{CountsAlso, counted};
 
 use emfjson_model::DocParent;

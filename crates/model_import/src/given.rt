@@ -1,8 +1,5 @@
 ghost use Rattle.std.specs.Prelude.{◌≡◌, IfOk, OnOk};
 ghost use Rattle.std.specs.List.{list_any};
-ghost use Rattle.std.specs.Ordering.{is_eq};
-ghost use Rattle.std.specs.BTreeSet.{contains};
-ghost use Rattle.model_state.specs.Keys.{id_cmp};
 ghost use Rattle.emfjson_model.specs.Laws.{gives_id};
 ghost use Rattle.model_import.specs.Given.{Gives, GivesAlso};
 

@@ -1,9 +1,5 @@
-ghost use Rattle.std.specs.Prelude.{◌≡◌, ◌≤◌, ◌<◌, ◌⊎◌, ◌++◌, ◌∷◌, [], false, true, IfErr, IfOk, OnOk, length, take, slice_get};
-ghost use Rattle.std.specs.Option.{option_copied};
-ghost use Rattle.std.specs.List.{count_by};
-ghost use Rattle.finite_maps.specs.Equal.{option_eq};
+ghost use Rattle.std.specs.Prelude.{◌≡◌, ◌<◌, ◌⊎◌, ◌++◌, ◌∷◌, [], false, true, IfErr, IfOk, OnOk, length};
 ghost use Rattle.edit_laws.specs.declared.fault.EditFault.TheVariants.{Bound, Memory};
-ghost use Rattle.emfjson_model.specs.References.{parent_eq};
 ghost use Rattle.model_state.specs.Listing.{children};
 ghost use Rattle.model_state.specs.declared.step.Place.TheVariants.{Root, Inside};
 ghost use Rattle.model_state.specs.declared.step.Step.TheVariants.{New};
@@ -11,6 +7,7 @@ ghost use Rattle.model_import.specs.Counts.{CountsAlso, counted};
 ghost use Rattle.model_import.specs.Names.{name_at};
 ghost use Rattle.model_import.specs.News.{element_made, has_room, news_made, place_of, rank_of, roots_after, standing};
 ghost use Rattle.edits.specs.Answers.{Answers};
+ghost use Rattle.model_import.specs.News.{element_made, has_room, news_made, place_of, rank_of, roots_after};
 
 use crate::counts::{count_up, counted};
 use crate::names::name_at;
