@@ -1,9 +1,8 @@
-ghost use Rattle.std.specs.Prelude.{◌≡◌, ◌==◌, IfOk, IfSome, Option, Some, None, codes, drop, length, map, option_and_then, option_copied, option_map, ◌<◌, slice_get};
+ghost use Rattle.std.specs.Prelude.{◌≡◌, ◌==◌, IfOk, map, option_and_then, option_map};
 ghost use Rattle.std.specs.List.{list_all, slice_split};
 ghost use Rattle.std.specs.Char.{is_ascii_digit};
-ghost use Rattle.ecore_json.specs.References.{behind};
 ghost use Rattle.model_state.specs.Typing.{contains_kind, kind_of};
-ghost use Rattle.emfjson_model.specs.References.{parent_eq, along, along_parts, child_at, child_by, child_named, class_at, has_id, index_of, located, located_bare, named, number_of, root_at, stands_in, step_from};
+ghost use Rattle.emfjson_model.specs.References.{along, along_parts, child_by, child_named, index_of, located, located_bare, number_of, root_at, step_from};
 
 use crate::classes::{behind, feature, feature_named};
 use crate::doc::DocParent;

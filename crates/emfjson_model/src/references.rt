@@ -1,6 +1,6 @@
 ghost use Rattle.std.specs.Prelude.{◌≡◌, IfOk, [], nat_eq, option_and_then};
 ghost use Rattle.std.specs.List.{list_any};
-ghost use Rattle.model_state.specs.Typing.{is_plain, kind_of, plain_to};
+ghost use Rattle.model_state.specs.Typing.{kind_of, plain_to};
 ghost use Rattle.emfjson_model.specs.Answers.{Gives};
 ghost use Rattle.emfjson_model.specs.Reads.{collected};
 ghost use Rattle.emfjson_model.specs.References.{entries_at, given_by, located, new_target, plain_features, refs_at, refs_of, target_of, targets_of};
