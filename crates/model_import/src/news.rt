@@ -5,7 +5,6 @@ ghost use Rattle.model_state.specs.declared.step.Place.TheVariants.{Root, Inside
 ghost use Rattle.model_state.specs.declared.step.Step.TheVariants.{New};
 ghost use Rattle.model_import.specs.Counts.{CountsAlso, counted};
 ghost use Rattle.model_import.specs.Names.{name_at};
-ghost use Rattle.model_import.specs.News.{element_made, has_room, news_made, place_of, rank_of, roots_after, standing};
 ghost use Rattle.edits.specs.Answers.{Answers};
 ghost use Rattle.model_import.specs.News.{element_made, has_room, news_made, place_of, rank_of, roots_after};
 
