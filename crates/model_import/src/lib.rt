@@ -9,8 +9,6 @@ mod links;
 mod names;
 mod news;
 mod roots;
-#[cfg(test)]
-mod tests;
 mod values;
 
 pub use edit_laws::EditFault;
