@@ -140,42 +140,42 @@ fn delete(alloc: Global, meta: &Metamodel, plain: &mut Plain, e: &Id) -> Result<
 }
 
 #[test]
-fn half_a_chain_of_1000_elements_moves_to_the_root(rt: HostRuntime) -> Result<(), Fail> {
+fn half_a_chain_of_5000_elements_moves_to_the_root(rt: HostRuntime) -> Result<(), Fail> {
     let alloc = rt.alloc();
     let meta = nested(alloc)?;
-    let plain = halves_of(alloc, &meta, 1000)?;
-    assert_eq!(rt; size_of(alloc, &meta, &plain, 0)?, 500);
-    assert_eq!(rt; size_of(alloc, &meta, &plain, 500)?, 500);
+    let plain = halves_of(alloc, &meta, 5000)?;
+    assert_eq!(rt; size_of(alloc, &meta, &plain, 0)?, 2500);
+    assert_eq!(rt; size_of(alloc, &meta, &plain, 2500)?, 2500);
     Ok(())
 }
 
 #[test]
-fn half_a_chain_of_1000_elements_moves_back(rt: HostRuntime) -> Result<(), Fail> {
+fn half_a_chain_of_5000_elements_moves_back(rt: HostRuntime) -> Result<(), Fail> {
     let alloc = rt.alloc();
     let meta = nested(alloc)?;
-    let plain = mended_of(alloc, &meta, 1000)?;
-    assert_eq!(rt; size_of(alloc, &meta, &plain, 0)?, 1000);
+    let plain = mended_of(alloc, &meta, 5000)?;
+    assert_eq!(rt; size_of(alloc, &meta, &plain, 0)?, 5000);
     Ok(())
 }
 
 #[test]
-fn a_chain_of_1000_elements_goes(rt: HostRuntime) -> Result<(), Fail> {
+fn a_chain_of_5000_elements_goes(rt: HostRuntime) -> Result<(), Fail> {
     let alloc = rt.alloc();
     let meta = nested(alloc)?;
-    let mut plain = chain_of(alloc, &meta, 1000)?;
+    let mut plain = chain_of(alloc, &meta, 5000)?;
     let top = named(alloc, 0)?;
-    assert_eq!(rt; delete(alloc, &meta, &mut plain, &top)?, 1000);
+    assert_eq!(rt; delete(alloc, &meta, &mut plain, &top)?, 5000);
     assert_eq!(rt; plain.ids(alloc)?.len(), 0);
     Ok(())
 }
 
 #[test]
-fn an_element_with_400_references_to_it_goes(rt: HostRuntime) -> Result<(), Fail> {
+fn an_element_with_2000_references_to_it_goes(rt: HostRuntime) -> Result<(), Fail> {
     let alloc = rt.alloc();
     let meta = parts(alloc)?;
-    let mut plain = star_of(alloc, &meta, 400)?;
+    let mut plain = star_of(alloc, &meta, 2000)?;
     let top = Id::read(alloc, "top")?;
-    assert_eq!(rt; delete(alloc, &meta, &mut plain, &top)?, 401);
-    assert_eq!(rt; plain.ids(alloc)?.len(), 400);
+    assert_eq!(rt; delete(alloc, &meta, &mut plain, &top)?, 2001);
+    assert_eq!(rt; plain.ids(alloc)?.len(), 2000);
     Ok(())
 }
