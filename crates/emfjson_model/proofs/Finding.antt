@@ -1,16 +1,18 @@
 -- What tells the elements by their ids and by their places, one element after another.
-use Rattle.std.proofs.Common.{◌≡◌, ℕ, suc, ◌+◌, ◌<◌, ◌≤◌, Bool, true, false, cond, List, [], ◌∷◌, ◌++◌, length, take, get_or, refl, sym, ap, ◌∙◌, ◌&&◌, arith, nat_eq, append-nil}
-use Rattle.std.specs.Prelude.{Option, None, Some, is_some, unwrap_or, slice_get}
+use Rattle.std.proofs.Common.{◌≡◌, ℕ, zero, suc, ◌+◌, ◌<◌, ◌≤◌, Bool, true, false, cond, List, [], ◌∷◌, ◌++◌, length, take, get_or, refl, sym, ap, ◌∙◌, ◌&&◌, ◌||◌, arith, nat_eq, append-nil}
+use Rattle.std.specs.Prelude.{Option, None, Some, is_some, unwrap_or, slice_get, slice_set}
+use Rattle.std.specs.List.{list_any}
 use Rattle.std.specs.BTreeMap.{BTreeMap, get, is_at}
 use Rattle.std.specs.Ordering.{is_eq, nat_cmp}
 use Rattle.std.specs.Cmp.{tied_then, unsigned_tied}
 use Rattle.std.proofs.lemmas.List.{length-take-le, take_more}
 use Rattle.finite_maps.specs.Equal.{option_eq, text_eq}
-use Rattle.finite_maps.proofs.EqualLaws.{text_equality}
+use Rattle.finite_maps.proofs.EqualLaws.{text_equality, apart}
 use Rattle.model_state.specs.Keys.{Name}
 use Rattle.emfjson_model.specs.declared.doc.DocParent.{DocParent}
 use Rattle.emfjson_model.specs.declared.draft.Draft.{Draft}
 use Rattle.emfjson_model.specs.Finder.{first_of, numbers_at, place_cmp}
+use Rattle.emfjson_model.specs.Parts.{ids_of}
 use Rattle.emfjson_model.specs.References.{has_id, named, numbers_where, parent_eq}
 use Rattle.emfjson_model.proofs.Bounds.{parent_exact}
 
@@ -52,6 +54,45 @@ pub named_more : (rows : List Draft) (n : ℕ) (r : Draft) (t : Name) → n < le
 named_more rows n r t less is =
     ap (λ ns. slice_get ns 0) (numbers_more (has_id t) rows n r less is)
     ∙ first_more (numbers_where (has_id t) 0 (take n rows)) (has_id t r) n
+
+pub named_last : (rows : List Draft) (r : Draft) (t : Name) → named (rows ++ r ∷ []) t ≡ first_of (named rows t) (cond (has_id t r) (Some (length rows)) None)
+named_last rows r t =
+    ap (λ ns. slice_get ns 0) (numbers_last (has_id t) 0 rows r (length rows) (none (length rows)))
+    ∙ first_more (numbers_where (has_id t) 0 rows) (has_id t r) (length rows)
+  where
+    none : (n : ℕ) → 0 + n ≡ n
+    none n = omega arith
+
+-- a row that keeps its id is found as before
+pub named_set : (rows : List Draft) (own : ℕ) (r s : Draft) (t : Name) → r ≡ get_or rows own r → s.id ≡ r.id → named (slice_set rows own s) t ≡ named rows t
+named_set rows own r s t at same = ap (λ ns. slice_get ns 0) (go 0 rows own at)
+  where
+    go : (n : ℕ) (rows : List Draft) (own : ℕ) → r ≡ get_or rows own r → numbers_where (has_id t) n (slice_set rows own s) ≡ numbers_where (has_id t) n rows
+    go n [] own at = refl
+    go n (x ∷ xs) zero at = ap (λ b. cond b (n ∷ numbers_where (has_id t) (suc n) xs) (numbers_where (has_id t) (suc n) xs)) (ap (λ o. option_eq text_eq o (Some t)) same ∙ ap (has_id t) at)
+    go n (x ∷ xs) (suc k) at = ap (λ ns. cond (has_id t x) (n ∷ ns) ns) (go (suc n) xs k at)
+
+turned : (o : Option Name) (t : Name) → option_eq text_eq o (Some t) ≡ option_eq text_eq (Some t) o
+turned None t = refl
+turned (Some u) t = by (text_eq u t) refl
+  where
+    by : (b : Bool) → text_eq u t ≡ b → text_eq u t ≡ text_eq t u
+    by true h = h ∙ sym (ap (λ x. text_eq t x) (text_equality.exact u t h) ∙ text_equality.own t)
+    by false h = h ∙ sym (apart text_eq text_equality u t h)
+
+-- an id that finds a row is one that a row has
+pub named_had : (rows : List Draft) (t : Name) → is_some (named rows t) ≡ list_any (option_eq text_eq (Some t)) (ids_of rows)
+named_had rows t = from 0 rows
+  where
+    step : (b : Bool) (n : ℕ) (ns : List ℕ) (any : Bool) → is_some (slice_get ns 0) ≡ any → is_some (slice_get (cond b (n ∷ ns) ns) 0) ≡ b || any
+    step true n ns any h = refl
+    step false n ns any h = h
+
+    from : (n : ℕ) (rows : List Draft) → is_some (slice_get (numbers_where (has_id t) n rows) 0) ≡ list_any (option_eq text_eq (Some t)) (ids_of rows)
+    from n [] = refl
+    from n (r ∷ rs) =
+        step (has_id t r) n (numbers_where (has_id t) (suc n) rs) _ (from (suc n) rs)
+        ∙ ap (λ b. b || list_any (option_eq text_eq (Some t)) (ids_of rs)) (turned r.id t)
 
 or_none : (o : Option ℕ) → o ≡ first_of o None
 or_none None = refl

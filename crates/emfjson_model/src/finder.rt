@@ -1,4 +1,4 @@
-ghost use Rattle.std.specs.Prelude.{◌≡◌, ◌++◌, ◌∷◌, [], IfOk, OnOk, Some, None, cond, false};
+ghost use Rattle.std.specs.Prelude.{◌≡◌, ◌++◌, ◌∷◌, [], IfOk, OnErr, OnOk, Some, None, cond, false};
 ghost use Rattle.std.specs.BTreeMap.{get_by_text};
 ghost use Rattle.finite_maps.specs.Equal.{option_eq, text_eq};
 ghost use Rattle.model_state.specs.Keys.{Name};
@@ -96,13 +96,14 @@ pub(crate) fn child_at(rows: &Finder, place: Option<DocParent>, index: u32) -> O
 }
 
 /// The number of a row comes to its id, unless a row before has it.
-fn add_name(
+pub(crate) fn add_name(
     alloc: Global,
     names: &mut BTreeMap<String, usize>,
     n: usize,
     id: &Option<Id>,
 ) -> Result<(), AllocError>
-    ensures { OnOk result ((t : Name) → get_by_text names.new t ≡ first_of (get_by_text names.old t) (cond (option_eq text_eq id.now (Some t)) (Some n) None)) }
+    ensures found { OnOk result ((t : Name) → get_by_text names.new t ≡ first_of (get_by_text names.old t) (cond (option_eq text_eq id.now (Some t)) (Some n) None)) }
+    ensures kept { OnErr result ((t : Name) → get_by_text names.new t ≡ get_by_text names.old t) }
 {
     match id {
         None => {}

@@ -5,6 +5,7 @@ mod attributes;
 mod classes;
 mod doc;
 mod draft;
+mod drafts;
 mod fault;
 mod finder;
 mod identity;

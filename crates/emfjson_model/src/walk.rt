@@ -10,6 +10,7 @@ use crate::attributes::{is_within, many_part, single_part};
 use crate::classes::{Key, class_of, feature, key_named};
 use crate::doc::DocParent;
 use crate::draft::{Draft, Held};
+use crate::drafts::Drafts;
 use crate::fault::ModelFault;
 use crate::identity::id_of;
 use crate::links::{is_one, links_part};
@@ -32,18 +33,18 @@ fn not_object(default: Option<u32>) -> ModelFault
 fn element(
     alloc: Global,
     meta: &Metamodel,
-    rows: &mut Vec<Draft>,
+    rows: &mut Drafts,
     parent: Option<DocParent>,
     default: Option<u32>,
     value: &Value,
 ) -> Result<(), ModelFault>
-    ensures { Walks rows.old.items rows.new.items result (element_rows meta.now (ids_of rows.old.items) parent default (view value.now)) }
+    ensures { Walks rows.old rows.new result (element_rows meta.now (ids_of rows.old) parent default (view value.now)) }
 {
     let other = not_object(default);
     match value {
         Value::Object(members) => match class_of(meta, default, value.get("eClass")) {
             Err(fault) => Err(fault),
-            Ok(class) => match id_of(alloc, rows.as_slice(), value.get("_id")) {
+            Ok(class) => match id_of(alloc, rows, value.get("_id")) {
                 Err(fault) => Err(fault),
                 Ok(id) => object(alloc, meta, rows, parent, class, id, members),
             },
@@ -56,28 +57,18 @@ fn element(
     }
 }
 
-/// Gives a row what the keys of its object hold.
-fn fill(rows: &mut Vec<Draft>, own: usize, held: Held)
-    requires { own < length rows.old.items }
-    ensures { (before : List Draft) (row : Draft) (after : List Draft) → rows.old.items ≡ before ++ row ∷ after → length before ≡ own → rows.new.items ≡ before ++ record row { attrs = held.attrs; links = held.links } ∷ after }
-{
-    let row = &mut rows[own];
-    row.attrs = held.attrs;
-    row.links = held.links;
-}
-
 /// Reads an object whose class and id are read: its row comes before those inside it.
 #[cycle(element)]
 fn object(
     alloc: Global,
     meta: &Metamodel,
-    rows: &mut Vec<Draft>,
+    rows: &mut Drafts,
     parent: Option<DocParent>,
     class: u32,
     id: Option<Id>,
     members: &Map<String, Value>,
 ) -> Result<(), ModelFault>
-    ensures { Walks rows.old.items rows.new.items result (own_rows parent id class (members_rows meta.now class (length (ids_of rows.old.items)) (ids_of rows.old.items ++ id ∷ []) no_part (members_view members.now.entries))) }
+    ensures { Walks rows.old rows.new result (own_rows parent id class (members_rows meta.now class (length (ids_of rows.old)) (ids_of rows.old ++ id ∷ []) no_part (members_view members.now.entries))) }
 {
     let own = rows.len();
     let row = Draft {
@@ -87,13 +78,13 @@ fn object(
         attrs: List::new(alloc),
         links: List::new(alloc),
     };
-    if rows.push(row).is_err() {
+    if rows.push(alloc, row).is_err() {
         return Err(ModelFault::Memory);
     }
     match members_of(alloc, meta, rows, class, own, members) {
         Err(fault) => Err(fault),
         Ok(held) => {
-            fill(rows, own, held);
+            rows.fill(own, held);
             Ok(())
         }
     }
@@ -104,12 +95,12 @@ fn object(
 fn members_of(
     alloc: Global,
     meta: &Metamodel,
-    rows: &mut Vec<Draft>,
+    rows: &mut Drafts,
     class: u32,
     own: usize,
     members: &Map<String, Value>,
 ) -> Result<Held, ModelFault>
-    ensures { GivesPart rows.old.items rows.new.items result (members_rows meta.now class own (ids_of rows.old.items) no_part (members_view members.now.entries)) }
+    ensures { GivesPart rows.old rows.new result (members_rows meta.now class own (ids_of rows.old) no_part (members_view members.now.entries)) }
 {
     let mut held = Held {
         attrs: List::new(alloc),
@@ -129,13 +120,13 @@ fn members_of(
 fn part_of(
     alloc: Global,
     meta: &Metamodel,
-    rows: &mut Vec<Draft>,
+    rows: &mut Drafts,
     own: usize,
     held: &mut Held,
     key: Key,
     value: &Value,
 ) -> Result<(), ModelFault>
-    ensures { Holds held.old.attrs held.new.attrs held.old.links held.new.links rows.old.items rows.new.items result (key_part meta.now key (view value.now) (λ f target. held_rows meta.now (ids_of rows.old.items) (record { row = own; feature = f }) target (view value.now))) }
+    ensures { Holds held.old.attrs held.new.attrs held.old.links held.new.links rows.old rows.new result (key_part meta.now key (view value.now) (λ f target. held_rows meta.now (ids_of rows.old) (record { row = own; feature = f }) target (view value.now))) }
 {
     match key {
         Key::Unknown => Err(ModelFault::NoFeature),
@@ -152,14 +143,14 @@ fn part_of(
 fn feature_part(
     alloc: Global,
     meta: &Metamodel,
-    rows: &mut Vec<Draft>,
+    rows: &mut Drafts,
     own: usize,
     held: &mut Held,
     f: u32,
     kind: &Kind,
     value: &Value,
 ) -> Result<(), ModelFault>
-    ensures { Holds held.old.attrs held.new.attrs held.old.links held.new.links rows.old.items rows.new.items result (feature_part meta.now f kind.now (view value.now) (λ f target. held_rows meta.now (ids_of rows.old.items) (record { row = own; feature = f }) target (view value.now))) }
+    ensures { Holds held.old.attrs held.new.attrs held.old.links held.new.links rows.old rows.new result (feature_part meta.now f kind.now (view value.now) (λ f target. held_rows meta.now (ids_of rows.old) (record { row = own; feature = f }) target (view value.now))) }
 {
     match kind {
         Kind::Attr { scalar, .. } => single_part(alloc, meta, held, f, scalar, value),
@@ -185,12 +176,12 @@ fn feature_part(
 fn held_of(
     alloc: Global,
     meta: &Metamodel,
-    rows: &mut Vec<Draft>,
+    rows: &mut Drafts,
     parent: DocParent,
     target: u32,
     value: &Value,
 ) -> Result<(), ModelFault>
-    ensures { Walks rows.old.items rows.new.items result (held_rows meta.now (ids_of rows.old.items) parent target (view value.now)) }
+    ensures { Walks rows.old rows.new result (held_rows meta.now (ids_of rows.old) parent target (view value.now)) }
 {
     match value {
         Value::Null => Ok(()),
@@ -221,12 +212,12 @@ fn held_of(
 fn items_of(
     alloc: Global,
     meta: &Metamodel,
-    rows: &mut Vec<Draft>,
+    rows: &mut Drafts,
     parent: Option<DocParent>,
     default: Option<u32>,
     items: &Vec<Value>,
 ) -> Result<(), ModelFault>
-    ensures { Walks rows.old.items rows.new.items result (items_rows meta.now (ids_of rows.old.items) parent default [] (items_view items.now.items)) }
+    ensures { Walks rows.old rows.new result (items_rows meta.now (ids_of rows.old) parent default [] (items_view items.now.items)) }
 {
     for item in items {
         match element(alloc, meta, rows, parent, default, item) {
@@ -240,11 +231,11 @@ fn items_of(
 fn walk_roots(
     alloc: Global,
     meta: &Metamodel,
-    rows: &mut Vec<Draft>,
+    rows: &mut Drafts,
     value: &Value,
 ) -> Result<(), ModelFault>
-    requires { rows.old.items ≡ [] }
-    ensures { Walks [] rows.new.items result (walked meta.now (view value.now)) }
+    requires { rows.old ≡ [] }
+    ensures { Walks [] rows.new result (walked meta.now (view value.now)) }
 {
     match value {
         Value::Array(items) => items_of(alloc, meta, rows, None, None, items),
@@ -260,9 +251,9 @@ fn walk_roots(
 pub(crate) fn walk(alloc: Global, meta: &Metamodel, value: &Value) -> Result<Vec<Draft>, ModelFault>
     ensures { GivesDrafts result (walked meta.now (view value.now)) }
 {
-    let mut rows = Vec::new(alloc);
+    let mut rows = Drafts::new(alloc);
     match walk_roots(alloc, meta, &mut rows, value) {
         Err(fault) => Err(fault),
-        Ok(()) => Ok(rows),
+        Ok(()) => Ok(rows.into_rows()),
     }
 }

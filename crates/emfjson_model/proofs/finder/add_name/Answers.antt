@@ -6,8 +6,8 @@ use Rattle.finite_maps.proofs.Cases.{no_some}
 use Rattle.emfjson_model.proofs.Finding.{name_added}
 use Rattle.emfjson_model.proofs.finder.add_name.Goals as goal
 
-pub returns-in_ok-insert-in-Some : goal.returns-in_ok-insert-in-Some
-returns-in_ok-insert-in-Some c = λ t.
+pub returns-in_ok-insert-in-Some-clause-found : goal.returns-in_ok-insert-in-Some-clause-found
+returns-in_ok-insert-in-Some-clause-found c = λ t.
     btree_map_updates_text _ c.args.names.now c.insert.new.self _ c.in_ok-insert-in-Some.ensures.updates t
     ∙ name_added (get_by_text c.args.names.now) c.args.id.now c.in-Some.id _ t c.args.n c.in-Some.is
     (c.in_ok-key-in-Some.ensures.ok ∙ c.as_str-then-not-contains_key.ensures.bytes)
