@@ -3,7 +3,9 @@
 #![tactic(auto)]
 
 mod edit;
+mod fresh_ids;
 mod laws;
 
 pub use edit::{Destination, Edit, Recorded};
+pub use fresh_ids::numbered_id;
 pub use laws::{law_of_edits, law_of_fresh_ids};

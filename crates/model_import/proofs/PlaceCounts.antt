@@ -13,15 +13,10 @@ use Rattle.model_state.specs.Keys.{Name}
 use Rattle.emfjson_model.specs.declared.doc.DocParent.{DocParent}
 use Rattle.emfjson_model.specs.declared.doc.DocRow.{DocRow}
 use Rattle.emfjson_model.specs.References.{parent_eq}
-use Rattle.model_import.specs.Counts.{Counts, CountsAlso, counted, place_cmp}
+use Rattle.emfjson_model.specs.Finder.{place_cmp}
+use Rattle.emfjson_model.proofs.Finding.{same_place}
+use Rattle.model_import.specs.Counts.{Counts, CountsAlso, counted}
 use Rattle.model_import.specs.News.{element_made, place_of, standing}
-
--- two places are tied where they are the same
-same_place : (p q : DocParent) → is_at (place_cmp (p.row, p.feature)) (q.row, q.feature) ≡ parent_eq p q
-same_place p q =
-    sym (tied_then (nat_cmp p.row q.row) (nat_cmp p.feature q.feature))
-    ∙ ap (λ b. b && is_eq (nat_cmp p.feature q.feature)) (unsigned_tied p.row q.row)
-    ∙ ap (λ b. nat_eq p.row q.row && b) (unsigned_tied p.feature q.feature)
 
 -- n + 1 stand in the place p
 one_more : (b : Bool) (n : ℕ) (o : Option ℕ) → (b ≡ true → n ≡ unwrap_or o 0) → unwrap_or (cond b (Some (n + 1)) o) 0 ≡ unwrap_or o 0 + cond b 1 0

@@ -1,18 +1,13 @@
 -- How many rows stand in each place that is not the root.
 use Rattle.std.specs.Prelude.{◌≡◌, ℕ, ◌+◌, cond, List, Option, None, Some}
-use Rattle.std.specs.declared.cmp.Ordering.{Ordering}
-use Rattle.std.specs.Ordering.{nat_cmp, ordering_then}
 use Rattle.std.specs.Map.{count_at}
 use Rattle.std.specs.BTreeMap.{BTreeMap, get}
 use Rattle.finite_maps.specs.Equal.{option_eq}
 use Rattle.emfjson_model.specs.declared.doc.DocParent.{DocParent}
 use Rattle.emfjson_model.specs.declared.doc.DocRow.{DocRow}
+use Rattle.emfjson_model.specs.Finder.{place_cmp}
 use Rattle.emfjson_model.specs.References.{parent_eq}
 use Rattle.model_import.specs.News.{standing}
-
--- a place is a row and a feature
-abbrev pub place_cmp : ℕ × ℕ → ℕ × ℕ → Ordering
-place_cmp x y = ordering_then (nat_cmp x.0 y.0) (nat_cmp x.1 y.1)
 
 abbrev pub counted : BTreeMap (ℕ × ℕ) ℕ → Option DocParent → ℕ
 counted counts None = 0

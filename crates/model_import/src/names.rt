@@ -1,13 +1,13 @@
 ghost use Rattle.std.specs.Prelude.{◌≡◌, ◌<◌, IfOk, None, length};
 ghost use Rattle.std.specs.List.{list_any};
-ghost use Rattle.edits.specs.FreshIds.{numbered};
 ghost use Rattle.emfjson_model.specs.Laws.{gives_id};
 ghost use Rattle.model_import.specs.Names.{AreNames, IsName, any_in_use, in_use, is_taken, name_at};
 
 use crate::given::Given;
 use ecore_meta::List;
+use edits::numbered_id;
 use emfjson_model::DocRow;
-use model_state::{Id, IdFault, Look};
+use model_state::{Id, Look};
 use std::alloc::{AllocError, Global};
 
 /// The id of a row, and the number from which fresh ones go on.
@@ -15,18 +15,6 @@ use std::alloc::{AllocError, Global};
 struct Named {
     id: Id,
     next: u64,
-}
-
-/// The id of a workspace with that number: `w`, the workspace's number, `n` and the number.
-fn numbered(alloc: Global, ws: u32, k: u64) -> Result<Id, AllocError>
-    ensures { IfOk result (λ id. id ≡ numbered ws k) }
-{
-    let text = format!(in alloc; "w{ws}n{k}")?;
-    match Id::read(alloc, text.as_str()) {
-        Ok(id) => Ok(id),
-        Err(IdFault::Bad) => unreachable!(),
-        Err(IdFault::Memory) => Err(AllocError),
-    }
 }
 
 fn is_given(rows: &Given, e: &Id) -> bool
@@ -53,7 +41,7 @@ fn fresh<L: Look>(
     ensures { IfOk result (λ n. IsName (L.state look.now) rows.now ws from None n.id n.next) }
 {
     for k in from..u64::MAX {
-        let id = numbered(alloc, ws, k)?;
+        let id = numbered_id(alloc, ws, k)?;
         if !is_taken(look, rows, &id) {
             return Ok(Named { id, next: k + 1 });
         }

@@ -439,7 +439,6 @@ impl Repo {
             return Ok(refuse(alloc, Refusal::NoWorkspace));
         };
         meta.sound();
-        let _ = &self.meta;
         let mut lines = operation_lines(alloc, workspace.operations(), meta)?;
         push_open_lines(alloc, &mut lines, workspace.composite(), meta)?;
         Ok(tell(lines, Text::new(alloc, "")?))
@@ -469,7 +468,6 @@ impl Repo {
         ensures decision { IfOk result (λ d. seen d ≡ decide_cat meta.now spec.now) }
         ensures made { IfOk result (λ d. CanMakeIt self.now d.made) }
     {
-        let _ = self;
         match unknown(spec) {
             Some(refusal) => Ok(refuse(alloc, refusal)),
             None => {

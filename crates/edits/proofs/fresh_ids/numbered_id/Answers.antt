@@ -3,7 +3,7 @@ use Rattle.finite_maps.proofs.Cases.{true_false}
 use Rattle.model_state.specs.Ident.{is_id}
 use Rattle.edits.specs.FreshIds.{numbered}
 use Rattle.edits.proofs.Fresh.{numbered_is_id}
-use Rattle.recorder.proofs.fresh.numbered.Goals as goal
+use Rattle.edits.proofs.fresh_ids.numbered_id.Goals as goal
 
 pub returns-in-Ok-clause-id : goal.returns-in-Ok-clause-id
 unfolding numbered
