@@ -16,8 +16,6 @@ mod paths;
 mod read;
 mod references;
 mod sources;
-#[cfg(test)]
-mod tests;
 mod walk;
 
 pub use doc::{Doc, DocAttr, DocParent, DocRefs, DocRow};

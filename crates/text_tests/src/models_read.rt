@@ -1,7 +1,7 @@
 // Texts of models, and what they say. The faults and their order are those that the format is written down with for its users.
-use super::*;
-use ecore_json::read_metamodel;
+use crate::metamodels::{cut, metamodel, replaced};
 use ecore_meta::{Metamodel, Value};
+use emfjson_model::{Doc, DocAttr, DocRefs, DocRow, read_model};
 use std::alloc::Global;
 use std::process::Abort;
 use std::test::Fail;
@@ -36,30 +36,6 @@ const LIBRARY: &str =
 {"eClass":"E#//EClass","name":"Poet","eSuperTypes":[{"$ref":"//Writer"}]},
 {"eClass":"E#//EEnum","name":"Colour","eLiterals":[{"name":"RED","literal":"red"},{"name":"GREEN","literal":"RED"}]}
 ]}"##;
-
-fn replaced(alloc: Global, text: &str, old: &str, new: &str) -> Result<String, Fail> {
-    let mut out = String::new(alloc);
-    for (n, part) in text.split(old).enumerate() {
-        if n > 0 {
-            out.push_str(new)?;
-        }
-        out.push_str(part)?;
-    }
-    Ok(out)
-}
-
-fn library(alloc: Global) -> Result<Metamodel, Fail> {
-    let text = replaced(
-        alloc,
-        LIBRARY,
-        "E#",
-        "http://www.eclipse.org/emf/2002/Ecore#",
-    )?;
-    if text.len() >= 4_294_967_295 {
-        return Err("a long text")?;
-    }
-    Ok(read_metamodel(alloc, text.as_str())?)
-}
 
 // The number of a text's elements, or its first fault.
 fn answer(alloc: Global, meta: &Metamodel, text: &str) -> Result<String, Fail> {
@@ -162,9 +138,9 @@ const MODELS: &str = r###"0 []
 #[test]
 fn the_first_fault_is_told(rt: HostRuntime) -> Result<(), Fail> {
     let alloc = rt.alloc();
-    let meta = library(alloc)?;
+    let meta = metamodel(alloc, LIBRARY)?;
     for line in FAULTS.lines() {
-        let (fault, text) = line.split_once(' ').unwrap_or((line, ""));
+        let (fault, text) = cut(line);
         assert_eq!(&rt; answer(alloc, &meta, text)?.as_str(), fault, "{text}");
     }
     Ok(())
@@ -173,9 +149,9 @@ fn the_first_fault_is_told(rt: HostRuntime) -> Result<(), Fail> {
 #[test]
 fn a_model_has_its_elements(rt: HostRuntime) -> Result<(), Fail> {
     let alloc = rt.alloc();
-    let meta = library(alloc)?;
+    let meta = metamodel(alloc, LIBRARY)?;
     for line in MODELS.lines() {
-        let (count, text) = line.split_once(' ').unwrap_or((line, ""));
+        let (count, text) = cut(line);
         assert_eq!(&rt; answer(alloc, &meta, text)?.as_str(), count, "{text}");
     }
     Ok(())
@@ -187,13 +163,18 @@ fn targets(alloc: Global, doc: &Doc, row: usize, feature: u32) -> Result<String,
     if let Some(row) = doc.rows.get(row) {
         for refs in row.refs.as_slice() {
             if refs.feature == feature {
-                for target in refs.targets.as_slice() {
-                    out.push_str(format!(in alloc; "{target} ")?.as_str())?;
-                }
+                push_targets(alloc, &mut out, refs)?;
             }
         }
     }
     Ok(out)
+}
+
+fn push_targets(alloc: Global, out: &mut String, refs: &DocRefs) -> Result<(), Fail> {
+    for target in refs.targets.as_slice() {
+        out.push_str(format!(in alloc; "{target} ")?.as_str())?;
+    }
+    Ok(())
 }
 
 const TWO_BOOKS: &str = r#"{ "eClass" : "http://lib/1#//Library",
@@ -206,75 +187,98 @@ const TWO_BOOKS: &str = r#"{ "eClass" : "http://lib/1#//Library",
 #[test]
 fn an_opposite_counts_where_either_side_gives_it(rt: HostRuntime) -> Result<(), Fail> {
     let alloc = rt.alloc();
-    let meta = library(alloc)?;
+    let meta = metamodel(alloc, LIBRARY)?;
     let doc = read_model(alloc, TWO_BOOKS, &meta)?;
     assert_eq!(&rt; doc.rows.len(), 3);
     assert_eq!(&rt; targets(alloc, &doc, 1, 5)?.as_str(), "2 ");
     assert_eq!(&rt; targets(alloc, &doc, 2, 6)?.as_str(), "1 ");
+    Ok(())
+}
+
+#[test]
+fn a_path_past_the_last_finds_nothing(rt: HostRuntime) -> Result<(), Fail> {
+    let alloc = rt.alloc();
+    let meta = metamodel(alloc, LIBRARY)?;
     let past = replaced(alloc, TWO_BOOKS, "@books.1", "@books.2")?;
     match read_model(alloc, past.as_str(), &meta) {
         Err(fault) => assert_eq!(&rt; fault.number(), 6),
         Ok(_) => assert!(&rt; false),
     }
-    // Three books of one writer: what the writer gives comes first, then the others in their order.
-    let text =
-        r#"[{"eClass":"//Book","authors":{"$ref":"w"}},{"eClass":"//Writer","_id":"w","books":{"$ref":"/3"}},
-        {"eClass":"//Book","authors":{"$ref":"w"}},{"eClass":"//Book","authors":{"$ref":"w"}}]"#;
-    let doc = read_model(alloc, text, &meta)?;
+    Ok(())
+}
+
+const THREE_BOOKS: &str =
+    r#"[{"eClass":"//Book","authors":{"$ref":"w"}},{"eClass":"//Writer","_id":"w","books":{"$ref":"/3"}},
+{"eClass":"//Book","authors":{"$ref":"w"}},{"eClass":"//Book","authors":{"$ref":"w"}}]"#;
+
+// Three books of one writer: what the writer gives comes first, then the others in their order.
+#[test]
+fn given_targets_come_first(rt: HostRuntime) -> Result<(), Fail> {
+    let alloc = rt.alloc();
+    let meta = metamodel(alloc, LIBRARY)?;
+    let doc = read_model(alloc, THREE_BOOKS, &meta)?;
     assert_eq!(&rt; targets(alloc, &doc, 1, 12)?.as_str(), "3 0 2 ");
     assert_eq!(&rt; targets(alloc, &doc, 3, 4)?.as_str(), "1 ");
     Ok(())
 }
 
-// What a row says of itself, its attributes by number.
-fn shown(alloc: Global, doc: &Doc, n: usize) -> Result<String, Fail> {
-    let mut out = String::new(alloc);
-    if let Some(row) = doc.rows.get(n) {
-        match &row.id {
-            None => out.push_str("-")?,
-            Some(id) => out.push_str(id.as_str())?,
-        }
-        out.push_str(format!(in alloc; " {}", row.class)?.as_str())?;
-        if let Some(parent) = row.parent {
-            out.push_str(format!(in alloc; " {}/{}", parent.row, parent.feature)?.as_str())?;
-        }
-        for attr in row.attrs.as_slice() {
-            out.push_str(format!(in alloc; " {}=", attr.feature)?.as_str())?;
-            for value in attr.values.as_slice() {
-                match value {
-                    Value::Text(text) => out.push_str(text.as_str())?,
-                    Value::Flag(flag) => out.push_str(if *flag { "true" } else { "false" })?,
-                    Value::Whole(n) => out.push_str(format!(in alloc; "{n}")?.as_str())?,
-                    Value::Literal(n) => out.push_str(format!(in alloc; "#{n}")?.as_str())?,
-                }
-                out.push_str(";")?;
-            }
-        }
+// What a row says of itself: its id, its class, its place, and its attributes by number.
+fn shown(alloc: Global, row: &DocRow) -> Result<String, Fail> {
+    let mut out = match &row.id {
+        None => String::from_str(alloc, "-")?,
+        Some(id) => String::from_str(alloc, id.as_str())?,
+    };
+    out.push_str(format!(in alloc; " {}", row.class)?.as_str())?;
+    if let Some(parent) = row.parent {
+        out.push_str(format!(in alloc; " {}/{}", parent.row, parent.feature)?.as_str())?;
+    }
+    for attr in row.attrs.as_slice() {
+        push_attr(alloc, &mut out, attr)?;
     }
     Ok(out)
 }
 
+fn push_attr(alloc: Global, out: &mut String, attr: &DocAttr) -> Result<(), Fail> {
+    out.push_str(format!(in alloc; " {}=", attr.feature)?.as_str())?;
+    for value in attr.values.as_slice() {
+        out.push_str(shown_value(alloc, value)?.as_str())?;
+    }
+    Ok(())
+}
+
+fn shown_value(alloc: Global, value: &Value) -> Result<String, Fail> {
+    Ok(match value {
+        Value::Text(text) => format!(in alloc; "{};", text.as_str())?,
+        Value::Flag(flag) => format!(in alloc; "{flag};")?,
+        Value::Whole(n) => format!(in alloc; "{n};")?,
+        Value::Literal(n) => format!(in alloc; "#{n};")?,
+    })
+}
+
+const SHELVES: &str =
+    r#"[{"eClass":"//Library","books":[{"title":"x","tags":["b","a"],"pages":0,"colour":"RED"},{"pages":7}],"_id":"l"},
+{"eClass":"//Shelf","_id":"s","parts":[{"name":"t","parts":{}},{"name":""}]}]"#;
+
+const ROWS: &str = "l 0
+- 1 0/0 1=x; 3=b;a; 9=#1;
+- 1 0/0 2=7;
+s 3
+- 3 3/15 14=t;
+- 3 4/15
+- 3 3/15 14=;
+";
+
 #[test]
 fn rows_stand_in_the_order_of_a_walk(rt: HostRuntime) -> Result<(), Fail> {
     let alloc = rt.alloc();
-    let meta = library(alloc)?;
-    let text =
-        r#"[{"eClass":"//Library","books":[{"title":"x","tags":["b","a"],"pages":0,"colour":"RED"},{"pages":7}],"_id":"l"},
-        {"eClass":"//Shelf","_id":"s","parts":[{"name":"t","parts":{}},{"name":""}]}]"#;
-    let doc = read_model(alloc, text, &meta)?;
-    let wanted = [
-        "l 0",
-        "- 1 0/0 1=x; 3=b;a; 9=#1;",
-        "- 1 0/0 2=7;",
-        "s 3",
-        "- 3 3/15 14=t;",
-        "- 3 4/15",
-        "- 3 3/15 14=;",
-    ];
-    assert_eq!(&rt; doc.rows.len(), 7);
-    for (n, row) in wanted.iter().enumerate() {
-        assert_eq!(&rt; shown(alloc, &doc, n)?.as_str(), *row);
+    let meta = metamodel(alloc, LIBRARY)?;
+    let doc = read_model(alloc, SHELVES, &meta)?;
+    let mut rows = String::new(alloc);
+    for row in doc.rows.as_slice() {
+        rows.push_str(shown(alloc, row)?.as_str())?;
+        rows.push_str("\n")?;
     }
+    assert_eq!(&rt; rows.as_str(), ROWS);
     Ok(())
 }
 
@@ -292,25 +296,52 @@ const FAULTY: &str = r#"0 NoClass {"eClass":"//Page"}
 2 Bound {"eClass":"//Library","books":[{"_id":"m"},{"sequel":{"$ref":"m"}},{"sequel":{"$ref":"m"}}]}"#;
 
 fn faulty(line: &str) -> (&str, &str, &str) {
-    let (when, rest) = line.split_once(' ').unwrap_or((line, ""));
-    let (fault, root) = rest.split_once(' ').unwrap_or((rest, ""));
+    let (when, rest) = cut(line);
+    let (fault, root) = cut(rest);
     (when, fault, root)
+}
+
+fn chosen<'a>(is_first: bool, first: &'a str, second: &'a str) -> &'a str {
+    if is_first { first } else { second }
+}
+
+// What is looked for sooner is told, or else what stands first.
+fn first_is_told(
+    rt: &impl Abort,
+    alloc: Global,
+    meta: &Metamodel,
+    one: &str,
+    other: &str,
+) -> Result<(), Fail> {
+    let (sooner, first, one) = faulty(one);
+    let (later, second, other) = faulty(other);
+    if one == other {
+        return Ok(());
+    }
+    let wanted = chosen(sooner <= later, first, second);
+    let told = of_two(alloc, meta, one, other)?;
+    assert_eq!(rt; told.as_str(), wanted, "{one},{other}");
+    Ok(())
+}
+
+fn beside_each(rt: &impl Abort, alloc: Global, meta: &Metamodel, one: &str) -> Result<(), Fail> {
+    for other in FAULTY.lines() {
+        first_is_told(rt, alloc, meta, one, other)?;
+    }
+    Ok(())
+}
+
+fn of_two(alloc: Global, meta: &Metamodel, one: &str, other: &str) -> Result<String, Fail> {
+    let text = format!(in alloc; "[{one},{other}]")?;
+    answer(alloc, meta, text.as_str())
 }
 
 #[test]
 fn of_two_faults_the_first_is_told(rt: HostRuntime) -> Result<(), Fail> {
     let alloc = rt.alloc();
-    let meta = library(alloc)?;
+    let meta = metamodel(alloc, LIBRARY)?;
     for one in FAULTY.lines() {
-        let (sooner, first, one) = faulty(one);
-        for other in FAULTY.lines() {
-            let (later, second, other) = faulty(other);
-            if one != other {
-                let text = format!(in alloc; "[{one},{other}]")?;
-                let wanted = if sooner <= later { first } else { second };
-                assert_eq!(&rt; answer(alloc, &meta, text.as_str())?.as_str(), wanted, "{text}");
-            }
-        }
+        beside_each(&rt, alloc, &meta, one)?;
     }
     Ok(())
 }

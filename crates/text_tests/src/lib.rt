@@ -1,0 +1,7 @@
+//! Tests of the layers that read and write texts, over their public calls: a crate that holds its own tests is proved twice.
+#![tactic(auto)]
+
+#[cfg(test)]
+mod metamodels;
+#[cfg(test)]
+mod models_read;
