@@ -6,8 +6,6 @@ mod key;
 mod laws;
 mod leaf;
 mod part;
-#[cfg(test)]
-mod tests;
 mod write;
 
 pub use laws::law_of_texts;

@@ -5,3 +5,7 @@
 mod metamodels;
 #[cfg(test)]
 mod models_read;
+#[cfg(test)]
+mod models_written;
+#[cfg(test)]
+mod step_words;
