@@ -5,8 +5,6 @@ mod laws;
 mod line;
 mod operation;
 mod step;
-#[cfg(test)]
-mod tests;
 mod typed;
 mod validation;
 mod words;

@@ -2,10 +2,14 @@
 #![tactic(auto)]
 
 #[cfg(test)]
+mod lower_bounds;
+#[cfg(test)]
 mod metamodels;
 #[cfg(test)]
 mod models_read;
 #[cfg(test)]
 mod models_written;
+#[cfg(test)]
+mod operations_shown;
 #[cfg(test)]
 mod step_words;
