@@ -9,8 +9,6 @@ mod fault;
 mod laws;
 mod parse;
 mod reply;
-#[cfg(test)]
-mod tests;
 mod words;
 
 pub use command::{Command, Spec};

@@ -12,4 +12,8 @@ mod models_written;
 #[cfg(test)]
 mod operations_shown;
 #[cfg(test)]
+mod replies_printed;
+#[cfg(test)]
+mod script_lines;
+#[cfg(test)]
 mod step_words;
