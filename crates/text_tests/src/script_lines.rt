@@ -467,7 +467,9 @@ fn read_of(alloc: Global, line: &str) -> Result<String, Fail> {
 fn are_read(rt: &impl Abort, alloc: Global, rows: &str) -> Result<(), Fail> {
     for row in rows.lines() {
         let (wanted, line) = row.split_once(" |").unwrap_or((row, ""));
-        let line = line.strip_suffix('|').unwrap_or("no bar");
+        let Some(line) = line.strip_suffix('|') else {
+            return Err("a row without its bar")?;
+        };
         let read = read_of(alloc, line)?;
         assert_eq!(rt; read.as_str(), wanted, "{line}");
     }
