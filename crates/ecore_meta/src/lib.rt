@@ -16,8 +16,6 @@ mod names;
 mod rows;
 mod supers;
 mod tables;
-#[cfg(test)]
-mod tests;
 mod text;
 mod values;
 

@@ -1,0 +1,5 @@
+//! Tests of the layers that read and write metamodels, values and operations, over their public calls: a crate that holds its own tests is proved twice.
+#![tactic(auto)]
+
+#[cfg(test)]
+mod metamodels;
