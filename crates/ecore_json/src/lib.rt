@@ -7,8 +7,6 @@ mod read;
 mod reference;
 mod rows;
 mod table;
-#[cfg(test)]
-mod tests;
 mod walk;
 
 pub use fault::EcoreFault;

@@ -2,4 +2,6 @@
 #![tactic(auto)]
 
 #[cfg(test)]
+mod ecore_texts;
+#[cfg(test)]
 mod metamodels;
