@@ -5,3 +5,5 @@
 mod ecore_texts;
 #[cfg(test)]
 mod metamodels;
+#[cfg(test)]
+mod value_texts;
