@@ -6,4 +6,6 @@ mod ecore_texts;
 #[cfg(test)]
 mod metamodels;
 #[cfg(test)]
+mod package_bytes;
+#[cfg(test)]
 mod value_texts;

@@ -9,8 +9,6 @@ mod read_event;
 mod read_step;
 mod read_value;
 mod reversal;
-#[cfg(test)]
-mod tests;
 mod write_event;
 mod write_step;
 
