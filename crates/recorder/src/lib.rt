@@ -12,8 +12,6 @@ mod operation;
 mod place;
 mod record;
 mod reference;
-#[cfg(test)]
-mod tests;
 
 pub use edit_laws::EditFault;
 pub use edits::{Destination, Edit, Recorded};
