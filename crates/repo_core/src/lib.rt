@@ -4,8 +4,6 @@
 mod deciding;
 mod fault;
 mod repo;
-#[cfg(test)]
-mod tests;
 mod workspace;
 
 pub use deciding::{Decision, Made};

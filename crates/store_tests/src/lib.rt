@@ -3,3 +3,5 @@
 
 #[cfg(test)]
 mod recordings;
+#[cfg(test)]
+mod replays;
