@@ -3,8 +3,6 @@
 
 mod item;
 mod session;
-#[cfg(test)]
-mod tests;
 mod top;
 
 pub use top::{Status, run};

@@ -5,3 +5,5 @@
 mod recordings;
 #[cfg(test)]
 mod replays;
+#[cfg(test)]
+mod sessions;
