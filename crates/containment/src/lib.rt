@@ -11,8 +11,6 @@ mod moves;
 mod place;
 mod rows;
 mod spots;
-#[cfg(test)]
-mod tests;
 mod values;
 mod walk;
 

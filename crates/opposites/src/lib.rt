@@ -10,8 +10,6 @@ mod look_up;
 mod openings;
 mod reorder;
 mod set_ref;
-#[cfg(test)]
-mod tests;
 mod there;
 mod unlink;
 mod unset_ref;

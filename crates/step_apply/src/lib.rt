@@ -12,8 +12,6 @@ mod moves;
 mod places;
 mod plain;
 mod rows;
-#[cfg(test)]
-mod tests;
 mod values;
 
 pub use plain::Plain;

@@ -1,4 +1,4 @@
-// Steps as their kinds and their fields in order, with blanks between them.
+// Calls and steps word by word. A step is its kind and its fields in order, with blanks between them.
 use ecore_meta::{List, Text, Value};
 use model_state::{Id, Place, Step};
 use std::alloc::Global;
@@ -6,34 +6,45 @@ use std::str::SplitWhitespace;
 use std::test::Fail;
 
 #[derive(Drop)]
-struct Words<'a> {
+pub struct Words<'a> {
     alloc: Global,
     rest: SplitWhitespace<'a>,
 }
 
-pub fn step(alloc: Global, text: &str) -> Result<Step, Fail> {
-    let mut words = Words {
+pub fn words_of(alloc: Global, text: &str) -> Words<'_> {
+    Words {
         alloc,
         rest: text.split_whitespace(),
-    };
-    words.step()
+    }
+}
+
+pub fn step(alloc: Global, text: &str) -> Result<Step, Fail> {
+    words_of(alloc, text).step()
 }
 
 impl<'a> Words<'a> {
-    fn word(&mut self) -> &'a str {
+    pub fn word(&mut self) -> &'a str {
         self.rest.next().unwrap_or("")
     }
 
-    fn id(&mut self) -> Result<Id, Fail> {
+    pub fn id(&mut self) -> Result<Id, Fail> {
         Ok(Id::read(self.alloc, self.word())?)
     }
 
-    fn number(&mut self) -> Result<u32, Fail> {
+    pub fn number(&mut self) -> Result<u32, Fail> {
         Ok(self.word().parse::<u32>()?)
     }
 
     fn rank(&mut self) -> Result<u64, Fail> {
         Ok(self.word().parse::<u64>()?)
+    }
+
+    // An index, None for the end.
+    pub fn index(&mut self) -> Result<Option<u32>, Fail> {
+        match self.rest.next() {
+            None => Ok(None),
+            Some(word) => Ok(Some(word.parse::<u32>()?)),
+        }
     }
 
     // `-` is no rank.
@@ -45,8 +56,8 @@ impl<'a> Words<'a> {
         Ok(Some(word.parse::<u64>()?))
     }
 
-    fn place(&mut self) -> Result<Place, Fail> {
-        place(self.alloc, self.word())
+    pub fn place(&mut self) -> Result<Place, Fail> {
+        place_of(self.alloc, self.word())
     }
 
     fn value(&mut self) -> Result<Value, Fail> {
@@ -197,7 +208,7 @@ impl<'a> Words<'a> {
 }
 
 // `/` is the root, and `a.4` is inside the element a, in its feature 4.
-pub fn place(alloc: Global, word: &str) -> Result<Place, Fail> {
+fn place_of(alloc: Global, word: &str) -> Result<Place, Fail> {
     match word.split_once('.') {
         None => Ok(Place::Root),
         Some((parent, feature)) => Ok(Place::Inside {

@@ -35,14 +35,20 @@ fn optional_text(alloc: Global, v: &Option<Value>) -> Result<String, Fail> {
     }
 }
 
+// The word behind the text, with this between them.
+pub fn add(text: &mut String, between: &str, word: &str) -> Result<(), Fail> {
+    if !text.is_empty() {
+        text.push_str(between)?;
+    }
+    text.push_str(word)?;
+    Ok(())
+}
+
 // Ids with this between them.
 pub fn ids(alloc: Global, list: &List<Id>, between: &str) -> Result<String, Fail> {
     let mut text = String::new(alloc);
     for id in list.as_slice() {
-        if !text.is_empty() {
-            text.push_str(between)?;
-        }
-        text.push_str(id.as_str())?;
+        add(&mut text, between, id.as_str())?;
     }
     Ok(text)
 }
@@ -116,15 +122,30 @@ fn line_of_place(alloc: Global, step: &Step) -> Result<String, Fail> {
             let to = standing(alloc, to, *to_rank)?;
             move_line(alloc, e, from.as_str(), to.as_str(), above_from, above_to)
         }
-        _ => Err("no step of a deletion, a creation or a move")?,
+        _ => Err("no step of an edit")?,
     }
+}
+
+// A Link or an Unlink.
+fn link_line(
+    alloc: Global,
+    kind: &str,
+    a: &Id,
+    f: u32,
+    ra: u64,
+    b: &Id,
+    rb: &Option<u64>,
+) -> Result<String, Fail> {
+    let rb = rank_text(alloc, rb)?;
+    Ok(format!(in alloc; "{kind} {} {f} {ra} {} {rb}", a.as_str(), b.as_str())?)
 }
 
 fn line(alloc: Global, step: &Step) -> Result<String, Fail> {
     match step {
-        Step::Unlink { a, f, ra, b, rb } => {
-            let rb = rank_text(alloc, rb)?;
-            Ok(format!(in alloc; "Unlink {} {f} {ra} {} {rb}", a.as_str(), b.as_str())?)
+        Step::Link { a, f, ra, b, rb } => link_line(alloc, "Link", a, *f, *ra, b, rb),
+        Step::Unlink { a, f, ra, b, rb } => link_line(alloc, "Unlink", a, *f, *ra, b, rb),
+        Step::RerankRow { a, f, b, old, new } => {
+            Ok(format!(in alloc; "RerankRow {} {f} {} {old} {new}", a.as_str(), b.as_str())?)
         }
         Step::Put { e, f, old, new } => {
             let old = optional_text(alloc, old)?;
@@ -143,10 +164,7 @@ fn line(alloc: Global, step: &Step) -> Result<String, Fail> {
 pub fn lines(alloc: Global, steps: &List<Step>) -> Result<String, Fail> {
     let mut text = String::new(alloc);
     for step in steps.as_slice() {
-        if !text.is_empty() {
-            text.push_str("; ")?;
-        }
-        text.push_str(line(alloc, step)?.as_str())?;
+        add(&mut text, "; ", line(alloc, step)?.as_str())?;
     }
     Ok(text)
 }

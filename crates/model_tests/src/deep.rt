@@ -4,8 +4,8 @@ ghost use Rattle.ecore_meta.specs.Sound.{Sound};
 ghost use Rattle.model_state.specs.Good.{Good};
 ghost use Rattle.step_apply.specs.View.{plain_state};
 
-use crate::tests::parts::{nested, parts};
-use crate::{delete_steps, is_place, move_steps, subtree};
+use crate::metamodels::{NESTED, PARTS, metamodel};
+use containment::{delete_steps, is_place, move_steps, subtree};
 use ecore_meta::Metamodel;
 use model_laws::replay;
 use model_state::{Id, Look, Place, Step};
@@ -139,43 +139,59 @@ fn delete(alloc: Global, meta: &Metamodel, plain: &mut Plain, e: &Id) -> Result<
     Ok(steps.len())
 }
 
+// The chain in its halves: how many elements each of them has.
+fn halves(alloc: Global, n: u32) -> Result<(usize, usize), Fail> {
+    let meta = metamodel(alloc, NESTED)?;
+    let plain = halves_of(alloc, &meta, n)?;
+    let first = size_of(alloc, &meta, &plain, 0)?;
+    Ok((first, size_of(alloc, &meta, &plain, n / 2)?))
+}
+
+// How many elements the chain has when its halves are one again.
+fn mended(alloc: Global, n: u32) -> Result<usize, Fail> {
+    let meta = metamodel(alloc, NESTED)?;
+    let plain = mended_of(alloc, &meta, n)?;
+    size_of(alloc, &meta, &plain, 0)
+}
+
+// The chain goes: the number of steps, and of the elements that are left.
+fn chain_goes(alloc: Global, n: u32) -> Result<(usize, usize), Fail> {
+    let meta = metamodel(alloc, NESTED)?;
+    let mut plain = chain_of(alloc, &meta, n)?;
+    let top = named(alloc, 0)?;
+    let steps = delete(alloc, &meta, &mut plain, &top)?;
+    Ok((steps, plain.ids(alloc)?.len()))
+}
+
+// The element to which the others refer goes: the number of steps, and of the elements that are left.
+fn star_goes(alloc: Global, n: u32) -> Result<(usize, usize), Fail> {
+    let meta = metamodel(alloc, PARTS)?;
+    let mut plain = star_of(alloc, &meta, n)?;
+    let top = Id::read(alloc, "top")?;
+    let steps = delete(alloc, &meta, &mut plain, &top)?;
+    Ok((steps, plain.ids(alloc)?.len()))
+}
+
 #[test]
 fn half_a_chain_of_5000_elements_moves_to_the_root(rt: HostRuntime) -> Result<(), Fail> {
-    let alloc = rt.alloc();
-    let meta = nested(alloc)?;
-    let plain = halves_of(alloc, &meta, 5000)?;
-    assert_eq!(rt; size_of(alloc, &meta, &plain, 0)?, 2500);
-    assert_eq!(rt; size_of(alloc, &meta, &plain, 2500)?, 2500);
+    assert_eq!(rt; halves(rt.alloc(), 5000)?, (2500, 2500));
     Ok(())
 }
 
 #[test]
 fn half_a_chain_of_5000_elements_moves_back(rt: HostRuntime) -> Result<(), Fail> {
-    let alloc = rt.alloc();
-    let meta = nested(alloc)?;
-    let plain = mended_of(alloc, &meta, 5000)?;
-    assert_eq!(rt; size_of(alloc, &meta, &plain, 0)?, 5000);
+    assert_eq!(rt; mended(rt.alloc(), 5000)?, 5000);
     Ok(())
 }
 
 #[test]
 fn a_chain_of_5000_elements_goes(rt: HostRuntime) -> Result<(), Fail> {
-    let alloc = rt.alloc();
-    let meta = nested(alloc)?;
-    let mut plain = chain_of(alloc, &meta, 5000)?;
-    let top = named(alloc, 0)?;
-    assert_eq!(rt; delete(alloc, &meta, &mut plain, &top)?, 5000);
-    assert_eq!(rt; plain.ids(alloc)?.len(), 0);
+    assert_eq!(rt; chain_goes(rt.alloc(), 5000)?, (5000, 0));
     Ok(())
 }
 
 #[test]
 fn an_element_with_2000_references_to_it_goes(rt: HostRuntime) -> Result<(), Fail> {
-    let alloc = rt.alloc();
-    let meta = parts(alloc)?;
-    let mut plain = star_of(alloc, &meta, 2000)?;
-    let top = Id::read(alloc, "top")?;
-    assert_eq!(rt; delete(alloc, &meta, &mut plain, &top)?, 2001);
-    assert_eq!(rt; plain.ids(alloc)?.len(), 2000);
+    assert_eq!(rt; star_goes(rt.alloc(), 2000)?, (2001, 2000));
     Ok(())
 }

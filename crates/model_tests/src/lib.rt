@@ -1,0 +1,21 @@
+//! Tests of the layers that change models, over their public calls: a crate that holds its own tests is proved twice.
+#![tactic(auto)]
+
+#[cfg(test)]
+mod answers;
+#[cfg(test)]
+mod deep;
+#[cfg(test)]
+mod lines;
+#[cfg(test)]
+mod looks;
+#[cfg(test)]
+mod metamodels;
+#[cfg(test)]
+mod places;
+#[cfg(test)]
+mod reading;
+#[cfg(test)]
+mod references;
+#[cfg(test)]
+mod steps;
