@@ -18,7 +18,7 @@ use step_apply::Plain;
 
 // Which calls a table has.
 #[derive(Clone, Copy, Drop)]
-pub enum Calls {
+pub(crate) enum Calls {
     Looks,
     Places,
     References,
@@ -93,7 +93,7 @@ fn differs(
 }
 
 // What is wrong with the lines of a table, over a metamodel and the steps from which each call starts.
-pub fn wrong(
+pub(crate) fn wrong(
     alloc: Global,
     metamodel_text: &str,
     start: &str,

@@ -36,7 +36,7 @@ fn optional_text(alloc: Global, v: &Option<Value>) -> Result<String, Fail> {
 }
 
 // The word behind the text, with this between them.
-pub fn add(text: &mut String, between: &str, word: &str) -> Result<(), Fail> {
+pub(crate) fn add(text: &mut String, between: &str, word: &str) -> Result<(), Fail> {
     if !text.is_empty() {
         text.push_str(between)?;
     }
@@ -45,7 +45,7 @@ pub fn add(text: &mut String, between: &str, word: &str) -> Result<(), Fail> {
 }
 
 // Ids with this between them.
-pub fn ids(alloc: Global, list: &List<Id>, between: &str) -> Result<String, Fail> {
+pub(crate) fn ids(alloc: Global, list: &List<Id>, between: &str) -> Result<String, Fail> {
     let mut text = String::new(alloc);
     for id in list.as_slice() {
         add(&mut text, between, id.as_str())?;
@@ -161,7 +161,7 @@ fn line(alloc: Global, step: &Step) -> Result<String, Fail> {
 }
 
 // The lines of steps, with `; ` between them.
-pub fn lines(alloc: Global, steps: &List<Step>) -> Result<String, Fail> {
+pub(crate) fn lines(alloc: Global, steps: &List<Step>) -> Result<String, Fail> {
     let mut text = String::new(alloc);
     for step in steps.as_slice() {
         add(&mut text, "; ", line(alloc, step)?.as_str())?;

@@ -113,7 +113,12 @@ fn shown(
     }
 }
 
-pub fn answer(alloc: Global, meta: &Metamodel, plain: &Plain, call: &str) -> Result<String, Fail>
+pub(crate) fn answer(
+    alloc: Global,
+    meta: &Metamodel,
+    plain: &Plain,
+    call: &str,
+) -> Result<String, Fail>
     requires { Good meta.now (plain_state plain.now) }
 {
     let mut words = words_of(alloc, call);

@@ -9,7 +9,7 @@ use std::test::Fail;
 
 // Boxes: class 0 is Box, with features 0 to 8: 0 label, 1 size, 2 tags, two at most, 3 sizes, which may repeat, 4 inner, two at most, 5 next,
 // 6 back, 7 pair, two at most, 8 friends. Class 1 is Lid, of another type; 2 is Thing, which is abstract.
-pub const BOXES: &str =
+pub(crate) const BOXES: &str =
     r##"{"eClass":"E#//EPackage","name":"boxes","nsURI":"http://boxes/1","eClassifiers":[
 {"eClass":"E#//EClass","name":"Box","eStructuralFeatures":[
 {"eClass":"E#//EAttribute","name":"label","eType":{"$ref":"E#//EString"}},
@@ -27,7 +27,7 @@ pub const BOXES: &str =
 
 // Parts: class 0 is Part, with features 0 to 12: 0 name, 1 size, 2 tags, 3 one, 4 few, two at most, 5 many, 6 next, 7 back, 8 likes, 9 liked,
 // 10 sees, 11 main, 12 owner, the opposite of few. Class 1 is Other, which no feature takes; 2 is a Part too.
-pub const PARTS: &str =
+pub(crate) const PARTS: &str =
     r##"{"eClass":"E#//EPackage","name":"parts","nsURI":"http://parts/1","eClassifiers":[
 {"eClass":"E#//EClass","name":"Part","eStructuralFeatures":[
 {"eClass":"E#//EAttribute","name":"name","unique":false,"eType":{"$ref":"E#//EString"}},
@@ -48,7 +48,7 @@ pub const PARTS: &str =
 ]}"##;
 
 // One class, Part, with one feature, which contains parts.
-pub const NESTED: &str =
+pub(crate) const NESTED: &str =
     r##"{"eClass":"E#//EPackage","name":"parts","nsURI":"http://parts/1","eClassifiers":[
 {"eClass":"E#//EClass","name":"Part","eStructuralFeatures":[
 {"eClass":"E#//EReference","name":"inner","upperBound":-1,"containment":true,"eType":{"$ref":"//Part"}}]}
@@ -57,7 +57,7 @@ pub const NESTED: &str =
 // A reference for each bound and each bound of its opposite, 1, 2 and none, and no opposite: 0 one_one and 1 back, 2 one_few and 3 back,
 // 4 one_many and 5 back, 6 few_few and 7 back, 8 few_many and 9 back, 10 many_many and 11 back, 12 one_alone, 13 few_alone, 14 many_alone.
 // Class 0 is Part, which has them; 1 is Other, which no reference takes.
-pub const SIDES: &str =
+pub(crate) const SIDES: &str =
     r##"{"eClass":"E#//EPackage","name":"sides","nsURI":"http://sides/1","eClassifiers":[
 {"eClass":"E#//EClass","name":"Part","eStructuralFeatures":[
 {"eClass":"E#//EReference","name":"one_one","eType":{"$ref":"//Part"},"eOpposite":{"$ref":"//Part/one_one_back"}},
@@ -90,7 +90,7 @@ fn addressed(alloc: Global, text: &str) -> Result<String, Fail> {
     Ok(out)
 }
 
-pub fn metamodel(alloc: Global, text: &str) -> Result<Metamodel, Fail>
+pub(crate) fn metamodel(alloc: Global, text: &str) -> Result<Metamodel, Fail>
     ensures { IfOk result Sound }
 {
     let text = addressed(alloc, text)?;

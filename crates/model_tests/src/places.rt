@@ -18,7 +18,7 @@ use std::test::Fail;
 use step_apply::Plain;
 
 // Part a at the root has b and c, b has d; part e and o, which is no part, stand at the root.
-pub const TREE: &str =
+pub(crate) const TREE: &str =
     "New a 0 / 10; New e 0 / 20; New o 1 / 30; New b 0 a.5 10; New c 0 a.5 20; New d 0 b.4 10";
 
 // The id of the new element, its class and its place.
@@ -175,7 +175,12 @@ fn move_element(
 }
 
 // What a call of a place or of an element's subtree answers.
-pub fn answer(alloc: Global, meta: &Metamodel, plain: &Plain, call: &str) -> Result<String, Fail>
+pub(crate) fn answer(
+    alloc: Global,
+    meta: &Metamodel,
+    plain: &Plain,
+    call: &str,
+) -> Result<String, Fail>
     requires { Good meta.now (plain_state plain.now) }
 {
     let mut words = words_of(alloc, call);

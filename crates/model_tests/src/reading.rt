@@ -6,32 +6,32 @@ use std::str::SplitWhitespace;
 use std::test::Fail;
 
 #[derive(Drop)]
-pub struct Words<'a> {
+pub(crate) struct Words<'a> {
     alloc: Global,
     rest: SplitWhitespace<'a>,
 }
 
-pub fn words_of(alloc: Global, text: &str) -> Words<'_> {
+pub(crate) fn words_of(alloc: Global, text: &str) -> Words<'_> {
     Words {
         alloc,
         rest: text.split_whitespace(),
     }
 }
 
-pub fn step(alloc: Global, text: &str) -> Result<Step, Fail> {
+pub(crate) fn step(alloc: Global, text: &str) -> Result<Step, Fail> {
     words_of(alloc, text).step()
 }
 
 impl<'a> Words<'a> {
-    pub fn word(&mut self) -> &'a str {
+    pub(crate) fn word(&mut self) -> &'a str {
         self.rest.next().unwrap_or("")
     }
 
-    pub fn id(&mut self) -> Result<Id, Fail> {
+    pub(crate) fn id(&mut self) -> Result<Id, Fail> {
         Ok(Id::read(self.alloc, self.word())?)
     }
 
-    pub fn number(&mut self) -> Result<u32, Fail> {
+    pub(crate) fn number(&mut self) -> Result<u32, Fail> {
         Ok(self.word().parse::<u32>()?)
     }
 
@@ -40,7 +40,7 @@ impl<'a> Words<'a> {
     }
 
     // An index, None for the end.
-    pub fn index(&mut self) -> Result<Option<u32>, Fail> {
+    pub(crate) fn index(&mut self) -> Result<Option<u32>, Fail> {
         match self.rest.next() {
             None => Ok(None),
             Some(word) => Ok(Some(word.parse::<u32>()?)),
@@ -56,7 +56,7 @@ impl<'a> Words<'a> {
         Ok(Some(word.parse::<u64>()?))
     }
 
-    pub fn place(&mut self) -> Result<Place, Fail> {
+    pub(crate) fn place(&mut self) -> Result<Place, Fail> {
         place_of(self.alloc, self.word())
     }
 

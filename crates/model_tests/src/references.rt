@@ -219,7 +219,12 @@ fn edit(
 }
 
 // What an edit of a reference answers.
-pub fn answer(alloc: Global, meta: &Metamodel, plain: &Plain, call: &str) -> Result<String, Fail>
+pub(crate) fn answer(
+    alloc: Global,
+    meta: &Metamodel,
+    plain: &Plain,
+    call: &str,
+) -> Result<String, Fail>
     requires sound { Sound meta.now }
     requires good { Good meta.now (plain_state plain.now) }
 {

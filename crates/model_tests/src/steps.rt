@@ -154,7 +154,7 @@ fn told(alloc: Global, answer: Result<(), StepFault>) -> Result<String, Fail> {
 }
 
 // What a model answers to a step.
-pub fn answer(
+pub(crate) fn answer(
     alloc: Global,
     meta: &Metamodel,
     plain: &mut Plain,

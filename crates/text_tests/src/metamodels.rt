@@ -5,7 +5,7 @@ use std::alloc::Global;
 use std::test::Fail;
 
 // Classes: 0 Library, 1 Book, 2 Writer, 3 Shelf. `E#` stands for Ecore's own namespace.
-pub const LIBRARY: &str =
+pub(crate) const LIBRARY: &str =
     r##"{"eClass":"E#//EPackage","name":"lib","nsURI":"http://lib/1","nsPrefix":"lib","eClassifiers":[
 {"eClass":"E#//EClass","name":"Library","eStructuralFeatures":[
 {"eClass":"E#//EReference","name":"books","upperBound":-1,"containment":true,"eType":{"$ref":"//Book"},"eOpposite":{"$ref":"//Book/library"}}]},
@@ -26,7 +26,7 @@ pub const LIBRARY: &str =
 {"eClass":"E#//EReference","name":"parts","upperBound":-1,"containment":true,"eType":{"$ref":"//Shelf"}}]}
 ]}"##;
 
-pub fn replaced(alloc: Global, text: &str, old: &str, new: &str) -> Result<String, Fail> {
+pub(crate) fn replaced(alloc: Global, text: &str, old: &str, new: &str) -> Result<String, Fail> {
     let mut out = String::new(alloc);
     for (n, part) in text.split(old).enumerate() {
         if n > 0 {
@@ -37,7 +37,7 @@ pub fn replaced(alloc: Global, text: &str, old: &str, new: &str) -> Result<Strin
     Ok(out)
 }
 
-pub fn metamodel(alloc: Global, document: &str) -> Result<Metamodel, Fail> {
+pub(crate) fn metamodel(alloc: Global, document: &str) -> Result<Metamodel, Fail> {
     let text = replaced(
         alloc,
         document,
@@ -51,12 +51,12 @@ pub fn metamodel(alloc: Global, document: &str) -> Result<Metamodel, Fail> {
 }
 
 // What stands before the first blank, and what stands behind it.
-pub fn cut(line: &str) -> (&str, &str) {
+pub(crate) fn cut(line: &str) -> (&str, &str) {
     line.split_once(' ').unwrap_or((line, ""))
 }
 
 // The feature of that number, where there is one.
-pub fn feature(meta: &Metamodel, f: u32) -> Option<&Feature> {
+pub(crate) fn feature(meta: &Metamodel, f: u32) -> Option<&Feature> {
     if f < meta.feature_count() {
         Some(meta.feature(f))
     } else {

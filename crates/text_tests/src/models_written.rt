@@ -57,7 +57,7 @@ const THINGS: &str = r##"{"_id":"a","eClass":"h#//House"} <- New a House / 1
 {"_id":"a","eClass":"h#//House","far":[{"$ref":"a"}],"near":[{"$ref":"a"}],"next":{"$ref":"a"}} <- New a House / 1; Link a House.next 1 a -; Link a House.near 1 a -; Link a House.far 1 a -"##;
 
 // A model to which the steps were taken.
-pub fn model(alloc: Global, meta: &Metamodel, taken: &[Step]) -> Result<Plain, Fail>
+pub(crate) fn model(alloc: Global, meta: &Metamodel, taken: &[Step]) -> Result<Plain, Fail>
     requires { Sound meta.now }
     ensures { IfOk result (λ p. Good meta.now (plain_state p)) }
 {

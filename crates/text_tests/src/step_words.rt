@@ -219,7 +219,7 @@ fn step_of_rank(alloc: Global, meta: &Metamodel, a: Id, line: &str) -> Result<St
     })
 }
 
-pub fn steps(alloc: Global, meta: &Metamodel, lines: &str) -> Result<Vec<Step>, Fail> {
+pub(crate) fn steps(alloc: Global, meta: &Metamodel, lines: &str) -> Result<Vec<Step>, Fail> {
     let mut steps = Vec::new(alloc);
     for line in lines.split("; ") {
         if !line.is_empty() {

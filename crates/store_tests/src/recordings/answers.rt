@@ -156,7 +156,7 @@ fn operation(alloc: Global, operation: &Option<Operation>) -> Result<String, Fai
     }
 }
 
-pub fn told(alloc: Global, answer: &Result<Recorded, EditFault>) -> Result<String, Fail> {
+pub(crate) fn told(alloc: Global, answer: &Result<Recorded, EditFault>) -> Result<String, Fail> {
     match answer {
         Err(fault) => Ok(format!(in alloc; "{fault:?}")?),
         Ok(recorded) => {

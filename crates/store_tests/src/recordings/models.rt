@@ -73,13 +73,13 @@ fn metamodel(alloc: Global, text: &str) -> Result<Metamodel, Fail>
     Ok(meta)
 }
 
-pub fn library(alloc: Global) -> Result<Metamodel, Fail>
+pub(crate) fn library(alloc: Global) -> Result<Metamodel, Fail>
     ensures { IfOk result (λ meta. Sound meta) }
 {
     metamodel(alloc, LIBRARY)
 }
 
-pub fn boxes(alloc: Global) -> Result<Metamodel, Fail>
+pub(crate) fn boxes(alloc: Global) -> Result<Metamodel, Fail>
     ensures { IfOk result (λ meta. Sound meta) }
 {
     metamodel(alloc, BOXES)

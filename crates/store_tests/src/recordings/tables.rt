@@ -3,7 +3,7 @@
 // answered. `last b` puts an element b at the root with the last rank. The ranks are multiples of 4294967296, which is 2^32;
 // 18446744073709551615 is the last rank. A list of 2^32 - 1 values, which takes no more, is made by no test.
 
-pub const IN_THE_LIBRARY: &str = r##"last b
+pub(crate) const IN_THE_LIBRARY: &str = r##"last b
 # create: refusals in order
 create 7 Novel / b => NoClass
 
@@ -138,7 +138,7 @@ shift 7 b tags 2 0 => ManyAttribute: shift b 3 2 0
 shift 7 b tags 1 1 => nothing"##;
 
 // Authors are two books and two writers, of which the book b has both and the book c the second. In the other model the sequel of a is x, that of c is b.
-pub const REFERENCES: &str =
+pub(crate) const REFERENCES: &str =
     r##"create 7 Book / a; create 7 Book / b; create 7 Book / c; create 7 Book / x; create 7 Writer / w; set 7 a sequel "x"; set 7 c sequel "b"
 # set of a reference: refusals in order
 set 7 d paper 5 => NoElement
@@ -214,7 +214,7 @@ reorder 7 b authors w 1 => Reference: rerank b 4 w 4294967296 12884901888
 reorder 7 b authors v 1 => nothing"##;
 
 // In the model of tops two boxes stand on b, and c on d.
-pub const IN_BOXES: &str = r##"last b
+pub(crate) const IN_BOXES: &str = r##"last b
 create 7 Thing / #b => Abstract
 
 create 7 Box / b
@@ -269,7 +269,8 @@ link 7 e tops a => Reference: unlink a 6 4294967296 b 4294967296; link a 6 42949
 reorder 7 b tops d 0 => Reference: rerank b 7 d 8589934592 2147483648"##;
 
 // Creations in a place, moves and deletions. That a place of 4,294,967,295 elements is not ranked anew is shown by no test.
-pub const PLACES: &str = r##"create 7 Shelf / s; create 7 Shelf s parts t; create 7 Shelf s top v
+pub(crate) const PLACES: &str =
+    r##"create 7 Shelf / s; create 7 Shelf s parts t; create 7 Shelf s top v
 # create inside an element: refusals in order
 create 7 Novel c paper #b => NoClass
 create 7 Shelf c paper #b => NoElement
@@ -355,7 +356,7 @@ delete 7 l => Delete: unlink b 4 4294967296 w 4294967296; put b 1 "Emma" -; del 
 delete 7 w => Delete: unlink b 4 4294967296 w 4294967296; unlink v 10 4294967296 w -; gone w 2 / 8589934592"##;
 
 // Of the boxes: an abstract class is told before the parent is looked for.
-pub const ABSTRACT: &str = r##"nothing
+pub(crate) const ABSTRACT: &str = r##"nothing
 create 7 Thing b tops #b => Abstract
 create 7 Box b tops #b => NoElement
 

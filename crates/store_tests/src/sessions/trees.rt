@@ -4,7 +4,7 @@ use std::test::Fail;
 
 // A metamodel of houses: a house has rooms, one roof and two sheds at most; a room has a name, rooms inside, doors to rooms and entries from them, which are
 // opposites, and a window to one room. Place is abstract.
-pub const HOUSE: &str =
+pub(crate) const HOUSE: &str =
     r#"{"eClass":"http://www.eclipse.org/emf/2002/Ecore#//EPackage","name":"house","nsURI":"http://house/1","nsPrefix":"house","eClassifiers":[
 {"eClass":"http://www.eclipse.org/emf/2002/Ecore#//EClass","name":"House","eStructuralFeatures":[
 {"eClass":"http://www.eclipse.org/emf/2002/Ecore#//EReference","name":"rooms","upperBound":-1,"containment":true,"eType":{"$ref":"//Room"}},
