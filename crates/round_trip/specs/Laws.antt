@@ -1,6 +1,5 @@
 -- A model's text, brought into the empty project, is shown as the same text.
 use Rattle.std.specs.Prelude.{◌≡◌, ◌-◌, ◌^◌, ◌<◌, ◌≤◌, ℕ, List, Option, Some, Ok, length}
-use Rattle.std.specs.Prelude.{◌≡◌, ◌-◌, ◌^◌, ◌<◌, ◌≤◌, ℕ, List, Some, Ok, length}
 use Rattle.serde_json.specs.Data.{depth}
 use Rattle.serde_json.specs.Read.{read, max_depth}
 use Rattle.ecore_json.specs.Metamodel.{metamodel_of}

@@ -1,4 +1,4 @@
-// The texts of models: what each kind of feature has in them, how strings are written, and a model of ten thousand levels.
+// The texts of models: what each kind of feature has in them, how strings are written, and a model of a thousand levels.
 ghost use Rattle.std.specs.Prelude.{IfOk};
 ghost use Rattle.ecore_meta.specs.Sound.{Sound};
 ghost use Rattle.model_state.specs.Good.{Good};
