@@ -2,11 +2,11 @@
 use Rattle.std.proofs.Common.{◌≡◌, ⊎_elim, ℕ, zero, suc, ◌+◌, ◌-◌, ◌≤◌, min, List, [], ◌∷◌, ◌++◌, Bool, false, ◌||◌, length, take, refl, sym, ◌∙◌, ap, subst, append_assoc, length-append, arith}
 use Rattle.std.specs.Prelude.{IsTrue}
 use Rattle.std.proofs.lemmas.List.{append-nil, take_at, length-take, take-append-le, take_min}
-use Rattle.host_port.specs.Host.{Told, MayLeave, GoesOn, Throughout, KeepsDisk, KeepsSaid, AddsPart, disk_now, said_now}
+use Rattle.host_port.specs.Host.{Told, MayLeave, GoesOn, Throughout, KeepsDisk, KeepsSaid, AddsPart, disk_now, said_now, StopLeaves}
 use Rattle.host_port.specs.Cut.{Item, Script}
 use Rattle.host_port.proofs.Course.{carry_on, told_next, still_disk, still_said, adds_none, said_kept_now}
 use Rattle.command_runs.specs.Runs.{Answer, listed, played, after, replies, events, refuses, answered}
-use Rattle.command_runs.specs.Stops.{StopLeaves, IsAmong, IsRunning, IsStepping}
+use Rattle.command_runs.specs.Stops.{IsAmong, IsRunning, IsStepping}
 use Rattle.command_runs.proofs.RunLaws.{replies-append, events-append, answered-within, replies-more, events-more, refuses-more, reached-more}
 
 -- Between two items: these are done and the others are left; what they say is said, what they make stands, and at each

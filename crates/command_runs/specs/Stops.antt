@@ -1,11 +1,7 @@
 -- What a stop may leave while commands run. 'stands x events' says that the bytes x of a file stand for these events.
 use Rattle.std.specs.Prelude.{◌≡◌, ◌⊎◌, ℕ, ◌-◌, ◌≤◌, List, ◌++◌, Option, length, take}
-use Rattle.host_port.specs.Host.{Disk, MayLeave}
+use Rattle.host_port.specs.Host.{Disk, StopLeaves}
 use Rattle.command_runs.specs.Runs.{listed}
-
--- whatever a stop leaves has P
-abbrev pub StopLeaves : (List ℕ → Type 0) → Disk → Type 0
-StopLeaves P disk = (x : List ℕ) → MayLeave disk x → P x
 
 -- the file stands for the first events and some of those that were made since: at least so many, and none in part
 pub record IsAmong {E : Type 0} (stands : List ℕ → List E → Type 0) (first made : List E) (least : ℕ) (x : List ℕ) : Type 0 where

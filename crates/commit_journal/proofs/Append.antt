@@ -3,10 +3,10 @@ use Rattle.std.proofs.Common.{◌≡◌, inl, inr, ℕ, ◌+◌, ◌^◌, ◌<�
 use Rattle.std.proofs.lemmas.List.{length-take, take_at, drop_at, get_or_at}
 use Rattle.std.proofs.lemmas.Bool.{cases_eq}
 use Rattle.std.specs.Prelude.{IsTrue}
-use Rattle.host_port.specs.Host.{Told, GoesOn, Throughout, disk_now, Disk, Span, MayLeave, WrittenPart, overwritten, written, synced}
+use Rattle.host_port.specs.Host.{Told, GoesOn, Throughout, disk_now, Disk, Span, MayLeave, WrittenPart, overwritten, written, synced, StopLeaves}
 use Rattle.host_port.proofs.Replaying.{whole_write}
 use Rattle.commit_journal.specs.Stop.{IsSettled, Torn, IsWriting}
-use Rattle.commit_journal.specs.Journal.{behind_gate, Holds, Fits, IsReady, IsShort, EndsAt, IsAtRest, StopLeaves, IsBeforeOrAfter, IsGateLast}
+use Rattle.commit_journal.specs.Journal.{behind_gate, Holds, Fits, IsReady, IsShort, EndsAt, IsAtRest, IsBeforeOrAfter, IsGateLast}
 use Rattle.commit_journal.proofs.Torn.{torn_part, left_settled, torn_front, torn_back}
 use Rattle.commit_journal.proofs.Ends.{stands, same_end, opened, shut}
 use Rattle.host_port.proofs.Course.{carry_on, told_next}

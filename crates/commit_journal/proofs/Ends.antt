@@ -3,25 +3,25 @@ use Rattle.std.proofs.Common.{◌≡◌, ◌≢◌, inl, inr, ℕ, ◌+◌, ◌^
 use Rattle.std.proofs.lemmas.List.{append-nil, get_or-take, get_or_at, take_at, drop_more}
 use Rattle.std.proofs.lemmas.List.Elements.{All-push}
 use Rattle.std.proofs.lemmas.Bool.{cases_lt}
-use Rattle.commit_journal.specs.Journal.{header, be32, record_of, records, behind_gate, IsShort, EndsAt, StandsFor}
+use Rattle.commit_journal.specs.Journal.{header, four_bytes, record_of, records, behind_gate, IsShort, EndsAt, StandsFor}
 
 pub length-header : length header ≡ 16
 unfolding header
 length-header = refl
 
-pub length-be32 : (n : ℕ) → length (be32 n) ≡ 4
-unfolding be32
-length-be32 n = refl
+pub length-four_bytes : (n : ℕ) → length (four_bytes n) ≡ 4
+unfolding four_bytes
+length-four_bytes n = refl
 
 pub records-push : (forms : List (List ℕ)) (form : List ℕ) → records (forms ++ form ∷ []) ≡ records forms ++ record_of form
 records-push [] form = append-nil (record_of form)
 records-push (f ∷ forms) form = ap (λ (l : List ℕ). record_of f ++ l) (records-push forms form) ∙ sym (append_assoc (record_of f) (records forms) (record_of form))
 
 pub length-record_of : (form : List ℕ) → length (record_of form) ≡ 5 + length form
-length-record_of form = omega (arith, length-append (be32 (length form)) form, length-be32 (length form))
+length-record_of form = omega (arith, length-append (four_bytes (length form)) form, length-four_bytes (length form))
 
 pub length-behind_gate : (form : List ℕ) → length (behind_gate form) ≡ 5 + length form
-length-behind_gate form = omega (arith, length-append (be32 (length form) ++ form) (0 ∷ []), length-append (be32 (length form)) form, length-be32 (length form))
+length-behind_gate form = omega (arith, length-append (four_bytes (length form) ++ form) (0 ∷ []), length-append (four_bytes (length form)) form, length-four_bytes (length form))
 
 pub no_records : (forms : List (List ℕ)) → length (records forms) ≡ 0 → forms ≡ []
 no_records [] none = refl

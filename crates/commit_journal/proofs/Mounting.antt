@@ -2,10 +2,10 @@
 use Rattle.std.proofs.Common.{◌≡◌, ◌⊎◌, inl, inr, ⊎_elim, ℕ, ◌<◌, ◌≤◌, List, [], ◌∷◌, ◌++◌, length, take, get_or, refl, sym, ◌∙◌, ap, subst, arith}
 use Rattle.std.specs.Prelude.{IsTrue}
 use Rattle.std.proofs.lemmas.List.{append-nil, drop_all}
-use Rattle.host_port.specs.Host.{Told, Disk, MayLeave, GoesOn, Throughout, KeepsDisk, disk_now, overwritten, written, synced}
+use Rattle.host_port.specs.Host.{Told, Disk, MayLeave, GoesOn, Throughout, KeepsDisk, disk_now, overwritten, written, synced, StopLeaves}
 use Rattle.host_port.proofs.Course.{carry_on, told_next, course_on, kept_now}
 use Rattle.commit_journal.specs.Stop.{IsSettled, IsWriting}
-use Rattle.commit_journal.specs.Journal.{header, new_file, ReadsTo, EndsAt, StandsFor, StandsForSame, StopLeaves, IsNoHeader, IsWalked, MountedFrom}
+use Rattle.commit_journal.specs.Journal.{header, new_file, ReadsTo, EndsAt, StandsFor, StandsForSame, IsNoHeader, IsWalked, MountedFrom}
 use Rattle.commit_journal.proofs.Torn.{left_settled}
 use Rattle.commit_journal.proofs.Append.{synced_settled, left_torn}
 use Rattle.commit_journal.proofs.Walking.{no_header}

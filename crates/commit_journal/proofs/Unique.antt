@@ -3,10 +3,10 @@ use Rattle.std.proofs.Common.{◌≡◌, ◌≢◌, inl, inr, ℕ, suc, ◌+◌,
 use Rattle.std.proofs.lemmas.List.{take_at, drop_at, get_or-take, get_or-drop, get_or_append_left, length-drop}
 use Rattle.std.specs.Prelude.{All}
 use Rattle.std.specs.Int.{from_be_bytes}
-use Rattle.commit_journal.specs.Journal.{header, be32, record_of, records, IsShort, ReadsTo, EndsAt, StandsFor, StandsForNone, IsStuck, IsNoHeader, IsMounted}
-use Rattle.commit_journal.proofs.Ends.{length-be32, length-header, length-record_of, no_records}
+use Rattle.commit_journal.specs.Journal.{header, four_bytes, record_of, records, IsShort, ReadsTo, EndsAt, StandsFor, StandsForNone, IsStuck, IsNoHeader, IsMounted}
+use Rattle.commit_journal.proofs.Ends.{length-four_bytes, length-header, length-record_of, no_records}
 use Rattle.commit_journal.proofs.Mounting.{new_ends}
-use Rattle.commit_journal.proofs.Walking.{value_of-be32}
+use Rattle.commit_journal.proofs.Walking.{value_of-four_bytes}
 
 first_of : (forms : List (List ℕ)) (f : List ℕ) → All IsShort (f ∷ forms) → IsShort f
 first_of forms f all = all 0 [] (omega arith)
@@ -15,18 +15,18 @@ rest_of : (forms : List (List ℕ)) (f : List ℕ) → All IsShort (f ∷ forms)
 rest_of forms f all k d low = all (suc k) d (omega arith)
 
 -- one record at the front of the same bytes is the same record, before the same rest
-module _ (f h s t : List ℕ) (short_f : IsShort f) (short_h : IsShort h) (same : (be32 (length f) ++ f) ++ s ≡ (be32 (length h) ++ h) ++ t) where
-  spread : be32 (length f) ++ (f ++ s) ≡ be32 (length h) ++ (h ++ t)
-  spread = sym (append_assoc (be32 (length f)) f s) ∙ same ∙ append_assoc (be32 (length h)) h t
+module _ (f h s t : List ℕ) (short_f : IsShort f) (short_h : IsShort h) (same : (four_bytes (length f) ++ f) ++ s ≡ (four_bytes (length h) ++ h) ++ t) where
+  spread : four_bytes (length f) ++ (f ++ s) ≡ four_bytes (length h) ++ (h ++ t)
+  spread = sym (append_assoc (four_bytes (length f)) f s) ∙ same ∙ append_assoc (four_bytes (length h)) h t
 
-  field_same : be32 (length f) ≡ be32 (length h)
-  field_same = sym (take_at (be32 (length f)) (f ++ s) 4 (length-be32 (length f))) ∙ ap (λ (l : List ℕ). take 4 l) spread ∙ take_at (be32 (length h)) (h ++ t) 4 (length-be32 (length h))
+  field_same : four_bytes (length f) ≡ four_bytes (length h)
+  field_same = sym (take_at (four_bytes (length f)) (f ++ s) 4 (length-four_bytes (length f))) ∙ ap (λ (l : List ℕ). take 4 l) spread ∙ take_at (four_bytes (length h)) (h ++ t) 4 (length-four_bytes (length h))
 
   size_same : length f ≡ length h
-  size_same = sym (value_of-be32 (length f) (omega arith)) ∙ ap (from_be_bytes w32) field_same ∙ value_of-be32 (length h) (omega arith)
+  size_same = sym (value_of-four_bytes (length f) (omega arith)) ∙ ap (from_be_bytes w32) field_same ∙ value_of-four_bytes (length h) (omega arith)
 
   behind : f ++ s ≡ h ++ t
-  behind = sym (drop_at (be32 (length f)) (f ++ s) 4 (length-be32 (length f))) ∙ ap (λ (l : List ℕ). drop 4 l) spread ∙ drop_at (be32 (length h)) (h ++ t) 4 (length-be32 (length h))
+  behind = sym (drop_at (four_bytes (length f)) (f ++ s) 4 (length-four_bytes (length f))) ∙ ap (λ (l : List ℕ). drop 4 l) spread ∙ drop_at (four_bytes (length h)) (h ++ t) 4 (length-four_bytes (length h))
 
   pub form_same : f ≡ h
   form_same = sym (take_at f s (length f) refl) ∙ ap (λ (l : List ℕ). take (length f) l) behind ∙ take_at h t (length f) (sym size_same)
@@ -42,8 +42,8 @@ same_forms [] [] s t same closed_s closed_t short_a short_b = refl
 same_forms [] (h ∷ b) s t same closed_s closed_t short_a short_b = absurd (closed_s (ap (λ (l : List ℕ). get_or l 0 0) same))
 same_forms (f ∷ a) [] s t same closed_s closed_t short_a short_b = absurd (closed_t (sym (ap (λ (l : List ℕ). get_or l 0 0) same)))
 same_forms (f ∷ a) (h ∷ b) s t same closed_s closed_t short_a short_b =
-    let tails : (be32 (length f) ++ f) ++ (records a ++ s) ≡ (be32 (length h) ++ h) ++ (records b ++ t) =
-    sym (append_assoc (be32 (length f) ++ f) (records a) s) ∙ tail_same 165 165 _ _ same ∙ append_assoc (be32 (length h) ++ h) (records b) t in
+    let tails : (four_bytes (length f) ++ f) ++ (records a ++ s) ≡ (four_bytes (length h) ++ h) ++ (records b ++ t) =
+    sym (append_assoc (four_bytes (length f) ++ f) (records a) s) ∙ tail_same 165 165 _ _ same ∙ append_assoc (four_bytes (length h) ++ h) (records b) t in
     let short_f = first_of a f short_a in
     let short_h = first_of b h short_b in
     let one = form_same f h (records a ++ s) (records b ++ t) short_f short_h tails in
@@ -82,8 +82,8 @@ no_forms [] (h ∷ b) s t base start same start_is not_closed no_record some clo
 no_forms (f ∷ a) [] s t base start same start_is not_closed no_record some closed short_a short_b low =
     closed (sym (ap (λ (l : List ℕ). get_or l 0 0) same))
 no_forms (f ∷ a) (h ∷ b) s t base start same start_is not_closed no_record some closed short_a short_b low =
-    let tails : (be32 (length f) ++ f) ++ (records a ++ s) ≡ (be32 (length h) ++ h) ++ (records b ++ t) =
-    sym (append_assoc (be32 (length f) ++ f) (records a) s) ∙ tail_same 165 165 _ _ same ∙ append_assoc (be32 (length h) ++ h) (records b) t in
+    let tails : (four_bytes (length f) ++ f) ++ (records a ++ s) ≡ (four_bytes (length h) ++ h) ++ (records b ++ t) =
+    sym (append_assoc (four_bytes (length f) ++ f) (records a) s) ∙ tail_same 165 165 _ _ same ∙ append_assoc (four_bytes (length h) ++ h) (records b) t in
     let short_f = first_of a f short_a in
     let short_h = first_of b h short_b in
     let one = form_same f h (records a ++ s) (records b ++ t) short_f short_h tails in

@@ -4,16 +4,16 @@ use Rattle.std.proofs.lemmas.List.{length-take, length-drop, drop-drop, take_at,
 use Rattle.std.proofs.lemmas.List.Elements.{All-push}
 use Rattle.std.specs.Int.{from_be_bytes}
 use Rattle.std.proofs.lemmas.Nat.{from_be_bytes-to_be_bytes_4, be_bytes_4}
-use Rattle.commit_journal.specs.Journal.{header, be32, record_of, records, IsShort, ReadsTo, IsStuck, IsNoHeader}
-use Rattle.commit_journal.proofs.Ends.{records-push, length-record_of, length-be32}
+use Rattle.commit_journal.specs.Journal.{header, four_bytes, record_of, records, IsShort, ReadsTo, IsStuck, IsNoHeader}
+use Rattle.commit_journal.proofs.Ends.{records-push, length-record_of, length-four_bytes}
 
-pub value_of-be32 : (n : ℕ) → n < 2 ^ 32 → from_be_bytes w32 (be32 n) ≡ n
-unfolding be32
-value_of-be32 n small = from_be_bytes-to_be_bytes_4 n small
+pub value_of-four_bytes : (n : ℕ) → n < 2 ^ 32 → from_be_bytes w32 (four_bytes n) ≡ n
+unfolding four_bytes
+value_of-four_bytes n small = from_be_bytes-to_be_bytes_4 n small
 
-pub be32-value_of : (field : List ℕ) (n : ℕ) → length field ≡ 4 → ((i : ℕ) → get_or field i 0 < 256) → n ≡ from_be_bytes w32 field → be32 n ≡ field
-unfolding be32
-be32-value_of field n long bytes is = be_bytes_4 field n long bytes is
+pub four_bytes-value_of : (field : List ℕ) (n : ℕ) → length field ≡ 4 → ((i : ℕ) → get_or field i 0 < 256) → n ≡ from_be_bytes w32 field → four_bytes n ≡ field
+unfolding four_bytes
+four_bytes-value_of field n long bytes is = be_bytes_4 field n long bytes is
 
 module _ (file : List ℕ) (gate : ℕ) where
   -- the three parts of a record at a gate
@@ -42,7 +42,7 @@ module _ (file : List ℕ) (gate : ℕ) where
     no_record = λ form small below is. absurd (omega (arith, ap length is, length-record_of form, length-take (5 + length form) (drop gate file), length-drop gate file));
   }
 
-  field_is : (form : List ℕ) → take (5 + length form) (drop gate file) ≡ record_of form → take 4 (drop (gate + 1) file) ≡ be32 (length form)
+  field_is : (form : List ℕ) → take (5 + length form) (drop gate file) ≡ record_of form → take 4 (drop (gate + 1) file) ≡ four_bytes (length form)
   field_is form is =
       let n = length form in
       let long : 5 + length form ≤ length file - gate = omega (arith, ap length is, length-record_of form, length-take (5 + length form) (drop gate file), length-drop gate file) in
@@ -51,29 +51,29 @@ module _ (file : List ℕ) (gate : ℕ) where
       sym (take_at (take 4 (drop (gate + 1) file)) (take n (drop (gate + 5) file)) 4 four)
       ∙ ap (λ (l : List ℕ). take 4 l) (sym (drop_at (take 1 (drop gate file)) (take 4 (drop (gate + 1) file) ++ take n (drop (gate + 5) file)) 1 one))
       ∙ ap (λ (l : List ℕ). take 4 (drop 1 l)) (sym (parts n) ∙ is)
-      ∙ take_at (be32 n) form 4 (length-be32 n)
+      ∙ take_at (four_bytes n) form 4 (length-four_bytes n)
 
-  pub no_room : (field : List ℕ) (size : ℕ) → get_or file gate 0 ≡ 165 → field ≡ take 4 (drop (gate + 1) file) → be32 size ≡ field → size < 2 ^ 32
+  pub no_room : (field : List ℕ) (size : ℕ) → get_or file gate 0 ≡ 165 → field ≡ take 4 (drop (gate + 1) file) → four_bytes size ≡ field → size < 2 ^ 32
       → ((size ≤ 16777211) → (gate + 5 + size < 2 ^ 40) → length file < gate + 5 + size) → IsStuck file gate
   no_room field size is_open field_read size_is low none = record {
     not_closed = λ below. is_open;
     no_record = λ form small below is.
         let long : 5 + length form ≤ length file - gate = omega (arith, ap length is, length-record_of form, length-take (5 + length form) (drop gate file), length-drop gate file) in
-        let size_same : size ≡ length form = sym (value_of-be32 size low) ∙ ap (from_be_bytes w32) (size_is ∙ field_read ∙ field_is form is) ∙ value_of-be32 (length form) (omega arith) in
+        let size_same : size ≡ length form = sym (value_of-four_bytes size low) ∙ ap (from_be_bytes w32) (size_is ∙ field_read ∙ field_is form is) ∙ value_of-four_bytes (length form) (omega arith) in
         let past : length file < gate + 5 + size = none (omega (arith, size_same)) (omega (arith, size_same)) in
         absurd (omega (arith, size_same, long, past));
   }
 
   pub one_record : (forms : List (List ℕ)) (mark field form : List ℕ) (size : ℕ) → ReadsTo file forms gate → gate < length file → get_or file gate 0 ≡ 165
-      → field ≡ take 4 (drop (gate + 1) file) → be32 size ≡ field → size ≤ 16777211 → gate + 5 + size ≤ length file → form ≡ take size (drop (gate + 5) file)
+      → field ≡ take 4 (drop (gate + 1) file) → four_bytes size ≡ field → size ≤ 16777211 → gate + 5 + size ≤ length file → form ≡ take size (drop (gate + 5) file)
       → ReadsTo file (forms ++ form ∷ []) (gate + 5 + size)
   one_record forms mark field form size reads low is_open field_read size_is small room form_is =
       let long : length form ≡ size = omega (arith, ap length form_is, length-take size (drop (gate + 5) file), length-drop (gate + 5) file) in
       let one : take 1 (drop gate file) ≡ 165 ∷ [] = ap (λ (l : List ℕ). take 1 l) (drop_more file gate 0 low) ∙ ap (λ (n : ℕ). n ∷ []) is_open in
-      let field_same : be32 (length form) ≡ field = ap be32 long ∙ size_is in
+      let field_same : four_bytes (length form) ≡ field = ap four_bytes long ∙ size_is in
       let piece : take (5 + size) (drop gate file) ≡ record_of form =
       parts size ∙ ap (λ (l : List ℕ). l ++ (take 4 (drop (gate + 1) file) ++ take size (drop (gate + 5) file))) one
-      ∙ ap (λ (l : List ℕ). 165 ∷ l ++ take size (drop (gate + 5) file)) (sym field_read ∙ sym field_same) ∙ ap (λ (l : List ℕ). 165 ∷ be32 (length form) ++ l) (sym form_is) in
+      ∙ ap (λ (l : List ℕ). 165 ∷ l ++ take size (drop (gate + 5) file)) (sym field_read ∙ sym field_same) ∙ ap (λ (l : List ℕ). 165 ∷ four_bytes (length form) ++ l) (sym form_is) in
       let place : gate + 5 + size ≡ gate + (5 + size) = omega arith in
       record {
         front = ap (λ (k : ℕ). take k file) place ∙ take-add gate (5 + size) file ∙ ap (λ (l : List ℕ). l ++ take (5 + size) (drop gate file)) reads.front

@@ -1,7 +1,7 @@
 -- What the bytes of a journal stand for.
 use Rattle.std.specs.Prelude.{◌≡◌, ◌≢◌, ◌⊎◌, ℕ, ◌+◌, ◌^◌, ◌<◌, ◌≤◌, Bool, List, [], ◌∷◌, ◌++◌, length, take, drop, slice_index, All}
 use Rattle.std.specs.Int.{to_be_bytes, w32}
-use Rattle.host_port.specs.Host.{Disk, MayLeave}
+use Rattle.host_port.specs.Host.{StopLeaves, Disk}
 use Rattle.commit_journal.specs.Stop.{IsSettled}
 
 -- EMFSTORE, the number 1 and four zero bytes
@@ -13,12 +13,12 @@ unfoldable pub new_file : List ℕ
 new_file = header ++ 0 ∷ []
 
 -- a number as four bytes, the highest first
-unfoldable pub be32 : ℕ → List ℕ
-be32 n = to_be_bytes w32 n
+unfoldable pub four_bytes : ℕ → List ℕ
+four_bytes n = to_be_bytes w32 n
 
 -- an open gate, the length and the form
 abbrev pub record_of : List ℕ → List ℕ
-record_of form = 165 ∷ be32 (length form) ++ form
+record_of form = 165 ∷ four_bytes (length form) ++ form
 
 abbrev pub records : List (List ℕ) → List ℕ
 records [] = []
@@ -26,7 +26,7 @@ records (form ∷ forms) = record_of form ++ records forms
 
 -- what an append writes behind the closed gate: the length, the form and the next closed gate
 abbrev pub behind_gate : List ℕ → List ℕ
-behind_gate form = be32 (length form) ++ form ++ 0 ∷ []
+behind_gate form = four_bytes (length form) ++ form ++ 0 ∷ []
 
 -- a form that a record may hold: with its gate and its length it has at most 2 ^ 24 bytes
 abbrev pub IsShort : List ℕ → Type 0
@@ -56,10 +56,6 @@ StandsForNone file = (forms : List (List ℕ)) → ¬ StandsFor file forms
 -- the second file stands for each list that the first one stands for
 abbrev pub StandsForSame : List ℕ → List ℕ → Type 0
 StandsForSame old new = (forms : List (List ℕ)) → StandsFor old forms → StandsFor new forms
-
--- every file that a stop may leave has P
-abbrev pub StopLeaves : (List ℕ → Type 0) → Disk → Type 0
-StopLeaves P disk = (x : List ℕ) → MayLeave disk x → P x
 
 -- the file stands for the forms, with one more or without it
 abbrev pub IsBeforeOrAfter : List (List ℕ) → List ℕ → List ℕ → Type 0

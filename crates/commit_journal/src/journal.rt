@@ -1,6 +1,6 @@
-ghost use Rattle.std.specs.Prelude.{◌≡◌, ◌+◌, ◌-◌, ◌^◌, ◌<◌, ◌≤◌, ◌++◌, [], ◌∷◌, List, ℕ, length, take, drop, IsTrue, IfOk, OnOk, OnErr, true, false};
-ghost use Rattle.host_port.specs.Host.{disk_now, Rose, GoesOn, Throughout, KeepsSaid, KeepsInput, RaisesDiskAlone};
-ghost use Rattle.commit_journal.specs.Journal.{JournalState, behind_gate, be32, IsShort, Holds, IsReady, StopLeaves, IsBeforeOrAfter, IsAtRest, IsGateLast};
+ghost use Rattle.std.specs.Prelude.{◌≡◌, ◌+◌, ◌-◌, ◌^◌, ◌<◌, ◌++◌, [], ◌∷◌, List, ℕ, length, take, drop, IsTrue, IfOk, OnOk, OnErr, true, false};
+ghost use Rattle.host_port.specs.Host.{disk_now, Rose, GoesOn, Throughout, KeepsSaid, KeepsInput, RaisesDiskAlone, StopLeaves};
+ghost use Rattle.commit_journal.specs.Journal.{JournalState, behind_gate, four_bytes, IsShort, Holds, IsReady, IsBeforeOrAfter, IsAtRest, IsGateLast};
 
 use crate::write::write_durably;
 use host_port::{Failed, Host};
@@ -42,7 +42,7 @@ pub fn give_up(prepared: Prepared) {
 }
 
 fn length_field(n: u32) -> [u8; 4]
-    ensures { result ≡ be32 n }
+    ensures { result ≡ four_bytes n }
 {
     n.to_be_bytes()
 }

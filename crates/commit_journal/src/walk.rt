@@ -1,14 +1,14 @@
 // Reading a journal's records, one after the other.
-ghost use Rattle.std.specs.Prelude.{◌≡◌, ◌≢◌, ◌⊎◌, ◌+◌, ◌^◌, ◌<◌, ◌≤◌, ◌++◌, [], ◌∷◌, List, ℕ, length, take, drop, IsTrue, IfOk, OnOk, IfErr, IfSome, IfNone, MatchOption, OnErr, IsErrOf, true, false};
-ghost use Rattle.host_port.specs.Host.{disk_now, Rose, GoesOn, Throughout, KeepsDisk, KeepsSaid, KeepsInput, RaisesDiskAlone};
+ghost use Rattle.std.specs.Prelude.{◌≡◌, ◌⊎◌, ◌+◌, ◌^◌, ◌<◌, ◌≤◌, ◌++◌, [], ◌∷◌, List, ℕ, length, IsTrue, IfOk, OnOk, IfErr, IfSome, IfNone, OnErr, IsErrOf, true, false};
+ghost use Rattle.host_port.specs.Host.{disk_now, Rose, GoesOn, Throughout, KeepsDisk, KeepsSaid, KeepsInput, RaisesDiskAlone, StopLeaves};
 ghost use Rattle.std.specs.Bool.{OnTrue, OnFalse};
-ghost use Rattle.commit_journal.specs.Journal.{WalkState, header, be32, IsWalked, IsClosed, IsStuck, IsNoHeader, IsAtRest, IsShort, MountedFrom, StopLeaves, StandsForSame, StandsForNone};
+ghost use Rattle.commit_journal.specs.Journal.{WalkState, header, four_bytes, IsWalked, IsClosed, IsStuck, IsNoHeader, IsAtRest, IsShort, MountedFrom, StandsForSame, StandsForNone};
 ghost use Rattle.commit_journal.specs.Walk.{IfDamaged};
 
 use crate::fault::JournalFault;
 use crate::journal::Journal;
 use crate::write::write_durably;
-use host_port::{Failed, Host};
+use host_port::Host;
 use std::alloc::Global;
 use std::marker::Model;
 
@@ -44,7 +44,7 @@ fn first_difference(head: &[u8; 16]) -> Option<u64>
 
 // The number that a field of four bytes spells.
 fn number_in(field: &[u8; 4]) -> u32
-    ensures spelt { be32 result ≡ field.now }
+    ensures spelt { four_bytes result ≡ field.now }
     ensures low { result < 2 ^ 32 }
 {
     u32::from_be_bytes(*field)

@@ -13,7 +13,7 @@ use std::alloc::{AllocError, Global};
 pub type Slot = (Id, u32);
 
 /// Which features are looked for.
-#[derive(Clone, Copy, Debug, PartialEq, Eq, Drop)]
+#[derive(Clone, Copy, Drop)]
 pub enum Sort {
     /// Plain references.
     Reference,

@@ -1,5 +1,4 @@
 ghost use Rattle.std.specs.Prelude.{◌≡◌, IfOk, IfErr, OnOk, None, Some, true, length, unwrap_or};
-ghost use Rattle.std.specs.FinMap.{get};
 ghost use Rattle.model_state.specs.Good.{Good};
 ghost use Rattle.model_state.specs.Listing.{children, rank_at};
 ghost use Rattle.model_state.specs.State.{is_live};

@@ -1,23 +1,18 @@
 -- Which features of which elements hold less than their lower bounds ask, and the lines that say so.
-use Rattle.std.specs.Prelude.{ℕ, Bool, false, ◌||◌, List, [], ◌∷◌, ◌++◌, Option, None, Some, cond, is_some, length, nat_eq, nat_lt, slice_get, unwrap_or}
+use Rattle.std.specs.Prelude.{ℕ, Bool, false, ◌||◌, List, [], ◌∷◌, ◌++◌, Option, None, Some, cond, is_some, length, nat_eq, nat_lt, slice_get}
 use Rattle.std.specs.FinMap.{get}
 use Rattle.std.specs.Fmt.{decimal}
 use Rattle.std.specs.Option.{option_map_or}
-use Rattle.ecore_meta.specs.Meta.{Meta}
+use Rattle.ecore_meta.specs.Meta.{Meta, features_of}
 use Rattle.ecore_meta.specs.Typing.{kind_of}
 use Rattle.ecore_meta.specs.declared.meta.Kind.{Kind}
 use Rattle.ecore_meta.specs.declared.meta.Kind.TheVariants.{Attr, AttrMany, Bounded, Free, Contains, Container, Skip}
-use Rattle.ecore_meta.specs.declared.meta.Value.{Value}
 use Rattle.model_state.specs.declared.step.Place.{Place}
 use Rattle.model_state.specs.declared.step.Place.TheVariants.{Root, Inside}
 use Rattle.model_state.specs.Keys.{Name}
-use Rattle.model_state.specs.Listing.{children, ids, targets}
+use Rattle.model_state.specs.Listing.{children, ids, targets, values_at}
 use Rattle.model_state.specs.State.{State}
 use Rattle.data_lines.specs.Lines.{feature_name, spaced}
-
--- the values of an attribute, none where it is not set
-abbrev pub values_at : State → Name → ℕ → List Value
-values_at m e f = unwrap_or (get m.attr (e, f)) []
 
 -- the element stands in that feature of the element around
 abbrev pub stands_in : ℕ → Option Place → Bool
@@ -65,7 +60,7 @@ feature_lines meta m e (f ∷ fs) = line_if_short meta m e f ++ feature_lines me
 -- the features of an element, by number
 abbrev pub features_at : Meta → Option ℕ → List ℕ
 features_at meta None = []
-features_at meta (Some c) = option_map_or (λ class. class.features) (slice_get meta.classes c) []
+features_at meta (Some c) = features_of meta c
 
 abbrev pub element_lines : Meta → State → List Name → List (List ℕ)
 element_lines meta m [] = []

@@ -1,6 +1,5 @@
 // The lines of operations, and those of an open composite.
 ghost use Rattle.std.specs.Prelude.{◌≡◌, ◌++◌, ◌∷◌, [], IfOk, OnOk, codes, map};
-ghost use Rattle.std.specs.Fmt.{decimal};
 ghost use Rattle.data_lines.specs.Lines.{kind_word, kind_words, open_lines, operation_line, operation_lines, spaced, step_line};
 ghost use Rattle.data_lines.specs.Typed.{AreTyped, IsTypedPackage};
 ghost use Rattle.model_state.specs.Packages.{steps_of};

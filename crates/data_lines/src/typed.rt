@@ -1,8 +1,8 @@
 // Whether steps are of a metamodel, as the lines of steps ask.
-ghost use Rattle.std.specs.Prelude.{◌≡◌, ◌↔◌, IsTrue, All};
+ghost use Rattle.std.specs.Prelude.{◌≡◌, ◌↔◌, IsTrue};
 ghost use Rattle.model_state.specs.Packages.{steps_of};
 ghost use Rattle.model_state.specs.Typing.{kind_of};
-ghost use Rattle.data_lines.specs.Typed.{AreTyped, IsClass, IsFeature, IsPlace, IsTyped, IsTypedPackage, IsValue, IsValueIfAny, is_value};
+ghost use Rattle.data_lines.specs.Typed.{AreTyped, IsClass, IsFeature, IsPlace, IsTyped, IsTypedPackage, IsValueIfAny, is_value};
 
 use crate::operation::steps_of;
 use ecore_meta::{Kind, Metamodel, Value};

@@ -1,5 +1,5 @@
 // The lines of features that are below their lower bounds.
-ghost use Rattle.std.specs.Prelude.{◌≡◌, ◌++◌, ◌∷◌, [], IfOk, OnOk, length, slice_get};
+ghost use Rattle.std.specs.Prelude.{◌≡◌, ◌++◌, ◌∷◌, [], IfOk, OnOk, length};
 ghost use Rattle.std.specs.Fmt.{decimal};
 ghost use Rattle.std.specs.Option.{option_copied, option_map};
 ghost use Rattle.std.specs.FinMap.{get};
@@ -33,30 +33,13 @@ pub fn validate_lines<L: Look>(
     Ok(lines)
 }
 
-/// The feature of that number, where there is one.
-fn feature(meta: &Metamodel, f: u32) -> Option<&Feature>
-    ensures { option_copied result ≡ slice_get meta.now.features f }
-{
-    if f < meta.feature_count() {
-        Some(meta.feature(f))
-    } else {
-        None
-    }
-}
-
 /// The numbers of the features of a class, none where there is no such class.
 fn features_at(meta: &Metamodel, class: Option<u32>) -> &[u32]
     ensures { result.now ≡ features_at meta.now class }
 {
     match class {
         None => &[],
-        Some(class) => {
-            if class < meta.class_count() {
-                meta.class(class).features.as_slice()
-            } else {
-                &[]
-            }
-        }
+        Some(class) => meta.features_of(class),
     }
 }
 
@@ -88,7 +71,7 @@ fn push_if_short<L: Look>(
 ) -> Result<(), AllocError>
     ensures { OnOk result (lines.new ≡ lines.old ++ line_if_short meta.now (L.state look.now) e.now f) }
 {
-    let Some(feature) = feature(meta, f) else {
+    let Some(feature) = meta.get_feature(f) else {
         return Ok(());
     };
     let count = held(alloc, look, e, f, &feature.kind)?;

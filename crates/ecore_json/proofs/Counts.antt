@@ -12,7 +12,7 @@ use Rattle.ecore_meta.specs.Faults.{Few}
 use Rattle.ecore_meta.specs.declared.rows.ClassifierRow.{ClassifierRow}
 use Rattle.ecore_meta.specs.declared.rows.ClassifierRow.TheVariants.{Class, Enum, Plain}
 use Rattle.ecore_json.specs.Classes.{ecore_class, ecore_enum, ecore_package}
-use Rattle.ecore_json.specs.References.{Name}
+use Rattle.ecore_meta.specs.Names.{Name}
 use Rattle.ecore_json.specs.Walk.{is_a}
 use Rattle.ecore_json.specs.Rows.{text_at, list_of, elements, class_row, enum_row, feature_row, literal_row, classifier_row, own_prefix, rows_of}
 use Rattle.ecore_json.specs.Metamodel.{sole, root_of, if_package, package_of}

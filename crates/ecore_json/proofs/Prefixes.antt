@@ -3,7 +3,8 @@ use Rattle.std.proofs.Common.{◌≡◌, ◌≢◌, ◌==◌, ℕ, ◌+◌, Bool
 use Rattle.std.specs.Option.{MatchOption}
 use Rattle.std.specs.Str.Pattern.{FindsTextPrefix}
 use Rattle.std.proofs.lemmas.Bool.{eqb-true}
-use Rattle.ecore_json.specs.References.{Name, behind}
+use Rattle.ecore_meta.specs.Names.{Name}
+use Rattle.ecore_json.specs.References.{behind}
 
 same : (p : ℕ) → (p == p) ≡ true
 same p = grind arith

@@ -6,7 +6,7 @@ use Rattle.ecore_json.specs.declared.fault.WalkFault.{WalkFault}
 use Rattle.ecore_json.specs.declared.fault.WalkFault.TheVariants.{BadKey, LeftOut}
 use Rattle.ecore_json.specs.declared.table.Shape.{Shape}
 use Rattle.ecore_json.specs.declared.table.Place.{Place}
-use Rattle.ecore_json.specs.References.{Name}
+use Rattle.ecore_meta.specs.Names.{Name}
 use Rattle.ecore_json.specs.Table.{wants, required}
 use Rattle.ecore_json.specs.Walk.{«then», fails, shape_at, left_out, first_lacking, is_before, value_fault, shaped_fault, object_fault, array_fault, objects_fault, items_fault, keys_fault}
 

@@ -1,12 +1,10 @@
 -- Names, and the references that name a classifier, a type of Ecore or a feature.
-use Rattle.std.specs.Prelude.{ℕ, ◌==◌, ◌&&◌, ◌||◌, not, nat_le, Bool, false, List, [], ◌∷◌, length, codes, cond, Option, None, Some, is_some}
+use Rattle.std.specs.Prelude.{ℕ, ◌==◌, ◌&&◌, ◌||◌, not, nat_le, Bool, false, [], ◌∷◌, length, codes, cond, Option, None, Some, is_some}
 use Rattle.std.specs.Char.{is_ascii_alphabetic, is_ascii_alphanumeric}
 use Rattle.std.specs.List.{list_all, before_first, after_first}
 use Rattle.std.specs.Str.{bytes_eq}
+use Rattle.ecore_meta.specs.Names.{Name}
 use Rattle.ecore_json.specs.Classes.{ecore_types}
-
-abbrev pub Name : Type 0
-Name = List ℕ
 
 -- `_` and `$`
 abbrev pub is_mark : ℕ → Bool

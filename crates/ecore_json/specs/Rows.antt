@@ -14,7 +14,8 @@ use Rattle.ecore_meta.specs.declared.rows.OppositeRow.{OppositeRow}
 use Rattle.ecore_meta.specs.declared.rows.TypeName.{TypeName}
 use Rattle.ecore_meta.specs.declared.rows.TypeName.TheVariants.{Own, Ecore}
 use Rattle.ecore_json.specs.Classes.{ecore_class, ecore_enum, ecore_reference}
-use Rattle.ecore_json.specs.References.{Name, ecore_name, own_name, own_feature}
+use Rattle.ecore_meta.specs.Names.{Name}
+use Rattle.ecore_json.specs.References.{ecore_name, own_name, own_feature}
 use Rattle.ecore_json.specs.Walk.{text_in, is_a, flag_at, whole_in, is_skipped}
 
 -- the text at a key, empty where there is none

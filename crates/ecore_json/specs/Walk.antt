@@ -18,7 +18,8 @@ use Rattle.ecore_json.specs.declared.table.Kind.{Kind}
 use Rattle.ecore_json.specs.declared.table.Kind.TheVariants.{Anything, Flag, Whole, Text, Name as OfName, FeatureName, TypeReference, OppositeReference}
 use Rattle.ecore_json.specs.declared.table.Wanted.{Wanted}
 use Rattle.ecore_json.specs.declared.table.Wanted.TheVariants.{Value, Object, Objects}
-use Rattle.ecore_json.specs.References.{Name, is_name, is_feature_name, is_type_reference, own_feature}
+use Rattle.ecore_meta.specs.Names.{Name}
+use Rattle.ecore_json.specs.References.{is_name, is_feature_name, is_type_reference, own_feature}
 use Rattle.ecore_json.specs.Table.{wants, required}
 
 -- the first of two faults

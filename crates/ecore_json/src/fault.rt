@@ -7,7 +7,7 @@ use std::alloc::AllocError;
 use thiserror::Error;
 
 /// What the walk over a document finds first.
-#[derive(Clone, Copy, Debug)]
+#[derive(Clone, Copy)]
 pub(crate) enum WalkFault {
     /// A key, a value of a key, a name or a reference that is not read here, or a key that is missing.
     BadKey,

@@ -1,8 +1,8 @@
-ghost use Rattle.std.specs.Prelude.{◌≡◌, map, option_map};
+ghost use Rattle.std.specs.Prelude.{◌≡◌, map};
 ghost use Rattle.ecore_json.specs.Table.{table, required, wants, row_of};
 
 /// What an object of a document is.
-#[derive(Clone, Copy, Debug)]
+#[derive(Clone, Copy)]
 pub(crate) enum Shape {
     Package,
     Class,
@@ -18,7 +18,7 @@ pub(crate) enum Shape {
 }
 
 /// Where an object stands, which says what it may be.
-#[derive(Clone, Copy, Debug)]
+#[derive(Clone, Copy)]
 pub(crate) enum Place {
     Root,
     Classifier,
@@ -29,7 +29,7 @@ pub(crate) enum Place {
 }
 
 /// What a value that holds no object is to be.
-#[derive(Clone, Copy, Debug)]
+#[derive(Clone, Copy)]
 pub(crate) enum Kind {
     Anything,
     Flag,
@@ -43,7 +43,7 @@ pub(crate) enum Kind {
 }
 
 /// What a key asks of its value.
-#[derive(Clone, Copy, Debug)]
+#[derive(Clone, Copy)]
 pub(crate) enum Wanted {
     Value(Kind),
     /// An object of that place.

@@ -38,6 +38,10 @@ abbrev pub first_named : List Feature → List ℕ → Name → Option ℕ
 first_named features [] q = None
 first_named features (n ∷ ns) q = cond (bytes_eq (name_at features n) q) (Some n) (first_named features ns q)
 
+-- the features of a class, its own and inherited, rising; none for a number that is none
+abbrev pub features_of : Meta → ℕ → List ℕ
+features_of meta c = option_map_or (λ class. class.features) (slice_get meta.classes c) []
+
 -- the feature of that name that the class has, its own or inherited
 abbrev pub feature_named : Meta → ℕ → Name → Option ℕ
-feature_named meta c q = first_named meta.features (option_map_or (λ class. class.features) (slice_get meta.classes c) []) q
+feature_named meta c q = first_named meta.features (features_of meta c) q

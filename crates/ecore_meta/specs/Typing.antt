@@ -1,5 +1,5 @@
 -- What a metamodel says of its features by number.
-use Rattle.std.specs.Prelude.{ℕ, ℤ, pos, negsuc, Bool, true, false, List, [], Option, None, slice_get, nat_lt, ◌&&◌, length}
+use Rattle.std.specs.Prelude.{ℕ, ℤ, pos, negsuc, Bool, true, false, List, [], Option, None, Some, slice_get, nat_eq, nat_lt, ◌&&◌, length}
 use Rattle.std.specs.Option.{option_map_or}
 use Rattle.ecore_meta.specs.Meta.{Meta, has_feature, is_a}
 use Rattle.ecore_meta.specs.declared.meta.EnumLiteral.{EnumLiteral}
@@ -45,6 +45,11 @@ kind_of meta f = option_map_or (λ feature. feature.kind) (slice_get meta.featur
 -- the upper bound of a feature, None for a number that is none
 abbrev pub upper_of : Meta → ℕ → Option ℕ
 upper_of meta f = option_map_or (λ feature. feature.upper) (slice_get meta.features f) None
+
+-- an upper bound of one
+abbrev pub is_one : Option ℕ → Bool
+is_one None = false
+is_one (Some n) = nat_eq n 1
 
 -- the opposite of a plain feature
 abbrev pub opposite_in : Kind → Option ℕ

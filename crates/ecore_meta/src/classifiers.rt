@@ -1,10 +1,9 @@
-ghost use Rattle.std.specs.Prelude.{◌≡◌, ◌<◌, ◌+◌, ◌∷◌, [], IfOk, IfSome, Some, length, map, slice_get};
+ghost use Rattle.std.specs.Prelude.{◌≡◌, ◌<◌, ◌+◌, IfOk, IfSome, Some, length, slice_get};
 ghost use Rattle.std.specs.Option.{option_copied};
-ghost use Rattle.ecore_meta.specs.Names.{number_of, has_repeat};
-ghost use Rattle.ecore_meta.specs.Document.{classifier_name, classifier_named, class_number, feature_names, feature_number, feature_total, number_at, number_in, numbered};
+ghost use Rattle.ecore_meta.specs.Names.{number_of};
+ghost use Rattle.ecore_meta.specs.Document.{classifier_named, class_number, feature_names, feature_number, feature_total, number_at, number_in, numbered};
 ghost use Rattle.ecore_meta.specs.Classifiers.{MayHave, FitsIn};
 
-use crate::Text;
 use crate::names::{classifier_names, index};
 use crate::rows::{ClassifierRow, FeatureRow};
 use std::alloc::{AllocError, Global};
@@ -12,7 +11,7 @@ use std::collections::BTreeMap;
 use std::marker::Model;
 
 /// What a name of the package stands for.
-#[derive(Clone, Copy, Debug, PartialEq, Eq)]
+#[derive(Clone, Copy)]
 pub(crate) enum Classifier {
     /// The class of that number; its own features are numbered from `first`.
     Class { number: u32, first: u32 },

@@ -1,5 +1,4 @@
 ghost use Rattle.std.specs.Prelude.{◌≡◌, ◌<◌, ◌+◌, ◌++◌, IfOk, OnOk, length, map};
-ghost use Rattle.ecore_meta.specs.Document.{feature_total};
 ghost use Rattle.ecore_meta.specs.Drafts.{class_target, draft, drafts, ecore_scalar, end_of, target_of, value_target};
 
 use crate::classifiers::{Classifier, Classifiers};
@@ -8,7 +7,7 @@ use crate::{Scalar, Text};
 use std::alloc::{AllocError, Global};
 
 /// The type of a feature.
-#[derive(Debug, PartialEq, Drop)]
+#[derive(Drop)]
 pub(crate) enum Target {
     /// Not looked at: the feature is skipped.
     Skipped,
@@ -22,7 +21,7 @@ pub(crate) enum Target {
 }
 
 /// The opposite of a reference.
-#[derive(Clone, Copy, Debug, PartialEq, Eq)]
+#[derive(Clone, Copy)]
 pub(crate) enum End {
     /// It names none.
     Open,
@@ -33,7 +32,7 @@ pub(crate) enum End {
 }
 
 /// A feature with the names in it resolved, in the form in which the faults are looked for.
-#[derive(Debug, Drop)]
+#[derive(Drop)]
 pub(crate) struct Draft {
     pub owner: u32,
     pub name: Text,

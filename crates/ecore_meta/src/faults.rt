@@ -3,7 +3,7 @@ ghost use Rattle.std.specs.List.{list_any};
 ghost use Rattle.std.specs.Option.{option_copied};
 ghost use Rattle.ecore_meta.specs.Names.{has_repeat};
 ghost use Rattle.ecore_meta.specs.Document.{class_number};
-ghost use Rattle.ecore_meta.specs.Faults.{any_from, answers, bad_bound, bad_bounds, bad_end, contains_back, is_at, is_missing, is_self, is_skipped, is_to, is_unanswered, is_unsupported, lacks_super, no_type, repeats_within, unsupported};
+ghost use Rattle.ecore_meta.specs.Faults.{any_from, answers, bad_bound, bad_bounds, contains_back, is_at, is_missing, is_self, is_skipped, is_to, is_unanswered, is_unsupported, lacks_super, repeats_within, unsupported};
 
 use crate::Text;
 use crate::classifiers::Classifiers;

@@ -1,8 +1,6 @@
-ghost use Rattle.std.specs.Prelude.{◌≡◌, ◌<◌, ◌++◌, IfOk, OnOk, Some, [], length, map, min, slice_get, slice_index};
+ghost use Rattle.std.specs.Prelude.{◌≡◌, ◌<◌, ◌++◌, IfOk, OnOk, Some, map};
 ghost use Rattle.std.specs.List.{flat_map, list_any};
-ghost use Rattle.std.specs.Option.{option_map_or};
-ghost use Rattle.ecore_meta.specs.Names.{has_repeat};
-ghost use Rattle.ecore_meta.specs.Build.{attribute, classes_from, container, default_in, end_number, feature_from, kind_in, lower_from, natural, plain, reference, upper_from};
+ghost use Rattle.ecore_meta.specs.Build.{attribute, classes_from, container, end_number, feature_from, kind_in, lower_from, natural, reference, upper_from};
 ghost use Rattle.ecore_meta.specs.Tables.{all_above};
 ghost use Rattle.ecore_meta.specs.Faults.{all_inherited, bad_default, clash, draft_name, no_value, own_of};
 ghost use Rattle.ecore_meta.specs.Values.{AreShort};
@@ -16,21 +14,12 @@ use crate::{List, Text};
 use std::alloc::{AllocError, Global};
 use std::collections::BTreeSet;
 
-fn push_all(numbers: &[u32], out: &mut Vec<u32>) -> Result<(), AllocError>
-    ensures { OnOk result (out.new.items ≡ out.old.items ++ numbers.now) }
-{
-    for n in numbers {
-        out.push(*n)?;
-    }
-    Ok(())
-}
-
 fn push_own(own: &[Vec<u32>], class: u32, out: &mut Vec<u32>) -> Result<(), AllocError>
     ensures { OnOk result (out.new.items ≡ out.old.items ++ own_of (map (λ fs. fs.items) own.now) class) }
 {
     match own.get(class as usize) {
         None => Ok(()),
-        Some(numbers) => push_all(numbers.as_slice(), out),
+        Some(numbers) => out.extend_from_slice(numbers.as_slice()),
     }
 }
 
@@ -305,7 +294,7 @@ fn numbers_of(alloc: Global, features: &[Vec<u32>], class: usize) -> Result<Vec<
     match features.get(class) {
         None => Ok(numbers),
         Some(all) => {
-            push_all(all.as_slice(), &mut numbers)?;
+            numbers.extend_from_slice(all.as_slice())?;
             Ok(numbers)
         }
     }

@@ -1,4 +1,4 @@
-ghost use Rattle.std.specs.Prelude.{◌≡◌, ◌<◌, ◌++◌, IfOk, IfSome, OnOk, Some, None, length, map, slice_get};
+ghost use Rattle.std.specs.Prelude.{◌≡◌, ◌<◌, IfOk, IfSome, Some, None, length, map};
 ghost use Rattle.ecore_meta.specs.Names.{number_of};
 ghost use Rattle.ecore_meta.specs.Faults.{literal, literals_in};
 ghost use Rattle.ecore_meta.specs.Values.{literal_in};

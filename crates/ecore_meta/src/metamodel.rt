@@ -1,7 +1,7 @@
 ghost use Rattle.std.specs.Prelude.{◌≡◌, ◌<◌, ◌↔◌, IfErr, IfOk, IsTrue, IfSome, length, map, slice_get, Some, nat_eq};
 ghost use Rattle.std.specs.List.{list_any};
 ghost use Rattle.std.specs.Option.{option_copied, option_map_or};
-ghost use Rattle.ecore_meta.specs.Meta.{class_named, feature_named, first_named, has_feature, is_a, name_at};
+ghost use Rattle.ecore_meta.specs.Meta.{class_named, feature_named, features_of, first_named, has_feature, is_a, name_at};
 ghost use Rattle.ecore_meta.specs.Sound.{Sound};
 ghost use Rattle.ecore_meta.specs.Supers.{Leads};
 ghost use Rattle.ecore_meta.specs.Typing.{literal_count, literal_text, literals_of};
@@ -152,6 +152,30 @@ impl Metamodel {
         }
     }
 
+    /// The class of that number, where there is one.
+    pub fn get_class(&self, n: u32) -> Option<&Class>
+        ensures { option_copied result ≡ slice_get self.now.classes n }
+    {
+        self.classes.get(n as usize)
+    }
+
+    /// The feature of that number, where there is one.
+    pub fn get_feature(&self, n: u32) -> Option<&Feature>
+        ensures { option_copied result ≡ slice_get self.now.features n }
+    {
+        self.features.get(n as usize)
+    }
+
+    /// The numbers of the features of a class, its own and inherited, rising; none where there is no such class.
+    pub fn features_of(&self, class: u32) -> &[u32]
+        ensures { result.now ≡ features_of self.now class }
+    {
+        match self.get_class(class) {
+            None => &[],
+            Some(class) => class.features.as_slice(),
+        }
+    }
+
     /// The class of that number.
     pub fn class(&self, n: u32) -> &Class
         requires { n < length self.now.classes }
@@ -256,13 +280,8 @@ fn with_name(features: &[Feature], numbers: &[u32], name: &str) -> Option<u32>
 impl Metamodel {
     /// The feature of that name that the class has, its own or inherited.
     pub fn feature_named(&self, class: u32, name: &str) -> Option<u32>
-        requires { class < length self.now.classes }
         ensures { result ≡ feature_named self.now class name.now }
     {
-        with_name(
-            self.features.as_slice(),
-            self.classes[class as usize].features.as_slice(),
-            name,
-        )
+        with_name(self.features.as_slice(), self.features_of(class), name)
     }
 }

@@ -2,7 +2,6 @@ ghost use Rattle.std.specs.Prelude.{◌≡◌, IfOk, map};
 ghost use Rattle.ecore_meta.specs.Names.{Indexes};
 ghost use Rattle.ecore_meta.specs.Document.{classifier_name, feature_names};
 
-use crate::meta::Class;
 use crate::rows::{ClassifierRow, FeatureRow, LiteralRow};
 use std::alloc::{AllocError, Global};
 use std::collections::BTreeMap;
@@ -73,19 +72,6 @@ pub(crate) fn literal_texts<'a>(
     let mut names = Vec::new(alloc);
     for row in rows {
         names.push(row.literal.as_str())?;
-    }
-    Ok(names)
-}
-
-pub(crate) fn class_names<'a>(
-    alloc: Global,
-    classes: &'a [Class],
-) -> Result<Vec<&'a str>, AllocError>
-    ensures { IfOk result (λ v. map (λ n. n.now) v.items ≡ map (λ c. c.name) classes.now) }
-{
-    let mut names = Vec::new(alloc);
-    for class in classes {
-        names.push(class.name.as_str())?;
     }
     Ok(names)
 }

@@ -1,6 +1,6 @@
 ghost use Rattle.std.specs.Prelude.{◌≡◌, ◌<◌, ◌∷◌, [], ℕ, IfOk, OnOk, length, map};
 ghost use Rattle.std.specs.Ordering.{nat_cmp};
-ghost use Rattle.std.specs.List.{filter, filter_map, list_any, range_with_len};
+ghost use Rattle.std.specs.List.{filter, filter_map, range_with_len};
 ghost use Rattle.std.specs.BTreeSet.{contains};
 ghost use Rattle.ecore_meta.specs.Document.{class_number, supers_in};
 ghost use Rattle.ecore_meta.specs.Supers.{is_above, Inside, Reached, Grown};

@@ -1,16 +1,13 @@
-ghost use Rattle.std.specs.Prelude.{◌≡◌, ◌<◌, ◌+◌, ◌++◌, ℕ, IfOk, OnOk, false, length, map, slice_get};
+ghost use Rattle.std.specs.Prelude.{◌≡◌, ◌<◌, ◌+◌, IfOk, false, length, map, slice_get};
 ghost use Rattle.std.specs.Ordering.{nat_cmp};
-ghost use Rattle.std.specs.List.{flat_map, list_any, range_with_len};
+ghost use Rattle.std.specs.List.{list_any, range_with_len};
 ghost use Rattle.std.specs.BTreeSet.{contains};
 ghost use Rattle.std.specs.Option.{option_map_or};
-ghost use Rattle.ecore_meta.specs.Names.{has_repeat};
 ghost use Rattle.ecore_meta.specs.Document.{feature_total};
-ghost use Rattle.ecore_meta.specs.Faults.{clash, draft_name, is_cyclic, own_features, own_of, super_cycle};
-ghost use Rattle.ecore_meta.specs.Supers.{Inside, is_above};
+ghost use Rattle.ecore_meta.specs.Faults.{own_features, super_cycle};
+ghost use Rattle.ecore_meta.specs.Supers.{Inside};
 ghost use Rattle.ecore_meta.specs.Tables.{Agrees, all_above};
 
-use crate::drafts::Draft;
-use crate::names::index;
 use crate::rows::ClassifierRow;
 use crate::supers::above;
 use std::alloc::{AllocError, Global};

@@ -2,14 +2,14 @@
 use Rattle.std.proofs.Common.{◌≡◌, inl, inr, ⊎_elim, ℕ, Bool, true, ◌&&◌, List, [], ◌∷◌, ◌++◌, take, Option, Some, None, refl, sym, ◌∙◌, ap, subst}
 use Rattle.std.specs.Prelude.{IsTrue, map}
 use Rattle.std.proofs.lemmas.List.{append-nil}
-use Rattle.host_port.specs.Host.{Told, Disk, MayLeave, Throughout, KeepsDisk, KeepsSaid, AddsPart, disk_now, said_now}
+use Rattle.host_port.specs.Host.{Told, Disk, MayLeave, Throughout, KeepsDisk, KeepsSaid, AddsPart, disk_now, said_now, StopLeaves}
 use Rattle.host_port.proofs.Course.{still_disk}
 use Rattle.commit_journal.specs.Journal.{StandsFor, IsAtRest, IsBeforeOrAfter}
 use Rattle.commit_journal.specs.Journal as journal
 use Rattle.commit_journal.proofs.Torn.{left_settled}
 use Rattle.commit_journal.proofs.Ends.{stands}
 use Rattle.command_runs.specs.Runs.{listed, played}
-use Rattle.command_runs.specs.Stops.{StopLeaves, IsStepping}
+use Rattle.command_runs.specs.Stops.{IsStepping}
 use Rattle.command_runs.proofs.RunLaws.{played-append}
 use Rattle.op_form.specs.declared.event.Event.{Event}
 use Rattle.op_form.specs.Events.{event_form}

@@ -2,14 +2,13 @@
 use Rattle.std.proofs.Common.{◌≡◌, ◌⊎◌, inl, inr, ℕ, ◌+◌, ◌^◌, ◌<◌, List, [], ◌∷◌, ◌++◌, length, false, refl, sym, ◌∙◌, ap, subst, arith, length-append}
 use Rattle.std.specs.Prelude.{IsTrue, map}
 use Rattle.std.proofs.lemmas.List.{append-nil, length-take}
-use Rattle.host_port.specs.Host.{Told, Disk, MayLeave, GoesOn, Throughout, KeepsDisk, KeepsSaid, KeepsInput, disk_now}
+use Rattle.host_port.specs.Host.{Told, Disk, MayLeave, GoesOn, Throughout, KeepsDisk, KeepsSaid, KeepsInput, disk_now, StopLeaves}
 use Rattle.host_port.proofs.Course.{carry_on, told_next, course_on, kept_now, keeps_said_on, keeps_input_on}
-use Rattle.commit_journal.specs.Journal.{WalkState, StandsFor, StandsForSame, StandsForNone, IsWalked, IsAtRest, IsStuck, ReadsTo, EndsAt, MountedFrom, records, header, new_file}
+use Rattle.commit_journal.specs.Journal.{WalkState, StandsFor, StandsForSame, StandsForNone, IsWalked, IsAtRest, IsStuck, ReadsTo, MountedFrom, records, header, new_file}
 use Rattle.commit_journal.proofs.Torn.{left_settled}
 use Rattle.commit_journal.proofs.Ends.{records-push, length-record_of, length-header, stands}
 use Rattle.commit_journal.proofs.Mounting.{length-new_file}
 use Rattle.command_runs.specs.Runs.{played}
-use Rattle.command_runs.specs.Stops.{StopLeaves}
 use Rattle.command_runs.proofs.RunLaws.{played-append}
 use Rattle.op_form.specs.declared.event.Event.{Event}
 use Rattle.op_form.specs.Events.{event_form}

@@ -1,12 +1,11 @@
 -- What the parts of a session do.
 use Rattle.std.specs.Prelude.{◌≡◌, ◌⊎◌, ℕ, ◌-◌, ◌<◌, ◌^◌, List, ◌++◌, Bool, true, false, IsTrue, length, map, Option, Some, None, Result, Ok, Err}
-use Rattle.host_port.specs.Host.{Disk}
+use Rattle.host_port.specs.Host.{Disk, StopLeaves}
 use Rattle.commit_journal.specs.Journal as journal
 use Rattle.commit_journal.specs.Journal.{IsWalked}
 use Rattle.commit_journal.specs.declared.fault.JournalFault.{JournalFault}
 use Rattle.commit_journal.specs.declared.fault.JournalFault.TheVariants as journals
 use Rattle.command_runs.specs.Runs.{listed, played}
-use Rattle.command_runs.specs.Stops.{StopLeaves}
 use Rattle.op_form.specs.declared.event.Event.{Event}
 use Rattle.op_form.specs.Events.{event_form}
 use Rattle.plain_repository.specs.Repository.{State, empty, play, playable, are_playable, is_refusal}

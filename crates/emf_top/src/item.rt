@@ -1,5 +1,5 @@
 //! An item of a script: a line, and the block that follows it where it takes one.
-ghost use Rattle.std.specs.Prelude.{◌≡◌, ◌++◌, ◌^◌, ◌<◌, ◌≤◌, ℕ, List, [], IfOk, OnOk, IfErr, IfSome, IfNone, IsErrOf, IsTrue, false};
+ghost use Rattle.std.specs.Prelude.{◌≡◌, ◌++◌, ◌^◌, ◌<◌, ◌≤◌, [], IfOk, OnOk, IfErr, IfSome, IfNone, IsErrOf, IsTrue, false};
 ghost use Rattle.host_port.specs.Host.{GoesOn, KeepsDisk, KeepsSaid, RaisesTakesAlone, Rose};
 ghost use Rattle.host_port.specs.Cut.{script_from};
 ghost use Rattle.plain_repository.specs.Lines.{is_skipped, takes_block};
@@ -7,7 +7,7 @@ ghost use Rattle.emf_top.specs.Session.{IsShortItem, GotItem};
 
 use ecore_meta::Text;
 use host_port::{Got, Host, LineFault, Lines};
-use std::alloc::{AllocError, Global};
+use std::alloc::Global;
 use std::marker::Model;
 
 /// A line, and its block.

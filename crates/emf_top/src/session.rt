@@ -1,8 +1,8 @@
 //! One command after another: decided, written, made, and answered.
-ghost use Rattle.std.specs.Prelude.{◌≡◌, ◌≢◌, ◌⊎◌, ◌≤◌, ◌++◌, ℕ, List, None, IsTrue, IfOk, OnOk, IfErr, IsErrOf, false};
-ghost use Rattle.host_port.specs.Host.{disk_now, said_now, Rose, GoesOn, Throughout, KeepsDisk, KeepsSaid, KeepsInput, AddsPart};
+ghost use Rattle.std.specs.Prelude.{◌≡◌, ◌≢◌, ◌⊎◌, ◌++◌, ℕ, List, None, IsTrue, IfOk, OnOk, IfErr, IsErrOf, false};
+ghost use Rattle.host_port.specs.Host.{disk_now, said_now, Rose, GoesOn, Throughout, KeepsDisk, KeepsSaid, KeepsInput, AddsPart, StopLeaves};
 ghost use Rattle.command_runs.specs.Runs.{listed, after};
-ghost use Rattle.command_runs.specs.Stops.{IsStepping, StopLeaves};
+ghost use Rattle.command_runs.specs.Stops.{IsStepping};
 ghost use Rattle.op_form.specs.declared.event.Event.{Event};
 ghost use Rattle.plain_repository.specs.Repository.{State, decide, decide_line, play, is_refusal};
 ghost use Rattle.plain_repository.specs.Store.{Stands, IsDamaged, StandsForNoEvents};
@@ -19,7 +19,7 @@ use std::alloc::{AllocError, Global};
 use thiserror::Error;
 
 /// How a command was answered.
-#[derive(Clone, Copy, Debug, PartialEq, Eq)]
+#[derive(Clone, Copy, PartialEq, Eq)]
 pub enum Answered {
     Accepted,
     Refused,

@@ -1,13 +1,13 @@
 //! The top call.
-ghost use Rattle.std.specs.Prelude.{◌≡◌, ◌≢◌, ◌⊎◌, ◌+◌, ◌≤◌, ◌↔◌, ◌++◌, ◌||◌, false, Bool, ℕ, List, [], ◌∷◌, IsTrue, length, None};
+ghost use Rattle.std.specs.Prelude.{◌≡◌, ◌≢◌, ◌⊎◌, ◌+◌, ◌↔◌, ◌++◌, ◌||◌, false, Bool, ℕ, List, IsTrue, length, None};
 ghost use Rattle.host_port.specs.Host.{disk_now, said_now, Rose, GoesOn, Throughout, AddsPart};
 ghost use Rattle.host_port.specs.Cut.{script_from};
 ghost use Rattle.command_runs.specs.Runs.{played};
 ghost use Rattle.command_runs.specs.Stops.{IsRunning, IsOpenedRunning};
 ghost use Rattle.op_form.specs.declared.event.Event.{Event};
 ghost use Rattle.plain_repository.specs.Lines.{takes_block};
-ghost use Rattle.plain_repository.specs.Repository.{State, empty, play};
-ghost use Rattle.plain_repository.specs.Store.{Stands, StandsForNoEvents, IsDamaged};
+ghost use Rattle.plain_repository.specs.Repository.{empty, play};
+ghost use Rattle.plain_repository.specs.Store.{Stands, StandsForNoEvents};
 ghost use Rattle.emf_top.specs.Session.{Holds, answered_as};
 ghost use Rattle.emf_top.specs.Headline.{script, said_by, made_by, least_of, outcome, code_of, Ends, input_status, session_status, NothingRose, IsKept, IsFoundDamaged};
 

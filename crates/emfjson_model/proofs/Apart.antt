@@ -24,11 +24,13 @@ use Rattle.emfjson_model.specs.declared.doc.DocRefs.{DocRefs}
 use Rattle.emfjson_model.specs.declared.doc.DocRow.{DocRow}
 use Rattle.emfjson_model.specs.declared.draft.Draft.{Draft}
 use Rattle.emfjson_model.specs.declared.fault.ModelFault.TheVariants.{BadValue, Bound, WrongType, DupId, BadId}
-use Rattle.emfjson_model.specs.Attributes.{elements, is_null, is_within, may_hold, set_part, values_in, values_part}
+use Rattle.finite_maps.specs.Maps.{is_within}
+use Rattle.emfjson_model.specs.Attributes.{elements, is_null, may_hold, set_part, values_in, values_part}
 use Rattle.emfjson_model.specs.Classes.{class_of, id_of}
 use Rattle.emfjson_model.specs.Document.{doc_of, of_json, resolved}
 use Rattle.emfjson_model.specs.Laws.{IdsAreApart, gives_id, ids_repeat, is_given}
-use Rattle.emfjson_model.specs.Links.{entries_of, is_one, links_part}
+use Rattle.ecore_meta.specs.Typing.{is_one}
+use Rattle.emfjson_model.specs.Links.{entries_of, links_part}
 use Rattle.emfjson_model.specs.Merged.{given_at, merged_all, next_row, row_of, rows_by}
 use Rattle.emfjson_model.specs.Parts.{Part, no_part, joined, Ids, ids_of}
 use Rattle.emfjson_model.specs.Reads.{Read, «then», unless, found, collected}

@@ -13,11 +13,11 @@ use Rattle.emfjson_model.specs.declared.doc.DocParent.{DocParent}
 use Rattle.emfjson_model.specs.declared.doc.DocRow.{DocRow}
 use Rattle.emfjson_model.specs.declared.draft.Draft.{Draft}
 use Rattle.emfjson_model.specs.declared.fault.ModelFault.TheVariants.{Bound, WrongType}
-use Rattle.emfjson_model.specs.Attributes.{is_within}
+use Rattle.finite_maps.specs.Maps.{is_within}
 use Rattle.emfjson_model.specs.Classes.{class_of, id_of}
 use Rattle.emfjson_model.specs.Document.{doc_of, of_json, resolved}
 use Rattle.emfjson_model.specs.Laws.{ParentsComeFirst, are_behind, parent_before}
-use Rattle.emfjson_model.specs.Links.{is_one}
+use Rattle.ecore_meta.specs.Typing.{is_one}
 use Rattle.emfjson_model.specs.Merged.{rows_by}
 use Rattle.emfjson_model.specs.Parts.{Part, no_part, joined, Ids, ids_of}
 use Rattle.emfjson_model.specs.Reads.{Read, «then», unless}

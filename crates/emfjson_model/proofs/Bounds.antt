@@ -16,7 +16,7 @@ use Rattle.model_state.specs.Keys.{Name}
 use Rattle.model_state.specs.Typing.{child_upper, contains_kind, kind_of, upper_of}
 use Rattle.emfjson_model.specs.declared.doc.DocParent.{DocParent}
 use Rattle.emfjson_model.specs.declared.draft.Draft.{Draft}
-use Rattle.emfjson_model.specs.Attributes.{is_within}
+use Rattle.finite_maps.specs.Maps.{is_within}
 use Rattle.emfjson_model.specs.Laws.{parent_before}
 use Rattle.emfjson_model.specs.Parts.{Part, joined}
 use Rattle.emfjson_model.specs.References.{parent_eq}

@@ -7,7 +7,7 @@ use Rattle.serde_json.specs.Data.{Data}
 use Rattle.serde_json.specs.Read.{read}
 use Rattle.finite_maps.specs.Equal.{option_eq}
 use Rattle.finite_maps.specs.Maps as maps
-use Rattle.ecore_meta.specs.Meta.{Meta}
+use Rattle.ecore_meta.specs.Meta.{Meta, features_of}
 use Rattle.ecore_meta.specs.Sound.{Sound}
 use Rattle.model_state.specs.Typing.{child_upper, has_feature, is_concrete}
 use Rattle.emfjson_model.specs.declared.doc.DocAttr.{DocAttr}
@@ -15,7 +15,6 @@ use Rattle.emfjson_model.specs.declared.doc.DocParent.{DocParent}
 use Rattle.emfjson_model.specs.declared.doc.DocRefs.{DocRefs}
 use Rattle.emfjson_model.specs.declared.doc.DocRow.{DocRow}
 use Rattle.emfjson_model.specs.declared.draft.Draft.{Draft}
-use Rattle.emfjson_model.specs.Classes.{features_of}
 use Rattle.emfjson_model.specs.Document.{doc_of, of_json, resolved}
 use Rattle.emfjson_model.specs.Fits.{AttrFits, DocumentsFit, Fits, RefsFit, RowFits, StandsFit, are_apart, standing}
 use Rattle.emfjson_model.specs.Merged.{rows_by}

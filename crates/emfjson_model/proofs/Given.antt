@@ -5,7 +5,7 @@ use Rattle.std.specs.List.{list_any}
 use Rattle.std.specs.Option.{option_map_or}
 use Rattle.finite_maps.proofs.Cases.{true_false}
 use Rattle.finite_maps.proofs.EqualLaws.{and_both, and_first, and_second, nat_equality}
-use Rattle.ecore_meta.specs.Meta.{Meta}
+use Rattle.ecore_meta.specs.Meta.{Meta, features_of}
 use Rattle.ecore_meta.specs.declared.meta.Class.{Class}
 use Rattle.model_state.specs.Keys.{Name}
 use Rattle.model_state.specs.Typing.{has_feature, is_plain, kind_of, plain_to}
@@ -13,7 +13,6 @@ use Rattle.emfjson_model.specs.declared.doc.DocRefs.{DocRefs}
 use Rattle.emfjson_model.specs.declared.draft.Draft.{Draft}
 use Rattle.emfjson_model.specs.declared.draft.Links.{Links}
 use Rattle.emfjson_model.specs.declared.fault.ModelFault.TheVariants.{BadRef, WrongType}
-use Rattle.emfjson_model.specs.Classes.{features_of}
 use Rattle.emfjson_model.specs.Fits.{are_apart}
 use Rattle.emfjson_model.specs.Merged.{targets_at}
 use Rattle.emfjson_model.specs.Reads.{Read, collected, unless}

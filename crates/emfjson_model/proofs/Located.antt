@@ -8,7 +8,7 @@ use Rattle.model_state.specs.Keys.{Name}
 use Rattle.model_state.specs.Typing.{contains_kind, kind_of, upper_of}
 use Rattle.emfjson_model.specs.declared.doc.DocParent.{DocParent}
 use Rattle.emfjson_model.specs.declared.draft.Draft.{Draft}
-use Rattle.emfjson_model.specs.Links.{is_one}
+use Rattle.ecore_meta.specs.Typing.{is_one}
 use Rattle.emfjson_model.specs.References.{along, along_parts, bare, child_at, child_by, child_named, class_at, has_id, index_of, located, located_by, number_of, numbers_where, root_at, stands_in, step_from}
 use Rattle.emfjson_model.proofs.Keys.{and_then_some}
 

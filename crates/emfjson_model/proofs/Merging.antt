@@ -7,7 +7,7 @@ use Rattle.ecore_meta.specs.Meta.{Meta}
 use Rattle.model_state.specs.Typing.{row_upper}
 use Rattle.emfjson_model.specs.declared.doc.DocRefs.{DocRefs}
 use Rattle.emfjson_model.specs.declared.fault.ModelFault.TheVariants.{Bound}
-use Rattle.emfjson_model.specs.Attributes.{is_within}
+use Rattle.finite_maps.specs.Maps.{is_within}
 use Rattle.emfjson_model.specs.Fits.{are_apart}
 use Rattle.emfjson_model.specs.Merged.{merged, merged_all, merged_at, merged_within, naming, others, targets_at}
 use Rattle.emfjson_model.specs.Reads.{Read}

@@ -18,7 +18,8 @@ use Rattle.emfjson_io.specs.Values.{value_in}
 use Rattle.emfjson_io.proofs.Fits.{in_type}
 use Rattle.emfjson_model.specs.declared.doc.DocAttr.{DocAttr}
 use Rattle.emfjson_model.specs.declared.fault.ModelFault.TheVariants.{BadValue, Bound}
-use Rattle.emfjson_model.specs.Attributes.{elements, is_null, is_within, many_part, may_hold, new_value, next_value, set_part, single_part, values_in, values_part}
+use Rattle.finite_maps.specs.Maps.{is_within}
+use Rattle.emfjson_model.specs.Attributes.{elements, is_null, many_part, may_hold, new_value, next_value, set_part, single_part, values_in, values_part}
 use Rattle.emfjson_model.specs.Fits.{AttrFits}
 use Rattle.emfjson_model.specs.Parts.{Part, no_part}
 use Rattle.emfjson_model.specs.Reads.{Read, «then», collected, found, unless}

@@ -16,9 +16,9 @@ use Rattle.emfjson_model.specs.declared.draft.Links.{Links}
 use Rattle.emfjson_model.specs.declared.fault.ModelFault.{ModelFault}
 use Rattle.emfjson_model.specs.declared.fault.ModelFault.TheVariants.{Bound, WrongType}
 use Rattle.emfjson_model.specs.Answers.{IsFault, Walks, Holds}
-use Rattle.emfjson_model.specs.Attributes.{is_within}
+use Rattle.finite_maps.specs.Maps.{is_within}
 use Rattle.emfjson_model.specs.Classes.{class_of, id_of}
-use Rattle.emfjson_model.specs.Links.{is_one}
+use Rattle.ecore_meta.specs.Typing.{is_one}
 use Rattle.emfjson_model.specs.Parts.{Part, no_part, joined, Ids, ids_of}
 use Rattle.emfjson_model.specs.Reads.{Read, «then», unless}
 use Rattle.emfjson_model.specs.Walk.{element_rows, items_rows, members_rows, held_rows, key_named, key_part, own_rows, not_object}

@@ -3,6 +3,7 @@ use Rattle.std.specs.Prelude.{ℕ, Bool, true, false, ◌&&◌, not, cond, List,
 use Rattle.std.specs.List.{list_any}
 use Rattle.serde_json.specs.Data.{Data}
 use Rattle.serde_json.specs.Find.{as_array, as_null}
+use Rattle.finite_maps.specs.Maps.{is_within}
 use Rattle.ecore_json.specs.Rows.{alone_or}
 use Rattle.ecore_meta.specs.Meta.{Meta}
 use Rattle.ecore_meta.specs.declared.meta.Scalar.{Scalar}
@@ -49,11 +50,6 @@ next_value meta s unique vs d = new_value unique vs (value_in meta s d)
 -- the values of a list
 abbrev pub values_in : Meta → Scalar → Bool → List Data → Read (List Value)
 values_in meta s unique ds = collected (next_value meta s unique) [] ds
-
--- so many entries are within the bound, if there is one
-abbrev pub is_within : ℕ → Option ℕ → Bool
-is_within n None = true
-is_within n (Some upper) = nat_le n upper
 
 -- so many values are within the bound of the attribute, and no more than any holds
 abbrev pub may_hold : Meta → ℕ → ℕ → Bool

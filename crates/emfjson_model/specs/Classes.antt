@@ -1,7 +1,6 @@
 -- The class and the id that an object has.
-use Rattle.std.specs.Prelude.{ℕ, Bool, true, not, List, [], codes, Option, None, Some, Ok, Err, option_and_then, slice_get}
+use Rattle.std.specs.Prelude.{ℕ, Bool, true, not, codes, Option, None, Some, Ok, Err, option_and_then}
 use Rattle.std.specs.List.{list_any}
-use Rattle.std.specs.Option.{option_map_or}
 use Rattle.serde_json.specs.Data.{Data, null, boolean, number, string, array, object}
 use Rattle.finite_maps.specs.Equal.{option_eq, text_eq}
 use Rattle.ecore_meta.specs.Meta.{Meta, class_named, is_a}
@@ -53,7 +52,3 @@ id_of ids (Some (boolean b)) = Err BadId
 id_of ids (Some (number n)) = Err BadId
 id_of ids (Some (array ds)) = Err BadId
 id_of ids (Some (object ms)) = Err BadId
-
--- the features of a class, its own and inherited, by number
-abbrev pub features_of : Meta → ℕ → List ℕ
-features_of meta c = option_map_or (λ class. class.features) (slice_get meta.classes c) []

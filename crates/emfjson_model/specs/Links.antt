@@ -1,8 +1,7 @@
 -- What the key of a plain reference gives, before its targets are looked up.
-use Rattle.std.specs.Prelude.{ℕ, Bool, ◌&&◌, cond, List, [], ◌∷◌, Option, None, Some, is_some, map, codes, nat_eq, option_and_then}
+use Rattle.std.specs.Prelude.{ℕ, Bool, ◌&&◌, cond, List, [], ◌∷◌, Option, None, is_some, map, codes, option_and_then}
 use Rattle.serde_json.specs.Data.{Data}
 use Rattle.serde_json.specs.Find.{get, as_array, as_str}
-use Rattle.finite_maps.specs.Equal.{option_eq}
 use Rattle.model_state.specs.Keys.{Name}
 use Rattle.emfjson_model.specs.Attributes.{is_null, elements}
 use Rattle.emfjson_model.specs.Parts.{Part, no_part}
@@ -10,10 +9,6 @@ use Rattle.emfjson_model.specs.Parts.{Part, no_part}
 -- the text at `$ref`
 abbrev pub entry_of : Data → Option Name
 entry_of d = option_and_then as_str (get (codes "$ref") d)
-
--- an upper bound of one
-abbrev pub is_one : Option ℕ → Bool
-is_one upper = option_eq nat_eq upper (Some 1)
 
 -- the entries under a key; an array is no entry of a single reference
 abbrev pub entries_of : Bool → Data → List (Option Name)

@@ -2,15 +2,14 @@
 use Rattle.std.specs.Prelude.{ℕ, suc, Bool, ◌&&◌, not, cond, List, [], ◌∷◌, ◌++◌, Option, None, Some, Ok, length, nat_eq, slice_get}
 use Rattle.std.specs.List.{list_any}
 use Rattle.std.specs.Option.{option_map_or}
-use Rattle.ecore_meta.specs.Meta.{Meta}
+use Rattle.ecore_meta.specs.Meta.{Meta, features_of}
 use Rattle.model_state.specs.Typing.{opposite_of, row_upper}
 use Rattle.emfjson_model.specs.declared.doc.DocAttr.{DocAttr}
 use Rattle.emfjson_model.specs.declared.doc.DocRefs.{DocRefs}
 use Rattle.emfjson_model.specs.declared.doc.DocRow.{DocRow}
 use Rattle.emfjson_model.specs.declared.draft.Draft.{Draft}
 use Rattle.emfjson_model.specs.declared.fault.ModelFault.TheVariants.{Bound}
-use Rattle.emfjson_model.specs.Attributes.{is_within}
-use Rattle.emfjson_model.specs.Classes.{features_of}
+use Rattle.finite_maps.specs.Maps.{is_within}
 use Rattle.emfjson_model.specs.Reads.{Read, «then», unless, collected}
 
 -- the targets of a feature of an element

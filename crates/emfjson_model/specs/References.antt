@@ -5,7 +5,7 @@ use Rattle.std.specs.Option.{option_map_or}
 use Rattle.std.specs.Char.{is_ascii_digit}
 use Rattle.std.specs.Str.Parse.{digits_value}
 use Rattle.finite_maps.specs.Equal.{option_eq, text_eq}
-use Rattle.ecore_meta.specs.Meta.{Meta, feature_named}
+use Rattle.ecore_meta.specs.Meta.{Meta, feature_named, features_of}
 use Rattle.ecore_json.specs.References.{behind}
 use Rattle.model_state.specs.Keys.{Name}
 use Rattle.model_state.specs.Typing.{contains_kind, is_plain, kind_of, plain_to, upper_of}
@@ -14,8 +14,7 @@ use Rattle.emfjson_model.specs.declared.doc.DocRefs.{DocRefs}
 use Rattle.emfjson_model.specs.declared.draft.Draft.{Draft}
 use Rattle.emfjson_model.specs.declared.draft.Links.{Links}
 use Rattle.emfjson_model.specs.declared.fault.ModelFault.TheVariants.{BadRef, WrongType}
-use Rattle.emfjson_model.specs.Classes.{features_of}
-use Rattle.emfjson_model.specs.Links.{is_one}
+use Rattle.ecore_meta.specs.Typing.{is_one}
 use Rattle.emfjson_model.specs.Reads.{Read, «then», unless, collected}
 
 -- ---- elements by their place and by their id

@@ -19,8 +19,10 @@ use Rattle.emfjson_model.specs.declared.classes.Key.TheVariants.{Own, Of, Unknow
 use Rattle.emfjson_model.specs.Reads.{Read, «then», unless}
 use Rattle.emfjson_model.specs.Parts.{Part, no_part, joined, Ids, ids_of}
 use Rattle.emfjson_model.specs.Classes.{class_of, id_of}
-use Rattle.emfjson_model.specs.Attributes.{single_part, many_part, is_within}
-use Rattle.emfjson_model.specs.Links.{is_one, links_part}
+use Rattle.finite_maps.specs.Maps.{is_within}
+use Rattle.emfjson_model.specs.Attributes.{single_part, many_part}
+use Rattle.ecore_meta.specs.Typing.{is_one}
+use Rattle.emfjson_model.specs.Links.{links_part}
 
 abbrev pub feature_key : Option ℕ → Key
 feature_key None = Unknown

@@ -5,7 +5,8 @@ ghost use Rattle.model_state.specs.Typing.{value_eq};
 ghost use Rattle.emfjson_io.specs.Values.{value_in};
 ghost use Rattle.emfjson_model.specs.declared.fault.ModelFault.TheVariants.{BadValue};
 ghost use Rattle.emfjson_model.specs.Answers.{Gives, Holds};
-ghost use Rattle.emfjson_model.specs.Attributes.{elements, is_within, many_part, may_hold, new_value, next_value, single_part, values_in};
+ghost use Rattle.finite_maps.specs.Maps.{is_within};
+ghost use Rattle.emfjson_model.specs.Attributes.{elements, many_part, may_hold, next_value, single_part, values_in};
 ghost use Rattle.emfjson_model.specs.Reads.{found};
 
 use crate::doc::DocAttr;
@@ -52,10 +53,9 @@ fn value_of(
 ) -> Result<Value, ModelFault>
     ensures { Gives result (found BadValue (value_in meta.now scalar.now (view json.now))) }
 {
-    match value_in(alloc, json, scalar, meta) {
-        Err(_) => Err(ModelFault::Memory),
-        Ok(None) => Err(ModelFault::BadValue),
-        Ok(Some(value)) => Ok(value),
+    match value_in(alloc, json, scalar, meta)? {
+        None => Err(ModelFault::BadValue),
+        Some(value) => Ok(value),
     }
 }
 
@@ -76,16 +76,11 @@ fn next_value(
 ) -> Result<Value, ModelFault>
     ensures { Gives result (next_value meta.now scalar.now unique values.now (view json.now)) }
 {
-    match value_in(alloc, json, scalar, meta) {
-        Err(_) => Err(ModelFault::Memory),
-        Ok(None) => Err(ModelFault::BadValue),
-        Ok(Some(value)) => {
-            if unique && is_among(values, &value) {
-                return Err(ModelFault::BadValue);
-            }
-            Ok(value)
-        }
+    let value = value_of(alloc, meta, scalar, json)?;
+    if unique && is_among(values, &value) {
+        return Err(ModelFault::BadValue);
     }
+    Ok(value)
 }
 
 fn values_in(
@@ -99,14 +94,7 @@ fn values_in(
 {
     let mut values = List::new(alloc);
     for item in items {
-        match next_value(alloc, meta, scalar, unique, values.as_slice(), item) {
-            Err(fault) => return Err(fault),
-            Ok(value) => {
-                if values.push(value).is_err() {
-                    return Err(ModelFault::Memory);
-                }
-            }
-        }
+        values.push(next_value(alloc, meta, scalar, unique, values.as_slice(), item)?)?;
     }
     Ok(values)
 }
@@ -133,21 +121,13 @@ pub(crate) fn single_part(
     if json.is_null() {
         return Ok(());
     }
-    match value_of(alloc, meta, scalar, json) {
-        Err(fault) => Err(fault),
-        Ok(value) => {
-            if is_default(meta, feature, &value) {
-                return Ok(());
-            }
-            match alone(alloc, value) {
-                Err(_) => Err(ModelFault::Memory),
-                Ok(values) => match held.attrs.push(DocAttr { feature, values }) {
-                    Err(_) => Err(ModelFault::Memory),
-                    Ok(()) => Ok(()),
-                },
-            }
-        }
+    let value = value_of(alloc, meta, scalar, json)?;
+    if is_default(meta, feature, &value) {
+        return Ok(());
     }
+    let values = alone(alloc, value)?;
+    held.attrs.push(DocAttr { feature, values })?;
+    Ok(())
 }
 
 /// Reads a many-valued attribute. A list without values is not set.
@@ -165,19 +145,13 @@ pub(crate) fn many_part(
     if json.is_null() {
         return Ok(());
     }
-    match values_in(alloc, meta, scalar, unique, elements(json)) {
-        Err(fault) => Err(fault),
-        Ok(values) => {
-            if !may_hold(meta, feature, values.len()) {
-                return Err(ModelFault::Bound);
-            }
-            if values.len() == 0 {
-                return Ok(());
-            }
-            match held.attrs.push(DocAttr { feature, values }) {
-                Err(_) => Err(ModelFault::Memory),
-                Ok(()) => Ok(()),
-            }
-        }
+    let values = values_in(alloc, meta, scalar, unique, elements(json))?;
+    if !may_hold(meta, feature, values.len()) {
+        return Err(ModelFault::Bound);
     }
+    if values.len() == 0 {
+        return Ok(());
+    }
+    held.attrs.push(DocAttr { feature, values })?;
+    Ok(())
 }

@@ -1,18 +1,18 @@
-ghost use Rattle.std.specs.Prelude.{◌≡◌, option_copied, option_map, slice_get, map};
+ghost use Rattle.std.specs.Prelude.{◌≡◌, option_copied, option_map};
 ghost use Rattle.serde_json.specs.View.{view};
 ghost use Rattle.ecore_meta.specs.Meta.{feature_named};
 ghost use Rattle.ecore_json.specs.References.{behind};
-ghost use Rattle.emfjson_model.specs.Classes.{class_behind, class_of, class_said, class_spelt, features_of, may_stand};
+ghost use Rattle.emfjson_model.specs.Classes.{class_behind, class_of, class_said, class_spelt, may_stand};
 ghost use Rattle.emfjson_model.specs.Walk.{key_named};
 ghost use Rattle.emfjson_model.specs.Answers.{Gives};
 
 use crate::fault::ModelFault;
-use ecore_meta::{Class, Feature, Metamodel};
+use ecore_meta::Metamodel;
 use model_state::is_concrete;
 use serde_json::Value;
 
 /// What a key of an object is.
-#[derive(Clone, Copy, Debug, PartialEq, Eq)]
+#[derive(Clone, Copy)]
 pub(crate) enum Key {
     /// One that is read before the others: `eClass` or `_id`.
     Own,
@@ -91,60 +91,14 @@ pub(crate) fn class_of(
 ) -> Result<u32, ModelFault>
     ensures { Gives result (class_of meta.now default (option_map (λ v. view v.now) said.entry)) }
 {
-    match class_said(meta, default, said) {
-        Err(fault) => Err(fault),
-        Ok(class) => {
-            if !is_concrete(meta, class) {
-                return Err(ModelFault::Abstract);
-            }
-            if !may_stand(meta, default, class) {
-                return Err(ModelFault::WrongType);
-            }
-            Ok(class)
-        }
+    let class = class_said(meta, default, said)?;
+    if !is_concrete(meta, class) {
+        return Err(ModelFault::Abstract);
     }
-}
-
-fn class_numbered(meta: &Metamodel, class: u32) -> Option<&Class>
-    ensures { option_copied result ≡ slice_get meta.now.classes class }
-{
-    if class < meta.class_count() {
-        Some(meta.class(class))
-    } else {
-        None
+    if !may_stand(meta, default, class) {
+        return Err(ModelFault::WrongType);
     }
-}
-
-/// The feature of that number, where there is one.
-pub(crate) fn feature(meta: &Metamodel, f: u32) -> Option<&Feature>
-    ensures { option_copied result ≡ slice_get meta.now.features f }
-{
-    if f < meta.feature_count() {
-        Some(meta.feature(f))
-    } else {
-        None
-    }
-}
-
-/// The features of a class, its own and inherited, by number.
-pub(crate) fn features_of(meta: &Metamodel, class: u32) -> &[u32]
-    ensures { result.now ≡ features_of meta.now class }
-{
-    match class_numbered(meta, class) {
-        None => &[],
-        Some(class) => class.features.as_slice(),
-    }
-}
-
-/// The feature of that name of a class.
-pub(crate) fn feature_named(meta: &Metamodel, class: u32, name: &str) -> Option<u32>
-    ensures { result ≡ feature_named meta.now class name.now }
-{
-    if class < meta.class_count() {
-        meta.feature_named(class, name)
-    } else {
-        None
-    }
+    Ok(class)
 }
 
 /// What a key of an object of the class is.
@@ -154,7 +108,7 @@ pub(crate) fn key_named(meta: &Metamodel, class: u32, name: &str) -> Key
     if name == "eClass" || name == "_id" {
         return Key::Own;
     }
-    match feature_named(meta, class, name) {
+    match meta.feature_named(class, name) {
         None => Key::Unknown,
         Some(f) => Key::Of(f),
     }

@@ -3,7 +3,7 @@ use ecore_meta::{List, Text};
 use model_state::Id;
 
 /// An element as the walk finds it, whose references are not looked up yet.
-#[derive(Debug, Drop)]
+#[derive(Drop)]
 pub(crate) struct Draft {
     pub(crate) id: Option<Id>,
     pub(crate) class: u32,
@@ -13,14 +13,14 @@ pub(crate) struct Draft {
 }
 
 /// What stands under the key of a plain reference: the text at each `$ref`, `None` where there is none.
-#[derive(Debug, Drop)]
+#[derive(Drop)]
 pub(crate) struct Links {
     pub(crate) feature: u32,
     pub(crate) entries: List<Option<Text>>,
 }
 
 /// What the keys of an object gave so far.
-#[derive(Debug, Drop)]
+#[derive(Drop)]
 pub(crate) struct Held {
     pub(crate) attrs: List<DocAttr>,
     pub(crate) links: List<Links>,

@@ -1,6 +1,8 @@
 ghost use Rattle.std.specs.Prelude.{◌≡◌};
 ghost use Rattle.emfjson_model.specs.Document.{fault_number};
+ghost use Rattle.emfjson_model.specs.declared.fault.ModelFault.TheVariants.{Memory};
 
+use std::alloc::AllocError;
 use thiserror::Error;
 
 /// Why a text is no model of the metamodel. `NotJson` comes first; then the first fault of a walk over the document; then
@@ -39,6 +41,14 @@ pub enum ModelFault {
     WrongType,
     #[error("out of memory")]
     Memory,
+}
+
+impl From<AllocError> for ModelFault {
+    ghost from_gives = { λ _ e. e ≡ Memory };
+
+    fn from(_: AllocError) -> ModelFault {
+        ModelFault::Memory
+    }
 }
 
 impl ModelFault {

@@ -1,7 +1,7 @@
 ghost use Rattle.std.specs.Prelude.{◌≡◌, IfOk, [], map, Ok};
 ghost use Rattle.serde_json.specs.View.{view};
 ghost use Rattle.emfjson_model.specs.Answers.{Holds};
-ghost use Rattle.emfjson_model.specs.Links.{entries_of, entry_of, is_one, links_part};
+ghost use Rattle.emfjson_model.specs.Links.{entries_of, entry_of, links_part};
 
 use crate::attributes::elements;
 use crate::draft::{Held, Links};
@@ -9,16 +9,6 @@ use crate::fault::ModelFault;
 use ecore_meta::{List, Text};
 use serde_json::Value;
 use std::alloc::{AllocError, Global};
-
-/// Whether an upper bound is one.
-pub(crate) fn is_one(upper: Option<u32>) -> bool
-    ensures { result ≡ is_one upper }
-{
-    match upper {
-        None => false,
-        Some(upper) => upper == 1,
-    }
-}
 
 fn entry_of(alloc: Global, value: &Value) -> Result<Option<Text>, AllocError>
     ensures { IfOk result (λ entry. entry ≡ entry_of (view value.now)) }
@@ -67,11 +57,7 @@ pub(crate) fn links_part(
     if value.is_null() {
         return Ok(());
     }
-    match entries_of(alloc, single, value) {
-        Err(_) => Err(ModelFault::Memory),
-        Ok(entries) => match held.links.push(Links { feature, entries }) {
-            Err(_) => Err(ModelFault::Memory),
-            Ok(()) => Ok(()),
-        },
-    }
+    let entries = entries_of(alloc, single, value)?;
+    held.links.push(Links { feature, entries })?;
+    Ok(())
 }

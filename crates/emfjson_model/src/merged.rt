@@ -4,7 +4,6 @@ ghost use Rattle.emfjson_model.specs.Answers.{Gives};
 ghost use Rattle.emfjson_model.specs.Merged.{attr_at, attrs_by, is_set, merged, merged_all, merged_at, merged_within, naming, next_row, others, row_of, rows_by};
 
 use crate::attributes::is_within;
-use crate::classes::features_of;
 use crate::doc::{DocAttr, DocRefs, DocRow};
 use crate::draft::Draft;
 use crate::fault::ModelFault;
@@ -93,15 +92,11 @@ fn merged_within(
 ) -> Result<List<usize>, ModelFault>
     ensures { Gives result (merged_within meta.now given.now row refs.now) }
 {
-    match merged(alloc, meta, given, row, refs) {
-        Err(_) => Err(ModelFault::Memory),
-        Ok(targets) => {
-            if !is_within(targets.len(), row_upper(meta, refs.feature)) {
-                return Err(ModelFault::Bound);
-            }
-            Ok(targets)
-        }
+    let targets = merged(alloc, meta, given, row, refs)?;
+    if !is_within(targets.len(), row_upper(meta, refs.feature)) {
+        return Err(ModelFault::Bound);
     }
+    Ok(targets)
 }
 
 fn merged_at(
@@ -113,13 +108,10 @@ fn merged_at(
 ) -> Result<DocRefs, ModelFault>
     ensures { Gives result (merged_at meta.now given.now row [] refs.now) }
 {
-    match merged_within(alloc, meta, given, row, refs) {
-        Err(fault) => Err(fault),
-        Ok(targets) => Ok(DocRefs {
-            feature: refs.feature,
-            targets,
-        }),
-    }
+    Ok(DocRefs {
+        feature: refs.feature,
+        targets: merged_within(alloc, meta, given, row, refs)?,
+    })
 }
 
 /// The lists of an element.
@@ -134,14 +126,7 @@ fn merged_all(
 {
     let mut all = List::new(alloc);
     for list in refs {
-        match merged_at(alloc, meta, given, row, list) {
-            Err(fault) => return Err(fault),
-            Ok(list) => {
-                if all.push(list).is_err() {
-                    return Err(ModelFault::Memory);
-                }
-            }
-        }
+        all.push(merged_at(alloc, meta, given, row, list)?)?;
     }
     Ok(all)
 }
@@ -211,11 +196,7 @@ fn row_of(
         id: copy_id(alloc, &draft.id)?,
         class: draft.class,
         parent: draft.parent,
-        attrs: attrs_by(
-            alloc,
-            features_of(meta, draft.class),
-            draft.attrs.as_slice(),
-        )?,
+        attrs: attrs_by(alloc, meta.features_of(draft.class), draft.attrs.as_slice())?,
         refs,
     })
 }
@@ -231,13 +212,8 @@ fn next_row(
     ensures { Gives result (next_row meta.now given.now rows.now draft.now) }
 {
     let n = rows.len();
-    match merged_all(alloc, meta, given, n, given.at(n)) {
-        Err(fault) => Err(fault),
-        Ok(refs) => match row_of(alloc, meta, draft, refs) {
-            Err(_) => Err(ModelFault::Memory),
-            Ok(row) => Ok(row),
-        },
-    }
+    let refs = merged_all(alloc, meta, given, n, given.at(n))?;
+    Ok(row_of(alloc, meta, draft, refs)?)
 }
 
 /// The rows of the elements, with the targets that either side gives.
@@ -249,10 +225,8 @@ pub(crate) fn rows_by(
 ) -> Result<List<DocRow>, ModelFault>
     ensures { Gives result (rows_by meta.now given.now drafts.now) }
 {
-    match Sources::new(alloc, given) {
-        Err(_) => Err(ModelFault::Memory),
-        Ok(sources) => rows_with(alloc, meta, &sources, drafts),
-    }
+    let sources = Sources::new(alloc, given)?;
+    rows_with(alloc, meta, &sources, drafts)
 }
 
 fn rows_with(
@@ -265,14 +239,7 @@ fn rows_with(
 {
     let mut rows = List::new(alloc);
     for draft in drafts {
-        match next_row(alloc, meta, given, rows.as_slice(), draft) {
-            Err(fault) => return Err(fault),
-            Ok(row) => {
-                if rows.push(row).is_err() {
-                    return Err(ModelFault::Memory);
-                }
-            }
-        }
+        rows.push(next_row(alloc, meta, given, rows.as_slice(), draft)?)?;
     }
     Ok(rows)
 }

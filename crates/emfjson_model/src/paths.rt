@@ -4,12 +4,11 @@ ghost use Rattle.std.specs.Char.{is_ascii_digit};
 ghost use Rattle.model_state.specs.Typing.{contains_kind, kind_of};
 ghost use Rattle.emfjson_model.specs.References.{along, along_parts, child_by, child_named, index_of, located, located_bare, number_of, root_at, step_from};
 
-use crate::classes::{behind, feature, feature_named};
+use crate::classes::behind;
 use crate::doc::DocParent;
 use crate::finder::{Finder, child_at};
-use crate::links::is_one;
 use ecore_meta::{Kind, Metamodel};
-use model_state::upper_of;
+use model_state::{is_one, upper_of};
 use std::alloc::{AllocError, Global};
 
 fn are_digits(bytes: &[u8]) -> bool
@@ -44,7 +43,7 @@ fn index_of(single: bool, text: Option<&str>) -> Option<u32>
 fn is_containment(meta: &Metamodel, f: u32) -> bool
     ensures { result ≡ contains_kind (kind_of meta.now f) }
 {
-    match feature(meta, f) {
+    match meta.get_feature(f) {
         None => false,
         Some(feature) => match &feature.kind {
             Kind::Contains { .. } => true,
@@ -83,12 +82,12 @@ fn child_named(meta: &Metamodel, rows: &Finder, row: usize, parts: &[&str]) -> O
     let class = rows.class_at(row);
     match parts {
         [] => None,
-        [name] => child_by(meta, rows, row, feature_named(meta, class, *name), None),
+        [name] => child_by(meta, rows, row, meta.feature_named(class, *name), None),
         [name, index] => child_by(
             meta,
             rows,
             row,
-            feature_named(meta, class, *name),
+            meta.feature_named(class, *name),
             Some(*index),
         ),
         [_, _, _, ..] => None,

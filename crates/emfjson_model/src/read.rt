@@ -1,5 +1,3 @@
-ghost use Rattle.std.specs.Prelude.{◌≡◌};
-ghost use Rattle.serde_json.specs.View.{view};
 ghost use Rattle.emfjson_model.specs.Answers.{Gives, GivesDoc};
 ghost use Rattle.emfjson_model.specs.Document.{doc_of, resolved};
 
@@ -17,10 +15,8 @@ use std::alloc::Global;
 fn resolved(alloc: Global, meta: &Metamodel, drafts: &[Draft]) -> Result<List<DocRow>, ModelFault>
     ensures { Gives result (resolved meta.now drafts.now) }
 {
-    match given_by(alloc, meta, drafts) {
-        Err(fault) => Err(fault),
-        Ok(given) => rows_by(alloc, meta, given.as_slice(), drafts),
-    }
+    let given = given_by(alloc, meta, drafts)?;
+    rows_by(alloc, meta, given.as_slice(), drafts)
 }
 
 /// The elements that a text in emfjson says, by a metamodel.
@@ -40,12 +36,11 @@ pub fn read_model(alloc: Global, text: &str, meta: &Metamodel) -> Result<Doc, Mo
                 Err(ModelFault::NotJson)
             }
         }
-        Ok(document) => match walk(alloc, meta, &document) {
-            Err(fault) => Err(fault),
-            Ok(drafts) => match resolved(alloc, meta, drafts.as_slice()) {
-                Err(fault) => Err(fault),
-                Ok(rows) => Ok(Doc { rows }),
-            },
-        },
+        Ok(document) => {
+            let drafts = walk(alloc, meta, &document)?;
+            Ok(Doc {
+                rows: resolved(alloc, meta, drafts.as_slice())?,
+            })
+        }
     }
 }

@@ -5,7 +5,6 @@ ghost use Rattle.emfjson_model.specs.Answers.{Gives};
 ghost use Rattle.emfjson_model.specs.Reads.{collected};
 ghost use Rattle.emfjson_model.specs.References.{entries_at, given_by, located, new_target, plain_features, refs_at, refs_of, target_of, targets_of};
 
-use crate::classes::{feature, features_of};
 use crate::doc::DocRefs;
 use crate::draft::{Draft, Links};
 use crate::fault::ModelFault;
@@ -19,7 +18,7 @@ use std::alloc::{AllocError, Global};
 fn is_plain_to(meta: &Metamodel, f: u32, class: u32) -> bool
     ensures { result ≡ plain_to meta.now (kind_of meta.now f) class }
 {
-    match feature(meta, f) {
+    match meta.get_feature(f) {
         None => false,
         Some(feature) => match &feature.kind {
             Kind::Bounded { target, .. } => meta.is_a(class, *target),
@@ -85,10 +84,7 @@ fn target_of(
 ) -> Result<usize, ModelFault>
     ensures { Gives result (target_of meta.now rows.now f targets.now entry.now) }
 {
-    match found(alloc, meta, rows, entry) {
-        Err(_) => Err(ModelFault::Memory),
-        Ok(found) => new_target(meta, rows, f, targets, found),
-    }
+    new_target(meta, rows, f, targets, found(alloc, meta, rows, entry)?)
 }
 
 fn targets_of(
@@ -102,14 +98,7 @@ fn targets_of(
 {
     let mut targets = List::new(alloc);
     for entry in entries {
-        match target_of(alloc, meta, rows, f, targets.as_slice(), entry) {
-            Err(fault) => return Err(fault),
-            Ok(n) => {
-                if targets.push(n).is_err() {
-                    return Err(ModelFault::Memory);
-                }
-            }
-        }
+        targets.push(target_of(alloc, meta, rows, f, targets.as_slice(), entry)?)?;
     }
     Ok(targets)
 }
@@ -158,13 +147,10 @@ fn refs_at(
 ) -> Result<DocRefs, ModelFault>
     ensures { Gives result (refs_at meta.now rows.now links.now [] f) }
 {
-    match targets_of(alloc, meta, rows, f, entries_at(links, f)) {
-        Err(fault) => Err(fault),
-        Ok(targets) => Ok(DocRefs {
-            feature: f,
-            targets,
-        }),
-    }
+    Ok(DocRefs {
+        feature: f,
+        targets: targets_of(alloc, meta, rows, f, entries_at(links, f))?,
+    })
 }
 
 fn refs_by(
@@ -178,14 +164,7 @@ fn refs_by(
 {
     let mut refs = List::new(alloc);
     for f in features {
-        match refs_at(alloc, meta, rows, links, *f) {
-            Err(fault) => return Err(fault),
-            Ok(given) => {
-                if refs.push(given).is_err() {
-                    return Err(ModelFault::Memory);
-                }
-            }
-        }
+        refs.push(refs_at(alloc, meta, rows, links, *f)?)?;
     }
     Ok(refs)
 }
@@ -199,10 +178,8 @@ fn refs_of(
 ) -> Result<List<DocRefs>, ModelFault>
     ensures { Gives result (refs_of meta.now rows.now [] row.now) }
 {
-    match plain_features(alloc, meta, features_of(meta, row.class)) {
-        Err(_) => Err(ModelFault::Memory),
-        Ok(features) => refs_by(alloc, meta, rows, row.links.as_slice(), features.as_slice()),
-    }
+    let features = plain_features(alloc, meta, meta.features_of(row.class))?;
+    refs_by(alloc, meta, rows, row.links.as_slice(), features.as_slice())
 }
 
 /// What each element gives of its plain references.
@@ -213,10 +190,8 @@ pub(crate) fn given_by(
 ) -> Result<List<List<DocRefs>>, ModelFault>
     ensures { Gives result (given_by meta.now rows.now) }
 {
-    match Finder::new(alloc, rows) {
-        Err(_) => Err(ModelFault::Memory),
-        Ok(finder) => given_with(alloc, meta, &finder, rows),
-    }
+    let finder = Finder::new(alloc, rows)?;
+    given_with(alloc, meta, &finder, rows)
 }
 
 /// What each of the rows gives, among all elements.
@@ -230,14 +205,7 @@ fn given_with(
 {
     let mut given = List::new(alloc);
     for row in rows {
-        match refs_of(alloc, meta, finder, row) {
-            Err(fault) => return Err(fault),
-            Ok(refs) => {
-                if given.push(refs).is_err() {
-                    return Err(ModelFault::Memory);
-                }
-            }
-        }
+        given.push(refs_of(alloc, meta, finder, row)?)?;
     }
     Ok(given)
 }

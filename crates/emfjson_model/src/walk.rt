@@ -1,21 +1,20 @@
-ghost use Rattle.std.specs.Prelude.{◌≡◌, ◌∷◌, [], ◌++◌, ◌<◌, List, None, length, map};
+ghost use Rattle.std.specs.Prelude.{◌≡◌, ◌∷◌, [], ◌++◌, ◌<◌, List, None, length};
 ghost use Rattle.serde_json.specs.View.{view, items_view, members_view};
-ghost use Rattle.model_state.specs.Typing.{kind_of};
 ghost use Rattle.emfjson_model.specs.Answers.{GivesDrafts, GivesPart, Holds, Walks};
 ghost use Rattle.emfjson_model.specs.Parts.{ids_of, no_part};
 ghost use Rattle.emfjson_model.specs.Walk.{element_rows, feature_part, held_rows, items_rows, key_named, key_part, members_rows, not_object, own_rows, walked};
 ghost use Rattle.emfjson_model.specs.declared.draft.Draft.{Draft};
 
 use crate::attributes::{is_within, many_part, single_part};
-use crate::classes::{Key, class_of, feature, key_named};
+use crate::classes::{Key, class_of, key_named};
 use crate::doc::DocParent;
 use crate::draft::{Draft, Held};
 use crate::drafts::Drafts;
 use crate::fault::ModelFault;
 use crate::identity::id_of;
-use crate::links::{is_one, links_part};
+use crate::links::links_part;
 use ecore_meta::{Kind, List, Metamodel};
-use model_state::{Id, upper_of};
+use model_state::{Id, is_one, upper_of};
 use serde_json::{Map, Value};
 use std::alloc::Global;
 
@@ -131,7 +130,7 @@ fn part_of(
     match key {
         Key::Unknown => Err(ModelFault::NoFeature),
         Key::Own => Ok(()),
-        Key::Of(f) => match feature(meta, f) {
+        Key::Of(f) => match meta.get_feature(f) {
             None => Ok(()),
             Some(feature) => feature_part(alloc, meta, rows, own, held, f, &feature.kind, value),
         },
@@ -252,8 +251,6 @@ pub(crate) fn walk(alloc: Global, meta: &Metamodel, value: &Value) -> Result<Vec
     ensures { GivesDrafts result (walked meta.now (view value.now)) }
 {
     let mut rows = Drafts::new(alloc);
-    match walk_roots(alloc, meta, &mut rows, value) {
-        Err(fault) => Err(fault),
-        Ok(()) => Ok(rows.into_rows()),
-    }
+    walk_roots(alloc, meta, &mut rows, value)?;
+    Ok(rows.into_rows())
 }

@@ -1,11 +1,10 @@
 -- The keys of an element's object, in the order of their names.
-use Rattle.std.specs.Prelude.{ℕ, suc, List, [], ◌∷◌, map, codes, slice_get}
-use Rattle.std.specs.Option.{option_map_or}
+use Rattle.std.specs.Prelude.{ℕ, suc, List, ◌∷◌, map, codes}
 use Rattle.std.specs.declared.cmp.Ordering.{Ordering}
 use Rattle.std.specs.Ordering.{nat_cmp, ordering_then}
 use Rattle.std.specs.Cmp.Lexicographic.{slice_cmp}
 use Rattle.finite_maps.specs.Sorts.{in_order}
-use Rattle.ecore_meta.specs.Meta.{Meta, name_at}
+use Rattle.ecore_meta.specs.Meta.{Meta, features_of, name_at}
 use Rattle.emfjson_text.specs.declared.key.Key.{Key}
 use Rattle.emfjson_text.specs.declared.key.Key.TheVariants.{Ident, Class, Feature}
 
@@ -24,10 +23,6 @@ key_number (Feature f) = suc (suc f)
 abbrev pub key_cmp : Meta → Key → Key → Ordering
 key_cmp meta x y = ordering_then (slice_cmp nat_cmp (key_name meta x) (key_name meta y)) (nat_cmp (key_number x) (key_number y))
 
--- the features of a class, its own and inherited ones, none for a number that is no class
-abbrev pub class_features : Meta → ℕ → List ℕ
-class_features meta c = option_map_or (λ class. class.features) (slice_get meta.classes c) []
-
 -- the id, the class and the features of the class, by name
 unfoldable pub keys_of : Meta → ℕ → List Key
-keys_of meta c = in_order (key_cmp meta) (Ident ∷ Class ∷ map (λ f. Feature f) (class_features meta c))
+keys_of meta c = in_order (key_cmp meta) (Ident ∷ Class ∷ map (λ f. Feature f) (features_of meta c))

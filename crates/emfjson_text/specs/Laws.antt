@@ -6,7 +6,8 @@ use Rattle.model_state.specs.declared.step.Place.{Place}
 use Rattle.model_state.specs.Good.{Good}
 use Rattle.model_state.specs.Keys.{Name}
 use Rattle.model_state.specs.State.{State}
-use Rattle.emfjson_text.specs.Tree.{child_ids, object_of, target_ids, text, values_at, whole}
+use Rattle.model_state.specs.Listing.{values_at}
+use Rattle.emfjson_text.specs.Tree.{child_ids, object_of, target_ids, text, whole}
 
 -- two states have the same classes and values, and the same lists in the same order
 pub record Alike (m n : State) : Type 0 where

@@ -1,12 +1,12 @@
 -- The text of a model, as a function of a state: JSON without spaces, in which ranks do not show but by the order of lists.
-use Rattle.std.specs.Prelude.{ℕ, zero, suc, Bool, true, false, List, [], ◌∷◌, ◌++◌, codes, Option, None, Some, map, nat_eq, slice_get, unwrap_or}
+use Rattle.std.specs.Prelude.{ℕ, zero, suc, Bool, true, false, List, [], ◌∷◌, ◌++◌, codes, Option, None, Some, map, slice_get}
 use Rattle.std.specs.Option.{option_map_or}
 use Rattle.std.specs.FinMap.{get, len}
 use Rattle.serde_json.specs.Data.{Data, string, array, object, no_items, Members, no_members, member}
 use Rattle.serde_json.specs.View.{items_of}
 use Rattle.serde_json.specs.Written.{compact_text}
 use Rattle.ecore_meta.specs.Meta.{Meta}
-use Rattle.ecore_meta.specs.Typing.{kind_of, upper_of}
+use Rattle.ecore_meta.specs.Typing.{is_one, kind_of, upper_of}
 use Rattle.ecore_meta.specs.declared.meta.Kind.{Kind}
 use Rattle.ecore_meta.specs.declared.meta.Kind.TheVariants.{Attr, AttrMany, Bounded, Free, Contains, Container, Skip}
 use Rattle.ecore_meta.specs.declared.meta.Scalar.{Scalar}
@@ -15,7 +15,7 @@ use Rattle.model_state.specs.declared.entry.Entry.{Entry}
 use Rattle.model_state.specs.declared.step.Place.{Place}
 use Rattle.model_state.specs.declared.step.Place.TheVariants.{Root, Inside}
 use Rattle.model_state.specs.Keys.{Name}
-use Rattle.model_state.specs.Listing.{children, targets}
+use Rattle.model_state.specs.Listing.{children, targets, values_at}
 use Rattle.model_state.specs.State.{State}
 use Rattle.emfjson_io.specs.Values.{data_of}
 use Rattle.emfjson_text.specs.declared.key.Key.{Key}
@@ -26,10 +26,6 @@ use Rattle.emfjson_text.specs.Keys.{key_name, keys_of}
 
 abbrev pub entry_ids : List Entry → List Name
 entry_ids es = map (λ (e : Entry). e.id) es
-
--- the values of an attribute, none where it is not set
-abbrev pub values_at : State → Name → ℕ → List Value
-values_at m e f = unwrap_or (get m.attr (e, f)) []
 
 -- the targets of a reference, in order
 abbrev pub target_ids : State → Name → ℕ → List Name
@@ -59,10 +55,6 @@ first_value meta scalar (v ∷ vs) = Some (data_of meta scalar v)
 
 abbrev pub reference : Name → Data
 reference b = object (member (codes "$ref") (string b) no_members)
-
-abbrev pub is_one : Option ℕ → Bool
-is_one None = false
-is_one (Some n) = nat_eq n 1
 
 -- a reference or containment has one value rather than a list where its upper bound is 1
 abbrev pub is_single : Meta → ℕ → Bool

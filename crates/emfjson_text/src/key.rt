@@ -1,41 +1,18 @@
-ghost use Rattle.std.specs.Prelude.{◌≡◌, ◌++◌, ◌∷◌, [], IfOk, OnOk, map, slice_get};
-ghost use Rattle.std.specs.Option.{option_copied};
-ghost use Rattle.emfjson_text.specs.Keys.{class_features, key_cmp, key_name, key_number, keys_of};
+ghost use Rattle.std.specs.Prelude.{◌≡◌, ◌++◌, IfOk, OnOk, map};
+ghost use Rattle.emfjson_text.specs.Keys.{key_cmp, key_name, key_number, keys_of};
 ghost use Rattle.emfjson_text.specs.declared.key.Key.TheVariants.{Feature as OfFeature};
 
-use ecore_meta::{Class, Feature, List, Metamodel};
+use ecore_meta::{List, Metamodel};
 use std::alloc::{AllocError, Global};
 use std::cmp::Ordering;
 
 /// A key of an element's object.
-#[derive(Clone, Copy, Debug, PartialEq, Eq)]
+#[derive(Clone, Copy)]
 pub(crate) enum Key {
     Ident,
     Class,
     /// The feature of that number.
     Feature(u32),
-}
-
-/// The class of that number, where there is one.
-pub(crate) fn class(meta: &Metamodel, c: u32) -> Option<&Class>
-    ensures { option_copied result ≡ slice_get meta.now.classes c }
-{
-    if c < meta.class_count() {
-        Some(meta.class(c))
-    } else {
-        None
-    }
-}
-
-/// The feature of that number, where there is one.
-pub(crate) fn feature(meta: &Metamodel, f: u32) -> Option<&Feature>
-    ensures { option_copied result ≡ slice_get meta.now.features f }
-{
-    if f < meta.feature_count() {
-        Some(meta.feature(f))
-    } else {
-        None
-    }
 }
 
 pub(crate) fn key_name(meta: &Metamodel, key: Key) -> &str
@@ -44,7 +21,7 @@ pub(crate) fn key_name(meta: &Metamodel, key: Key) -> &str
     match key {
         Key::Ident => "_id",
         Key::Class => "eClass",
-        Key::Feature(f) => match feature(meta, f) {
+        Key::Feature(f) => match meta.get_feature(f) {
             None => "",
             Some(feature) => feature.name.as_str(),
         },
@@ -69,16 +46,6 @@ fn key_cmp(meta: &Metamodel, x: Key, y: Key) -> Ordering
         .then(key_number(x).cmp(&key_number(y)))
 }
 
-/// The features of the class of that number, none where there is no such class.
-fn class_features(meta: &Metamodel, c: u32) -> &[u32]
-    ensures { result.now ≡ class_features meta.now c }
-{
-    match class(meta, c) {
-        None => &[],
-        Some(class) => class.features.as_slice(),
-    }
-}
-
 fn push_features(keys: &mut Vec<Key>, features: &[u32]) -> Result<(), AllocError>
     ensures { OnOk result (keys.new.items ≡ keys.old.items ++ map (λ f. OfFeature f) features.now) }
 {
@@ -95,7 +62,7 @@ pub(crate) fn keys_of(alloc: Global, meta: &Metamodel, c: u32) -> Result<List<Ke
     let mut keys = Vec::new(alloc);
     keys.push(Key::Ident)?;
     keys.push(Key::Class)?;
-    push_features(&mut keys, class_features(meta, c))?;
+    push_features(&mut keys, meta.features_of(c))?;
     keys.sort_unstable_by(|x, y| key_cmp(meta, *x, *y));
     Ok(List::from_vec(keys))
 }

@@ -9,7 +9,6 @@ ghost use Rattle.emfjson_io.specs.Values.{data_of};
 ghost use Rattle.emfjson_text.specs.Frames.{only, references_text, text_if};
 ghost use Rattle.emfjson_text.specs.Tree.{class_text, entry_ids, first_value, listed, reference};
 
-use crate::key::class;
 use ecore_meta::{Metamodel, Scalar, Text, Value};
 use emfjson_io::write_value;
 use model_state::Entry;
@@ -29,7 +28,7 @@ pub(crate) fn class_text(alloc: Global, meta: &Metamodel, c: u32) -> Result<Stri
 {
     let mut text = String::from_str(alloc, meta.uri())?;
     text.push_str("#//")?;
-    if let Some(class) = class(meta, c) {
+    if let Some(class) = meta.get_class(c) {
         text.push_str(class.name.as_str())?;
     }
     Ok(text)

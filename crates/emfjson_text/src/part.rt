@@ -1,16 +1,16 @@
 ghost use Rattle.std.specs.Prelude.{◌≡◌, IfOk, Some, map};
 ghost use Rattle.serde_json.specs.Data.{string};
-ghost use Rattle.ecore_meta.specs.Typing.{kind_of};
+ghost use Rattle.ecore_meta.specs.Typing.{is_one, kind_of};
 ghost use Rattle.model_state.specs.Good.{Good};
 ghost use Rattle.emfjson_text.specs.Frames.{Finds, is_absent, shown, text_if};
-ghost use Rattle.emfjson_text.specs.Tree.{child_ids, content, is_one, listed, part, reference, target_ids, whole};
+ghost use Rattle.emfjson_text.specs.Tree.{child_ids, content, listed, part, reference, target_ids};
 ghost use Rattle.model_state.specs.declared.step.Place.TheVariants.{Inside};
 
 use crate::frame::Object;
-use crate::key::{Key, feature};
+use crate::key::Key;
 use crate::leaf::{class_text, many_values, one_value, quoted, references};
 use ecore_meta::{Kind, List, Metamodel, Text};
-use model_state::{Entry, Id, Look, Place};
+use model_state::{Entry, Id, Look, Place, is_one};
 use std::alloc::{AllocError, Global};
 
 /// What stands under a key.
@@ -60,15 +60,6 @@ fn string_leaf(alloc: Global, text: &str) -> Result<Part, AllocError>
     Ok(Part::Leaf(Text::new(alloc, text.as_str())?))
 }
 
-fn is_one(upper: Option<u32>) -> bool
-    ensures { result ≡ is_one upper }
-{
-    match upper {
-        None => false,
-        Some(upper) => upper == 1,
-    }
-}
-
 /// The targets of a reference.
 fn targets_at<L: Look>(
     alloc: Global,
@@ -114,7 +105,7 @@ fn content_at<L: Look>(
     requires good { Good meta.now (L.state look.now) }
     ensures { IfOk result (λ p. (below : _) → shown below p ≡ text_if (content meta.now (L.state look.now) below id.now f (kind_of meta.now f))) }
 {
-    let Some(feature) = feature(meta, f) else {
+    let Some(feature) = meta.get_feature(f) else {
         return Ok(Part::Absent);
     };
     let single = is_one(feature.upper);

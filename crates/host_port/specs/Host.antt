@@ -26,6 +26,10 @@ pub record MayLeave (disk : Disk) (x : List ℕ) : Type 0 where
   pub no_longer : length x ≤ furthest (length disk.stable) disk.loose
   pub kept : (i : ℕ) → i < length disk.stable → All (λ span. IsOutside span i) disk.loose → slice_index x i ≡ slice_index disk.stable i
 
+-- whatever a stop may leave has P
+abbrev pub StopLeaves : (List ℕ → Type 0) → Disk → Type 0
+StopLeaves P disk = (x : List ℕ) → MayLeave disk x → P x
+
 -- all that a host tells; the disk and what was said are told of each moment up to the clock
 pub record Told : Type 0 where
   pub tells : Bool

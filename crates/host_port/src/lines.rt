@@ -1,5 +1,5 @@
 //! Lines, and blocks of lines, read from a host in pieces.
-ghost use Rattle.std.specs.Prelude.{◌≡◌, ◌^◌, ◌<◌, ◌≤◌, ◌++◌, ◌↔◌, false, ◌+◌, ℕ, [], List, Bool, length, IsTrue, IsErr, IfOk, OnOk, IfErr, IsErrOf, Ok};
+ghost use Rattle.std.specs.Prelude.{◌≡◌, ◌^◌, ◌<◌, ◌≤◌, ◌++◌, ◌↔◌, false, ◌+◌, ℕ, [], List, Bool, length, IsTrue, IsErr, IfOk, OnOk, IsErrOf, Ok};
 ghost use Rattle.std.specs.List.{slice_split};
 ghost use Rattle.host_port.specs.Host.{GoesOn, KeepsDisk, KeepsSaid, RaisesTakesAlone, Rose};
 ghost use Rattle.host_port.specs.Cut.{cut_block, script_from, is_lf, next_line_of};

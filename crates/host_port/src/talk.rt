@@ -1,7 +1,7 @@
 // A host whose input depends on what was said.
-ghost use Rattle.std.specs.Prelude.{◌≡◌, ◌⊎◌, ◌+◌, ◌-◌, ◌^◌, ◌<◌, ◌≤◌, ◌++◌, [], ◌∷◌, Bool, true, false, length, take, drop, map, min, replicate, IsTrue, IfOk, OnOk, OnErr};
+ghost use Rattle.std.specs.Prelude.{◌≡◌, ◌⊎◌, ◌+◌, ◌-◌, ◌^◌, ◌<◌, ◌≤◌, ◌++◌, [], true, false, length, take, drop, map, min, IsTrue, IfOk, OnOk, OnErr};
 ghost use Rattle.host_port.specs.Host.{Rose, overwritten};
-ghost use Rattle.host_port.specs.Talk.{Talk, turn, taken_on, pieces_in, padded};
+ghost use Rattle.host_port.specs.Talk.{turn, taken_on, pieces_in, padded};
 
 use crate::calls::{hand_over, overwrite, raise};
 use crate::image::lengthen;
@@ -98,7 +98,7 @@ impl TalkHost {
 }
 
 impl Host for TalkHost {
-    ghost use Rattle.host_port.specs.Host.{disk_now, said_now, GoesOn, Throughout, KeepsDisk, KeepsSaid, KeepsInput, Moves, AddsPart, MayLeave, RaisesTakesAlone, RaisesSaysAlone, RaisesDiskAlone, WrittenPart, written, synced};
+    ghost use Rattle.host_port.specs.Host.{disk_now, said_now, GoesOn, Throughout, KeepsDisk, KeepsSaid, KeepsInput, Moves, AddsPart, RaisesTakesAlone, RaisesSaysAlone, RaisesDiskAlone, WrittenPart, written, synced};
     ghost use Rattle.host_port.specs.TalkHost.{talk_told, talk_of, words_of, file_of, KeepsTalk};
     ghost use Rattle.host_port.specs.Laws.{untold};
 

@@ -5,7 +5,8 @@ use Rattle.std.proofs.lemmas.List.Sums.{sum_by-append}
 use Rattle.ecore_meta.specs.Document.{feature_total, features_in}
 use Rattle.ecore_meta.specs.declared.rows.ClassifierRow.{ClassifierRow}
 use Rattle.model_state.specs.declared.operation.Operation.{Operation}
-use Rattle.measure.specs.Steps.{steps_of, step_count}
+use Rattle.model_state.specs.Packages.{steps_of}
+use Rattle.measure.specs.Steps.{step_count}
 
 pub all_more : {X : Type 0} (P : X → Type 0) (xs ys : List X) (x : X) → ys ≡ xs ++ x ∷ [] → All P xs → P x → All P ys
 all_more P xs ys x e h p = subst (All P) (sym e) (All-push P xs x h p)

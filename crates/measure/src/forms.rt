@@ -1,10 +1,11 @@
 //! A package of many steps, and what its bytes are read as.
-ghost use Rattle.std.specs.Prelude.{◌≡◌, ◌-◌, ◌+◌, ◌*◌, ◌<◌, ◌≤◌, ◌^◌, IfOk, length};
+ghost use Rattle.std.specs.Prelude.{◌≡◌, ◌-◌, ◌+◌, ◌*◌, ◌<◌, ◌^◌, IfOk, length};
 ghost use Rattle.std.specs.Str.{IsUtf8};
 ghost use Rattle.op_form.specs.Packages.{package_form};
 ghost use Rattle.op_form.specs.Laws.{IsStep, IsOperation, IsPackage};
 ghost use Rattle.op_form.specs.Sizes.{FitsStep, FitsOperation, FitsPackage};
-ghost use Rattle.measure.specs.Steps.{steps_of, step_count};
+ghost use Rattle.model_state.specs.Packages.{steps_of};
+ghost use Rattle.measure.specs.Steps.{step_count};
 
 use crate::fault::MeasureFault;
 use ecore_meta::{List, Text, Value};

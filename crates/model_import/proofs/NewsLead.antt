@@ -31,14 +31,14 @@ use Rattle.edit_laws.specs.Places.{Ranks}
 use Rattle.edit_laws.proofs.Creates.{Stand, children_stand, names_differ}
 use Rattle.emfjson_model.specs.declared.doc.DocParent.{DocParent}
 use Rattle.emfjson_model.specs.declared.doc.DocRow.{DocRow}
-use Rattle.emfjson_model.specs.Fits.{Fits, StandsFit}
+use Rattle.emfjson_model.specs.Fits.{Fits, StandsFit, standing}
 use Rattle.emfjson_model.specs.Laws.{are_behind, parent_before}
 use Rattle.emfjson_model.specs.References.{parent_eq}
 use Rattle.model_import.specs.After.{Kinds, Places, kinds_from, places_from, ranks_after, ranks_from}
 use Rattle.model_import.specs.Laws.{are_apart}
 use Rattle.model_import.specs.Names.{name_at}
 use Rattle.model_import.specs.News as news
-use Rattle.model_import.specs.News.{element_made, inside, news_from, place_of, roots_after, standing}
+use Rattle.model_import.specs.News.{element_made, inside, news_from, place_of, roots_after}
 use Rattle.model_import.proofs.Indexed.{at_less, count_next, count_within, differ_at, drop_all, drop_at, drop_less, drop_next, drop_none, named, none_at, same_at, take_none}
 use Rattle.model_import.proofs.Standing.{Arrives, arrives, with_new}
 use Rattle.model_import.proofs.ValuesLead.{room}

@@ -1,9 +1,7 @@
 -- The counts of rows, one row after another.
-use Rattle.std.proofs.Common.{◌≡◌, ℕ, ◌+◌, ◌<◌, ◌≤◌, Bool, true, false, cond, List, length, take, get_or, refl, sym, ap, ◌∙◌, ◌&&◌, arith, nat_eq}
+use Rattle.std.proofs.Common.{◌≡◌, ℕ, ◌+◌, ◌<◌, ◌≤◌, Bool, true, false, cond, List, length, take, get_or, refl, sym, ap, ◌∙◌, arith, nat_eq}
 use Rattle.std.specs.Prelude.{Option, None, Some, unwrap_or}
 use Rattle.std.specs.BTreeMap.{BTreeMap, get, is_at}
-use Rattle.std.specs.Ordering.{is_eq, nat_cmp}
-use Rattle.std.specs.Cmp.{tied_then, unsigned_tied}
 use Rattle.std.proofs.lemmas.List.Sums.{count_by-le-length, count_by_more_no, count_by_more_yes}
 use Rattle.std.proofs.lemmas.List.{length-take}
 use Rattle.finite_maps.specs.Equal.{option_eq}
@@ -16,7 +14,8 @@ use Rattle.emfjson_model.specs.References.{parent_eq}
 use Rattle.emfjson_model.specs.Finder.{place_cmp}
 use Rattle.emfjson_model.proofs.Finding.{same_place}
 use Rattle.model_import.specs.Counts.{Counts, CountsAlso, counted}
-use Rattle.model_import.specs.News.{element_made, place_of, standing}
+use Rattle.emfjson_model.specs.Fits.{standing}
+use Rattle.model_import.specs.News.{element_made, place_of}
 
 -- n + 1 stand in the place p
 one_more : (b : Bool) (n : ℕ) (o : Option ℕ) → (b ≡ true → n ≡ unwrap_or o 0) → unwrap_or (cond b (Some (n + 1)) o) 0 ≡ unwrap_or o 0 + cond b 1 0

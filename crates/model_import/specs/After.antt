@@ -1,16 +1,13 @@
 -- What an import leaves, map by map, said without steps.
-use Rattle.std.specs.Prelude.{ℕ, suc, List, [], ◌∷◌, Option, None, Some, take}
+use Rattle.std.specs.Prelude.{ℕ, suc, List, [], ◌∷◌, Some, take}
 use Rattle.std.specs.FinMap.{FinMap}
 use Rattle.finite_maps.specs.Maps.{set}
 use Rattle.ecore_meta.specs.declared.meta.Value.{Value}
 use Rattle.model_state.specs.declared.entry.Entry.{Entry}
-use Rattle.model_state.specs.declared.operation.Operation.{Operation}
 use Rattle.model_state.specs.declared.step.Place.{Place}
 use Rattle.model_state.specs.declared.step.Place.TheVariants.{Root, Inside}
-use Rattle.model_state.specs.declared.step.Step.{Step}
 use Rattle.model_state.specs.Keys.{Name, id_cmp, attr_cmp}
 use Rattle.model_state.specs.Listing.{children}
-use Rattle.model_state.specs.Packages.{steps_of}
 use Rattle.model_state.specs.State.{State}
 use Rattle.edit_laws.specs.Places.{Ranks, ranked_places}
 use Rattle.edit_laws.specs.Rows.{Rows}
@@ -19,7 +16,8 @@ use Rattle.emfjson_model.specs.declared.doc.DocAttr.{DocAttr}
 use Rattle.emfjson_model.specs.declared.doc.DocRefs.{DocRefs}
 use Rattle.emfjson_model.specs.declared.doc.DocRow.{DocRow}
 use Rattle.model_import.specs.Names.{name_at}
-use Rattle.model_import.specs.News.{place_of, rank_of, roots_after, standing}
+use Rattle.emfjson_model.specs.Fits.{standing}
+use Rattle.model_import.specs.News.{place_of, rank_of, roots_after}
 
 -- the class of each element
 abbrev pub Kinds : Type 0

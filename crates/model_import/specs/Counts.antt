@@ -7,7 +7,7 @@ use Rattle.emfjson_model.specs.declared.doc.DocParent.{DocParent}
 use Rattle.emfjson_model.specs.declared.doc.DocRow.{DocRow}
 use Rattle.emfjson_model.specs.Finder.{place_cmp}
 use Rattle.emfjson_model.specs.References.{parent_eq}
-use Rattle.model_import.specs.News.{standing}
+use Rattle.emfjson_model.specs.Fits.{standing}
 
 abbrev pub counted : BTreeMap (ℕ × ℕ) ℕ → Option DocParent → ℕ
 counted counts None = 0

@@ -1,7 +1,5 @@
 -- The steps in which the elements of a document come.
 use Rattle.std.specs.Prelude.{ℕ, suc, ◌+◌, ◌*◌, min, Bool, true, List, [], ◌∷◌, ◌++◌, Option, None, Some, Result, Ok, Err, slice_get, take, if◌then◌else◌}
-use Rattle.std.specs.List.{count_by}
-use Rattle.finite_maps.specs.Equal.{option_eq}
 use Rattle.model_state.specs.declared.entry.Entry.{Entry}
 use Rattle.model_state.specs.declared.step.Place.{Place}
 use Rattle.model_state.specs.declared.step.Place.TheVariants.{Root, Inside}
@@ -10,9 +8,9 @@ use Rattle.model_state.specs.declared.step.Step.TheVariants.{New}
 use Rattle.model_state.specs.Keys.{Name}
 use Rattle.edit_laws.specs.declared.fault.EditFault.{EditFault}
 use Rattle.edit_laws.specs.declared.fault.EditFault.TheVariants.{Bound}
+use Rattle.emfjson_model.specs.Fits.{standing}
 use Rattle.emfjson_model.specs.declared.doc.DocParent.{DocParent}
 use Rattle.emfjson_model.specs.declared.doc.DocRow.{DocRow}
-use Rattle.emfjson_model.specs.References.{parent_eq}
 use Rattle.model_import.specs.Names.{name_at}
 use Rattle.model_import.specs.Roots.{has_end, root_after, root_made}
 
@@ -28,10 +26,6 @@ inside (Some a) f = Inside a f
 abbrev pub place_of : List Name → Option DocParent → Place
 place_of names None = Root
 place_of names (Some p) = inside (slice_get names p.row) p.feature
-
--- how many of the rows stand where the parent says
-abbrev pub standing : Option DocParent → List DocRow → ℕ
-standing parent rows = count_by (λ (r : DocRow). option_eq parent_eq r.parent parent) rows
 
 -- a new element at the root goes behind the last, where there is a rank
 abbrev pub has_room : List Entry → Place → Bool

@@ -2,7 +2,7 @@ ghost use Rattle.std.specs.Prelude.{◌≡◌, ◌<◌, OnOk};
 ghost use Rattle.model_import.specs.Counts.{CountsAlso, counted};
 
 use emfjson_model::DocParent;
-use std::alloc::{AllocError, Global};
+use std::alloc::AllocError;
 use std::collections::BTreeMap;
 
 /// How many elements stand in a place, by the counts so far; those at the root are not counted.

@@ -11,7 +11,7 @@ use model_state::{Id, Look};
 use std::alloc::{AllocError, Global};
 
 /// The id of a row, and the number from which fresh ones go on.
-#[derive(Debug, Drop)]
+#[derive(Drop)]
 struct Named {
     id: Id,
     next: u64,

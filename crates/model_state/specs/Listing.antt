@@ -1,10 +1,11 @@
 -- The lists of a state: the targets of a feature, the elements of a place, the rows to an element, the ids.
-use Rattle.std.specs.Prelude.{ℕ, Bool, List, map, nat_eq, ◌&&◌, unwrap_or}
+use Rattle.std.specs.Prelude.{ℕ, Bool, List, [], map, nat_eq, ◌&&◌, unwrap_or}
 use Rattle.std.specs.declared.cmp.Ordering.{Ordering}
 use Rattle.std.specs.Ordering.{nat_cmp, ordering_then}
 use Rattle.std.specs.FinMap.{FinMap, get, keys}
 use Rattle.finite_maps.specs.Equal.{text_eq}
 use Rattle.finite_maps.specs.Sorts.{in_order, picked}
+use Rattle.ecore_meta.specs.declared.meta.Value.{Value}
 use Rattle.model_state.specs.declared.entry.Entry.{Entry}
 use Rattle.model_state.specs.declared.entry.Incoming.{Incoming}
 use Rattle.model_state.specs.declared.step.Place.{Place}
@@ -14,6 +15,10 @@ use Rattle.model_state.specs.State.{State, place_eq}
 -- by rank, and then by id
 abbrev pub entry_cmp : Entry → Entry → Ordering
 entry_cmp x y = ordering_then (nat_cmp x.rank y.rank) (id_cmp x.id y.id)
+
+-- the values of an attribute, none where it is not set
+abbrev pub values_at : State → Name → ℕ → List Value
+values_at m e f = unwrap_or (get m.attr (e, f)) []
 
 -- a row of a feature of an element
 abbrev pub is_of : Name → ℕ → RowKey → Bool

@@ -1,4 +1,4 @@
-ghost use Rattle.std.specs.Prelude.{◌≡◌, ◌≤◌, MatchOption, IfSome};
+ghost use Rattle.std.specs.Prelude.{◌≡◌, ◌≤◌, IfSome};
 ghost use Rattle.model_state.specs.Ranks.{rank_between};
 
 /// A rank between that of one entry and that of the next, or after the last: midway, or `2^32` further on. None

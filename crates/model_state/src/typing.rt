@@ -1,21 +1,9 @@
-ghost use Rattle.std.specs.Prelude.{◌≡◌, nat_eq, Some, slice_get};
-ghost use Rattle.std.specs.Option.{option_copied};
-ghost use Rattle.finite_maps.specs.Equal.{option_eq};
+ghost use Rattle.std.specs.Prelude.{◌≡◌, Some};
 ghost use Rattle.model_state.specs.Typing.{is_concrete, contains_to, kind_of, upper_of, child_upper, row_upper, plain_to, opposite_of, is_plain, fits, in_width, is_attr, attr_fits, is_many, is_unique, many_fits, is_default, value_eq};
 ghost use Rattle.model_state.specs.Steps.{class_has, may_link};
+ghost use Rattle.ecore_meta.specs.Typing.{is_one};
 
-use ecore_meta::{Feature, Kind, Metamodel, Scalar, Value};
-
-/// The feature of that number, where there is one.
-fn feature(meta: &Metamodel, f: u32) -> Option<&Feature>
-    ensures { option_copied result ≡ slice_get meta.now.features f }
-{
-    if f < meta.feature_count() {
-        Some(meta.feature(f))
-    } else {
-        None
-    }
-}
+use ecore_meta::{Kind, Metamodel, Scalar, Value};
 
 /// Whether the class exists and is not abstract.
 pub fn is_concrete(meta: &Metamodel, c: u32) -> bool
@@ -38,7 +26,7 @@ pub fn class_has(meta: &Metamodel, c: Option<u32>, f: u32) -> bool
 pub fn may_contain(meta: &Metamodel, f: u32, d: u32) -> bool
     ensures { result ≡ contains_to meta.now (kind_of meta.now f) d }
 {
-    match feature(meta, f) {
+    match meta.get_feature(f) {
         None => false,
         Some(feature) => match &feature.kind {
             Kind::Contains { target, .. } => meta.is_a(d, *target),
@@ -51,7 +39,7 @@ pub fn may_contain(meta: &Metamodel, f: u32, d: u32) -> bool
 pub fn is_plain(meta: &Metamodel, f: u32) -> bool
     ensures { result ≡ is_plain (kind_of meta.now f) }
 {
-    match feature(meta, f) {
+    match meta.get_feature(f) {
         None => false,
         Some(feature) => match &feature.kind {
             Kind::Bounded { .. } => true,
@@ -64,7 +52,7 @@ pub fn is_plain(meta: &Metamodel, f: u32) -> bool
 fn is_plain_to(meta: &Metamodel, f: u32, d: u32) -> bool
     ensures { result ≡ plain_to meta.now (kind_of meta.now f) d }
 {
-    match feature(meta, f) {
+    match meta.get_feature(f) {
         None => false,
         Some(feature) => match &feature.kind {
             Kind::Bounded { target, .. } => meta.is_a(d, *target),
@@ -91,7 +79,7 @@ pub fn may_link(meta: &Metamodel, c: Option<u32>, f: u32, d: Option<u32>) -> boo
 pub fn opposite_of(meta: &Metamodel, f: u32) -> Option<u32>
     ensures { result ≡ opposite_of meta.now f }
 {
-    match feature(meta, f) {
+    match meta.get_feature(f) {
         None => None,
         Some(feature) => match &feature.kind {
             Kind::Bounded { opposite, .. } => *opposite,
@@ -105,9 +93,19 @@ pub fn opposite_of(meta: &Metamodel, f: u32) -> Option<u32>
 pub fn upper_of(meta: &Metamodel, f: u32) -> Option<u32>
     ensures { result ≡ upper_of meta.now f }
 {
-    match feature(meta, f) {
+    match meta.get_feature(f) {
         None => None,
         Some(feature) => feature.upper,
+    }
+}
+
+/// Whether an upper bound is one.
+pub fn is_one(upper: Option<u32>) -> bool
+    ensures { result ≡ is_one upper }
+{
+    match upper {
+        None => false,
+        Some(upper) => upper == 1,
     }
 }
 
@@ -115,7 +113,7 @@ pub fn upper_of(meta: &Metamodel, f: u32) -> Option<u32>
 pub fn row_upper(meta: &Metamodel, f: u32) -> Option<u32>
     ensures { result ≡ row_upper meta.now f }
 {
-    match feature(meta, f) {
+    match meta.get_feature(f) {
         None => None,
         Some(feature) => match &feature.kind {
             Kind::Bounded { .. } => feature.upper,
@@ -128,7 +126,7 @@ pub fn row_upper(meta: &Metamodel, f: u32) -> Option<u32>
 pub fn child_upper(meta: &Metamodel, f: u32) -> Option<u32>
     ensures { result ≡ child_upper meta.now f }
 {
-    match feature(meta, f) {
+    match meta.get_feature(f) {
         None => None,
         Some(feature) => match &feature.kind {
             Kind::Contains { .. } => feature.upper,
@@ -217,7 +215,7 @@ pub fn fits(meta: &Metamodel, scalar: &Scalar, v: &Value) -> bool
 pub fn is_attr(meta: &Metamodel, f: u32) -> bool
     ensures { result ≡ is_attr (kind_of meta.now f) }
 {
-    match feature(meta, f) {
+    match meta.get_feature(f) {
         None => false,
         Some(feature) => match &feature.kind {
             Kind::Attr { .. } => true,
@@ -230,7 +228,7 @@ pub fn is_attr(meta: &Metamodel, f: u32) -> bool
 pub fn attr_fits(meta: &Metamodel, f: u32, v: &Value) -> bool
     ensures { result ≡ attr_fits meta.now (kind_of meta.now f) v.now }
 {
-    match feature(meta, f) {
+    match meta.get_feature(f) {
         None => false,
         Some(feature) => match &feature.kind {
             Kind::Attr { scalar, .. } => fits(meta, scalar, v),
@@ -243,7 +241,7 @@ pub fn attr_fits(meta: &Metamodel, f: u32, v: &Value) -> bool
 pub fn is_default(meta: &Metamodel, f: u32, v: &Value) -> bool
     ensures { result ≡ is_default (kind_of meta.now f) v.now }
 {
-    match feature(meta, f) {
+    match meta.get_feature(f) {
         None => false,
         Some(feature) => match &feature.kind {
             Kind::Attr { default, .. } => match default {
@@ -259,7 +257,7 @@ pub fn is_default(meta: &Metamodel, f: u32, v: &Value) -> bool
 pub fn is_many(meta: &Metamodel, f: u32) -> bool
     ensures { result ≡ is_many (kind_of meta.now f) }
 {
-    match feature(meta, f) {
+    match meta.get_feature(f) {
         None => false,
         Some(feature) => match &feature.kind {
             Kind::AttrMany { .. } => true,
@@ -272,7 +270,7 @@ pub fn is_many(meta: &Metamodel, f: u32) -> bool
 pub fn is_unique(meta: &Metamodel, f: u32) -> bool
     ensures { result ≡ is_unique (kind_of meta.now f) }
 {
-    match feature(meta, f) {
+    match meta.get_feature(f) {
         None => false,
         Some(feature) => match &feature.kind {
             Kind::AttrMany { unique, .. } => *unique,
@@ -285,7 +283,7 @@ pub fn is_unique(meta: &Metamodel, f: u32) -> bool
 pub fn many_fits(meta: &Metamodel, f: u32, v: &Value) -> bool
     ensures { result ≡ many_fits meta.now (kind_of meta.now f) v.now }
 {
-    match feature(meta, f) {
+    match meta.get_feature(f) {
         None => false,
         Some(feature) => match &feature.kind {
             Kind::AttrMany { scalar, .. } => fits(meta, scalar, v),

@@ -1,5 +1,4 @@
 // Ids, values and places, read from the front.
-ghost use Rattle.std.specs.Prelude.{◌≡◌};
 ghost use Rattle.op_form.specs.Reading.{any_text_at, option_at, list_at, items_at, u64_at};
 ghost use Rattle.op_form.specs.Values.{id_at, value_at, place_at, flag_at};
 ghost use Rattle.op_form.specs.Given.{Gives};

@@ -1,5 +1,5 @@
 // Steps, written behind what stands: ids, values, places, and each kind's fields.
-ghost use Rattle.std.specs.Prelude.{◌≡◌, ◌++◌, ◌∷◌, [], length, ◌<◌, ◌^◌, OnOk};
+ghost use Rattle.std.specs.Prelude.{◌≡◌, ◌++◌, ◌∷◌, ◌<◌, OnOk};
 ghost use Rattle.byte_form.specs.Fields.{text_form, u32_form, u64_form};
 ghost use Rattle.op_form.specs.Reading.{option_form, items_form, list_form};
 ghost use Rattle.op_form.specs.Values.{value_form, place_form, flag_form};

@@ -6,7 +6,7 @@ use Rattle.model_state.specs.State.{State}
 use Rattle.model_state.specs.Steps.{fold}
 use Rattle.model_state.specs.Good.{Good, Sound}
 use Rattle.model_state.specs.Listing.{targets}
-use Rattle.edit_laws.specs.References.{is_one, set_ref_after, set_ref_made, link_after, link_made, unlink_after, unlink_made, unset_after, unset_made, reorder_after, reorder_made}
+use Rattle.edit_laws.specs.References.{is_one, set_ref_after, set_ref_made, link_after, link_made, unlink_after, unlink_made, reorder_after, reorder_made}
 use Rattle.edit_laws.specs.Refusals.{set_ref_refusal, link_refusal, unlink_refusal, reorder_refusal}
 
 -- a reference is set, with its mirror, and what they displace goes
@@ -23,11 +23,6 @@ LinkLeads = (meta : Meta) → Sound meta → (m : State) → Good meta m → (a 
 abbrev pub UnlinkLeads : Type 0
 UnlinkLeads = (meta : Meta) → Sound meta → (m : State) → Good meta m → (a : Name) (f : ℕ) (b : Name) → unlink_refusal m a f b ≡ None
     → fold meta m (unlink_made meta m.row a f b) ≡ Some (record m { row = unlink_after meta a f b m.row })
-
--- all references of a feature go, with their mirrors
-abbrev pub UnsetRefLeads : Type 0
-UnsetRefLeads = (meta : Meta) → Sound meta → (m : State) → Good meta m → (a : Name) (f : ℕ)
-    → fold meta m (unset_made meta m.row a f) ≡ Some (record m { row = unset_after meta a f m.row })
 
 -- a reference stands at another index
 abbrev pub ReorderLeads : Type 0

@@ -2,7 +2,7 @@
 use Rattle.std.proofs.Common.{◌≡◌, ◌≢◌, inl, inr, ℕ, suc, ◌+◌, List, [], ◌∷◌, ◌++◌, Bool, ◌&&◌, length, drop, get_or, refl, sym, ◌∙◌, ap, subst, arith, append_assoc}
 use Rattle.std.specs.Prelude.{IsTrue, map, All}
 use Rattle.std.proofs.lemmas.List.{get_or-drop}
-use Rattle.commit_journal.specs.Journal.{StandsFor, ReadsTo, EndsAt, IsShort, records, be32, MountedFrom}
+use Rattle.commit_journal.specs.Journal.{StandsFor, ReadsTo, EndsAt, IsShort, records, four_bytes, MountedFrom}
 use Rattle.commit_journal.proofs.Unique.{one_meaning, form_same, rest_same, behind_header}
 use Rattle.commit_journal.proofs.Mounting.{length-new_file}
 use Rattle.command_runs.specs.Runs.{played}
@@ -27,8 +27,8 @@ pub first_forms : (a b : List (List ℕ)) (s t : List ℕ) → records a ++ s �
 first_forms [] b s t same closed short_a short_b = (b, refl)
 first_forms (f ∷ a) [] s t same closed short_a short_b = absurd (closed (sym (ap (λ (l : List ℕ). get_or l 0 0) same)))
 first_forms (f ∷ a) (h ∷ b) s t same closed short_a short_b =
-    let tails : (be32 (length f) ++ f) ++ (records a ++ s) ≡ (be32 (length h) ++ h) ++ (records b ++ t) =
-    sym (append_assoc (be32 (length f) ++ f) (records a) s) ∙ ap (λ (l : List ℕ). drop 1 l) same ∙ append_assoc (be32 (length h) ++ h) (records b) t in
+    let tails : (four_bytes (length f) ++ f) ++ (records a ++ s) ≡ (four_bytes (length h) ++ h) ++ (records b ++ t) =
+    sym (append_assoc (four_bytes (length f) ++ f) (records a) s) ∙ ap (λ (l : List ℕ). drop 1 l) same ∙ append_assoc (four_bytes (length h) ++ h) (records b) t in
     let short_f = first_of a f short_a in
     let short_h = first_of b h short_b in
     let one = form_same f h (records a ++ s) (records b ++ t) short_f short_h tails in

@@ -10,7 +10,7 @@ ghost use Rattle.edit_laws.specs.Attributes.{held, put_made, taken};
 ghost use Rattle.edits.specs.Edits.{operation_of, recording_of, set_effect};
 ghost use Rattle.edits.specs.Answers.{Answers};
 
-use crate::feature::{Named, feature, read};
+use crate::feature::{Named, read};
 use crate::operation::operation;
 use crate::reference;
 use ecore_meta::{Kind, List, Metamodel, Text, Value};
@@ -104,7 +104,7 @@ pub fn set<L: Look>(
     requires held { class_has meta.now (get (L.state look.now).kind named.now.id) named.now.feature ≡ true }
     ensures { Answers result (recording_of meta.now (L.state look.now) (set_effect (value_of meta.now) meta.now (L.state look.now) named.now.id named.now.feature (kind_of meta.now named.now.feature) text.now)) }
 {
-    match feature(meta, named.feature) {
+    match meta.get_feature(named.feature) {
         None => Err(EditFault::WrongKind),
         Some(feature) => match &feature.kind {
             Kind::Attr { scalar, .. } => {

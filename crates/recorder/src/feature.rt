@@ -1,6 +1,5 @@
-ghost use Rattle.std.specs.Prelude.{◌≡◌, ◌⊎◌, IfErr, IfOk, OnOk, is_some, slice_get, true, false};
+ghost use Rattle.std.specs.Prelude.{◌≡◌, ◌⊎◌, IfErr, IfOk, OnOk, is_some, true, false};
 ghost use Rattle.std.specs.FinMap.{get};
-ghost use Rattle.std.specs.Option.{option_copied};
 ghost use Rattle.model_state.specs.Good.{Good};
 ghost use Rattle.model_state.specs.Steps.{class_has};
 ghost use Rattle.emfjson_io.specs.Values.{value_of};
@@ -8,14 +7,14 @@ ghost use Rattle.edit_laws.specs.declared.fault.EditFault.TheVariants.{Memory, N
 ghost use Rattle.edits.specs.Edits.{class_at, feature_at};
 ghost use Rattle.recorder.specs.Answers.{AnswersFeature, AnswersValue};
 
-use ecore_meta::{Feature, Metamodel, Scalar, Text, Value, ValueFault};
+use ecore_meta::{Metamodel, Scalar, Text, Value, ValueFault};
 use edit_laws::EditFault;
 use emfjson_io::read_value;
 use model_state::{Id, IdFault, Look};
 use std::alloc::Global;
 
 /// A live element and a feature of its class.
-#[derive(Debug, Drop)]
+#[derive(Drop)]
 pub struct Named {
     pub id: Id,
     pub feature: u32,
@@ -66,17 +65,6 @@ pub fn live<L: Look>(alloc: Global, look: &L, word: &Text) -> Result<Id, EditFau
         return Err(EditFault::NoElement);
     }
     Ok(id)
-}
-
-/// The feature of that number, where there is one.
-pub fn feature(meta: &Metamodel, f: u32) -> Option<&Feature>
-    ensures { option_copied result ≡ slice_get meta.now.features f }
-{
-    if f < meta.feature_count() {
-        Some(meta.feature(f))
-    } else {
-        None
-    }
 }
 
 /// The value of the type that the text is.

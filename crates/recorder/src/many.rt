@@ -12,7 +12,7 @@ ghost use Rattle.model_state.specs.declared.operation.OpKind.TheVariants.{ManyAt
 ghost use Rattle.edits.specs.Edits.{Clears, operation_of, add_effect, insert_effect, recording, recording_of, remove_effect, shift_effect};
 ghost use Rattle.edits.specs.Answers.{Answers};
 
-use crate::feature::{Named, feature, read};
+use crate::feature::{Named, read};
 use crate::operation::operation;
 use ecore_meta::{Kind, List, Metamodel, Text, Value};
 use edit_laws::EditFault;
@@ -141,7 +141,7 @@ pub fn add<L: Look>(
     requires good { Good meta.now (L.state look.now) }
     ensures { Answers result (recording_of meta.now (L.state look.now) (add_effect (value_of meta.now) meta.now (L.state look.now) named.now.id named.now.feature (kind_of meta.now named.now.feature) at text.now)) }
 {
-    match feature(meta, named.feature) {
+    match meta.get_feature(named.feature) {
         None => Err(EditFault::WrongKind),
         Some(feature) => match &feature.kind {
             Kind::AttrMany { scalar, unique } => {

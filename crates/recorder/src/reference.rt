@@ -1,4 +1,4 @@
-ghost use Rattle.std.specs.Prelude.{◌≡◌, ◌⊎◌, IfOk, IfErr, IfSome, OnOk, [], ◌∷◌, None, Some, is_some, true, false};
+ghost use Rattle.std.specs.Prelude.{◌≡◌, ◌⊎◌, IfOk, IfErr, OnOk, None, true, false};
 ghost use Rattle.std.specs.FinMap.{get};
 ghost use Rattle.ecore_meta.specs.declared.meta.Scalar.TheVariants as types;
 ghost use Rattle.model_state.specs.Good.{Good};

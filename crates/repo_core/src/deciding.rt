@@ -1,15 +1,14 @@
 //! What a command is answered, and the event that it makes.
-ghost use Rattle.std.specs.Prelude.{◌≡◌, ◌≢◌, ◌+◌, ◌-◌, ◌≤◌, ◌<◌, ◌^◌, ℕ, List, [], ◌∷◌, IfOk, IfNone, IfSome, OnOk, ◌++◌, None, IsTrue, length, true, false, Some, Option, Ok, Err, codes};
+ghost use Rattle.std.specs.Prelude.{◌≡◌, ◌≢◌, ◌+◌, ◌-◌, ◌<◌, ◌^◌, List, [], ◌∷◌, IfOk, IfNone, IfSome, OnOk, ◌++◌, None, length, true, Some, Option, Ok, Err};
 ghost use Rattle.std.specs.Fmt.{decimal};
 ghost use Rattle.std.specs.Option.{option_copied, option_map};
-ghost use Rattle.ecore_json.specs.Metamodel.{metamodel_of};
 ghost use Rattle.op_form.specs.declared.event.Event.TheVariants.{Init, Checkout, Begin, End, Undo, Discard};
-ghost use Rattle.plain_repository.specs.Repository.{State, workspace_of, playable_with, refused, told, first_text, with_operation, with_room, decide_init, unknown, decide_checkout, decide_edit, decide_import, decide_begin, decide_end, decide_undo, decide_discard, lines_of_open, decide_changes, decide_show, decide_cat, decide_validate, refusal_of, id_words, decide_command, decide_line, block_text};
+ghost use Rattle.plain_repository.specs.Repository.{State, playable_with, refused, told, first_text, with_operation, with_room, decide_init, unknown, decide_checkout, decide_edit, decide_import, decide_begin, decide_end, decide_undo, decide_discard, lines_of_open, decide_changes, decide_show, decide_cat, decide_validate, refusal_of, id_words, decide_command, decide_line, block_text};
 ghost use Rattle.data_lines.specs.Typed.{AreTyped};
 ghost use Rattle.model_state.specs.Names.{is_name};
 ghost use Rattle.script_lang.specs.Spelling.{IsCommand};
 ghost use Rattle.repo_core.specs.Keeping.{plain_composite};
-ghost use Rattle.repo_core.specs.Decisions.{seen, CanMake, CanMakeIt, IsShortBlock};
+ghost use Rattle.repo_core.specs.Decisions.{seen, CanMakeIt, IsShortBlock};
 
 use crate::repo::{MOST_BYTES, Repo};
 use crate::workspace::Composite;

@@ -1,5 +1,5 @@
 //! The repository in memory, and what an event makes of it.
-ghost use Rattle.std.specs.Prelude.{◌≡◌, ◌≢◌, ◌+◌, ◌-◌, ◌≤◌, ◌<◌, ◌^◌, ℕ, suc, None, OnOk, IfNone, IfSome, IsErrOf, IsTrue, length, true, false, Some};
+ghost use Rattle.std.specs.Prelude.{◌≡◌, ◌≢◌, ◌+◌, ◌-◌, ◌≤◌, ◌<◌, ◌^◌, suc, None, OnOk, IfNone, IfSome, IsErrOf, IsTrue, length, true, false, Some};
 ghost use Rattle.std.specs.Bool.{OnTrue, OnFalse};
 ghost use Rattle.std.specs.Option.{option_copied, option_map};
 ghost use Rattle.ecore_meta.specs.Meta.{Meta};

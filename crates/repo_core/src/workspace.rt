@@ -1,7 +1,7 @@
 //! A workspace in memory, which keeps its working model.
-ghost use Rattle.std.specs.Prelude.{◌≡◌, ◌≢◌, ◌++◌, ◌∷◌, ◌&&◌, ◌||◌, ◌<◌, [], is_some, length, true, false, OnOk, IfErr, IsErrOf, None, Some};
+ghost use Rattle.std.specs.Prelude.{◌≡◌, ◌≢◌, ◌++◌, ◌&&◌, ◌||◌, ◌<◌, is_some, length, true, false, OnOk, IfErr, IsErrOf, None, Some};
 ghost use Rattle.std.specs.Bool.{OnTrue, OnFalse};
-ghost use Rattle.std.specs.Option.{option_copied, option_map};
+ghost use Rattle.std.specs.Option.{option_copied};
 ghost use Rattle.ecore_meta.specs.Meta.{Meta};
 ghost use Rattle.ecore_meta.specs.Sound.{Sound};
 ghost use Rattle.model_state.specs.Good.{Good};

@@ -11,7 +11,7 @@ use Rattle.model_state.specs.declared.step.Place.{Place}
 use Rattle.model_state.specs.declared.step.Place.TheVariants.{Root}
 use Rattle.model_state.specs.Good.{AttrOk, Good, PlaceOk, ValuesOk}
 use Rattle.model_state.specs.Keys.{AttrKey, Name, attr_cmp, id_cmp}
-use Rattle.model_state.specs.Listing.{children, rank_at}
+use Rattle.model_state.specs.Listing.{children, rank_at, values_at}
 use Rattle.model_state.specs.State.{State, is_live, nothing}
 use Rattle.model_state.specs.Typing.{kind_of, upper_of}
 use Rattle.model_state.proofs.Orders.{id_order}
@@ -19,7 +19,7 @@ use Rattle.emfjson_model.specs.declared.doc.DocAttr.{DocAttr}
 use Rattle.emfjson_model.specs.declared.doc.DocRow.{DocRow}
 use Rattle.emfjson_model.specs.Fits.{Fits}
 use Rattle.emfjson_text.specs.Laws.{Alike}
-use Rattle.emfjson_text.specs.Tree.{child_ids, entry_ids, values_at}
+use Rattle.emfjson_text.specs.Tree.{child_ids, entry_ids}
 use Rattle.emfjson_text.proofs.Alike.{text_is_of_lists}
 use Rattle.model_import.specs.After.{attrs_from, import_after, kinds_from, places_from, ranks_from}
 use Rattle.model_import.specs.Laws.{are_apart}

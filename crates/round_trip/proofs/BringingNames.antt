@@ -22,13 +22,13 @@ use Rattle.model_laws.proofs.Inserts.{or_first, or_none, or_second}
 use Rattle.edit_laws.proofs.Lists.{any-in_order, any-map, picked_has}
 use Rattle.emfjson_model.specs.declared.doc.DocParent.{DocParent}
 use Rattle.emfjson_model.specs.declared.doc.DocRow.{DocRow}
-use Rattle.emfjson_model.specs.Fits.{Fits, StandsFit}
+use Rattle.emfjson_model.specs.Fits.{Fits, StandsFit, standing}
 use Rattle.emfjson_model.specs.Laws.{gives_id, ids_repeat, is_given}
 use Rattle.emfjson_model.specs.References.{parent_eq}
 use Rattle.emfjson_text.specs.Tree.{child_ids}
 use Rattle.model_import.specs.Laws.{are_apart}
 use Rattle.model_import.specs.Names.{name_at}
-use Rattle.model_import.specs.News.{inside, place_of, standing}
+use Rattle.model_import.specs.News.{inside, place_of}
 use Rattle.model_import.proofs.Indexed.{at_less, drop_at, drop_next, drop_none, named, same_at, take_next}
 use Rattle.round_trip.specs.Tells.{Tells, TellsElement, standing_in}
 use Rattle.round_trip.proofs.ListsInOrder.{any_id, any_index}

@@ -20,11 +20,11 @@ use Rattle.edit_laws.specs.Spot.{Spot, end_spot, evened, rank_for, ranks_of}
 use Rattle.edit_laws.specs.declared.fault.EditFault.TheVariants.{Bound}
 use Rattle.edit_laws.proofs.Lists.{entries_held}
 use Rattle.emfjson_model.specs.declared.doc.DocRow.{DocRow}
-use Rattle.emfjson_model.specs.Fits.{Fits}
+use Rattle.emfjson_model.specs.Fits.{Fits, standing}
 use Rattle.model_import.specs.After.{ranks_after, ranks_from}
 use Rattle.model_import.specs.Laws.{are_apart}
 use Rattle.model_import.specs.Names.{name_at}
-use Rattle.model_import.specs.News.{element_made, has_room, news_from, news_made, place_of, rank_of, roots_after, standing}
+use Rattle.model_import.specs.News.{element_made, has_room, news_from, news_made, place_of, rank_of, roots_after}
 use Rattle.model_import.proofs.Ends.{after_kept, even_end, kept_end}
 use Rattle.model_import.proofs.Indexed.{at_less, drop_at, drop_less, drop_next, drop_none}
 use Rattle.round_trip.proofs.BringingMaps.{Within, none_within, set_grows, set_here, within_is, within_set}

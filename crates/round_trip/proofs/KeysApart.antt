@@ -3,9 +3,9 @@ use Rattle.std.proofs.Common.{◌≡◌, ℕ, suc, false, List, [], ◌∷◌, m
 use Rattle.std.specs.List.{AllByRecursion, list_any}
 use Rattle.std.specs.Str.{bytes_eq}
 use Rattle.std.proofs.lemmas.Bool.{or_parts}
-use Rattle.ecore_meta.specs.Meta.{Meta, name_at}
+use Rattle.ecore_meta.specs.Meta.{Meta, features_of, name_at}
 use Rattle.ecore_meta.specs.Names.{has_repeat}
-use Rattle.emfjson_text.specs.Keys.{class_features, key_cmp, key_number, keys_of}
+use Rattle.emfjson_text.specs.Keys.{key_cmp, key_number, keys_of}
 use Rattle.round_trip.specs.Named.{IsNamed}
 use Rattle.round_trip.proofs.KeysPairs.{Pairs, bytes_differ, pairs_in_order}
 use Rattle.round_trip.proofs.KeysTypes.{Key, Ident, Class, Feature, feature_number, keys_are}
@@ -54,6 +54,6 @@ module _ (meta : Meta) where
 
   pub keys_apart : IsNamed meta → (c : ℕ) → Pairs NumbersApart (keys_of meta c)
   keys_apart named c =
-      let fs = class_features meta c in
+      let fs = features_of meta c in
       subst (Pairs NumbersApart) (sym (keys_are meta c))
       (pairs_in_order NumbersApart (λ k l h f is at. h f at is) (key_cmp meta) (Ident ∷ Class ∷ map Feature fs) (from_ident (Class ∷ map Feature fs), (from_class (map Feature fs), features_apart fs (named.features c))))

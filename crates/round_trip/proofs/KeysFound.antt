@@ -15,11 +15,11 @@ use Rattle.finite_maps.specs.Sorts.{put_in, in_order}
 use Rattle.serde_json.specs.Data.{Data, Members}
 use Rattle.serde_json.specs.Find.{get_member}
 use Rattle.ecore_json.specs.References.{behind, or_else}
-use Rattle.ecore_meta.specs.Meta.{Meta, class_named, feature_named, first_named, name_at}
+use Rattle.ecore_meta.specs.Meta.{Meta, class_named, feature_named, features_of, first_named, name_at}
 use Rattle.ecore_meta.specs.Names.{Name, has_repeat, number_of}
 use Rattle.ecore_meta.specs.declared.meta.Class.{Class as ClassOf}
 use Rattle.emfjson_model.specs.Classes.{class_behind, class_spelt}
-use Rattle.emfjson_text.specs.Keys.{class_features, key_cmp, key_name, keys_of}
+use Rattle.emfjson_text.specs.Keys.{key_cmp, key_name, keys_of}
 use Rattle.emfjson_text.specs.Tree.{class_text, members, with_member}
 use Rattle.round_trip.specs.Named.{IsNamed}
 use Rattle.round_trip.proofs.KeysPairs.{bytes_own, bytes_same}
@@ -77,18 +77,18 @@ module _ (meta : Meta) (p : Key → Option Data) where
 
 module _ (meta : Meta) (c : ℕ) where
   pub ident_stands : Stands Ident (keys_of meta c)
-  ident_stands = subst (Stands Ident) (sym (keys_are meta c)) (stands_in_order (key_cmp meta) Ident (Ident ∷ Class ∷ map Feature (class_features meta c)) (inl refl))
+  ident_stands = subst (Stands Ident) (sym (keys_are meta c)) (stands_in_order (key_cmp meta) Ident (Ident ∷ Class ∷ map Feature (features_of meta c)) (inl refl))
 
   pub class_stands : Stands Class (keys_of meta c)
-  class_stands = subst (Stands Class) (sym (keys_are meta c)) (stands_in_order (key_cmp meta) Class (Ident ∷ Class ∷ map Feature (class_features meta c)) (inr (inl refl)))
+  class_stands = subst (Stands Class) (sym (keys_are meta c)) (stands_in_order (key_cmp meta) Class (Ident ∷ Class ∷ map Feature (features_of meta c)) (inr (inl refl)))
 
   mapped : (f : ℕ) (fs : List ℕ) → Stands f fs → Stands (Feature f) (map Feature fs)
   mapped f [] h = absurd h
   mapped f (g ∷ fs) (inl e) = inl (ap Feature e)
   mapped f (g ∷ fs) (inr s) = inr (mapped f fs s)
 
-  pub feature_stands : (f : ℕ) → Stands f (class_features meta c) → Stands (Feature f) (keys_of meta c)
-  feature_stands f h = subst (Stands (Feature f)) (sym (keys_are meta c)) (stands_in_order (key_cmp meta) (Feature f) (Ident ∷ Class ∷ map Feature (class_features meta c)) (inr (inr (mapped f (class_features meta c) h))))
+  pub feature_stands : (f : ℕ) → Stands f (features_of meta c) → Stands (Feature f) (keys_of meta c)
+  feature_stands f h = subst (Stands (Feature f)) (sym (keys_are meta c)) (stands_in_order (key_cmp meta) (Feature f) (Ident ∷ Class ∷ map Feature (features_of meta c)) (inr (inr (mapped f (features_of meta c) h))))
 
 -- ---- features by name
 module _ (meta : Meta) where
@@ -110,8 +110,8 @@ module _ (meta : Meta) where
       by_test true is none more = let there = any_mapped (name_at meta.features g) f fs is s in cc
       by_test false is none more = more
 
-  pub feature_found : IsNamed meta → (c f : ℕ) → Stands f (class_features meta c) → feature_named meta c (name_at meta.features f) ≡ Some f
-  feature_found named c f h = named_first f (class_features meta c) (named.features c) h
+  pub feature_found : IsNamed meta → (c f : ℕ) → Stands f (features_of meta c) → feature_named meta c (name_at meta.features f) ≡ Some f
+  feature_found named c f h = named_first f (features_of meta c) (named.features c) h
 
 -- ---- classes by their texts
 any_there : (p : Name → Bool) (xs : List Name) (n : ℕ) (x : Name) → slice_get xs n ≡ Some x → p x ≡ true → list_any p xs ≡ true

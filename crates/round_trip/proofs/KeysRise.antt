@@ -10,9 +10,9 @@ use Rattle.std.proofs.lemmas.Bool.{or_parts}
 use Rattle.std.proofs.lemmas.Map.Lookups.{exact_bytes}
 use Rattle.finite_maps.specs.Sorts.{in_order}
 use Rattle.finite_maps.proofs.SortLaws.{Rises, rises-in_order}
-use Rattle.ecore_meta.specs.Meta.{Meta, name_at}
+use Rattle.ecore_meta.specs.Meta.{Meta, features_of, name_at}
 use Rattle.ecore_meta.specs.Names.{has_repeat}
-use Rattle.emfjson_text.specs.Keys.{class_features, key_cmp, key_name, key_number, keys_of}
+use Rattle.emfjson_text.specs.Keys.{key_cmp, key_name, key_number, keys_of}
 use Rattle.emfjson_text.proofs.Order.{key_order}
 use Rattle.round_trip.specs.Named.{IsNamed}
 use Rattle.round_trip.proofs.KeysPairs.{Pairs, pairs_in_order, bytes_differ}
@@ -55,11 +55,11 @@ module _ (meta : Meta) where
     all_features k h [] = tt
     all_features k h (f ∷ fs) = (h f, all_features k h fs)
 
-    keys_differ : (c : ℕ) → Pairs Differ (Ident ∷ Class ∷ map Feature (class_features meta c))
+    keys_differ : (c : ℕ) → Pairs Differ (Ident ∷ Class ∷ map Feature (features_of meta c))
     unfolding keys_of Ident Class Feature
     keys_differ c = (
-      (bytes_differ (codes "_id") (codes "eClass") refl, all_features Ident not_ident (class_features meta c)),
-      (all_features Class not_class (class_features meta c), features_differ (class_features meta c) (named.features c)),
+      (bytes_differ (codes "_id") (codes "eClass") refl, all_features Ident not_ident (features_of meta c)),
+      (all_features Class not_class (features_of meta c), features_differ (features_of meta c) (named.features c)),
     )
 
     -- what stands behind and differs is above
@@ -78,5 +78,5 @@ module _ (meta : Meta) where
 
     pub keys_rise : (c : ℕ) → InOrder (keys_of meta c)
     keys_rise c =
-        let all = Ident ∷ Class ∷ map Feature (class_features meta c) in
+        let all = Ident ∷ Class ∷ map Feature (features_of meta c) in
         subst InOrder (sym (keys_are meta c)) (rising (in_order (key_cmp meta) all) (rises-in_order (key_order meta) all) (pairs_in_order Differ (λ k l d e. d (sym e)) (key_cmp meta) all (keys_differ c)))

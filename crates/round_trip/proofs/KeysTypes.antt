@@ -1,9 +1,9 @@
 -- The types of the rows, links and keys, which their crates use alone: named by the lists and functions that have them.
 use Rattle.std.proofs.Common.{◌≡◌, ℕ, suc, false, List, [], ◌∷◌, map, refl}
 use Rattle.finite_maps.specs.Sorts.{in_order}
-use Rattle.ecore_meta.specs.Meta.{Meta}
+use Rattle.ecore_meta.specs.Meta.{Meta, features_of}
 use Rattle.emfjson_model.specs.Parts.{no_part}
-use Rattle.emfjson_text.specs.Keys.{key_cmp, key_number, keys_of, class_features}
+use Rattle.emfjson_text.specs.Keys.{key_cmp, key_number, keys_of}
 
 -- the type of the items of a list
 abbrev pub item_of : {A : Type 0} → List A → Type 0
@@ -60,7 +60,7 @@ unfolding keys_of
 Class = head (tail (tail (keys_of (probe 0) 0))) tt
 
 -- the keys of an object, in order
-pub keys_are : (meta : Meta) (c : ℕ) → keys_of meta c ≡ in_order (key_cmp meta) (Ident ∷ Class ∷ map Feature (class_features meta c))
+pub keys_are : (meta : Meta) (c : ℕ) → keys_of meta c ≡ in_order (key_cmp meta) (Ident ∷ Class ∷ map Feature (features_of meta c))
 unfolding keys_of Ident Class Feature
 keys_are meta c = refl
 

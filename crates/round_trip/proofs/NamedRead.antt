@@ -26,11 +26,12 @@ use Rattle.ecore_meta.specs.declared.rows.FeatureRow.{FeatureRow}
 use Rattle.ecore_meta.specs.declared.rows.MetaRows.{MetaRows}
 use Rattle.ecore_json.specs.Classes.{ecore_attribute, ecore_class, ecore_data_type, ecore_enum, ecore_reference}
 use Rattle.ecore_json.specs.Metamodel.{built, metamodel_of, of_document, of_package, package_of, walked}
-use Rattle.ecore_json.specs.References.{Name, is_feature_name, is_mark, is_name, is_name_byte}
+use Rattle.ecore_meta.specs.Names.{Name}
+use Rattle.ecore_json.specs.References.{is_feature_name, is_mark, is_name, is_name_byte}
 use Rattle.ecore_json.specs.Rows.{alone_or, class_row, classifier_row, elements, enum_row, feature_row, list_of, own_prefix, rows_of, text_at}
 use Rattle.ecore_json.specs.Table.{required, wants}
 use Rattle.ecore_json.specs.Walk as Walk
-use Rattle.ecore_json.specs.Walk.{array_fault, classifier_shape, feature_shape, first_lacking, has, is_a, items_fault, keys_fault, left_out, object_fault, package_fault, shape_at, text_in, value_fault}
+use Rattle.ecore_json.specs.Walk.{array_fault, classifier_shape, feature_shape, first_lacking, has, is_a, items_fault, keys_fault, object_fault, package_fault, shape_at, value_fault}
 use Rattle.emfjson_io.specs.Laws.{BuiltTextsAreApart}
 use Rattle.round_trip.specs.Named.{IsNamed, NamesFit, is_reserved}
 use Rattle.round_trip.proofs.KeysTypes.{taken_by}

@@ -9,7 +9,7 @@ use Rattle.serde_json.specs.Data.{Data, array, object, Members}
 use Rattle.serde_json.specs.View.{items_of}
 use Rattle.ecore_json.specs.Rows.{list_of}
 use Rattle.ecore_meta.specs.Meta.{Meta}
-use Rattle.ecore_meta.specs.Typing.{fits, kind_of, upper_of}
+use Rattle.ecore_meta.specs.Typing.{fits, is_one, kind_of, upper_of}
 use Rattle.ecore_meta.specs.declared.meta.Kind.{Kind}
 use Rattle.ecore_meta.specs.declared.meta.Kind.TheVariants.{Attr, AttrMany, Bounded, Free, Contains, Container, Skip}
 use Rattle.ecore_meta.specs.declared.meta.Scalar.{Scalar}
@@ -21,13 +21,14 @@ use Rattle.model_state.specs.Typing.{is_default}
 use Rattle.emfjson_io.specs.Values.{data_of}
 use Rattle.emfjson_model.specs.declared.doc.DocParent.{DocParent}
 use Rattle.emfjson_model.specs.declared.fault.ModelFault.TheVariants.{BadValue, Bound, WrongType}
-use Rattle.emfjson_model.specs.Attributes.{is_within}
-use Rattle.emfjson_model.specs.Links.{entry_of, is_one, links_part}
+use Rattle.finite_maps.specs.Maps.{is_within}
+use Rattle.emfjson_model.specs.Links.{entry_of, links_part}
 use Rattle.emfjson_model.specs.Parts.{Part, no_part, Ids, ids_of}
 use Rattle.emfjson_model.specs.Reads.{«then», unless, found}
 use Rattle.emfjson_model.specs.Walk.{element_rows, feature_part, held_rows, items_rows, rows_part}
 use Rattle.emfjson_model.proofs.Features.{single_set, many_read}
-use Rattle.emfjson_text.specs.Tree.{child_ids, content, first_value, is_single, listed, one_or_all, reference, target_ids, values_at}
+use Rattle.model_state.specs.Listing.{values_at}
+use Rattle.emfjson_text.specs.Tree.{child_ids, content, first_value, is_single, listed, one_or_all, reference, target_ids}
 use Rattle.round_trip.specs.Named.{IsNamed}
 use Rattle.round_trip.proofs.KeysTypes.{Draft}
 use Rattle.round_trip.proofs.ReadingTrees.{AreOk, all_from}

@@ -4,7 +4,7 @@ use Rattle.std.specs.Prelude.{Option, None, Some, is_some, Ok, unwrap_or}
 use Rattle.std.specs.FinMap.{get}
 use Rattle.std.specs.List.{AllByRecursion, list_any}
 use Rattle.finite_maps.proofs.EqualLaws.{and_first, and_second, nat_equality}
-use Rattle.ecore_meta.specs.Meta.{Meta, has_feature}
+use Rattle.ecore_meta.specs.Meta.{Meta, features_of, has_feature}
 use Rattle.ecore_meta.specs.Typing.{kind_of, plain_to}
 use Rattle.ecore_meta.specs.declared.meta.Kind.{Kind}
 use Rattle.ecore_meta.specs.declared.meta.Kind.TheVariants.{Attr, AttrMany, Bounded, Free, Contains, Container, Skip}
@@ -16,7 +16,6 @@ use Rattle.model_state.specs.State.{State}
 use Rattle.model_state.specs.Steps.{may_link}
 use Rattle.model_state.specs.Typing.{is_plain}
 use Rattle.edit_laws.proofs.Lists.{targets_held}
-use Rattle.emfjson_model.specs.Classes.{features_of}
 use Rattle.emfjson_model.specs.Merged.{targets_at}
 use Rattle.emfjson_model.specs.Reads.{Read, «then», collected}
 use Rattle.emfjson_model.specs.References.{entries_at, plain_features, plain_more}

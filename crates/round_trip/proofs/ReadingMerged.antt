@@ -8,9 +8,9 @@ use Rattle.std.specs.Option.{option_map_or, option_map}
 use Rattle.std.proofs.lemmas.List.{length-map}
 use Rattle.std.proofs.lemmas.Option.{slice_get-map}
 use Rattle.finite_maps.specs.Equal.{text_eq}
-use Rattle.finite_maps.specs.Maps.{count}
+use Rattle.finite_maps.specs.Maps.{count, is_within}
 use Rattle.finite_maps.proofs.EqualLaws.{nat_equality}
-use Rattle.ecore_meta.specs.Meta.{Meta}
+use Rattle.ecore_meta.specs.Meta.{Meta, features_of}
 use Rattle.ecore_meta.specs.Typing.{kind_of, opposite_of}
 use Rattle.model_state.specs.declared.entry.Entry.{Entry}
 use Rattle.model_state.specs.Good.{Good}
@@ -23,8 +23,6 @@ use Rattle.edit_laws.proofs.Lists.{Apart, targets_apart, targets_has}
 use Rattle.emfjson_model.specs.declared.doc.DocRefs.{DocRefs}
 use Rattle.emfjson_model.specs.declared.doc.DocRow.{DocRow}
 use Rattle.emfjson_model.specs.declared.fault.ModelFault.TheVariants.{Bound}
-use Rattle.emfjson_model.specs.Attributes.{is_within}
-use Rattle.emfjson_model.specs.Classes.{features_of}
 use Rattle.emfjson_model.specs.Document.{resolved}
 use Rattle.emfjson_model.specs.Merged.{given_at, merged, merged_all, merged_at, naming, next_row, others, row_of, rows_by, targets_at}
 use Rattle.emfjson_model.specs.Parts.{ids_of}

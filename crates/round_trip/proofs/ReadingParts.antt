@@ -12,7 +12,7 @@ use Rattle.serde_json.specs.Read.{max_depth}
 use Rattle.serde_json.specs.View.{items_of}
 use Rattle.ecore_json.specs.Rows.{list_of}
 use Rattle.ecore_meta.specs.Meta.{Meta}
-use Rattle.ecore_meta.specs.Typing.{fits}
+use Rattle.ecore_meta.specs.Typing.{fits, is_one}
 use Rattle.ecore_meta.specs.declared.meta.Scalar.{Scalar}
 use Rattle.ecore_meta.specs.declared.meta.Value.{Value}
 use Rattle.ecore_meta.specs.declared.meta.Value.TheVariants.{Text, Flag, Whole, Literal}
@@ -22,10 +22,9 @@ use Rattle.model_state.proofs.StepTests.{value_equality}
 use Rattle.emfjson_io.specs.Values.{data_of, value_in}
 use Rattle.emfjson_io.proofs.Again.{written_read}
 use Rattle.emfjson_model.specs.declared.fault.ModelFault.TheVariants.{BadValue}
-use Rattle.emfjson_model.specs.Attributes.{is_null, is_within, new_value, next_value}
-use Rattle.emfjson_model.specs.Links.{is_one}
+use Rattle.finite_maps.specs.Maps.{is_within}
+use Rattle.emfjson_model.specs.Attributes.{is_null, new_value, next_value}
 use Rattle.emfjson_model.specs.Reads.{«then», unless, collected}
-use Rattle.emfjson_text.specs.Tree.{child_ids, content, first_value, is_single, listed, one_or_all, reference, target_ids, values_at}
 use Rattle.emfjson_text.specs.Tree as written
 use Rattle.round_trip.specs.Named.{IsNamed}
 use Rattle.round_trip.proofs.ReadingPlain.{read_compact}

@@ -12,7 +12,7 @@ use Rattle.serde_json.specs.Data.{Data, Members, depth}
 use Rattle.serde_json.specs.Find.{of_integer}
 use Rattle.serde_json.specs.Read.{read, max_depth}
 use Rattle.serde_json.specs.View.{items_of}
-use Rattle.ecore_meta.specs.Meta.{Meta}
+use Rattle.ecore_meta.specs.Meta.{Meta, features_of}
 use Rattle.ecore_meta.specs.Typing.{fits, in_width, kind_of, upper_of}
 use Rattle.ecore_meta.specs.declared.meta.Kind.{Kind}
 use Rattle.ecore_meta.specs.declared.meta.Kind.TheVariants.{Attr, AttrMany, Bounded, Free, Contains, Container, Skip}
@@ -26,8 +26,9 @@ use Rattle.model_state.specs.Keys.{Name}
 use Rattle.model_state.specs.State.{State}
 use Rattle.emfjson_io.specs.Values.{data_of}
 use Rattle.edit_laws.proofs.Lists.{all-in_order}
-use Rattle.emfjson_text.specs.Keys.{class_features, key_name, keys_of}
-use Rattle.emfjson_text.specs.Tree.{child_ids, content, element, first_value, is_single, listed, members, object_of, one_or_list, part, reference, target_ids, text, tree, values_at, whole, with_member}
+use Rattle.emfjson_text.specs.Keys.{key_name, keys_of}
+use Rattle.model_state.specs.Listing.{values_at}
+use Rattle.emfjson_text.specs.Tree.{child_ids, content, element, first_value, is_single, listed, members, object_of, one_or_list, part, reference, target_ids, text, tree, whole, with_member}
 use Rattle.round_trip.specs.Named.{IsNamed}
 use Rattle.round_trip.proofs.KeysRise.{InOrder, IsAfter, keys_rise}
 use Rattle.round_trip.proofs.KeysTypes.{Key, Ident, Class, Feature}
@@ -136,7 +137,7 @@ module _ (meta : Meta) (m : State) (good : Good meta m) (below : Name → Data) 
 
   plain_parts : (e : Name) (c : ℕ) → AllByRecursion (λ k. IsPlainIf (part meta m below e c k)) (keys_of meta c)
   unfolding keys_of Ident Class Feature
-  plain_parts e c = all-in_order _ (λ k. IsPlainIf (part meta m below e c k)) (Ident ∷ Class ∷ map Feature (class_features meta c)) (tt, (tt, plain_features e c (class_features meta c)))
+  plain_parts e c = all-in_order _ (λ k. IsPlainIf (part meta m below e c k)) (Ident ∷ Class ∷ map Feature (features_of meta c)) (tt, (tt, plain_features e c (features_of meta c)))
 
 -- ---- objects
 module _ (meta : Meta) (p : Key → Option Data) where

@@ -5,7 +5,7 @@ use Rattle.std.specs.FinMap.{get}
 use Rattle.std.specs.List.{AllByRecursion, list_any}
 use Rattle.std.specs.Option.{option_map_or}
 use Rattle.finite_maps.proofs.EqualLaws.{nat_equality}
-use Rattle.ecore_meta.specs.Meta.{Meta, has_feature}
+use Rattle.ecore_meta.specs.Meta.{Meta, features_of, has_feature}
 use Rattle.ecore_meta.specs.Typing.{kind_of, upper_of}
 use Rattle.ecore_meta.specs.declared.meta.Class.{Class as ClassOf}
 use Rattle.ecore_meta.specs.declared.meta.Kind.{Kind}
@@ -15,11 +15,10 @@ use Rattle.model_state.specs.Good.{AttrOk, Good, ValuesOk}
 use Rattle.model_state.specs.Keys.{Name}
 use Rattle.model_state.specs.State.{State}
 use Rattle.emfjson_model.specs.declared.doc.DocAttr.{DocAttr}
-use Rattle.emfjson_model.specs.Classes.{features_of}
 use Rattle.emfjson_model.specs.Merged.{attr_at, attrs_by, attrs_more, is_set}
 use Rattle.emfjson_model.proofs.SetAttrs.{by_keeps}
 use Rattle.emfjson_text.specs.Keys.{key_number, keys_of}
-use Rattle.emfjson_text.specs.Tree.{values_at}
+use Rattle.model_state.specs.Listing.{values_at}
 use Rattle.round_trip.specs.Tells.{first_values, values_told}
 use Rattle.round_trip.proofs.KeysFound.{Stands, feature_stands}
 use Rattle.round_trip.proofs.KeysTypes.{Key, Feature}

@@ -9,11 +9,11 @@ use Rattle.std.proofs.lemmas.Bool.Decides.{nat_tests}
 use Rattle.std.proofs.lemmas.List.{length-map}
 use Rattle.finite_maps.specs.Equal.{text_eq}
 use Rattle.finite_maps.specs.Maps as maps
-use Rattle.finite_maps.specs.Maps.{count, tally}
+use Rattle.finite_maps.specs.Maps.{count, is_within, tally}
 use Rattle.finite_maps.specs.Sorts.{put_in, in_order, picked}
 use Rattle.finite_maps.proofs.EqualLaws.{nat_equality}
 use Rattle.ecore_meta.specs.Meta.{Meta}
-use Rattle.ecore_meta.specs.Typing.{kind_of, upper_of}
+use Rattle.ecore_meta.specs.Typing.{is_one, kind_of, upper_of}
 use Rattle.ecore_meta.specs.declared.meta.Kind.TheVariants.{Bounded, Free, Contains}
 use Rattle.model_state.specs.declared.entry.Entry.{Entry}
 use Rattle.model_state.specs.declared.step.Place.{Place}
@@ -23,8 +23,7 @@ use Rattle.model_state.specs.Keys.{Name}
 use Rattle.model_state.specs.Listing.{children, targets, entry_cmp, rank_at, row_entry, is_of}
 use Rattle.model_state.specs.State.{State, place_eq}
 use Rattle.model_state.specs.Typing.{bounded_kind, contains_kind, child_upper, row_upper}
-use Rattle.emfjson_model.specs.Attributes.{is_within}
-use Rattle.emfjson_text.specs.Tree.{child_ids, is_one, is_single, target_ids}
+use Rattle.emfjson_text.specs.Tree.{child_ids, is_single, target_ids}
 use Rattle.round_trip.specs.Named.{IsNamed}
 use Rattle.round_trip.proofs.ReadingKinds.{same_within}
 

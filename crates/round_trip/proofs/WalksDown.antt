@@ -7,7 +7,7 @@ use Rattle.finite_maps.specs.Equal.{text_eq}
 use Rattle.finite_maps.specs.Sorts.{picked}
 use Rattle.finite_maps.proofs.EqualLaws.{text_equality}
 use Rattle.serde_json.specs.Data.{depth, object, members_depth}
-use Rattle.ecore_meta.specs.Meta.{Meta}
+use Rattle.ecore_meta.specs.Meta.{Meta, features_of}
 use Rattle.ecore_meta.specs.Typing.{kind_of}
 use Rattle.ecore_meta.specs.declared.meta.Kind.{Kind}
 use Rattle.ecore_meta.specs.declared.meta.Kind.TheVariants.{Attr, AttrMany, Bounded, Free, Contains, Container, Skip}
@@ -24,7 +24,6 @@ use Rattle.model_state.specs.Typing.{contains_to}
 use Rattle.model_state.proofs.Orders.{id_order}
 use Rattle.model_state.proofs.StepTests.{place_equality}
 use Rattle.edit_laws.proofs.Lists.{any-in_order, any-map, picked_has}
-use Rattle.emfjson_model.specs.Classes.{features_of}
 use Rattle.emfjson_text.specs.Keys.{key_name, keys_of}
 use Rattle.emfjson_text.specs.Laws.{IsNested}
 use Rattle.emfjson_text.specs.Tree.{child_ids, content, is_single, listed, members, object_of, part, whole}

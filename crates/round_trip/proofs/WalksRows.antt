@@ -16,7 +16,8 @@ use Rattle.emfjson_model.specs.declared.doc.DocAttr.{DocAttr}
 use Rattle.emfjson_model.specs.declared.doc.DocParent.{DocParent}
 use Rattle.emfjson_model.specs.Parts.{Part, Ids}
 use Rattle.emfjson_text.specs.Keys.{key_number, keys_of}
-use Rattle.emfjson_text.specs.Tree.{child_ids, target_ids, values_at}
+use Rattle.model_state.specs.Listing.{values_at}
+use Rattle.emfjson_text.specs.Tree.{child_ids, target_ids}
 use Rattle.round_trip.proofs.KeysTypes.{Draft, Links, Key}
 
 -- ---- what stands under a feature

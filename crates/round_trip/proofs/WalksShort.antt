@@ -10,9 +10,9 @@ use Rattle.ecore_meta.specs.Meta.{Meta}
 use Rattle.model_state.specs.Typing.{upper_of}
 use Rattle.emfjson_model.specs.declared.doc.DocParent.{DocParent}
 use Rattle.emfjson_model.specs.declared.fault.ModelFault.TheVariants.{Bound, WrongType}
-use Rattle.emfjson_model.specs.Attributes.{is_within}
+use Rattle.finite_maps.specs.Maps.{is_within}
 use Rattle.emfjson_model.specs.Classes.{class_of, id_of}
-use Rattle.emfjson_model.specs.Links.{is_one}
+use Rattle.ecore_meta.specs.Typing.{is_one}
 use Rattle.emfjson_model.specs.Parts.{Part, no_part, joined, Ids, ids_of}
 use Rattle.emfjson_model.specs.Reads.{Read, «then», unless}
 use Rattle.emfjson_model.specs.Walk.{element_rows, held_rows, items_rows, key_named, key_part, members_rows, object_rows, own_rows, walked}

@@ -7,7 +7,7 @@ use Rattle.std.specs.Option.{option_map_or}
 use Rattle.serde_json.specs.Data.{Data, string, object, no_members, depth, members_depth, items_depth}
 use Rattle.serde_json.specs.Find.{get_member}
 use Rattle.serde_json.specs.View.{items_of}
-use Rattle.ecore_meta.specs.Meta.{Meta, feature_named, name_at}
+use Rattle.ecore_meta.specs.Meta.{Meta, feature_named, features_of, name_at}
 use Rattle.ecore_meta.specs.Typing.{kind_of, upper_of}
 use Rattle.ecore_meta.specs.declared.meta.Class.{Class as ClassOf}
 use Rattle.ecore_meta.specs.declared.meta.Kind.{Kind}
@@ -26,9 +26,10 @@ use Rattle.emfjson_model.specs.Parts.{no_part, Ids, ids_of}
 use Rattle.emfjson_model.specs.Reads.{«then», unless, found}
 use Rattle.emfjson_model.specs.Walk.{element_rows, feature_key, held_rows, key_named, key_part, members_rows, own_rows}
 use Rattle.edit_laws.proofs.Lists.{all-in_order}
-use Rattle.emfjson_text.specs.Keys.{class_features, key_name, key_cmp, keys_of}
+use Rattle.emfjson_text.specs.Keys.{key_name, key_cmp, keys_of}
 use Rattle.emfjson_text.specs.Laws.{IsNested}
-use Rattle.emfjson_text.specs.Tree.{child_ids, class_text, content, is_single, listed, members, object_of, part, values_at, whole, with_member}
+use Rattle.model_state.specs.Listing.{values_at}
+use Rattle.emfjson_text.specs.Tree.{child_ids, class_text, content, is_single, listed, members, object_of, part, whole, with_member}
 use Rattle.emfjson_text.proofs.Children.{each_child}
 use Rattle.round_trip.specs.Named.{IsNamed}
 use Rattle.round_trip.proofs.KeysFound.{Stands, all_stand, class_again, class_stands, feature_found, feature_stands, ident_stands, member_at}
@@ -142,16 +143,16 @@ module _ (meta : Meta) (named : IsNamed meta) (m : State) (good : Good meta m) (
     abbrev Due : Key → Type 0
     Due key = KeyOk meta m e (tree_rows meta m n) own c (part meta m (whole meta m) e c) key (part meta m (whole meta m) e c key)
 
-    named_key : (f : ℕ) → Stands f (class_features meta c) → key_named meta c (name_at meta.features f) ≡ feature_key (Some f)
+    named_key : (f : ℕ) → Stands f (features_of meta c) → key_named meta c (name_at meta.features f) ≡ feature_key (Some f)
     named_key f h = ap (λ b. cond b (key_named meta c (codes "_id")) (feature_key (feature_named meta c (name_at meta.features f)))) (named.keys f) ∙ ap feature_key (feature_found meta named c f h)
 
-    feature_due : (f : ℕ) → Stands f (class_features meta c) → (o : Option Data) → FeatureOk meta named m (tree_rows meta m n) (whole meta m) objects own e f (kind_of meta f) o
+    feature_due : (f : ℕ) → Stands f (features_of meta c) → (o : Option Data) → FeatureOk meta named m (tree_rows meta m n) (whole meta m) objects own e f (kind_of meta f) o
         → KeyOk meta m e (tree_rows meta m n) own c (part meta m (whole meta m) e c) (Feature f) o
     unfolding keys_of Feature
     feature_due f h None ok = ok
     feature_due f h (Some d) ok = λ ids come. ap (λ key. key_part meta key d (λ g target. held_rows meta ids (record { row = own; feature = g }) target d)) (named_key f h) ∙ ok ids come
 
-    features_due : (fs : List ℕ) → ((f : ℕ) → Stands f fs → Stands f (class_features meta c)) → AllByRecursion (λ k. IsWithinIf n (part meta m (whole meta m) e c k)) (keys_of meta c) → AllByRecursion Due (map Feature fs)
+    features_due : (fs : List ℕ) → ((f : ℕ) → Stands f fs → Stands f (features_of meta c)) → AllByRecursion (λ k. IsWithinIf n (part meta m (whole meta m) e c k)) (keys_of meta c) → AllByRecursion Due (map Feature fs)
     unfolding keys_of Feature
     features_due [] in_class deep = tt
     features_due (f ∷ fs) in_class deep =
@@ -163,7 +164,7 @@ module _ (meta : Meta) (named : IsNamed meta) (m : State) (good : Good meta m) (
 
     keys_due : AllByRecursion (λ k. IsWithinIf n (part meta m (whole meta m) e c k)) (keys_of meta c) → AllByRecursion Due (keys_of meta c)
     unfolding keys_of Ident Class Feature
-    keys_due deep = all-in_order (key_cmp meta) Due (Ident ∷ Class ∷ map Feature (class_features meta c)) ((λ ids come. refl), ((λ ids come. refl), features_due (class_features meta c) (λ f s. s) deep))
+    keys_due deep = all-in_order (key_cmp meta) Due (Ident ∷ Class ∷ map Feature (features_of meta c)) ((λ ids come. refl), ((λ ids come. refl), features_due (features_of meta c) (λ f s. s) deep))
 
   -- the row of an element of a class, and the rows inside
   abbrev rows_of : ℕ → ℕ → Option DocParent → Name → ℕ → List Draft

@@ -2,7 +2,7 @@
 use Rattle.std.specs.Prelude.{◌≡◌, ℕ, ◌==◌, ◌||◌, Bool, true, false, List, [], ◌∷◌, Option, None, Some, map, codes, slice_get}
 use Rattle.std.specs.List.{AllByRecursion, list_any}
 use Rattle.std.specs.Str.{bytes_eq}
-use Rattle.ecore_meta.specs.Meta.{Meta, name_at}
+use Rattle.ecore_meta.specs.Meta.{Meta, features_of, name_at}
 use Rattle.ecore_meta.specs.Names.{has_repeat}
 use Rattle.ecore_meta.specs.Typing.{kind_of, upper_of}
 use Rattle.ecore_meta.specs.declared.meta.Class.{Class as ClassOf}
@@ -14,7 +14,6 @@ use Rattle.model_state.specs.Ident.{is_id}
 use Rattle.model_state.specs.Keys.{Name}
 use Rattle.model_state.specs.State.{State, is_live}
 use Rattle.emfjson_io.specs.Laws.{TextsAreApart}
-use Rattle.emfjson_model.specs.Classes.{features_of}
 
 -- a key of an object that is no feature's
 abbrev pub is_reserved : Name → Bool

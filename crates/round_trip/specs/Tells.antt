@@ -8,7 +8,8 @@ use Rattle.model_state.specs.State.{State, place_eq}
 use Rattle.emfjson_model.specs.declared.doc.DocAttr.{DocAttr}
 use Rattle.emfjson_model.specs.declared.doc.DocRow.{DocRow}
 use Rattle.emfjson_model.specs.Merged.{attr_at, targets_at}
-use Rattle.emfjson_text.specs.Tree.{child_ids, target_ids, values_at}
+use Rattle.model_state.specs.Listing.{values_at}
+use Rattle.emfjson_text.specs.Tree.{child_ids, target_ids}
 use Rattle.model_import.specs.Names.{name_at}
 use Rattle.model_import.specs.News.{place_of}
 

@@ -1,6 +1,5 @@
 ghost use Rattle.std.specs.Prelude.{is_some, true, false, ◌≡◌, Some, None, OnOk, OnErr, IfOk, map, count_by, ◌||◌, ◌&&◌, nat_eq};
 ghost use Rattle.std.specs.BTreeMap as ordered_map;
-ghost use Rattle.std.specs.Option.{option_copied};
 ghost use Rattle.std.specs.List.{filter};
 ghost use Rattle.std.specs.BTreeMap.{IsOrdered};
 ghost use Rattle.std.specs.FinMap.{get, empty};
@@ -9,7 +8,7 @@ ghost use Rattle.finite_maps.specs.Tables.{table};
 ghost use Rattle.step_apply.specs.Groups.{arriving};
 ghost use Rattle.finite_maps.specs.Equal.{text_eq};
 ghost use Rattle.model_state.specs.Keys.{Name, RowKey, row_cmp};
-ghost use Rattle.model_state.specs.Listing.{is_of, row_entry, row_incoming, targets, incoming};
+ghost use Rattle.model_state.specs.Listing.{row_incoming, targets, incoming};
 
 use crate::groups::{entries_of, group_in, is_bare, put_in, rewrite_in};
 use ecore_meta::List;

@@ -11,7 +11,7 @@ use std::alloc::Global;
 const PIECE: usize = 4096;
 
 /// How the search for a line's end ended.
-#[derive(Clone, Copy, Debug, PartialEq, Eq)]
+#[derive(Clone, Copy)]
 pub enum Stop {
     /// At a line feed.
     Feed,
@@ -96,6 +96,7 @@ impl Unread {
         ensures end { IsTrue (H.told host.old).tells → IfOk result (λ r. r.1 ≡ Stop.Close → (H.told host.new).left ≡ []) }
         ensures far { IfOk result (λ r. r.1 ≡ Stop.Far → (longest < r.0) ⊎ (self.new.place + r.0 ≡ 2 ^ 40)) }
         ensures near { IfOk result (λ r. r.1 ≡ Stop.Close → self.new.place + r.0 < 2 ^ 40) }
+        ensures short { IfOk result (λ r. r.1 ≡ Stop.Close → r.0 ≤ longest) }
         ensures err { IfErr result (λ e. (e ≡ LineFault.Failed) ⊎ (e ≡ LineFault.Memory)) }
         ensures place { self.new.place ≡ self.old.place }
         ensures course { GoesOn (H.told host.old) (H.told host.new) }
@@ -157,18 +158,11 @@ impl Unread {
         ensures alone { RaisesTakesAlone (H.told host.old) (H.told host.new) }
         ensures cause { IsErrOf result LineFault.Failed → Rose (H.told host.old).take_faults (H.told host.new).take_faults }
     {
-        let mut clear = 0;
-        'pieces: loop {
-            if let Some(at) = line_feed(&self.pending, clear) {
-                return self.within_limit(at, true);
-            }
-            clear = self.pending.len();
-            if clear as u64 > LINE_LIMIT || self.place + clear as u64 == INPUT_LIMIT {
-                return self.within_limit(clear, false);
-            }
-            if !self.fill(host)? {
-                return Ok((clear, false));
-            }
+        let (len, stop) = self.piece_end(host, LINE_LIMIT as usize)?;
+        match stop {
+            Stop::Feed => self.within_limit(len, true),
+            Stop::Far => self.within_limit(len, false),
+            Stop::Close => Ok((len, false)),
         }
     }
 

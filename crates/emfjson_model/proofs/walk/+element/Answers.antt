@@ -11,8 +11,8 @@ use Rattle.ecore_meta.specs.declared.meta.Kind.TheVariants.{Skip}
 use Rattle.emfjson_model.specs.declared.classes.Key.{Key}
 use Rattle.emfjson_model.specs.declared.draft.Draft.{Draft}
 use Rattle.emfjson_model.specs.Answers.{IsFault, Holds}
-use Rattle.emfjson_model.specs.Attributes.{is_within}
-use Rattle.emfjson_model.specs.Links.{is_one}
+use Rattle.finite_maps.specs.Maps.{is_within}
+use Rattle.ecore_meta.specs.Typing.{is_one}
 use Rattle.emfjson_model.specs.Parts.{ids_of, no_part}
 use Rattle.emfjson_model.specs.Reads.{Read}
 use Rattle.emfjson_model.specs.Walk.{element_rows, feature_part, items_rows, members_rows, held_rows, key_part, key_named}

@@ -20,4 +20,4 @@ returns c =
     (c.in_ok-push_features.ensures
     ∙ ap₂ (λ l fs. l ++ map (λ f. Feature f) fs)
     (c.in_ok-push-2.ensures.items ∙ ap (λ l. l ++ Class ∷ []) (c.in_ok-push.ensures.items ∙ ap (λ l. l ++ Ident ∷ []) c.new-keys.ensures.items))
-    c.class_features.ensures)
+    c.features_of.ensures)

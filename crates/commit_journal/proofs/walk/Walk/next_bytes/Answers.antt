@@ -1,6 +1,6 @@
 use Rattle.std.proofs.Common.{◌≡◌, ◌+◌, ℕ, List, [], ◌∷◌, ◌++◌, length, take, drop, sym, ◌∙◌, ap, subst, arith}
 use Rattle.host_port.specs.Host.{Disk, disk_now}
-use Rattle.commit_journal.specs.Journal.{IsWalked, IsMounted, IsStuck, ReadsTo, StandsForNone, be32}
+use Rattle.commit_journal.specs.Journal.{IsWalked, IsMounted, IsStuck, ReadsTo, StandsForNone, four_bytes}
 use Rattle.commit_journal.specs.Stop.{IsSettled}
 use Rattle.host_port.proofs.Course.{told_next}
 use Rattle.host_port.proofs.Course.{kept_now}
@@ -72,7 +72,7 @@ returns-then-not-has_room-clause-damaged g c = (
       let same_d = kept_now b d c.read_at.ensures.course c.read_at.ensures.disk told_b ∙ same in
       let field : c.read_at-2.new.into ≡ take 4 (drop (c.self.inside.next + 1) (disk_now (g.H.Host.told c.args.host.now)).now) =
       c.in_ok-read_at-2.ensures.bytes told_d ∙ ap (λ (s : Disk). take 4 (drop (gate + 1) s.now)) same_d in
-      let size_is : be32 c.from-size.result ≡ c.read_at-2.new.into = ap be32 c.from-size.ensures ∙ c.number_in.ensures.spelt in
+      let size_is : four_bytes c.from-size.result ≡ c.read_at-2.new.into = ap four_bytes c.from-size.ensures ∙ c.number_in.ensures.spelt in
       no_room file gate c.read_at-2.new.into c.from-size.result is_open field size_is (omega (arith, c.from-size.ensures, c.number_in.ensures.low)) (λ small below. omega (arith, long, c.if-not-has_room.ensures.none small below)),
 )
 
@@ -93,7 +93,7 @@ returns-then-not-has_room-clause-nothing g c = λ told.
     let same_d = kept_now b d c.read_at.ensures.course c.read_at.ensures.disk told_b ∙ same in
     let field : c.read_at-2.new.into ≡ take 4 (drop (c.self.inside.next + 1) (disk_now (g.H.Host.told c.args.host.now)).now) =
     c.in_ok-read_at-2.ensures.bytes told_d ∙ ap (λ (s : Disk). take 4 (drop (gate + 1) s.now)) same_d in
-    let size_is : be32 c.from-size.result ≡ c.read_at-2.new.into = ap be32 c.from-size.ensures ∙ c.number_in.ensures.spelt in
+    let size_is : four_bytes c.from-size.result ≡ c.read_at-2.new.into = ap four_bytes c.from-size.ensures ∙ c.number_in.ensures.spelt in
     stands_for_none (disk_now (g.H.Host.told c.args.host.now)) c.self.inside.next c.args.self.now.next (ap (λ s. s.next) c.self.view_is) (c.requires.walked told) (no_room file gate c.read_at-2.new.into c.from-size.result is_open field size_is (omega (arith, c.from-size.ensures, c.number_in.ensures.low)) (λ small below. omega (arith, long, c.if-not-has_room.ensures.none small below)))
 
 pub returns-clause-walked : goal.returns-clause-walked
@@ -113,7 +113,7 @@ returns-clause-walked g c = λ told forms walked.
     let same_d = kept_now b d c.read_at.ensures.course c.read_at.ensures.disk told_b ∙ same in
     let field : c.read_at-2.new.into ≡ take 4 (drop (c.self.inside.next + 1) (disk_now (g.H.Host.told c.args.host.now)).now) =
     c.in_ok-read_at-2.ensures.bytes told_d ∙ ap (λ (s : Disk). take 4 (drop (gate + 1) s.now)) same_d in
-    let size_is : be32 c.from-size.result ≡ c.read_at-2.new.into = ap be32 c.from-size.ensures ∙ c.number_in.ensures.spelt in
+    let size_is : four_bytes c.from-size.result ≡ c.read_at-2.new.into = ap four_bytes c.from-size.ensures ∙ c.number_in.ensures.spelt in
     let e = g.H.Host.told c.read_at-2.new.self in
     let f = g.H.Host.told c.read_at-3.new.self in
     let told_e = told_next d e c.read_at-2.ensures.course told_d in
