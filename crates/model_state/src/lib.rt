@@ -9,8 +9,6 @@ mod name;
 mod operation;
 mod rank;
 mod step;
-#[cfg(test)]
-mod tests;
 mod typing;
 
 pub use containers::chain;

@@ -1,17 +1,16 @@
-// Tables of calls and of what they answer, a call a line: the steps that a model takes beforehand with ` | ` behind them, where there are any, the
-// call, ` -> `, and the answer. A line that begins with # says what those below it have in common.
-ghost use Rattle.std.specs.Prelude.{IfOk};
+// Tables of calls and of what they answer. A table is parts with an empty line between them. The first line of a part is the name of a metamodel and
+// the steps and edits that a model over it takes beforehand, with `; ` between them. Each line behind it is a call, ` -> `, and the answer; where the
+// call has more steps and edits before it, these and ` | ` stand in front. A line that begins with # says what those below it have in common.
+ghost use Rattle.std.specs.Prelude.{IfOk, OnOk};
 ghost use Rattle.ecore_meta.specs.Sound.{Sound};
 ghost use Rattle.model_state.specs.Good.{Good};
 ghost use Rattle.step_apply.specs.View.{plain_state};
 
-use crate::metamodels::{PARTS, metamodel};
-use crate::places::TREE;
+use crate::metamodels::metamodel;
 use crate::reading::step;
-use crate::{looks, places, references, steps};
+use crate::{edits, limits, looks, places, references, steps};
 use ecore_meta::Metamodel;
 use model_laws::replay;
-use model_state::Step;
 use std::alloc::Global;
 use std::test::Fail;
 use step_apply::Plain;
@@ -19,32 +18,42 @@ use step_apply::Plain;
 // Which calls a table has.
 #[derive(Clone, Copy, Drop)]
 pub(crate) enum Calls {
+    Edits,
+    Limits,
     Looks,
     Places,
     References,
     Steps,
 }
 
-// Steps with `; ` between them.
-fn push_steps(alloc: Global, text: &str, steps: &mut Vec<Step>) -> Result<(), Fail> {
-    for line in text.split("; ") {
-        if !line.is_empty() {
-            steps.push(step(alloc, line)?)?;
-        }
+// Takes a step, which begins with a capital letter, or what is recorded of an edit.
+fn take(alloc: Global, meta: &Metamodel, plain: &mut Plain, text: &str) -> Result<(), Fail>
+    requires sound { Sound meta.now }
+    requires good { Good meta.now (plain_state plain.old) }
+    ensures { OnOk result (Good meta.now (plain_state plain.new)) }
+{
+    if !matches!(text.as_bytes().first(), Some(b'A'..=b'Z')) {
+        edits::edit(alloc, meta, plain, text)??;
+        return Ok(());
     }
+    let mut steps = Vec::new(alloc);
+    steps.push(step(alloc, text)?)?;
+    replay(plain, meta, steps.as_slice())?;
     Ok(())
 }
 
-// The model that the steps make, those of the start first.
+// The model that the steps and edits make, those of the start first.
 fn model(alloc: Global, meta: &Metamodel, start: &str, beside: &str) -> Result<Plain, Fail>
     requires { Sound meta.now }
     ensures { IfOk result (λ p. Good meta.now (plain_state p)) }
 {
-    let mut steps = Vec::new(alloc);
-    push_steps(alloc, start, &mut steps)?;
-    push_steps(alloc, beside, &mut steps)?;
+    let all = format!(in alloc; "{start}; {beside}")?;
     let mut plain = Plain::new(alloc);
-    replay(&mut plain, meta, steps.as_slice())?;
+    for text in all.split("; ") {
+        if !text.is_empty() {
+            take(alloc, meta, &mut plain, text)?;
+        }
+    }
     Ok(plain)
 }
 
@@ -60,6 +69,8 @@ fn answer(
     requires good { Good meta.now (plain_state plain.old) }
 {
     match calls {
+        Calls::Edits => edits::answer(alloc, meta, plain, call),
+        Calls::Limits => limits::answer(alloc, call),
         Calls::Looks => looks::answer(alloc, meta, plain, call),
         Calls::Places => places::answer(alloc, meta, plain, call),
         Calls::References => references::answer(alloc, meta, plain, call),
@@ -89,20 +100,16 @@ fn differs(
     if got == want {
         return Ok(String::new(alloc));
     }
-    Ok(format!(in alloc; "{got} and not as in {line}")?)
+    Ok(format!(in alloc; "{got} and not as in {line} after {start}\n")?)
 }
 
-// What is wrong with the lines of a table, over a metamodel and the steps from which each call starts.
-pub(crate) fn wrong(
-    alloc: Global,
-    metamodel_text: &str,
-    start: &str,
-    calls: Calls,
-    table: &str,
-) -> Result<String, Fail> {
-    let meta = metamodel(alloc, metamodel_text)?;
+// What is wrong with the lines of a part.
+fn wrong_in(alloc: Global, calls: Calls, part: &str) -> Result<String, Fail> {
+    let (head, lines) = part.split_once('\n').unwrap_or((part, ""));
+    let (name, start) = head.split_once("; ").unwrap_or((head, ""));
+    let meta = metamodel(alloc, name)?;
     let mut out = String::new(alloc);
-    for line in table.lines() {
+    for line in lines.lines() {
         if !line.starts_with('#') {
             out.push_str(differs(alloc, &meta, start, calls, line)?.as_str())?;
         }
@@ -110,9 +117,25 @@ pub(crate) fn wrong(
     Ok(out)
 }
 
+// What is wrong with the lines of a table.
+pub(crate) fn wrong(alloc: Global, calls: Calls, table: &str) -> Result<String, Fail> {
+    let mut out = String::new(alloc);
+    for part in table.split("\n\n") {
+        out.push_str(wrong_in(alloc, calls, part)?.as_str())?;
+    }
+    Ok(out)
+}
+
 #[test]
 fn a_wrong_line_is_told(rt: HostRuntime) -> Result<(), Fail> {
-    let told = wrong(rt.alloc(), PARTS, TREE, Calls::Places, "# o\ndelete o -> o")?;
-    assert_eq!(rt; told.as_str(), "Gone o 1 / 30 and not as in delete o -> o");
+    let told = wrong(
+        rt.alloc(),
+        Calls::Places,
+        "parts; New o 1 / 30\n# o\ndelete o -> o",
+    )?;
+    assert_eq!(rt;
+        told.as_str(),
+        "Gone o 1 / 30 and not as in delete o -> o after New o 1 / 30\n"
+    );
     Ok(())
 }

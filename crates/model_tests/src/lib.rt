@@ -1,10 +1,14 @@
-//! Tests of the layers that change models, over their public calls: a crate that holds its own tests is proved twice.
+//! Tests of models, their steps, and the layers that make and show steps, over their public calls: a crate that holds its own tests is proved twice.
 #![tactic(auto)]
 
 #[cfg(test)]
 mod answers;
 #[cfg(test)]
 mod deep;
+#[cfg(test)]
+mod edits;
+#[cfg(test)]
+mod limits;
 #[cfg(test)]
 mod lines;
 #[cfg(test)]
@@ -19,3 +23,5 @@ mod reading;
 mod references;
 #[cfg(test)]
 mod steps;
+#[cfg(test)]
+mod strings;

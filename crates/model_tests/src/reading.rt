@@ -1,30 +1,73 @@
-// Calls and steps word by word. A step is its kind and its fields in order, with blanks between them.
+// Steps as words: the kind of a step and its fields in their order, each behind one blank. A class and a feature are their numbers; a place is `/`, or `a.4` inside
+// the element a, in its feature 4; a value is `"Emma"` as in JSON, `-5`, `true`, or `#1`, the literal of that number; containers have commas between them. `-` is no
+// value, no rank, or no containers. Only a value at the end may have blanks. Steps have `; ` between them; an operation is its kind, `: ` and its steps, and the kind
+// of a composite is `Composite` and its name.
 use ecore_meta::{List, Text, Value};
-use model_state::{Id, Place, Step};
+use model_state::{Id, OpKind, Operation, Place, Step};
+use serde_json::Value as Json;
 use std::alloc::Global;
-use std::str::SplitWhitespace;
 use std::test::Fail;
 
+// The words of a step or a call that are still to be read.
 #[derive(Drop)]
 pub(crate) struct Words<'a> {
     alloc: Global,
-    rest: SplitWhitespace<'a>,
+    rest: &'a str,
 }
 
 pub(crate) fn words_of(alloc: Global, text: &str) -> Words<'_> {
-    Words {
-        alloc,
-        rest: text.split_whitespace(),
-    }
+    Words { alloc, rest: text }
 }
 
 pub(crate) fn step(alloc: Global, text: &str) -> Result<Step, Fail> {
     words_of(alloc, text).step()
 }
 
+pub(crate) fn steps(alloc: Global, text: &str) -> Result<List<Step>, Fail> {
+    let mut steps = List::new(alloc);
+    for line in text.split("; ") {
+        steps.push(step(alloc, line)?)?;
+    }
+    Ok(steps)
+}
+
+fn kind_named(name: &str) -> Result<OpKind, Fail> {
+    match name {
+        "Create" => Ok(OpKind::Create),
+        "Delete" => Ok(OpKind::Delete),
+        "Attribute" => Ok(OpKind::Attribute),
+        "ManyAttribute" => Ok(OpKind::ManyAttribute),
+        "Reference" => Ok(OpKind::Reference),
+        "Move" => Ok(OpKind::Move),
+        _ => Err("no kind of operation")?,
+    }
+}
+
+pub(crate) fn operation(alloc: Global, text: &str) -> Result<Operation, Fail> {
+    let (kind, lines) = text.split_once(": ").unwrap_or(("", text));
+    let steps = steps(alloc, lines)?;
+    match kind.strip_prefix("Composite ") {
+        None => Ok(Operation::Simple {
+            kind: kind_named(kind)?,
+            steps,
+        }),
+        Some(name) => Ok(Operation::Composite {
+            name: Text::new(alloc, name)?,
+            steps,
+        }),
+    }
+}
+
 impl<'a> Words<'a> {
     pub(crate) fn word(&mut self) -> &'a str {
-        self.rest.next().unwrap_or("")
+        let (word, rest) = self.rest.split_once(' ').unwrap_or((self.rest, ""));
+        self.rest = rest;
+        word
+    }
+
+    // All that is not read yet.
+    pub(crate) fn rest(&self) -> &'a str {
+        self.rest
     }
 
     pub(crate) fn id(&mut self) -> Result<Id, Fail> {
@@ -35,20 +78,19 @@ impl<'a> Words<'a> {
         Ok(self.word().parse::<u32>()?)
     }
 
-    fn rank(&mut self) -> Result<u64, Fail> {
+    pub(crate) fn rank(&mut self) -> Result<u64, Fail> {
         Ok(self.word().parse::<u64>()?)
     }
 
     // An index, None for the end.
     pub(crate) fn index(&mut self) -> Result<Option<u32>, Fail> {
-        match self.rest.next() {
-            None => Ok(None),
-            Some(word) => Ok(Some(word.parse::<u32>()?)),
+        if self.rest.is_empty() {
+            return Ok(None);
         }
+        Ok(Some(self.number()?))
     }
 
-    // `-` is no rank.
-    fn mirror_rank(&mut self) -> Result<Option<u64>, Fail> {
+    pub(crate) fn optional_rank(&mut self) -> Result<Option<u64>, Fail> {
         let word = self.word();
         if word == "-" {
             return Ok(None);
@@ -57,23 +99,15 @@ impl<'a> Words<'a> {
     }
 
     pub(crate) fn place(&mut self) -> Result<Place, Fail> {
-        place_of(self.alloc, self.word())
-    }
-
-    fn value(&mut self) -> Result<Value, Fail> {
-        value_of(self.alloc, self.word())
-    }
-
-    // `-` is no value.
-    fn optional(&mut self) -> Result<Option<Value>, Fail> {
-        let word = self.word();
-        if word == "-" {
-            return Ok(None);
+        match self.word().split_once('.') {
+            None => Ok(Place::Root),
+            Some((parent, feature)) => Ok(Place::Inside {
+                parent: Id::read(self.alloc, parent)?,
+                feature: feature.parse::<u32>()?,
+            }),
         }
-        Ok(Some(value_of(self.alloc, word)?))
     }
 
-    // Ids with commas between them; `-` is none.
     fn containers(&mut self) -> Result<List<Id>, Fail> {
         let word = self.word();
         let mut ids = List::new(self.alloc);
@@ -106,8 +140,8 @@ impl<'a> Words<'a> {
         Ok(Step::Put {
             e: self.id()?,
             f: self.number()?,
-            old: self.optional()?,
-            new: self.optional()?,
+            old: optional(self.alloc, self.word())?,
+            new: optional(self.alloc, self.rest)?,
         })
     }
 
@@ -116,7 +150,7 @@ impl<'a> Words<'a> {
             e: self.id()?,
             f: self.number()?,
             at: self.number()?,
-            v: self.value()?,
+            v: value(self.alloc, self.rest)?,
         })
     }
 
@@ -125,7 +159,7 @@ impl<'a> Words<'a> {
             e: self.id()?,
             f: self.number()?,
             at: self.number()?,
-            v: self.value()?,
+            v: value(self.alloc, self.rest)?,
         })
     }
 
@@ -144,7 +178,7 @@ impl<'a> Words<'a> {
             f: self.number()?,
             ra: self.rank()?,
             b: self.id()?,
-            rb: self.mirror_rank()?,
+            rb: self.optional_rank()?,
         })
     }
 
@@ -154,7 +188,7 @@ impl<'a> Words<'a> {
             f: self.number()?,
             ra: self.rank()?,
             b: self.id()?,
-            rb: self.mirror_rank()?,
+            rb: self.optional_rank()?,
         })
     }
 
@@ -207,21 +241,23 @@ impl<'a> Words<'a> {
     }
 }
 
-// `/` is the root, and `a.4` is inside the element a, in its feature 4.
-fn place_of(alloc: Global, word: &str) -> Result<Place, Fail> {
-    match word.split_once('.') {
-        None => Ok(Place::Root),
-        Some((parent, feature)) => Ok(Place::Inside {
-            parent: Id::read(alloc, parent)?,
-            feature: feature.parse::<u32>()?,
-        }),
+fn value(alloc: Global, text: &str) -> Result<Value, Fail> {
+    if let Some(number) = text.strip_prefix('#') {
+        return Ok(Value::Literal(number.parse::<u32>()?));
+    }
+    let json = Json::from_str(alloc, text)?;
+    if let Some(text) = json.as_str() {
+        return Ok(Value::Text(Text::new(alloc, text)?));
+    }
+    match json.as_i64() {
+        Some(n) => Ok(Value::Whole(n)),
+        None => Ok(Value::Flag(json.as_bool().ok_or("no value")?)),
     }
 }
 
-// Digits are a whole number, anything else a text.
-fn value_of(alloc: Global, word: &str) -> Result<Value, Fail> {
-    match word.parse::<i64>() {
-        Ok(n) => Ok(Value::Whole(n)),
-        Err(_) => Ok(Value::Text(Text::new(alloc, word)?)),
+fn optional(alloc: Global, text: &str) -> Result<Option<Value>, Fail> {
+    if text == "-" {
+        return Ok(None);
     }
+    Ok(Some(value(alloc, text)?))
 }

@@ -1,6 +1,7 @@
 // The steps of each call, for each bound of the reference with each bound of its opposite. 4294967296 is 2^32, the rank
 // of the first entry of a list and the distance at which a list is ranked anew; 18446744073709551615 is the last rank.
-// A list too long to be ranked anew has 2^32 - 1 entries, which no test makes.
+// A list too long to be ranked anew has 2^32 - 1 entries, which no test makes. Four parts and another element, which no
+// reference takes, stand at the root.
 ghost use Rattle.std.specs.Prelude.{◌≡◌, true, is_some};
 ghost use Rattle.std.specs.FinMap.{get};
 ghost use Rattle.ecore_meta.specs.Sound.{Sound};
@@ -10,7 +11,6 @@ ghost use Rattle.step_apply.specs.View.{plain_state};
 
 use crate::answers::{Calls, wrong};
 use crate::lines::lines;
-use crate::metamodels::SIDES;
 use crate::reading::{Words, words_of};
 use ecore_meta::{List, Metamodel};
 use model_state::{Id, Look, Step, class_has, is_plain};
@@ -21,31 +21,28 @@ use std::alloc::Global;
 use std::test::Fail;
 use step_apply::Plain;
 
-// Four parts and another element, which no reference takes.
-const START: &str = "New a 0 / 1; New b 0 / 1; New c 0 / 1; New d 0 / 1; New l 1 / 1";
-
-const SETS: &str = "# 1, opposite 1
+const TABLE: &str = r#"sides; New a 0 / 1; New b 0 / 1; New c 0 / 1; New d 0 / 1; New l 1 / 1
+# set: 1, opposite 1
 set a 0 b -> Link a 0 4294967296 b 4294967296
 Link a 0 7 b 8 | set a 0 b -> nothing
 Link a 0 7 c 8; Link d 0 5 b 6 | set a 0 b -> Unlink a 0 7 c 8; Unlink d 0 5 b 6; Link a 0 4294967296 b 4294967296
 Link c 0 8 a 7; Link b 0 6 d 5 | set a 1 b -> Unlink c 0 8 a 7; Unlink b 0 6 d 5; Link b 0 4294967296 a 4294967296
 set a 0 l -> WrongType
-# 1, opposite bounded
+# set: 1, opposite bounded
 Link a 2 7 c 8; Link d 2 5 b 6 | set a 2 b -> Unlink a 2 7 c 8; Link a 2 4294967296 b 4294967302
 Link d 2 5 b 18446744073709551615 | set a 2 b -> RerankRow b 3 d 18446744073709551615 4294967296; Link a 2 4294967296 b 8589934592
 Link c 2 5 b 6; Link d 2 5 b 7 | set a 2 b -> Bound
 Link a 2 5 b 6; Link d 2 5 b 7 | set a 2 b -> nothing
-# 1, opposite unbounded
+# set: 1, opposite unbounded
 Link a 4 1 d 2; Link c 4 5 b 6; Link d 4 5 b 7 | set a 4 b -> Unlink a 4 1 d 2; Link a 4 4294967296 b 4294967303
 Link c 4 5 b 6; Link d 4 5 b 18446744073709551615 | set a 4 b -> RerankRow b 5 c 6 4294967296; RerankRow b 5 d 18446744073709551615 8589934592; Link a 4 4294967296 b 12884901888
 Link a 4 5 b 6 | set a 4 b -> nothing
-# 1, no opposite
+# set: 1, no opposite
 Link a 12 7 c - | set a 12 b -> Unlink a 12 7 c -; Link a 12 4294967296 b -
 Link a 12 7 b - | set a 12 b -> nothing
 set a 12 a -> Link a 12 4294967296 a -
-set a 12 l -> WrongType";
-
-const LINKS: &str = "# bounded, opposite 1
+set a 12 l -> WrongType
+# link: bounded, opposite 1
 link a 3 b -> Link b 2 4294967296 a 4294967296
 Link b 2 5 c 6 | link a 3 b -> Unlink b 2 5 c 6; Link b 2 4294967296 a 4294967296
 Link c 2 5 a 10 | link a 3 b 0 -> Link b 2 4294967296 a 5
@@ -55,10 +52,10 @@ Link c 2 5 a 10; Link d 2 5 a 20 | link a 3 b 3 -> NoEntry
 Link b 2 5 a 6 | link a 3 b 9 -> AlreadyThere
 link a 3 b 1 -> NoEntry
 link a 3 l 9 -> WrongType
-# unbounded, opposite 1
+# link: unbounded, opposite 1
 Link c 4 1 a 10; Link d 4 1 a 20; Link b 4 5 d 6 | link a 5 b 1 -> Unlink b 4 5 d 6; Link b 4 4294967296 a 15
 Link b 4 5 a 6 | link a 5 b -> AlreadyThere
-# bounded, opposite bounded
+# link: bounded, opposite bounded
 link a 6 b -> Link a 6 4294967296 b 4294967296
 Link a 6 10 c 3; Link d 6 4 b 20 | link a 6 b 0 -> Link a 6 5 b 4294967316
 Link c 6 3 a 10; Link b 6 20 d 4 | link a 7 b 0 -> Link b 6 4294967316 a 5
@@ -66,26 +63,26 @@ Link a 6 18446744073709551615 c 3; Link d 6 4 b 18446744073709551615 | link a 6 
 Link c 6 3 a 18446744073709551615; Link b 6 18446744073709551615 d 4 | link a 7 b -> RerankRow a 7 c 18446744073709551615 4294967296; RerankRow b 6 d 18446744073709551615 4294967296; Link b 6 8589934592 a 8589934592
 Link a 6 1 c 1; Link a 6 2 d 1 | link a 6 b -> Bound
 Link c 6 1 b 1; Link d 6 1 b 2 | link a 6 b -> Bound
-# bounded, opposite unbounded
+# link: bounded, opposite unbounded
 Link a 8 10 c 3; Link c 8 4 b 1; Link d 8 4 b 2 | link a 8 b -> Link a 8 4294967306 b 4294967298
 Link a 8 1 c 1; Link a 8 2 d 1 | link a 8 b -> Bound
-# unbounded, opposite bounded
+# link: unbounded, opposite bounded
 Link c 8 1 a 10; Link d 8 1 a 20; Link b 8 30 c 1 | link a 9 b 1 -> Link b 8 4294967326 a 15
 Link b 8 1 c 1; Link b 8 2 d 1 | link a 9 b -> Bound
-# unbounded, opposite unbounded
+# link: unbounded, opposite unbounded
 link a 10 a -> Link a 10 4294967296 a 4294967296
 Link a 10 5 c 1; Link a 10 6 d 1 | link a 10 b 1 -> RerankRow a 10 c 5 4294967296; RerankRow a 10 d 6 8589934592; Link a 10 6442450944 b 4294967296
 Link a 10 4294967296 c 1; Link a 10 4294967297 d 1 | link a 10 b 1 -> RerankRow a 10 d 4294967297 8589934592; Link a 10 6442450944 b 4294967296
 Link c 10 1 a 5 | link a 11 b -> Link b 10 4294967296 a 4294967301
-# bounded, no opposite
+# link: bounded, no opposite
 Link a 13 10 c - | link a 13 b -> Link a 13 4294967306 b -
 Link a 13 1 c -; Link a 13 2 d - | link a 13 b 0 -> Bound
-# unbounded, no opposite
+# link: unbounded, no opposite
 Link a 14 5 c -; Link a 14 6 d - | link a 14 b 2 -> Link a 14 4294967302 b -
 Link a 14 5 b - | link a 14 b -> AlreadyThere
-link a 14 l -> WrongType";
-
-const UNLINKS: &str = "Link a 0 7 b 8 | unlink a 0 b -> Unlink a 0 7 b 8
+link a 14 l -> WrongType
+# unlink
+Link a 0 7 b 8 | unlink a 0 b -> Unlink a 0 7 b 8
 Link a 0 7 b 8 | unlink b 1 a -> Unlink a 0 7 b 8
 Link a 2 7 b 8 | unlink a 2 b -> Unlink a 2 7 b 8
 Link a 2 7 b 8 | unlink b 3 a -> Unlink a 2 7 b 8
@@ -102,9 +99,8 @@ Link a 13 7 b - | unlink a 13 b -> Unlink a 13 7 b -
 Link a 14 7 b - | unlink a 14 b -> Unlink a 14 7 b -
 Link a 0 7 b 8 | unlink a 1 b -> NoEntry
 Link a 14 7 c - | unlink a 14 b -> NoEntry
-unlink a 14 l -> NoEntry";
-
-const REORDERS: &str = "# 1: the one index is where it stands
+unlink a 14 l -> NoEntry
+# reorder: 1: the one index is where it stands
 Link a 0 7 b 8 | reorder a 0 b 0 -> nothing
 Link a 0 7 b 8 | reorder b 1 a 0 -> nothing
 Link a 0 7 b 8 | reorder a 0 b 1 -> NoEntry
@@ -112,35 +108,34 @@ Link a 2 7 b 8 | reorder a 2 b 0 -> nothing
 Link a 4 7 b 8 | reorder a 4 b 0 -> nothing
 Link a 12 7 b - | reorder a 12 b 0 -> nothing
 Link a 12 7 c - | reorder a 12 b 0 -> NoEntry
-# bounded, opposite 1
+# reorder: bounded, opposite 1
 Link b 2 1 a 10; Link c 2 1 a 20 | reorder a 3 c 0 -> RerankRow a 3 c 20 5
-# bounded, opposite bounded
+# reorder: bounded, opposite bounded
 Link a 6 10 b 1; Link a 6 20 c 1 | reorder a 6 b 1 -> RerankRow a 6 b 10 4294967316
 Link b 6 1 a 10; Link c 6 1 a 20 | reorder a 7 b 1 -> RerankRow a 7 b 10 4294967316
-# bounded, opposite unbounded
+# reorder: bounded, opposite unbounded
 Link a 8 1 b 1; Link a 8 2 c 1 | reorder a 8 c 0 -> RerankRow a 8 b 1 4294967296; RerankRow a 8 c 2 2147483648
 Link a 8 1 b 1; Link a 8 2 c 1 | reorder a 8 c 2 -> NoEntry
-# bounded, no opposite
+# reorder: bounded, no opposite
 Link a 13 10 b -; Link a 13 18446744073709551615 c - | reorder a 13 b 1 -> RerankRow a 13 c 18446744073709551615 4294967296; RerankRow a 13 b 10 8589934592
-# unbounded, opposite 1
+# reorder: unbounded, opposite 1
 Link b 4 1 a 10; Link c 4 1 a 20; Link d 4 1 a 30 | reorder a 5 d 1 -> RerankRow a 5 d 30 15
-# unbounded, opposite bounded
+# reorder: unbounded, opposite bounded
 Link b 8 1 a 10; Link c 8 1 a 20; Link d 8 1 a 30 | reorder a 9 b 2 -> RerankRow a 9 b 10 4294967326
-# unbounded, opposite unbounded
+# reorder: unbounded, opposite unbounded
 Link a 10 5 b 1; Link a 10 6 c 1; Link a 10 7 d 1 | reorder a 10 d 1 -> RerankRow a 10 b 5 4294967296; RerankRow a 10 c 6 8589934592; RerankRow a 10 d 7 6442450944
 Link b 10 1 a 5; Link c 10 1 a 5; Link d 10 1 a 5 | reorder a 11 d 0 -> RerankRow a 11 d 5 2
 Link a 10 5 b 1; Link a 10 6 c 1 | reorder a 10 b 0 -> nothing
-# unbounded, no opposite: the moved entry has its new rank already
+# reorder: unbounded, no opposite: the moved entry has its new rank already
 Link a 14 1 b -; Link a 14 2147483648 d - | reorder a 14 d 0 -> RerankRow a 14 b 1 4294967296
-Link a 14 1 b - | reorder a 14 c 0 -> NoEntry";
-
-// The last entry goes first.
-const UNSETS: &str = "unset a 0 -> nothing
+Link a 14 1 b - | reorder a 14 c 0 -> NoEntry
+# unset: the last entry goes first
+unset a 0 -> nothing
 Link a 0 7 b 8 | unset a 0 -> Unlink a 0 7 b 8
 Link a 0 7 b 8 | unset b 1 -> Unlink a 0 7 b 8
 Link a 6 10 c 3; Link a 6 20 d 4; Link c 6 5 d 5 | unset a 6 -> Unlink a 6 20 d 4; Unlink a 6 10 c 3
 Link c 8 1 a 10; Link d 8 1 a 20; Link b 8 1 a 5 | unset a 9 -> Unlink d 8 1 a 20; Unlink c 8 1 a 10; Unlink b 8 1 a 5
-Link a 14 5 c -; Link b 14 6 c - | unset a 14 -> Unlink a 14 5 c -";
+Link a 14 5 c -; Link b 14 6 c - | unset a 14 -> Unlink a 14 5 c -"#;
 
 fn told(alloc: Global, answer: Result<List<Step>, LinkFault>) -> Result<String, Fail> {
     match answer {
@@ -242,46 +237,7 @@ pub(crate) fn answer(
 }
 
 #[test]
-fn sets_make_their_steps(rt: HostRuntime) -> Result<(), Fail> {
-    assert_eq!(rt;
-        wrong(rt.alloc(), SIDES, START, Calls::References, SETS)?.as_str(),
-        ""
-    );
-    Ok(())
-}
-
-#[test]
-fn links_make_their_steps(rt: HostRuntime) -> Result<(), Fail> {
-    assert_eq!(rt;
-        wrong(rt.alloc(), SIDES, START, Calls::References, LINKS)?.as_str(),
-        ""
-    );
-    Ok(())
-}
-
-#[test]
-fn unlinks_make_their_steps(rt: HostRuntime) -> Result<(), Fail> {
-    assert_eq!(rt;
-        wrong(rt.alloc(), SIDES, START, Calls::References, UNLINKS)?.as_str(),
-        ""
-    );
-    Ok(())
-}
-
-#[test]
-fn reorders_make_their_steps(rt: HostRuntime) -> Result<(), Fail> {
-    assert_eq!(rt;
-        wrong(rt.alloc(), SIDES, START, Calls::References, REORDERS)?.as_str(),
-        ""
-    );
-    Ok(())
-}
-
-#[test]
-fn unsets_make_their_steps(rt: HostRuntime) -> Result<(), Fail> {
-    assert_eq!(rt;
-        wrong(rt.alloc(), SIDES, START, Calls::References, UNSETS)?.as_str(),
-        ""
-    );
+fn edits_of_references_make_their_steps(rt: HostRuntime) -> Result<(), Fail> {
+    assert_eq!(rt; wrong(rt.alloc(), Calls::References, TABLE)?.as_str(), "");
     Ok(())
 }

@@ -1,64 +1,60 @@
-// The table of steps: each test of each kind of step where it is the first to fail, and where a later one fails beside it.
+// Each test of each kind of step where it is the first to fail, and where a later one fails beside it. Three boxes and a lid stand at the root.
 ghost use Rattle.model_state.specs.Good.{Good};
 ghost use Rattle.step_apply.specs.View.{plain_state};
 
 use crate::answers::{Calls, wrong};
-use crate::metamodels::BOXES;
 use crate::reading::step;
 use ecore_meta::Metamodel;
-use model_state::{Change, StepFault};
+use model_state::Change;
 use std::alloc::Global;
 use std::test::Fail;
 use step_apply::Plain;
 
-// Three boxes at the root and a lid, on which the cases begin.
-const START: &str = "New a 0 / 5; New b 0 / 3; New c 0 / 3; New l 1 / 9";
-
-const VALUES: &str = "# Put
+const TABLE: &str = r#"boxes; New a 0 / 5; New b 0 / 3; New c 0 / 3; New l 1 / 9
+# Put
 Put x 9 - 5 -> NotThere
-Put a 2 - t -> WrongType
-Put l 0 - t -> WrongType
-Put a 0 5 t -> WrongType
+Put a 2 - "t" -> WrongType
+Put l 0 - "t" -> WrongType
+Put a 0 5 "t" -> WrongType
 Put a 0 - 5 -> WrongType
 Put a 0 5 5 -> WrongType
-Put a 0 t t -> BadStep
+Put a 0 "t" "t" -> BadStep
 Put a 1 - 0 -> BadStep
 Put a 1 0 5 -> BadStep
-Put a 0 t u -> OldDiffers
-Put a 0 - t | Put a 0 - u -> OldDiffers
-Put a 0 - t | Put a 0 t u -> Ok
-Put a 0 - t | Put a 0 t - -> Ok
+Put a 0 "t" "u" -> OldDiffers
+Put a 0 - "t" | Put a 0 - "u" -> OldDiffers
+Put a 0 - "t" | Put a 0 "t" "u" -> Ok
+Put a 0 - "t" | Put a 0 "t" - -> Ok
 Put a 1 - 2147483647 -> Ok
 Put a 1 - 2147483648 -> WrongType
 # Ins
-Ins x 9 0 t -> NotThere
-Ins a 0 0 t -> WrongType
-Ins l 2 0 t -> WrongType
-Ins a 3 7 t -> WrongType
-Ins a 2 1 t -> BadStep
-Ins a 2 0 t | Ins a 2 2 t -> BadStep
-Ins a 2 0 t; Ins a 2 1 u | Ins a 2 0 t -> There
-Ins a 2 0 t; Ins a 2 1 u | Ins a 2 0 v -> Bound
+Ins x 9 0 "t" -> NotThere
+Ins a 0 0 "t" -> WrongType
+Ins l 2 0 "t" -> WrongType
+Ins a 3 7 "t" -> WrongType
+Ins a 2 1 "t" -> BadStep
+Ins a 2 0 "t" | Ins a 2 2 "t" -> BadStep
+Ins a 2 0 "t"; Ins a 2 1 "u" | Ins a 2 0 "t" -> There
+Ins a 2 0 "t"; Ins a 2 1 "u" | Ins a 2 0 "v" -> Bound
 Ins a 3 0 5; Ins a 3 1 5 | Ins a 3 2 5 -> Ok
 # Del
-Del x 9 0 t -> NotThere
-Del a 0 0 t -> WrongType
-Del l 2 0 t -> WrongType
-Del a 3 7 t -> WrongType
-Del a 2 0 t -> BadStep
-Ins a 2 0 t | Del a 2 1 t -> BadStep
-Ins a 2 0 t | Del a 2 0 u -> OldDiffers
-Ins a 2 0 t | Del a 2 0 t -> Ok
+Del x 9 0 "t" -> NotThere
+Del a 0 0 "t" -> WrongType
+Del l 2 0 "t" -> WrongType
+Del a 3 7 "t" -> WrongType
+Del a 2 0 "t" -> BadStep
+Ins a 2 0 "t" | Del a 2 1 "t" -> BadStep
+Ins a 2 0 "t" | Del a 2 0 "u" -> OldDiffers
+Ins a 2 0 "t" | Del a 2 0 "t" -> Ok
 # Shift
 Shift x 9 0 1 -> NotThere
 Shift a 0 0 0 -> WrongType
 Shift l 2 0 1 -> WrongType
-Ins a 2 0 t; Ins a 2 1 u | Shift a 2 0 0 -> BadStep
-Ins a 2 0 t; Ins a 2 1 u | Shift a 2 2 0 -> BadStep
-Ins a 2 0 t; Ins a 2 1 u | Shift a 2 0 2 -> BadStep
-Ins a 2 0 t; Ins a 2 1 u | Shift a 2 0 1 -> Ok";
-
-const REFERENCES: &str = "# Link
+Ins a 2 0 "t"; Ins a 2 1 "u" | Shift a 2 0 0 -> BadStep
+Ins a 2 0 "t"; Ins a 2 1 "u" | Shift a 2 2 0 -> BadStep
+Ins a 2 0 "t"; Ins a 2 1 "u" | Shift a 2 0 2 -> BadStep
+Ins a 2 0 "t"; Ins a 2 1 "u" | Shift a 2 0 1 -> Ok
+# Link
 Link x 9 1 b - -> NotThere
 Link a 9 1 x - -> NotThere
 Link a 4 1 b 1 -> WrongType
@@ -96,9 +92,8 @@ RerankRow a 8 x 1 1 -> NotThere
 Link a 8 1 b - | RerankRow a 8 b 2 2 -> BadStep
 Link a 8 1 b - | RerankRow a 8 b 2 3 -> OldDiffers
 Link a 8 1 b - | RerankRow a 8 b 1 3 -> Ok
-Link a 5 1 b 2 | RerankRow b 6 a 2 3 -> Ok";
-
-const ELEMENTS: &str = "# New
+Link a 5 1 b 2 | RerankRow b 6 a 2 3 -> Ok
+# New
 New a 9 x.4 1 -> There
 New d 9 x.4 1 -> NotThere
 New d 9 / 1 -> WrongType
@@ -113,14 +108,14 @@ Gone x 9 / 1 -> NotThere
 Gone a 1 / 5 -> OldDiffers
 Gone a 0 b.4 5 -> OldDiffers
 Gone a 0 / 6 -> OldDiffers
-Put a 0 - t | Gone a 0 / 6 -> OldDiffers
-Put a 0 - t | Gone a 0 / 5 -> NotEmpty
-Ins a 2 0 t | Gone a 0 / 5 -> NotEmpty
+Put a 0 - "t" | Gone a 0 / 6 -> OldDiffers
+Put a 0 - "t" | Gone a 0 / 5 -> NotEmpty
+Ins a 2 0 "t" | Gone a 0 / 5 -> NotEmpty
 Link a 8 1 b - | Gone a 0 / 5 -> NotEmpty
 Link b 8 1 a - | Gone a 0 / 5 -> NotEmpty
 New d 0 a.4 1 | Gone a 0 / 5 -> NotEmpty
 New d 0 a.4 1 | Gone d 0 a.4 1 -> Ok
-Put a 0 - t; Put a 0 t - | Gone a 0 / 5 -> Ok
+Put a 0 - "t"; Put a 0 "t" - | Gone a 0 / 5 -> Ok
 # Move
 Move x / 5 / 5 - - -> NotThere
 Move a b.4 5 / 1 b - -> OldDiffers
@@ -144,14 +139,7 @@ New d 0 a.4 1 | Move d a.4 1 / 1 a - -> Ok
 RerankPlace x 1 1 -> NotThere
 RerankPlace a 4 4 -> BadStep
 RerankPlace a 4 6 -> OldDiffers
-RerankPlace a 5 6 -> Ok";
-
-fn told(alloc: Global, answer: Result<(), StepFault>) -> Result<String, Fail> {
-    match answer {
-        Ok(()) => Ok(String::from_str(alloc, "Ok")?),
-        Err(fault) => Ok(format!(in alloc; "{fault:?}")?),
-    }
-}
+RerankPlace a 5 6 -> Ok"#;
 
 // What a model answers to a step.
 pub(crate) fn answer(
@@ -162,34 +150,14 @@ pub(crate) fn answer(
 ) -> Result<String, Fail>
     requires { Good meta.now (plain_state plain.old) }
 {
-    let step = step(alloc, call)?;
-    let answer = plain.apply(meta, &step);
-    told(alloc, answer)
+    match plain.apply(meta, &step(alloc, call)?) {
+        Ok(()) => Ok(format!(in alloc; "Ok")?),
+        Err(fault) => Ok(format!(in alloc; "{fault:?}")?),
+    }
 }
 
 #[test]
-fn steps_of_values_answer_their_first_fault(rt: HostRuntime) -> Result<(), Fail> {
-    assert_eq!(rt;
-        wrong(rt.alloc(), BOXES, START, Calls::Steps, VALUES)?.as_str(),
-        ""
-    );
-    Ok(())
-}
-
-#[test]
-fn steps_of_references_answer_their_first_fault(rt: HostRuntime) -> Result<(), Fail> {
-    assert_eq!(rt;
-        wrong(rt.alloc(), BOXES, START, Calls::Steps, REFERENCES)?.as_str(),
-        ""
-    );
-    Ok(())
-}
-
-#[test]
-fn steps_of_elements_answer_their_first_fault(rt: HostRuntime) -> Result<(), Fail> {
-    assert_eq!(rt;
-        wrong(rt.alloc(), BOXES, START, Calls::Steps, ELEMENTS)?.as_str(),
-        ""
-    );
+fn steps_answer_their_first_fault(rt: HostRuntime) -> Result<(), Fail> {
+    assert_eq!(rt; wrong(rt.alloc(), Calls::Steps, TABLE)?.as_str(), "");
     Ok(())
 }

@@ -2,8 +2,6 @@
 #![tactic(auto)]
 
 #[cfg(test)]
-mod recordings;
-#[cfg(test)]
 mod replays;
 #[cfg(test)]
 mod sessions;
