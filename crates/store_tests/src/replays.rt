@@ -99,6 +99,22 @@ fn replayed(rt: &impl Abort, alloc: Global, init: &[u8], forms: &[Vec<u8>]) -> R
     Ok(repo)
 }
 
+// How many events the lines of a session make, and how many those make that are then given to a repository in which the
+// events were played again.
+fn are_played_again(
+    rt: &impl Abort,
+    alloc: Global,
+    session: &str,
+    behind: &str,
+) -> Result<(usize, usize), Fail> {
+    let mut repo = Repo::new(alloc);
+    let init = begin(rt, alloc, &mut repo)?;
+    let forms = answers(rt, alloc, &mut repo, session)?;
+    let mut again = replayed(rt, alloc, &init, &forms)?;
+    let further = answers(rt, alloc, &mut again, behind)?;
+    Ok((forms.len(), further.len()))
+}
+
 const LINES: &str = r##"> checkout 0
 []
 ok 1 0 trunk
@@ -107,19 +123,6 @@ no 5 NoWorkspace
 > create 1 Book /
 ok w1n1
 "##;
-
-#[test]
-fn lines_are_answered_and_their_events_are_played_again(rt: HostRuntime) -> Result<(), Fail> {
-    let alloc = rt.alloc();
-    let mut repo = Repo::new(alloc);
-    let init = begin(&rt, alloc, &mut repo)?;
-    let forms = answers(&rt, alloc, &mut repo, LINES)?;
-    assert_eq!(&rt; forms.len(), 2);
-    let mut again = replayed(&rt, alloc, &init, &forms)?;
-    let undone = answer(&rt, alloc, &mut again, "undo 1\nok\n")?;
-    assert!(&rt; undone.len() > 0);
-    Ok(())
-}
 
 #[test]
 fn a_checkout_of_no_project_is_not_played(rt: HostRuntime) -> Result<(), Fail> {
@@ -212,12 +215,11 @@ ok
 "##;
 
 #[test]
-fn the_events_of_composites_are_played_again(rt: HostRuntime) -> Result<(), Fail> {
+fn lines_are_answered_and_their_events_are_played_again(rt: HostRuntime) -> Result<(), Fail> {
     let alloc = rt.alloc();
-    let mut repo = Repo::new(alloc);
-    let init = begin(&rt, alloc, &mut repo)?;
-    let forms = answers(&rt, alloc, &mut repo, COMPOSITES)?;
-    let mut again = replayed(&rt, alloc, &init, &forms)?;
-    assert_eq!(&rt; answers(&rt, alloc, &mut again, LEFT)?.len(), 0);
+    let made = are_played_again(&rt, alloc, LINES, "> undo 1\nok\n")?;
+    assert_eq!(&rt; made, (2, 1));
+    let made = are_played_again(&rt, alloc, COMPOSITES, LEFT)?;
+    assert_eq!(&rt; made, (16, 0));
     Ok(())
 }

@@ -1,5 +1,5 @@
 // The bytes of a store, what a stop behind a call leaves of it, and files that are no store.
-use crate::sessions::{METAMODEL, beginning, over, said, serve};
+use crate::sessions::{METAMODEL, beginning, over, serve, told};
 use emf_top::Status;
 use host_port::{FuseHost, MemoryHost};
 use std::alloc::Global;
@@ -32,7 +32,7 @@ fn store_of(alloc: Global, name: u8, class: u8, rank: u8) -> Result<Vec<u8>, Fai
 // The opening and two creations, over a file.
 fn over_two(alloc: Global, file: Vec<u8>) -> Result<MemoryHost, Fail> {
     let script = beginning(alloc, METAMODEL, TWO)?;
-    Ok(over(alloc, script.as_str().as_bytes().to_vec(alloc)?, file))
+    Ok(over(alloc, script.into_bytes(), file))
 }
 
 #[test]
@@ -41,11 +41,10 @@ fn the_store_of_two_creations_is_these_bytes_which_are_read_again(
 ) -> Result<(), Fail> {
     let alloc = rt.alloc();
     let mut host = over_two(alloc, Vec::new(alloc))?;
-    assert_eq!(&rt; serve(alloc, &mut host), Status::Accepted);
+    assert_eq!(&rt; told(&rt, alloc, &mut host)?.as_str(), told_after(0));
     assert_eq!(&rt; host.file(), store_of(alloc, b'b', 0, 2)?.as_slice());
     let mut again = over_two(alloc, host.file().to_vec(alloc)?)?;
-    assert_eq!(&rt; serve(alloc, &mut again), Status::Refused);
-    assert_eq!(&rt; said(alloc, &again)?.as_str(), replies_after(4));
+    assert_eq!(&rt; told(&rt, alloc, &mut again)?.as_str(), told_after(4));
     Ok(())
 }
 
@@ -75,14 +74,14 @@ fn kept_at(calls: u64, fill: u8) -> u64 {
     count + 1
 }
 
-// What the same script is answered over a store of its first events.
-fn replies_after(kept: u64) -> &'static str {
+// What is told of the same script over a store of its first events.
+fn told_after(kept: u64) -> &'static str {
     match kept {
-        0 => "ok\n[]\nok 1 0 trunk\nok a\nok b\n",
-        1 => "no 3 AlreadyInit\n[]\nok 1 0 trunk\nok a\nok b\n",
-        2 => "no 3 AlreadyInit\n[]\nok 2 0 trunk\nok a\nok b\n",
-        3 => "no 3 AlreadyInit\n[]\nok 2 0 trunk\nno 11 IdInUse\nok b\n",
-        _ => "no 3 AlreadyInit\n[]\nok 2 0 trunk\nno 11 IdInUse\nno 11 IdInUse\n",
+        0 => "ok\n[]\nok 1 0 trunk\nok a\nok b\n0 Accepted\n",
+        1 => "no 3 AlreadyInit\n[]\nok 1 0 trunk\nok a\nok b\n1 Refused\n",
+        2 => "no 3 AlreadyInit\n[]\nok 2 0 trunk\nok a\nok b\n1 Refused\n",
+        3 => "no 3 AlreadyInit\n[]\nok 2 0 trunk\nno 11 IdInUse\nok b\n1 Refused\n",
+        _ => "no 3 AlreadyInit\n[]\nok 2 0 trunk\nno 11 IdInUse\nno 11 IdInUse\n1 Refused\n",
     }
 }
 
@@ -94,9 +93,12 @@ fn first_events_are_kept(
     fill: u8,
 ) -> Result<(), Fail> {
     let mut again = over_two(alloc, host.stop_image(fill)?)?;
-    let _ = serve(alloc, &mut again);
-    let wanted = replies_after(kept_at(calls, fill));
-    assert_eq!(rt; said(alloc, &again)?.as_str(), wanted, "{calls} {fill}");
+    let told = told(rt, alloc, &mut again)?;
+    assert_eq!(rt;
+        told.as_str(),
+        told_after(kept_at(calls, fill)),
+        "{calls} {fill}"
+    );
     Ok(())
 }
 
@@ -119,11 +121,17 @@ fn a_stop_behind_any_call_leaves_the_first_events_whole(rt: HostRuntime) -> Resu
     Ok(())
 }
 
-// The status of a run over a file without input; nothing is said.
-fn is_opened(rt: &impl Abort, alloc: Global, file: Vec<u8>, wanted: Status) -> Result<(), Fail> {
+// What is told of a run over a file without input.
+fn opened(rt: &impl Abort, alloc: Global, file: Vec<u8>) -> Result<String, Fail> {
     let mut host = over(alloc, Vec::new(alloc), file);
-    assert_eq!(rt; serve(alloc, &mut host), wanted);
-    assert_eq!(rt; host.said(), b"".as_slice());
+    told(rt, alloc, &mut host)
+}
+
+// Of a store of two creations, the second of which is this one: its name, class and rank.
+fn is_second(rt: &impl Abort, alloc: Global, creation: [u8; 3], wanted: &str) -> Result<(), Fail> {
+    let [name, class, rank] = creation;
+    let told = opened(rt, alloc, store_of(alloc, name, class, rank)?)?;
+    assert_eq!(rt; told.as_str(), wanted, "{name} {class} {rank}");
     Ok(())
 }
 
@@ -131,38 +139,32 @@ fn is_opened(rt: &impl Abort, alloc: Global, file: Vec<u8>, wanted: Status) -> R
 #[test]
 fn a_store_of_no_events_is_damaged_at_its_place(rt: HostRuntime) -> Result<(), Fail> {
     let alloc = rt.alloc();
-    let damaged = Status::Damaged { at: 378 };
-    is_opened(&rt, alloc, store_of(alloc, b'b', 0, 2)?, Status::Accepted)?;
-    is_opened(&rt, alloc, store_of(alloc, b'b', 0, 3)?, Status::Accepted)?;
-    is_opened(&rt, alloc, store_of(alloc, b'a', 0, 2)?, damaged)?;
-    is_opened(&rt, alloc, store_of(alloc, b'b', 1, 2)?, damaged)?;
-    is_opened(&rt, alloc, store_of(alloc, b'b', 2, 2)?, damaged)
+    is_second(&rt, alloc, [b'b', 0, 2], "0 Accepted\n")?;
+    is_second(&rt, alloc, [b'b', 0, 3], "0 Accepted\n")?;
+    is_second(&rt, alloc, [b'a', 0, 2], "6 Damaged { at: 378 }\n")?;
+    is_second(&rt, alloc, [b'b', 1, 2], "6 Damaged { at: 378 }\n")?;
+    is_second(&rt, alloc, [b'b', 2, 2], "6 Damaged { at: 378 }\n")
 }
 
-// A new store whose first gate is open, and these bytes.
-fn header_and(alloc: Global, bytes: &[u8]) -> Result<Vec<u8>, Fail> {
-    let mut store = b"EMFSTORE\0\0\0\x01\0\0\0\0\xa5".to_vec(alloc)?;
-    store.extend_from_slice(bytes)?;
-    Ok(store)
+fn is_opened(rt: &impl Abort, alloc: Global, file: &[u8], wanted: &str) -> Result<(), Fail> {
+    let told = opened(rt, alloc, file.to_vec(alloc)?)?;
+    assert_eq!(rt; told.as_str(), wanted, "{file:?}");
+    Ok(())
 }
+
+// The header and an open gate; behind it nothing, a length that is too great, and the event of a checkout before any project.
+const OPEN: &[u8] = b"EMFSTORE\0\0\0\x01\0\0\0\0\xa5";
+
+const LONG: &[u8] = b"EMFSTORE\0\0\0\x01\0\0\0\0\xa5\xff\xff\xff\xff";
+
+const EARLY: &[u8] = b"EMFSTORE\0\0\0\x01\0\0\0\0\xa5\0\0\0\x09\x02\0\0\0\0\0\0\0\0\0";
 
 #[test]
 fn a_file_of_no_records_is_new_or_damaged(rt: HostRuntime) -> Result<(), Fail> {
     let alloc = rt.alloc();
-    let damaged = Status::Damaged { at: 16 };
-    is_opened(
-        &rt,
-        alloc,
-        [0; 40].to_vec(alloc)?,
-        Status::Damaged { at: 0 },
-    )?;
-    is_opened(&rt, alloc, [0; 10].to_vec(alloc)?, Status::Accepted)?;
-    is_opened(&rt, alloc, header_and(alloc, b"")?, Status::Accepted)?;
-    is_opened(&rt, alloc, header_and(alloc, b"\xff\xff\xff\xff")?, damaged)?;
-    is_opened(
-        &rt,
-        alloc,
-        header_and(alloc, b"\0\0\0\x09\x02\0\0\0\0\0\0\0\0\0")?,
-        damaged,
-    )
+    is_opened(&rt, alloc, &[0; 40], "6 Damaged { at: 0 }\n")?;
+    is_opened(&rt, alloc, &[0; 10], "0 Accepted\n")?;
+    is_opened(&rt, alloc, OPEN, "0 Accepted\n")?;
+    is_opened(&rt, alloc, LONG, "6 Damaged { at: 16 }\n")?;
+    is_opened(&rt, alloc, EARLY, "6 Damaged { at: 16 }\n")
 }
