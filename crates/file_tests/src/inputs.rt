@@ -124,7 +124,7 @@ fn a_block_is_read_before_more_is_asked_for(rt: HostRuntime) -> Result<(), Fail>
     Ok(())
 }
 
-// Where the second call for input fails.
+// What is told where the second call for input fails.
 fn told_of_one_piece(alloc: Global, input: &[u8], piece: u32) -> Result<String, Fail>
     requires { 1 ≤ piece }
 {

@@ -99,20 +99,30 @@ fn replayed(rt: &impl Abort, alloc: Global, init: &[u8], forms: &[Vec<u8>]) -> R
     Ok(repo)
 }
 
-// How many events the lines of a session make, and how many those make that are then given to a repository in which the
-// events were played again.
-fn are_played_again(
+// The bytes of the event that begins the project, and of those that the lines of a session make.
+fn events_of(
     rt: &impl Abort,
     alloc: Global,
     session: &str,
-    behind: &str,
-) -> Result<(usize, usize), Fail> {
+) -> Result<(Vec<u8>, Vec<Vec<u8>>), Fail> {
     let mut repo = Repo::new(alloc);
     let init = begin(rt, alloc, &mut repo)?;
     let forms = answers(rt, alloc, &mut repo, session)?;
+    Ok((init, forms))
+}
+
+// The lines of a session make so many events; where these are played again, the lines behind them make so many further ones.
+fn are_played_again(
+    rt: &impl Abort,
+    alloc: Global,
+    (session, made): (&str, usize),
+    (behind, further): (&str, usize),
+) -> Result<(), Fail> {
+    let (init, forms) = events_of(rt, alloc, session)?;
+    assert_eq!(rt; forms.len(), made);
     let mut again = replayed(rt, alloc, &init, &forms)?;
-    let further = answers(rt, alloc, &mut again, behind)?;
-    Ok((forms.len(), further.len()))
+    assert_eq!(rt; answers(rt, alloc, &mut again, behind)?.len(), further);
+    Ok(())
 }
 
 const LINES: &str = r##"> checkout 0
@@ -127,9 +137,8 @@ ok w1n1
 #[test]
 fn a_checkout_of_no_project_is_not_played(rt: HostRuntime) -> Result<(), Fail> {
     let alloc = rt.alloc();
-    let mut repo = Repo::new(alloc);
-    let _init = begin(&rt, alloc, &mut repo)?;
-    let checkout = answer(&rt, alloc, &mut repo, "checkout 0\n[]\nok 1 0 trunk\n")?;
+    let (_, mut forms) = events_of(&rt, alloc, "> checkout 0\n[]\nok 1 0 trunk\n")?;
+    let checkout = forms.pop().ok_or("a checkout without an event")?;
     assert_eq!(&rt; checkout.as_slice(), b"\x02\0\0\0\0\0\0\0\0".as_slice());
     assert!(&rt; checkout.len() < 1000);
     let played = Repo::new(alloc).replay(alloc, &checkout);
@@ -217,9 +226,6 @@ ok
 #[test]
 fn lines_are_answered_and_their_events_are_played_again(rt: HostRuntime) -> Result<(), Fail> {
     let alloc = rt.alloc();
-    let made = are_played_again(&rt, alloc, LINES, "> undo 1\nok\n")?;
-    assert_eq!(&rt; made, (2, 1));
-    let made = are_played_again(&rt, alloc, COMPOSITES, LEFT)?;
-    assert_eq!(&rt; made, (16, 0));
-    Ok(())
+    are_played_again(&rt, alloc, (LINES, 2), ("> undo 1\nok\n", 1))?;
+    are_played_again(&rt, alloc, (COMPOSITES, 16), (LEFT, 0))
 }

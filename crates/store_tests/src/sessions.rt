@@ -37,7 +37,7 @@ fn beginning(alloc: Global, metamodel: &str, lines: &str) -> Result<String, Fail
 
 fn push_line(text: &mut String, line: &str) -> Result<(), AllocError> {
     text.push_str(line)?;
-    text.push('\n')
+    text.push_str("\n")
 }
 
 // The lines of a session's script behind an opening, and what is told of it behind what is said to the opening.
@@ -77,26 +77,40 @@ fn told(rt: &impl Abort, alloc: Global, host: &mut MemoryHost) -> Result<String,
     Ok(told)
 }
 
-// A session behind an opening is told as it is written down; the host is left.
+// What is told of a run with this input over a file, and the file behind it.
+fn ran(
+    rt: &impl Abort,
+    alloc: Global,
+    input: Vec<u8>,
+    file: Vec<u8>,
+) -> Result<(String, Vec<u8>), Fail> {
+    let mut host = over(alloc, input, file);
+    let told = told(rt, alloc, &mut host)?;
+    Ok((told, host.file().to_vec(alloc)?))
+}
+
+fn are_bytes(rt: &impl Abort, found: &[u8], wanted: &[u8]) {
+    assert_eq!(rt; found, wanted);
+}
+
+// A session behind an opening is told as it is written down; the file that it leaves.
 fn play(
     rt: &impl Abort,
     alloc: Global,
     opening: &str,
     opened: &str,
     session: &str,
-) -> Result<MemoryHost, Fail> {
+) -> Result<Vec<u8>, Fail> {
     let (script, wanted) = parts_of(alloc, opening, opened, session)?;
-    let mut host = over(alloc, script.into_bytes(), Vec::new(alloc));
-    let told = told(rt, alloc, &mut host)?;
+    let (told, file) = ran(rt, alloc, script.into_bytes(), Vec::new(alloc))?;
     assert_eq!(rt; told.as_str(), wanted.as_str(), "{session}");
-    Ok(host)
+    Ok(file)
 }
 
 // A store in which there is a workspace is read again.
-fn is_read_again(rt: &impl Abort, alloc: Global, file: &[u8]) -> Result<(), Fail> {
-    let mut again = over(alloc, b"changes 1\n".to_vec(alloc)?, file.to_vec(alloc)?);
-    let told = told(rt, alloc, &mut again)?;
-    assert!(rt; told.as_str().ends_with("0 Accepted\n"));
+fn is_read_again(rt: &impl Abort, alloc: Global, file: Vec<u8>) -> Result<(), Fail> {
+    let (told, _) = ran(rt, alloc, b"changes 1\n".to_vec(alloc)?, file)?;
+    assert!(rt; told.as_str().ends_with("0 Accepted\n"), "{told}");
     Ok(())
 }
 
@@ -104,8 +118,8 @@ fn is_read_again(rt: &impl Abort, alloc: Global, file: &[u8]) -> Result<(), Fail
 fn are_answered(rt: &impl Abort, alloc: Global, metamodel: &str, table: &str) -> Result<(), Fail> {
     let opening = beginning(alloc, metamodel, "")?;
     for session in table.split("\n\n") {
-        let host = play(rt, alloc, opening.as_str(), OPENED, session)?;
-        is_read_again(rt, alloc, host.file())?;
+        let file = play(rt, alloc, opening.as_str(), OPENED, session)?;
+        is_read_again(rt, alloc, file)?;
     }
     Ok(())
 }
@@ -183,9 +197,9 @@ fn a_last_line_needs_no_line_feed(rt: HostRuntime) -> Result<(), Fail> {
     let alloc = rt.alloc();
     let lines = "create 1 Book /\ncreate 1 Book / w1n2\ncreate 1 Book /";
     let script = beginning(alloc, METAMODEL, lines)?;
-    let mut host = over(alloc, script.into_bytes(), Vec::new(alloc));
+    let (told, _) = ran(&rt, alloc, script.into_bytes(), Vec::new(alloc))?;
     assert_eq!(&rt;
-        told(&rt, alloc, &mut host)?.as_str(),
+        told.as_str(),
         "ok\n[]\nok 1 0 trunk\nok w1n1\nok w1n2\nok w1n3\n0 Accepted\n"
     );
     Ok(())
@@ -212,16 +226,16 @@ no 4 BadMetamodel 2
 #[test]
 fn before_there_is_a_metamodel_only_init_is_accepted(rt: HostRuntime) -> Result<(), Fail> {
     for session in BEFORE.split("\n\n") {
-        let host = play(&rt, rt.alloc(), "", "", session)?;
-        assert_eq!(&rt; host.file(), NOTHING_STORED);
+        let file = play(&rt, rt.alloc(), "", "", session)?;
+        are_bytes(&rt, &file, NOTHING_STORED);
     }
     Ok(())
 }
 
 fn is_no_script(rt: &impl Abort, alloc: Global, input: &[u8], wanted: &str) -> Result<(), Fail> {
-    let mut host = over(alloc, input.to_vec(alloc)?, Vec::new(alloc));
-    assert_eq!(rt; told(rt, alloc, &mut host)?.as_str(), wanted);
-    assert_eq!(rt; host.file(), NOTHING_STORED);
+    let (told, file) = ran(rt, alloc, input.to_vec(alloc)?, Vec::new(alloc))?;
+    assert_eq!(rt; told.as_str(), wanted);
+    are_bytes(rt, &file, NOTHING_STORED);
     Ok(())
 }
 
@@ -243,7 +257,7 @@ fn a_reply_is_said_before_the_next_line_is_asked_for(rt: HostRuntime) -> Result<
     pieces.push(b"checkout 0\n".to_vec(alloc)?)?;
     let mut host = TalkHost::new(alloc, pieces, Vec::new(alloc));
     assert_eq!(&rt; serve(alloc, &mut host), Status::Accepted);
-    assert_eq!(&rt; host.said(), OPENED.as_bytes());
+    are_bytes(&rt, host.said(), OPENED.as_bytes());
     Ok(())
 }
 
@@ -255,6 +269,6 @@ fn words_of_no_form_end_it_at_once(rt: HostRuntime) -> Result<(), Fail> {
     let script = beginning(alloc, METAMODEL, "")?;
     let mut host = over(alloc, script.into_bytes(), Vec::new(alloc));
     assert_eq!(&rt; run(alloc, words.as_slice(), &mut host), Status::BadWords);
-    assert_eq!(&rt; host.file(), b"".as_slice());
+    are_bytes(&rt, host.file(), b"");
     Ok(())
 }

@@ -1,5 +1,5 @@
 // Sessions that edit references.
-use crate::sessions::{are_answered, beginning, over, told};
+use crate::sessions::{are_answered, beginning, ran};
 use std::alloc::Global;
 use std::fmt::Write;
 use std::test::Fail;
@@ -190,8 +190,7 @@ const RANKED_ANEW: &str =
 fn a_list_without_room_is_ranked_anew(rt: HostRuntime) -> Result<(), Fail> {
     let alloc = rt.alloc();
     let script = beginning(alloc, SHELF, crowding(alloc)?.as_str())?;
-    let mut host = over(alloc, script.into_bytes(), Vec::new(alloc));
-    let told = told(&rt, alloc, &mut host)?;
+    let (told, _) = ran(&rt, alloc, script.into_bytes(), Vec::new(alloc))?;
     assert!(&rt; told.as_str().contains(LAST_RANK), "{told}");
     assert!(&rt; told.as_str().ends_with(RANKED_ANEW), "{told}");
     Ok(())
