@@ -4,8 +4,6 @@
 mod form;
 mod laws;
 mod reader;
-#[cfg(test)]
-mod tests;
 
 pub use form::Form;
 pub use laws::law_of_fields;

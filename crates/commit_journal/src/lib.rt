@@ -13,6 +13,3 @@ pub use fault::JournalFault;
 pub use fit::{Fit, fits};
 pub use journal::{Journal, Prepared, give_up};
 pub use walk::Walk;
-
-#[cfg(test)]
-mod tests;

@@ -6,8 +6,6 @@ ghost use Rattle.host_port.specs.Cut.{cut_block, script_from, is_lf, next_line_o
 ghost use Rattle.host_port.specs.Reads.{GotBlock, GotLine, PastLine};
 
 mod block;
-#[cfg(test)]
-mod tests;
 mod unread;
 
 use crate::Host;

@@ -99,6 +99,32 @@ fn replayed(rt: &impl Abort, alloc: Global, init: &[u8], forms: &[Vec<u8>]) -> R
     Ok(repo)
 }
 
+// The bytes of the event that begins the project, and of those that the lines of a session make.
+fn events_of(
+    rt: &impl Abort,
+    alloc: Global,
+    session: &str,
+) -> Result<(Vec<u8>, Vec<Vec<u8>>), Fail> {
+    let mut repo = Repo::new(alloc);
+    let init = begin(rt, alloc, &mut repo)?;
+    let forms = answers(rt, alloc, &mut repo, session)?;
+    Ok((init, forms))
+}
+
+// The lines of a session make so many events; where these are played again, the lines behind them make so many further ones.
+fn are_played_again(
+    rt: &impl Abort,
+    alloc: Global,
+    (session, made): (&str, usize),
+    (behind, further): (&str, usize),
+) -> Result<(), Fail> {
+    let (init, forms) = events_of(rt, alloc, session)?;
+    assert_eq!(rt; forms.len(), made);
+    let mut again = replayed(rt, alloc, &init, &forms)?;
+    assert_eq!(rt; answers(rt, alloc, &mut again, behind)?.len(), further);
+    Ok(())
+}
+
 const LINES: &str = r##"> checkout 0
 []
 ok 1 0 trunk
@@ -109,24 +135,10 @@ ok w1n1
 "##;
 
 #[test]
-fn lines_are_answered_and_their_events_are_played_again(rt: HostRuntime) -> Result<(), Fail> {
-    let alloc = rt.alloc();
-    let mut repo = Repo::new(alloc);
-    let init = begin(&rt, alloc, &mut repo)?;
-    let forms = answers(&rt, alloc, &mut repo, LINES)?;
-    assert_eq!(&rt; forms.len(), 2);
-    let mut again = replayed(&rt, alloc, &init, &forms)?;
-    let undone = answer(&rt, alloc, &mut again, "undo 1\nok\n")?;
-    assert!(&rt; undone.len() > 0);
-    Ok(())
-}
-
-#[test]
 fn a_checkout_of_no_project_is_not_played(rt: HostRuntime) -> Result<(), Fail> {
     let alloc = rt.alloc();
-    let mut repo = Repo::new(alloc);
-    let _init = begin(&rt, alloc, &mut repo)?;
-    let checkout = answer(&rt, alloc, &mut repo, "checkout 0\n[]\nok 1 0 trunk\n")?;
+    let (_, mut forms) = events_of(&rt, alloc, "> checkout 0\n[]\nok 1 0 trunk\n")?;
+    let checkout = forms.pop().ok_or("a checkout without an event")?;
     assert_eq!(&rt; checkout.as_slice(), b"\x02\0\0\0\0\0\0\0\0".as_slice());
     assert!(&rt; checkout.len() < 1000);
     let played = Repo::new(alloc).replay(alloc, &checkout);
@@ -212,12 +224,8 @@ ok
 "##;
 
 #[test]
-fn the_events_of_composites_are_played_again(rt: HostRuntime) -> Result<(), Fail> {
+fn lines_are_answered_and_their_events_are_played_again(rt: HostRuntime) -> Result<(), Fail> {
     let alloc = rt.alloc();
-    let mut repo = Repo::new(alloc);
-    let init = begin(&rt, alloc, &mut repo)?;
-    let forms = answers(&rt, alloc, &mut repo, COMPOSITES)?;
-    let mut again = replayed(&rt, alloc, &init, &forms)?;
-    assert_eq!(&rt; answers(&rt, alloc, &mut again, LEFT)?.len(), 0);
-    Ok(())
+    are_played_again(&rt, alloc, (LINES, 2), ("> undo 1\nok\n", 1))?;
+    are_played_again(&rt, alloc, (COMPOSITES, 16), (LEFT, 0))
 }

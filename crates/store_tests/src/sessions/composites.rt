@@ -12,7 +12,7 @@ const LACKING: &str =
 {"eClass":"http://www.eclipse.org/emf/2002/Ecore#//EReference","name":"about","lowerBound":1,"eType":{"$ref":"//Note"}}]}]}
 "#;
 
-const COMPOSITES: &str = r##"1 Refused
+const SESSIONS: &str = r##"> # composites are recorded, told and undone
 > begin 1 fill
 ok
 > create 1 Note / n
@@ -44,8 +44,8 @@ no 23 NothingLocal
 > show 1
 []
 ok
-
 1 Refused
+
 > begin 1 a
 ok
 > end 1
@@ -74,8 +74,8 @@ no 1 BadLine 9
 op 1 composite b
  new n Note / 4294967296
 ok
-
 1 Refused
+
 > create 1 Note / n
 ok n
 > begin 1 a
@@ -104,8 +104,8 @@ ok
 open a
  new n Note / 4294967296
 ok
-
 1 Refused
+
 > checkout 0
 []
 ok 2 0 trunk
@@ -118,9 +118,10 @@ ok
 > end 2
 no 28 NoComposite
 > end 1
-ok"##;
+ok
+1 Refused
 
-const LACKS: &str = r##"1 Refused
+> # what a model lacks is told
 > validate 1
 ok
 > create 1 Note / n
@@ -166,14 +167,10 @@ ok
 > validate 2
 no 5 NoWorkspace
 > validate
-no 1 BadLine 9"##;
+no 1 BadLine 9
+1 Refused"##;
 
 #[test]
-fn composites_are_recorded_told_and_undone(rt: HostRuntime) -> Result<(), Fail> {
-    are_answered(&rt, rt.alloc(), LACKING, COMPOSITES)
-}
-
-#[test]
-fn what_a_model_lacks_is_told(rt: HostRuntime) -> Result<(), Fail> {
-    are_answered(&rt, rt.alloc(), LACKING, LACKS)
+fn composites_and_what_a_model_lacks_are_told(rt: HostRuntime) -> Result<(), Fail> {
+    are_answered(&rt, rt.alloc(), LACKING, SESSIONS)
 }

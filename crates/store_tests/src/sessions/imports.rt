@@ -3,7 +3,7 @@ use crate::sessions::are_answered;
 use crate::sessions::trees::HOUSE;
 use std::test::Fail;
 
-const IMPORTS: &str = r##"1 Refused
+const SESSIONS: &str = r##"> # models are brought in or refused
 > import 1
 > {"eClass":"//House","_id":"h","rooms":[{"_id":"a","name":"hall","doors":{"$ref":"//@rooms.1"}},{"name":"attic","inner":[{"_id":"c","window":{"$ref":"#a"}}]}],"roof":{}}
 > .
@@ -113,9 +113,10 @@ no 1 BadLine 7
 ok 0
 > show 1
 []
-ok"##;
+ok
+1 Refused
 
-const AGAIN: &str = r##"0 Accepted
+> # a text that was shown is brought in and shown the same
 > import 1
 > {"_id":"h","eClass":"http://house/1#//House","roof":{"_id":"w1n1","eClass":"http://house/1#//Room"},"rooms":[{"_id":"a","doors":[{"$ref":"w1n2"}],"eClass":"http://house/1#//Room","name":"hall"},{"_id":"w1n2","eClass":"http://house/1#//Room","entries":[{"$ref":"a"}],"inner":[{"_id":"c","eClass":"http://house/1#//Room","window":{"$ref":"a"}}],"name":"attic"}]}
 > .
@@ -145,14 +146,10 @@ ok
 ok
 > show 2
 []
-ok"##;
+ok
+0 Accepted"##;
 
 #[test]
 fn models_are_brought_in_or_refused(rt: HostRuntime) -> Result<(), Fail> {
-    are_answered(&rt, rt.alloc(), HOUSE, IMPORTS)
-}
-
-#[test]
-fn a_text_that_was_shown_is_brought_in_and_shown_the_same(rt: HostRuntime) -> Result<(), Fail> {
-    are_answered(&rt, rt.alloc(), HOUSE, AGAIN)
+    are_answered(&rt, rt.alloc(), HOUSE, SESSIONS)
 }

@@ -1,38 +1,46 @@
 // The bytes of a store, what a stop behind a call leaves of it, and files that are no store.
-use crate::sessions::{METAMODEL, beginning, over, said, serve};
+use crate::sessions::{METAMODEL, are_bytes, beginning, over, ran, serve};
 use emf_top::Status;
 use host_port::{FuseHost, MemoryHost};
-use std::alloc::Global;
+use std::alloc::{AllocError, Global};
 use std::process::Abort;
 use std::test::Fail;
 
 const TWO: &str = "create 1 Book / a\ncreate 1 Book / b\n";
 
-// A record of a creation behind an open gate: the id's one byte, the number of the class and the rank over 2^32.
-fn push_creation(store: &mut Vec<u8>, name: u8, class: u8, rank: u8) -> Result<(), Fail> {
-    store.extend_from_slice(
-        b"\xa5\0\0\0\x22\x03\0\0\0\x01\0\0\0\x01\x01\x01\0\0\0\x01\x08\0\0\0\x01",
-    )?;
-    store.extend_from_slice(&[name, 0, 0, 0, class, 0, 0, 0, 0, rank, 0, 0, 0, 0])?;
-    Ok(())
-}
+// A record behind an open gate, of a creation up to its id.
+const CREATION: &[u8] = b"\xa5\0\0\0\x22\x03\0\0\0\x01\0\0\0\x01\x01\x01\0\0\0\x01\x08\0\0\0\x01";
+
+// What stands behind that: an id of one byte, the number of the class and the rank.
+const A: &[u8] = b"a\0\0\0\0\0\0\0\0\x01\0\0\0\0";
+
+const B: &[u8] = b"b\0\0\0\0\0\0\0\0\x02\0\0\0\0";
+
+// The header, a record behind an open gate for the opening's metamodel, and the checkout's.
+const HEAD: &[u8] = b"EMFSTORE\0\0\0\x01\0\0\0\0\xa5\0\0\x01\x30\x01\0\0\x01\x2b";
+
+const CHECKOUT: &[u8] = b"\xa5\0\0\0\x09\x02\0\0\0\0\0\0\0\0";
 
 // The store of the opening, of the creation of a, and of another: the header, a record behind an open gate for each event,
 // and the closed gate.
-fn store_of(alloc: Global, name: u8, class: u8, rank: u8) -> Result<Vec<u8>, Fail> {
-    let mut store = b"EMFSTORE\0\0\0\x01\0\0\0\0\xa5\0\0\x01\x30\x01\0\0\x01\x2b".to_vec(alloc)?;
-    store.extend_from_slice(METAMODEL.as_bytes())?;
-    store.extend_from_slice(b"\xa5\0\0\0\x09\x02\0\0\0\0\0\0\0\0")?;
-    push_creation(&mut store, b'a', 0, 1)?;
-    push_creation(&mut store, name, class, rank)?;
-    store.push(0)?;
+fn store_of(alloc: Global, second: &[u8]) -> Result<Vec<u8>, AllocError> {
+    let mut store = HEAD.to_vec(alloc)?;
+    for part in [
+        METAMODEL.as_bytes(),
+        CHECKOUT,
+        CREATION,
+        A,
+        CREATION,
+        second,
+        b"\0",
+    ] {
+        store.extend_from_slice(part)?;
+    }
     Ok(store)
 }
 
-// The opening and two creations, over a file.
-fn over_two(alloc: Global, file: Vec<u8>) -> Result<MemoryHost, Fail> {
-    let script = beginning(alloc, METAMODEL, TWO)?;
-    Ok(over(alloc, script.as_str().as_bytes().to_vec(alloc)?, file))
+fn script_of_two(alloc: Global) -> Result<Vec<u8>, Fail> {
+    Ok(beginning(alloc, METAMODEL, TWO)?.into_bytes())
 }
 
 #[test]
@@ -40,12 +48,11 @@ fn the_store_of_two_creations_is_these_bytes_which_are_read_again(
     rt: HostRuntime,
 ) -> Result<(), Fail> {
     let alloc = rt.alloc();
-    let mut host = over_two(alloc, Vec::new(alloc))?;
-    assert_eq!(&rt; serve(alloc, &mut host), Status::Accepted);
-    assert_eq!(&rt; host.file(), store_of(alloc, b'b', 0, 2)?.as_slice());
-    let mut again = over_two(alloc, host.file().to_vec(alloc)?)?;
-    assert_eq!(&rt; serve(alloc, &mut again), Status::Refused);
-    assert_eq!(&rt; said(alloc, &again)?.as_str(), replies_after(4));
+    let (told, file) = ran(&rt, alloc, script_of_two(alloc)?, Vec::new(alloc))?;
+    assert_eq!(&rt; told.as_str(), told_after(0));
+    are_bytes(&rt, &file, &store_of(alloc, B)?);
+    let (told, _) = ran(&rt, alloc, script_of_two(alloc)?, file)?;
+    assert_eq!(&rt; told.as_str(), told_after(4));
     Ok(())
 }
 
@@ -62,27 +69,22 @@ fn status_at(calls: u64) -> Status {
 
 // How many events are there again: behind the write of a gate only where the fill is that of an open gate.
 fn kept_at(calls: u64, fill: u8) -> u64 {
-    if calls < 10 {
-        return 0;
-    }
-    if calls > 25 {
-        return 4;
-    }
-    let count = (calls - 10) / 5;
-    if (calls - 10) % 5 == 0 && fill != 165 {
-        return count;
-    }
-    count + 1
+    let calls = if fill == 165 {
+        calls
+    } else {
+        calls.saturating_sub(1)
+    };
+    (calls / 5).max(1).min(5) - 1
 }
 
-// What the same script is answered over a store of its first events.
-fn replies_after(kept: u64) -> &'static str {
+// What is told of the same script over a store of its first events.
+fn told_after(kept: u64) -> &'static str {
     match kept {
-        0 => "ok\n[]\nok 1 0 trunk\nok a\nok b\n",
-        1 => "no 3 AlreadyInit\n[]\nok 1 0 trunk\nok a\nok b\n",
-        2 => "no 3 AlreadyInit\n[]\nok 2 0 trunk\nok a\nok b\n",
-        3 => "no 3 AlreadyInit\n[]\nok 2 0 trunk\nno 11 IdInUse\nok b\n",
-        _ => "no 3 AlreadyInit\n[]\nok 2 0 trunk\nno 11 IdInUse\nno 11 IdInUse\n",
+        0 => "ok\n[]\nok 1 0 trunk\nok a\nok b\n0 Accepted\n",
+        1 => "no 3 AlreadyInit\n[]\nok 1 0 trunk\nok a\nok b\n1 Refused\n",
+        2 => "no 3 AlreadyInit\n[]\nok 2 0 trunk\nok a\nok b\n1 Refused\n",
+        3 => "no 3 AlreadyInit\n[]\nok 2 0 trunk\nno 11 IdInUse\nok b\n1 Refused\n",
+        _ => "no 3 AlreadyInit\n[]\nok 2 0 trunk\nno 11 IdInUse\nno 11 IdInUse\n1 Refused\n",
     }
 }
 
@@ -93,16 +95,20 @@ fn first_events_are_kept(
     calls: u64,
     fill: u8,
 ) -> Result<(), Fail> {
-    let mut again = over_two(alloc, host.stop_image(fill)?)?;
-    let _ = serve(alloc, &mut again);
-    let wanted = replies_after(kept_at(calls, fill));
-    assert_eq!(rt; said(alloc, &again)?.as_str(), wanted, "{calls} {fill}");
+    let file = host.stop_image(fill)?;
+    let (told, _) = ran(rt, alloc, script_of_two(alloc)?, file)?;
+    assert_eq!(rt;
+        told.as_str(),
+        told_after(kept_at(calls, fill)),
+        "{calls} {fill}"
+    );
     Ok(())
 }
 
 // A run that stops behind so many calls.
 fn stopped(rt: &impl Abort, alloc: Global, calls: u64) -> Result<MemoryHost, Fail> {
-    let mut fuse = FuseHost::new(over_two(alloc, Vec::new(alloc))?, calls);
+    let host = over(alloc, script_of_two(alloc)?, Vec::new(alloc));
+    let mut fuse = FuseHost::new(host, calls);
     assert_eq!(rt; serve(alloc, &mut fuse), status_at(calls), "{calls}");
     Ok(fuse.into_inner())
 }
@@ -119,50 +125,52 @@ fn a_stop_behind_any_call_leaves_the_first_events_whole(rt: HostRuntime) -> Resu
     Ok(())
 }
 
-// The status of a run over a file without input; nothing is said.
-fn is_opened(rt: &impl Abort, alloc: Global, file: Vec<u8>, wanted: Status) -> Result<(), Fail> {
-    let mut host = over(alloc, Vec::new(alloc), file);
-    assert_eq!(rt; serve(alloc, &mut host), wanted);
-    assert_eq!(rt; host.said(), b"".as_slice());
+// How a run without input ends over a file.
+fn is_opened(rt: &impl Abort, alloc: Global, file: &[u8], wanted: &str) -> Result<(), Fail> {
+    let (told, _) = ran(rt, alloc, Vec::new(alloc), file.to_vec(alloc)?)?;
+    assert_eq!(rt; told.as_str(), wanted, "{file:?}");
     Ok(())
 }
+
+// The same over the store of two creations, the second of which is this one.
+fn is_second(rt: &impl Abort, alloc: Global, second: &[u8], wanted: &str) -> Result<(), Fail> {
+    let (told, _) = ran(rt, alloc, Vec::new(alloc), store_of(alloc, second)?)?;
+    assert_eq!(rt; told.as_str(), wanted, "{second:?}");
+    Ok(())
+}
+
+const B_LATER: &[u8] = b"b\0\0\0\0\0\0\0\0\x03\0\0\0\0";
+
+const A_AGAIN: &[u8] = b"a\0\0\0\0\0\0\0\0\x02\0\0\0\0";
+
+const B_ABSTRACT: &[u8] = b"b\0\0\0\x01\0\0\0\0\x02\0\0\0\0";
+
+const B_OF_NO_CLASS: &[u8] = b"b\0\0\0\x02\0\0\0\0\x02\0\0\0\0";
 
 // A store of events that can not all be played is damaged where the first that can not begins.
 #[test]
 fn a_store_of_no_events_is_damaged_at_its_place(rt: HostRuntime) -> Result<(), Fail> {
     let alloc = rt.alloc();
-    let damaged = Status::Damaged { at: 378 };
-    is_opened(&rt, alloc, store_of(alloc, b'b', 0, 2)?, Status::Accepted)?;
-    is_opened(&rt, alloc, store_of(alloc, b'b', 0, 3)?, Status::Accepted)?;
-    is_opened(&rt, alloc, store_of(alloc, b'a', 0, 2)?, damaged)?;
-    is_opened(&rt, alloc, store_of(alloc, b'b', 1, 2)?, damaged)?;
-    is_opened(&rt, alloc, store_of(alloc, b'b', 2, 2)?, damaged)
+    is_second(&rt, alloc, B, "0 Accepted\n")?;
+    is_second(&rt, alloc, B_LATER, "0 Accepted\n")?;
+    is_second(&rt, alloc, A_AGAIN, "6 Damaged { at: 378 }\n")?;
+    is_second(&rt, alloc, B_ABSTRACT, "6 Damaged { at: 378 }\n")?;
+    is_second(&rt, alloc, B_OF_NO_CLASS, "6 Damaged { at: 378 }\n")
 }
 
-// A new store whose first gate is open, and these bytes.
-fn header_and(alloc: Global, bytes: &[u8]) -> Result<Vec<u8>, Fail> {
-    let mut store = b"EMFSTORE\0\0\0\x01\0\0\0\0\xa5".to_vec(alloc)?;
-    store.extend_from_slice(bytes)?;
-    Ok(store)
-}
+// The header and an open gate; behind it nothing, a length that is too great, and the event of a checkout before any project.
+const OPEN: &[u8] = b"EMFSTORE\0\0\0\x01\0\0\0\0\xa5";
+
+const LONG: &[u8] = b"EMFSTORE\0\0\0\x01\0\0\0\0\xa5\xff\xff\xff\xff";
+
+const EARLY: &[u8] = b"EMFSTORE\0\0\0\x01\0\0\0\0\xa5\0\0\0\x09\x02\0\0\0\0\0\0\0\0\0";
 
 #[test]
 fn a_file_of_no_records_is_new_or_damaged(rt: HostRuntime) -> Result<(), Fail> {
     let alloc = rt.alloc();
-    let damaged = Status::Damaged { at: 16 };
-    is_opened(
-        &rt,
-        alloc,
-        [0; 40].to_vec(alloc)?,
-        Status::Damaged { at: 0 },
-    )?;
-    is_opened(&rt, alloc, [0; 10].to_vec(alloc)?, Status::Accepted)?;
-    is_opened(&rt, alloc, header_and(alloc, b"")?, Status::Accepted)?;
-    is_opened(&rt, alloc, header_and(alloc, b"\xff\xff\xff\xff")?, damaged)?;
-    is_opened(
-        &rt,
-        alloc,
-        header_and(alloc, b"\0\0\0\x09\x02\0\0\0\0\0\0\0\0\0")?,
-        damaged,
-    )
+    is_opened(&rt, alloc, &[0; 40], "6 Damaged { at: 0 }\n")?;
+    is_opened(&rt, alloc, &[0; 10], "0 Accepted\n")?;
+    is_opened(&rt, alloc, OPEN, "0 Accepted\n")?;
+    is_opened(&rt, alloc, LONG, "6 Damaged { at: 16 }\n")?;
+    is_opened(&rt, alloc, EARLY, "6 Damaged { at: 16 }\n")
 }

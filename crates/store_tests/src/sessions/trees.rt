@@ -19,7 +19,7 @@ pub(crate) const HOUSE: &str =
 {"eClass":"http://www.eclipse.org/emf/2002/Ecore#//EClass","name":"Place","abstract":true}]}
 "#;
 
-const CREATIONS: &str = r##"1 Refused
+const SESSIONS: &str = r##"> # elements are created inside others
 > create 1 House / h
 ok h
 > create 1 Room h rooms r
@@ -78,9 +78,10 @@ op 5 create
  new s Room h/sheds 4294967296
 op 6 create
  new t Room h/sheds 8589934592
-ok"##;
+ok
+1 Refused
 
-const MOVES: &str = r##"1 Refused
+> # elements move with what they contain
 > create 1 House / h
 ok h
 > create 1 Room h rooms a
@@ -165,9 +166,10 @@ op 10 move
  move d / 8589934592 h/roof 4294967296
 op 11 move
  move d h/roof 4294967296 / 8589934592
-ok"##;
+ok
+1 Refused
 
-const DELETIONS: &str = r##"1 Refused
+> # elements go with what they contain and come back
 > create 1 House / h
 ok h
 > create 1 Room h rooms a
@@ -239,9 +241,10 @@ ok
 []
 ok
 > changes 2
-no 5 NoWorkspace"##;
+no 5 NoWorkspace
+1 Refused
 
-const COMPOSITES: &str = r##"0 Accepted
+> # trees change in one composite
 > begin 1 all
 ok
 > create 1 House / h
@@ -290,24 +293,12 @@ ok a
 ok
 > show 1
 []
-ok"##;
+ok
+0 Accepted"##;
 
 #[test]
-fn elements_are_created_inside_others(rt: HostRuntime) -> Result<(), Fail> {
-    are_answered(&rt, rt.alloc(), HOUSE, CREATIONS)
-}
-
-#[test]
-fn elements_move_with_what_they_contain(rt: HostRuntime) -> Result<(), Fail> {
-    are_answered(&rt, rt.alloc(), HOUSE, MOVES)
-}
-
-#[test]
-fn elements_go_with_what_they_contain_and_come_back(rt: HostRuntime) -> Result<(), Fail> {
-    are_answered(&rt, rt.alloc(), HOUSE, DELETIONS)
-}
-
-#[test]
-fn trees_change_in_one_composite(rt: HostRuntime) -> Result<(), Fail> {
-    are_answered(&rt, rt.alloc(), HOUSE, COMPOSITES)
+fn elements_are_created_moved_and_deleted_with_what_they_contain(
+    rt: HostRuntime,
+) -> Result<(), Fail> {
+    are_answered(&rt, rt.alloc(), HOUSE, SESSIONS)
 }

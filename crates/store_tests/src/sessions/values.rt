@@ -11,7 +11,7 @@ const NOTES: &str =
 {"eClass":"http://www.eclipse.org/emf/2002/Ecore#//EAttribute","name":"tags","upperBound":-1,"eType":{"$ref":"http://www.eclipse.org/emf/2002/Ecore#//EString"}}]}]}
 "#;
 
-const EDITS: &str = r##"1 Refused
+const SESSIONS: &str = r##"> # edits of attributes are recorded, told and undone
 > create 1 Note / n
 ok n
 > set 1 n title "Emma"
@@ -40,16 +40,16 @@ ok
 ok
 > undo 1
 no 23 NothingLocal
-
 1 Refused
+
 > create 1 Note / n
 ok n
 > set 1 n stars 2147483647
 ok
 > set 1 n stars 2147483648
 no 17 BadValue
+1 Refused
 
-0 Accepted
 > create 1 Note / n
 ok n
 > set 1 n stars 3
@@ -72,8 +72,8 @@ op 2 attribute
 op 3 attribute
  put n stars 12 -
 ok
+0 Accepted
 
-1 Refused
 > create 1 Note / n
 ok n
 > add 1 n tags 0 "a"
@@ -102,8 +102,8 @@ op 5 many-attribute
 op 6 many-attribute
  del n tags 0 "b"
 ok
+1 Refused
 
-0 Accepted
 > create 1 Note / n
 ok n
 > discard 1
@@ -114,8 +114,8 @@ ok
 ok
 > create 1 Note / n
 ok n
+0 Accepted
 
-1 Refused
 > set 2 n title ""
 no 5 NoWorkspace
 > set 1 n title ""
@@ -134,8 +134,8 @@ no 5 NoWorkspace
 no 5 NoWorkspace
 > shift 2 n x 0 0
 no 5 NoWorkspace
-
 1 Refused
+
 > create 1 Note / n
 ok n
 > set 1 n x 1
@@ -152,8 +152,8 @@ no 21 NoEntry
 no 17 BadValue
 > shift 1 n tags 0 0
 no 21 NoEntry
-
 1 Refused
+
 > create 1 Note / n
 ok n
 > checkout 0
@@ -172,9 +172,10 @@ op 1 create
  new n Note / 4294967296
 op 2 attribute
  put n title - "two"
-ok"##;
+ok
+1 Refused
 
-const TEXTS: &str = r##"1 Refused
+> # a model is told as its text
 > show 1
 []
 ok
@@ -205,8 +206,8 @@ ok
 ok
 > show 2
 no 5 NoWorkspace
-
 1 Refused
+
 > create 1 Note / n
 ok n
 > cat 0
@@ -225,14 +226,10 @@ no 6 NoVersion
 ok
 > show 1
 []
-ok"##;
+ok
+1 Refused"##;
 
 #[test]
-fn a_model_is_told_as_its_text(rt: HostRuntime) -> Result<(), Fail> {
-    are_answered(&rt, rt.alloc(), NOTES, TEXTS)
-}
-
-#[test]
-fn edits_of_attributes_are_recorded_told_and_undone(rt: HostRuntime) -> Result<(), Fail> {
-    are_answered(&rt, rt.alloc(), NOTES, EDITS)
+fn attributes_are_edited_recorded_told_and_undone(rt: HostRuntime) -> Result<(), Fail> {
+    are_answered(&rt, rt.alloc(), NOTES, SESSIONS)
 }

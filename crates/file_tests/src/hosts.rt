@@ -1,4 +1,5 @@
-use crate::{Failed, FuseHost, Host, MemoryHost, TalkHost};
+// The hosts for tests: what each call does, when it fails, and what a stop leaves of the file.
+use host_port::{Failed, FuseHost, Host, MemoryHost, TalkHost};
 use std::test::Fail;
 
 fn take<H: Host>(host: &mut H, into: &mut [u8; 4]) -> Result<usize, Failed> {

@@ -1,5 +1,5 @@
-// Bytes by hand: each field as the format's table has it.
-use super::*;
+// Fields of bytes by hand: each as the format's table has it, and the faults of bytes that spell none.
+use byte_form::{Form, ReadFault, Reader};
 use std::test::Fail;
 
 #[test]

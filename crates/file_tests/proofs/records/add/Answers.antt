@@ -2,7 +2,7 @@ use Rattle.std.proofs.Common.{ℕ, [], sym, ap, subst}
 use Rattle.std.specs.Prelude.{IsTrue}
 use Rattle.host_port.specs.Host.{Told, GoesOn, disk_now}
 use Rattle.commit_journal.specs.Journal.{WalkState, JournalState, IsWalked, IsAtRest}
-use Rattle.commit_journal.proofs.tests.add.Goals as goal
+use Rattle.file_tests.proofs.records.add.Goals as goal
 
 told_before : (a b : Told) → GoesOn a b → IsTrue b.tells → IsTrue a.tells
 told_before a b course told = subst IsTrue course.tells told

@@ -1,6 +1,9 @@
-use crate::{Fit, JournalFault, Walk, fits, give_up};
+// The journal's records: their bytes, what a stop behind each call of an append leaves, files that are no journal, and the limits of a record.
+use crate::spelling::bytes_of;
+use commit_journal::{Fit, JournalFault, Walk, fits, give_up};
 use host_port::{FuseHost, Host, MemoryHost};
 use std::alloc::Global;
+use std::process::Abort;
 use std::test::Fail;
 
 // The bytes of an event: the tag `a` of version 0.
@@ -75,41 +78,30 @@ fn a_stop_behind_each_call_leaves_the_record_whole_or_not_at_all(
     Ok(())
 }
 
+// A case a line: a file, and how many records it has or why it has none.
+const FILES: &str = r" => Ok(0)
+EMFSTARE\0\0\0\x01\0\0\0\0\xa5 => Ok(0)
+EMFSTARE\0\0\0\x01\0\0\0\0\0\0 => Err(Damaged { at: 5 })
+EMFSTORE\0\0\0\x01\0\0\0\0\xa5\0 => Err(Damaged { at: 16 })
+EMFSTORE\0\0\0\x01\0\0\0\0\xa5\0\0\0\x01 => Err(Damaged { at: 16 })
+EMFSTORE\0\0\0\x01\0\0\0\0\xa5\x01\0\0\0ab => Err(Damaged { at: 16 })
+EMFSTORE\0\0\0\x01\0\0\0\0\xa5\0\0\0\x01a => Err(Damaged { at: 22 })
+EMFSTORE\0\0\0\x01\0\0\0\0\xa5\0\0\0\x01a\xa5\0 => Err(Damaged { at: 22 })
+EMFSTORE\0\0\0\x01\0\0\0\0\xa5\0\0\0\x01a\0behind => Ok(1)";
+
+fn is_counted(rt: &impl Abort, alloc: Global, case: &str) -> Result<(), Fail> {
+    let (file, wanted) = case.split_once(" => ").ok_or("a case without an answer")?;
+    let mut host = quiet(alloc, bytes_of(alloc, file)?);
+    let counted = count(alloc, &mut host);
+    let told = format!(in alloc; "{counted:?}")?;
+    assert_eq!(rt; told.as_str(), wanted, "{case}");
+    Ok(())
+}
+
 #[test]
 fn a_file_that_reads_on_in_no_way_is_damaged_at_its_place(rt: HostRuntime) -> Result<(), Fail> {
-    let alloc = rt.alloc();
-    let table: [(&[u8], Result<usize, JournalFault>); 9] = [
-        (b"", Ok(0)),
-        (b"EMFSTARE\0\0\0\x01\0\0\0\0\xa5", Ok(0)),
-        (
-            b"EMFSTARE\0\0\0\x01\0\0\0\0\0\0",
-            Err(JournalFault::Damaged { at: 5 }),
-        ),
-        (
-            b"EMFSTORE\0\0\0\x01\0\0\0\0\xa5\0",
-            Err(JournalFault::Damaged { at: 16 }),
-        ),
-        (
-            b"EMFSTORE\0\0\0\x01\0\0\0\0\xa5\0\0\0\x01",
-            Err(JournalFault::Damaged { at: 16 }),
-        ),
-        (
-            b"EMFSTORE\0\0\0\x01\0\0\0\0\xa5\x01\0\0\0ab",
-            Err(JournalFault::Damaged { at: 16 }),
-        ),
-        (
-            b"EMFSTORE\0\0\0\x01\0\0\0\0\xa5\0\0\0\x01a",
-            Err(JournalFault::Damaged { at: 22 }),
-        ),
-        (
-            b"EMFSTORE\0\0\0\x01\0\0\0\0\xa5\0\0\0\x01a\xa5\0",
-            Err(JournalFault::Damaged { at: 22 }),
-        ),
-        (b"EMFSTORE\0\0\0\x01\0\0\0\0\xa5\0\0\0\x01a\0behind", Ok(1)),
-    ];
-    for (file, want) in table {
-        let mut host = quiet(alloc, file.to_vec(alloc)?);
-        assert_eq!(&rt; count(alloc, &mut host), want);
+    for case in FILES.lines() {
+        is_counted(&rt, rt.alloc(), case)?;
     }
     Ok(())
 }

@@ -1,0 +1,13 @@
+//! Tests of the layers that read and write bytes, inputs and the file, over their public calls: a crate that holds its own tests is proved twice.
+#![tactic(auto)]
+
+#[cfg(test)]
+mod fields;
+#[cfg(test)]
+mod hosts;
+#[cfg(test)]
+mod inputs;
+#[cfg(test)]
+mod records;
+#[cfg(test)]
+mod spelling;
