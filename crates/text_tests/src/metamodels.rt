@@ -1,4 +1,4 @@
-// The metamodel of books and writers, and how documents of metamodels are read.
+// The metamodel of books and writers, how documents of metamodels are read, and how values are shown.
 use ecore_json::read_metamodel;
 use ecore_meta::{Feature, Metamodel};
 use std::alloc::Global;
@@ -27,14 +27,7 @@ pub(crate) const LIBRARY: &str =
 ]}"##;
 
 pub(crate) fn replaced(alloc: Global, text: &str, old: &str, new: &str) -> Result<String, Fail> {
-    let mut out = String::new(alloc);
-    for (n, part) in text.split(old).enumerate() {
-        if n > 0 {
-            out.push_str(new)?;
-        }
-        out.push_str(part)?;
-    }
-    Ok(out)
+    Ok(text.replace(alloc, old, new)?)
 }
 
 pub(crate) fn metamodel(alloc: Global, document: &str) -> Result<Metamodel, Fail> {
@@ -62,4 +55,12 @@ pub(crate) fn feature(meta: &Metamodel, f: u32) -> Option<&Feature> {
     } else {
         None
     }
+}
+
+// What is shown of a value, with texts and lists in place of the structures that hold them.
+pub(crate) fn plain(alloc: Global, shown: &str) -> Result<String, Fail> {
+    let shown = replaced(alloc, shown, r#"Text { text: ""#, r#"""#)?;
+    let shown = replaced(alloc, shown.as_str(), r#"" }"#, r#"""#)?;
+    let shown = replaced(alloc, shown.as_str(), "List { items: [", "[")?;
+    replaced(alloc, shown.as_str(), "] }", "]")
 }
