@@ -1,5 +1,4 @@
 // Documents and their answers, as the format is written down for its users. `E#` stands for Ecore's own namespace.
-use crate::metamodels::worded;
 use ecore_json::{EcoreFault, read_metamodel};
 use ecore_meta::Metamodel;
 use std::alloc::Global;
@@ -180,6 +179,11 @@ fn answer(alloc: Global, text: &str) -> Result<String, Fail> {
         Ok(_) => format!(in alloc; "0 Read")?,
         Err(fault) => format!(in alloc; "{} {fault:?}", fault.number())?,
     })
+}
+
+// What stands before the first blank, and what stands behind it.
+pub(crate) fn worded(line: &str) -> (&str, &str) {
+    line.split_once(' ').unwrap_or((line, ""))
 }
 
 pub(crate) fn check_line(

@@ -1,15 +1,11 @@
 // Metamodels and what they say; and documents that are none, by the rules of metamodels. `E#` stands for Ecore's own namespace.
-use crate::ecore_texts::{LIBRARY, PACKAGE, check_line, check_table, read};
+use crate::ecore_texts::{LIBRARY, PACKAGE, check_line, check_table, read, worded};
 use ecore_json::EcoreFault;
 use ecore_meta::{Class, Feature, Metamodel, Scalar};
 use std::alloc::Global;
 use std::fmt::Write;
 use std::process::Abort;
 use std::test::Fail;
-
-pub(crate) fn worded(line: &str) -> (&str, &str) {
-    line.split_once(' ').unwrap_or((line, ""))
-}
 
 // The package of classifiers.
 pub(crate) fn package(

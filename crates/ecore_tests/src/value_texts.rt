@@ -1,5 +1,6 @@
 // Texts and the values that they are, as the format is written down for its users; the texts of JSON's grammar are RFC 8259's.
-use crate::metamodels::{package, scalar, worded};
+use crate::ecore_texts::worded;
+use crate::metamodels::{package, scalar};
 use ecore_meta::{Metamodel, Scalar, Value};
 use emfjson_io::{read_value, write_value};
 use std::alloc::Global;

@@ -5,8 +5,7 @@ use std::alloc::Global;
 use std::process::Abort;
 use std::test::Fail;
 
-// In front the command that a line spells, or the column of the first word that does not fit; then the
-// line, between bars.
+// In front the command that a line spells, or the column of the first word that does not fit; then the line, between bars.
 const FIRST_LINES: &str = r#"Init |init|
 6 |init |
 6 |init x|
@@ -260,32 +259,19 @@ fn are_read(rt: &impl Abort, alloc: Global, rows: &str) -> Result<(), Fail> {
 }
 
 #[test]
-fn first_words_and_creations_are_read(rt: HostRuntime) -> Result<(), Fail> {
+fn lines_are_read(rt: HostRuntime) -> Result<(), Fail> {
     let alloc = rt.alloc();
-    are_read(&rt, alloc, FIRST_LINES)?;
-    are_read(&rt, alloc, CREATE_LINES)
-}
-
-#[test]
-fn edits_of_elements_are_read(rt: HostRuntime) -> Result<(), Fail> {
-    are_read(&rt, rt.alloc(), ELEMENT_LINES)
-}
-
-#[test]
-fn edits_of_attributes_are_read(rt: HostRuntime) -> Result<(), Fail> {
-    let alloc = rt.alloc();
-    are_read(&rt, alloc, SET_LINES)?;
-    are_read(&rt, alloc, ADD_LINES)
-}
-
-#[test]
-fn edits_at_indexes_are_read(rt: HostRuntime) -> Result<(), Fail> {
-    let alloc = rt.alloc();
-    are_read(&rt, alloc, PLACE_LINES)?;
-    are_read(&rt, alloc, REFERENCE_LINES)
-}
-
-#[test]
-fn lines_of_workspaces_are_read(rt: HostRuntime) -> Result<(), Fail> {
-    are_read(&rt, rt.alloc(), WORKSPACE_LINES)
+    for rows in [
+        FIRST_LINES,
+        CREATE_LINES,
+        ELEMENT_LINES,
+        SET_LINES,
+        ADD_LINES,
+        PLACE_LINES,
+        REFERENCE_LINES,
+        WORKSPACE_LINES,
+    ] {
+        are_read(&rt, alloc, rows)?;
+    }
+    Ok(())
 }
