@@ -142,20 +142,20 @@ BadKey {"eClass":"E#//EReference","containment":1,"eType":{"$ref":"//A"}},{"eCla
 LeftOut {"eClass":"E#//EReference","name":"r","eType":{"$ref":"//A"}},{"eClass":"E#//EReference","eKeys":1,"containment":1}"###;
 
 // The number of the library's fault, the fault's name, and the part of the library that was replaced, with what stands in its place.
-const CHANGED: &str = r###"0 Read Shelf Rack
-1 NotJson "name":"lib" "name":"lib
-2 NotPackage E#//EPackage E#//EClass
-3 BadKey "upperBound":2 "upperBound":"2"
-4 LeftOut "upperBound":2 "upperBound":2,"unique":false
-11 Meta(DupName) //EClass","name":"Writer" //EClass","name":"Book"
-12 Meta(Unsupported) E#//EInt E#//EDouble
-13 Meta(NoType) "$ref":"//Shelf" "$ref":"//Rack"
-14 Meta(SuperCycle) "name":"Shelf" "name":"Shelf","eSuperTypes":[{"$ref":"//Shelf"}]
-15 Meta(Clash) "name":"Shelf" "name":"Shelf","eSuperTypes":[{"$ref":"//Writer"}]
-16 Meta(SelfOpposite) {"$ref":"//Book/prequel"} {"$ref":"//Book/sequel"}
-17 Meta(BadOpposite) {"$ref":"//Book/prequel"} {"$ref":"//Book/title"}
-18 Meta(BadBound) "upperBound":2 "upperBound":0
-19 Meta(BadDefault) {"$ref":"E#//EInt"} {"$ref":"E#//EInt"},"defaultValueLiteral":"x""###;
+const CHANGED: &str = r###"0 Read = Shelf -> Rack
+1 NotJson = "name":"lib" -> "name":"lib
+2 NotPackage = E#//EPackage -> E#//EClass
+3 BadKey = "upperBound":2 -> "upperBound":"2"
+4 LeftOut = "upperBound":2 -> "upperBound":2,"unique":false
+11 Meta(DupName) = //EClass","name":"Writer" -> //EClass","name":"Book"
+12 Meta(Unsupported) = E#//EInt -> E#//EDouble
+13 Meta(NoType) = "$ref":"//Shelf" -> "$ref":"//Rack"
+14 Meta(SuperCycle) = "name":"Shelf" -> "name":"Shelf","eSuperTypes":[{"$ref":"//Shelf"}]
+15 Meta(Clash) = "name":"Shelf" -> "name":"Shelf","eSuperTypes":[{"$ref":"//Writer"}]
+16 Meta(SelfOpposite) = {"$ref":"//Book/prequel"} -> {"$ref":"//Book/sequel"}
+17 Meta(BadOpposite) = {"$ref":"//Book/prequel"} -> {"$ref":"//Book/title"}
+18 Meta(BadBound) = "upperBound":2 -> "upperBound":0
+19 Meta(BadDefault) = {"$ref":"E#//EInt"} -> {"$ref":"E#//EInt"},"defaultValueLiteral":"x""###;
 
 const ECORE: &str = "http://www.eclipse.org/emf/2002/Ecore#";
 
@@ -227,8 +227,8 @@ fn documents_have_their_faults(rt: HostRuntime) -> Result<(), Fail> {
 fn each_fault_has_its_number(rt: HostRuntime) -> Result<(), Fail> {
     let alloc = rt.alloc();
     for line in CHANGED.lines() {
-        let (rest, new) = line.rsplit_once(' ').unwrap_or((line, ""));
-        let (wanted, old) = rest.rsplit_once(' ').unwrap_or((rest, ""));
+        let (wanted, change) = line.split_once(" = ").unwrap_or((line, ""));
+        let (old, new) = change.split_once(" -> ").unwrap_or((change, ""));
         let text = LIBRARY.replace(alloc, old, new)?;
         assert_eq!(&rt; answer(alloc, text.as_str())?.as_str(), wanted, "{old}");
     }

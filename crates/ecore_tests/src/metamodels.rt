@@ -95,23 +95,29 @@ fn check_pair(rt: &impl Abort, alloc: Global, line: &str, later: &str) -> Result
     check_line(rt, alloc, PACKAGE, both.as_str(), "]}")
 }
 
-#[test]
-fn of_two_faults_the_first_in_order_is_told(rt: HostRuntime) -> Result<(), Fail> {
-    let alloc = rt.alloc();
-    let mut sooner = Vec::new(alloc);
-    for later in FAULTS.lines() {
-        for line in sooner.iter() {
-            check_pair(&rt, alloc, *line, later)?;
+// With the fault of a line before that one, a document is told of the one before.
+fn check_sooner(rt: &impl Abort, alloc: Global, later: &str) -> Result<(), Fail> {
+    for line in FAULTS.lines() {
+        if line == later {
+            break;
         }
-        sooner.push(later)?;
+        check_pair(rt, alloc, line, later)?;
     }
-    assert_eq!(&rt; sooner.len(), 9);
     Ok(())
 }
 
-// How many classes and enums it has; then each feature's class, its name and what it holds, in the order of the numbers.
-const LIBRARY_TOLD: &str = "4 classes, 0 enums
-0 books Contains { target: 1, opposite: Some(7) }
+#[test]
+fn of_two_faults_the_first_in_order_is_told(rt: HostRuntime) -> Result<(), Fail> {
+    let alloc = rt.alloc();
+    for later in FAULTS.lines() {
+        check_sooner(&rt, alloc, later)?;
+    }
+    assert_eq!(&rt; FAULTS.lines().count(), 9);
+    Ok(())
+}
+
+// Each feature's class, its name and what it holds, in the order of the numbers.
+const LIBRARY_TOLD: &str = "0 books Contains { target: 1, opposite: Some(7) }
 1 title Attr { scalar: Text, default: None }
 1 pages Attr { scalar: Int, default: Some(Whole(0)) }
 1 tags AttrMany { scalar: Text, unique: true }
@@ -126,14 +132,8 @@ const LIBRARY_TOLD: &str = "4 classes, 0 enums
 3 parts Contains { target: 3, opposite: None }
 ";
 
-fn told(alloc: Global, meta: &Metamodel) -> Result<String, Fail> {
+fn told_features(alloc: Global, meta: &Metamodel) -> Result<String, Fail> {
     let mut out = String::new(alloc);
-    write!(
-        out,
-        "{} classes, {} enums\n",
-        meta.class_count(),
-        meta.enum_count()
-    )?;
     for n in 0..meta.feature_count() {
         push_feature(&mut out, meta.feature(n))?;
     }
@@ -151,49 +151,55 @@ fn the_library_is_read(rt: HostRuntime) -> Result<(), Fail> {
     let alloc = rt.alloc();
     let library = read(alloc, LIBRARY)??;
     assert_eq!(&rt; library.uri(), "http://lib/1");
-    assert_eq!(&rt; told(alloc, &library)?.as_str(), LIBRARY_TOLD);
+    assert_eq!(&rt; library.class_count(), 4);
+    assert_eq!(&rt; library.enum_count(), 0);
+    assert_eq!(&rt; told_features(alloc, &library)?.as_str(), LIBRARY_TOLD);
     Ok(())
 }
 
-// What a name is found to be: of a class, of a feature in the class of that number, or of a literal in the enum.
+// The number that a name is found to have: of a class, of a feature in a class, or of a literal in the first enum.
 const LIBRARY_NAMES: &str = "Some(0) class Library
 Some(1) class Book
 Some(2) class Writer
 Some(3) class Shelf
 None class Page
-Some(0) feature 0 books
-Some(1) feature 1 title
-Some(2) feature 1 pages
-Some(3) feature 1 tags
-Some(4) feature 1 authors
-Some(5) feature 1 sequel
-Some(6) feature 1 prequel
-Some(7) feature 1 library
-Some(8) feature 2 name
-Some(9) feature 2 books
-Some(10) feature 2 pair
-Some(11) feature 3 name
-Some(12) feature 3 parts";
+Some(0) feature Library books
+Some(1) feature Book title
+Some(2) feature Book pages
+Some(3) feature Book tags
+Some(4) feature Book authors
+Some(5) feature Book sequel
+Some(6) feature Book prequel
+Some(7) feature Book library
+Some(8) feature Writer name
+Some(9) feature Writer books
+Some(10) feature Writer pair
+Some(11) feature Shelf name
+Some(12) feature Shelf parts";
 
-fn found(meta: &Metamodel, kind: &str, rest: &str) -> Result<Option<u32>, Fail> {
-    if kind == "class" {
-        return Ok(meta.class_named(rest));
+fn found(meta: &Metamodel, kind: &str, name: &str) -> Option<u32> {
+    match kind {
+        "class" => meta.class_named(name),
+        "literal" => meta.literal_named(0, name),
+        _ => {
+            let (class, name) = worded(name);
+            feature_named(meta, meta.class_named(class)?, name)
+        }
     }
-    let (number, name) = worded(rest);
-    let number = number.parse::<u32>()?;
-    if kind == "literal" {
-        return Ok(meta.literal_named(number, name));
+}
+
+fn feature_named(meta: &Metamodel, class: u32, name: &str) -> Option<u32> {
+    if class < meta.class_count() {
+        meta.feature_named(class, name)
+    } else {
+        None
     }
-    if number < meta.class_count() {
-        return Ok(meta.feature_named(number, name));
-    }
-    Err("no class")?
 }
 
 fn check_name(rt: &impl Abort, alloc: Global, meta: &Metamodel, line: &str) -> Result<(), Fail> {
     let (wanted, question) = worded(line);
-    let (kind, rest) = worded(question);
-    let found = found(meta, kind, rest)?;
+    let (kind, name) = worded(question);
+    let found = found(meta, kind, name);
     assert_eq!(rt;
         format!(in alloc; "{found:?}")?.as_str(),
         wanted,
@@ -224,11 +230,11 @@ const INHERITED: &str =
 {"eClass":"E#//EClass","name":"Named","abstract":true,"eStructuralFeatures":[{"eClass":"E#//EAttribute","name":"name","lowerBound":1,"eType":{"$ref":"E#//EString"}}]},
 {"eClass":"E#//EEnum","name":"Colour","eLiterals":[{"name":"red","literal":"r"},{"name":"green","literal":"g"}]}"###;
 
-const INHERITED_NAMES: &str = "Some(3) feature 1 name
-None feature 0 name
-Some(1) literal 0 g
-Some(1) literal 0 green
-None literal 0 blue";
+const INHERITED_NAMES: &str = "Some(3) feature Low name
+None feature Titled name
+Some(1) literal g
+Some(1) literal green
+None literal blue";
 
 // Each class: whether it is abstract, the classes that it is, the features that it has, and those that it lists.
 const INHERITED_TOLD: &str = "Titled true is [0] has [0] lists [0]
@@ -237,6 +243,26 @@ Middle false is [0, 2, 3] has [0, 2, 3] lists [0, 2, 3]
 Named true is [3] has [3] lists [3]
 ";
 
+fn classes_of(alloc: Global, meta: &Metamodel, c: u32) -> Result<Vec<u32>, Fail> {
+    let mut classes = Vec::new(alloc);
+    for d in 0..meta.class_count() {
+        if meta.is_a(c, d) {
+            classes.push(d)?;
+        }
+    }
+    Ok(classes)
+}
+
+fn features_of(alloc: Global, meta: &Metamodel, c: u32) -> Result<Vec<u32>, Fail> {
+    let mut features = Vec::new(alloc);
+    for f in 0..meta.feature_count() {
+        if meta.has_feature(c, f) {
+            features.push(f)?;
+        }
+    }
+    Ok(features)
+}
+
 fn push_class(
     alloc: Global,
     out: &mut String,
@@ -244,12 +270,7 @@ fn push_class(
     c: u32,
     class: &Class,
 ) -> Result<(), Fail> {
-    let is: Vec<u32> = (0..meta.class_count())
-        .filter(|d| meta.is_a(c, *d))
-        .collect(alloc)?;
-    let has: Vec<u32> = (0..meta.feature_count())
-        .filter(|f| meta.has_feature(c, *f))
-        .collect(alloc)?;
+    let (is, has) = (classes_of(alloc, meta, c)?, features_of(alloc, meta, c)?);
     let (name, lists) = (class.name.as_str(), class.features.as_slice());
     write!(
         out,

@@ -86,24 +86,23 @@ fn packages_are_spelled_and_every_front_is_no_form(rt: HostRuntime) -> Result<()
 }
 
 // Bytes of no package, and the place: of the first field that can't be read, or of the first byte left over.
-const NO_PACKAGES: &str = "00 = 0
-ffffffff = 4
-00000000 00 = 4
-00000001 03 = 4
-00000001 01 07 = 5
-00000001 01 01 00000000 = 6
-00000001 02 0000000131 = 5
-00000001 01 01 00000001 0c = 10
-00000001 01 01 00000001 08 0000000123 = 11";
+const NO_PACKAGES: &str = "00 = Some(0)
+ffffffff = Some(4)
+00000000 00 = Some(4)
+00000001 03 = Some(4)
+00000001 01 07 = Some(5)
+00000001 01 01 00000000 = Some(6)
+00000001 02 0000000131 = Some(5)
+00000001 01 01 00000001 0c = Some(10)
+00000001 01 01 00000001 08 0000000123 = Some(11)";
 
 #[test]
 fn bytes_of_no_package_are_no_form(rt: HostRuntime) -> Result<(), Fail> {
     let alloc = rt.alloc();
     for line in NO_PACKAGES.lines() {
-        let (text, place) = line.split_once(" = ").unwrap_or((line, ""));
-        let place = place.parse::<u64>()?;
-        let bytes = read(alloc, text)?;
-        assert_eq!(&rt; fault_at(alloc, bytes.as_slice()), Some(place), "{text}");
+        let (text, wanted) = line.split_once(" = ").unwrap_or((line, ""));
+        let place = fault_at(alloc, read(alloc, text)?.as_slice());
+        assert_eq!(&rt; format!(in alloc; "{place:?}")?.as_str(), wanted, "{text}");
     }
     Ok(())
 }

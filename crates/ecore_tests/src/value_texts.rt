@@ -1,7 +1,7 @@
 // Texts and the values that they are, as the format is written down for its users; the texts of JSON's grammar are RFC 8259's.
 use crate::ecore_texts::worded;
 use crate::metamodels::{package, scalar};
-use ecore_meta::{Metamodel, Scalar, Value};
+use ecore_meta::{Metamodel, Scalar};
 use emfjson_io::{read_value, write_value};
 use std::alloc::Global;
 use std::process::Abort;
@@ -99,18 +99,18 @@ fn texts_are_values_of_their_types(rt: HostRuntime) -> Result<(), Fail> {
 }
 
 // A literal is looked for by all texts first.
-const LITERALS: &str = r#"0 "red"
-1 "RED"
-1 "GREEN""#;
+const LITERALS: &str = r#"Literal(0) "red"
+Literal(1) "RED"
+Literal(1) "GREEN""#;
 
 #[test]
 fn a_literal_is_looked_for_by_all_texts_first(rt: HostRuntime) -> Result<(), Fail> {
     let alloc = rt.alloc();
     let meta = package(alloc, COLOURS)??;
     for line in LITERALS.lines() {
-        let (number, text) = worded(line);
+        let (wanted, text) = worded(line);
         let value = read_value(alloc, text, &Scalar::Literal(0), &meta)?;
-        assert!(&rt; value == Value::Literal(number.parse::<u32>()?), "{text}");
+        assert_eq!(&rt; format!(in alloc; "{value:?}")?.as_str(), wanted, "{text}");
     }
     Ok(())
 }
