@@ -1,7 +1,7 @@
 // Texts and the values that they are, as the format is written down for its users; the texts of JSON's grammar are RFC 8259's.
-use ecore_meta::{
-    ClassifierRow, EnumRow, List, LiteralRow, MetaRows, Metamodel, Scalar, Text, Value, build,
-};
+use crate::ecore_texts::worded;
+use crate::metamodels::{package, scalar};
+use ecore_meta::{Metamodel, Scalar};
 use emfjson_io::{read_value, write_value};
 use std::alloc::Global;
 use std::process::Abort;
@@ -63,52 +63,15 @@ Bad <= Colour "green"
 Bad <= Colour red
 Bad <= Colour 0"###;
 
-fn literal(alloc: Global, name: &str, text: &str) -> Result<LiteralRow, Fail> {
-    Ok(LiteralRow {
-        name: Text::new(alloc, name)?,
-        value: 0,
-        literal: Text::new(alloc, text)?,
-    })
-}
-
-fn colours(alloc: Global) -> Result<Metamodel, Fail> {
-    let mut literals = List::new(alloc);
-    literals.push(literal(alloc, "RED", "red")?)?;
-    literals.push(literal(alloc, "GREEN", "RED")?)?;
-    let mut classifiers = List::new(alloc);
-    let name = Text::new(alloc, "Colour")?;
-    classifiers.push(ClassifierRow::Enum(EnumRow { name, literals }))?;
-    let name = Text::new(alloc, "p")?;
-    let uri = Text::new(alloc, "http://p")?;
-    let rows = MetaRows {
-        name,
-        uri,
-        classifiers,
-    };
-    if !rows.is_numbered() {
-        return Err("too many rows")?;
-    }
-    Ok(build(alloc, &rows)?)
-}
-
-fn scalar(name: &str) -> Scalar {
-    match name {
-        "EString" => Scalar::Text,
-        "EBoolean" => Scalar::Flag,
-        "EByte" => Scalar::Byte,
-        "EShort" => Scalar::Short,
-        "EInt" => Scalar::Int,
-        "ELong" => Scalar::Long,
-        _ => Scalar::Literal(0),
-    }
-}
+const COLOURS: &str =
+    r##"{"eClass":"E#//EEnum","name":"Colour","eLiterals":[{"name":"RED","literal":"red"},{"name":"GREEN","literal":"RED"}]}"##;
 
 // The text of the value that a text is, or its fault.
 fn again(alloc: Global, meta: &Metamodel, scalar: &Scalar, text: &str) -> Result<String, Fail> {
     Ok(match read_value(alloc, text, scalar, meta) {
         Ok(value) => {
             let written = write_value(alloc, &value, scalar, meta)?;
-            format!(in alloc; "{}", written.as_str())?
+            String::from_str(alloc, written.as_str())?
         }
         Err(fault) => format!(in alloc; "{fault:?}")?,
     })
@@ -116,40 +79,38 @@ fn again(alloc: Global, meta: &Metamodel, scalar: &Scalar, text: &str) -> Result
 
 fn check_line(rt: &impl Abort, alloc: Global, meta: &Metamodel, line: &str) -> Result<(), Fail> {
     let (wanted, rest) = line.split_once(" <= ").unwrap_or((line, ""));
-    let (name, text) = rest.split_once(' ').unwrap_or((rest, ""));
+    let (name, text) = worded(rest);
     let told = again(alloc, meta, &scalar(name), text)?;
     assert_eq!(rt; told.as_str(), wanted, "{rest}");
     Ok(())
 }
 
+// White space may stand around a value.
+const SPACED: &str = "\"x\" <= EString \t\"x\"\r\n ";
+
 #[test]
 fn texts_are_values_of_their_types(rt: HostRuntime) -> Result<(), Fail> {
     let alloc = rt.alloc();
-    let meta = colours(alloc)?;
+    let meta = package(alloc, COLOURS)??;
     for line in VALUES.lines() {
         check_line(&rt, alloc, &meta, line)?;
     }
-    Ok(())
+    check_line(&rt, alloc, &meta, SPACED)
 }
 
-#[test]
-fn white_space_may_stand_around_a_value(rt: HostRuntime) -> Result<(), Fail> {
-    let alloc = rt.alloc();
-    let meta = colours(alloc)?;
-    let told = again(alloc, &meta, &Scalar::Text, "\t\"x\"\r\n ")?;
-    assert_eq!(&rt; told.as_str(), r#""x""#);
-    Ok(())
-}
+// A literal is looked for by all texts first.
+const LITERALS: &str = r#"Literal(0) "red"
+Literal(1) "RED"
+Literal(1) "GREEN""#;
 
 #[test]
 fn a_literal_is_looked_for_by_all_texts_first(rt: HostRuntime) -> Result<(), Fail> {
     let alloc = rt.alloc();
-    let meta = colours(alloc)?;
-    let red = read_value(alloc, r#""red""#, &Scalar::Literal(0), &meta)?;
-    assert!(&rt; red == Value::Literal(0));
-    let by_text = read_value(alloc, r#""RED""#, &Scalar::Literal(0), &meta)?;
-    assert!(&rt; by_text == Value::Literal(1));
-    let by_name = read_value(alloc, r#""GREEN""#, &Scalar::Literal(0), &meta)?;
-    assert!(&rt; by_name == Value::Literal(1));
+    let meta = package(alloc, COLOURS)??;
+    for line in LITERALS.lines() {
+        let (wanted, text) = worded(line);
+        let value = read_value(alloc, text, &Scalar::Literal(0), &meta)?;
+        assert_eq!(&rt; format!(in alloc; "{value:?}")?.as_str(), wanted, "{text}");
+    }
     Ok(())
 }

@@ -1,4 +1,4 @@
-//! Tests of the layers from the recording of edits up to the whole program, over their public calls: a crate that holds its own tests is proved twice.
+//! Tests of the repository in memory and of the whole program, over their public calls: a crate that holds its own tests is proved twice.
 #![tactic(auto)]
 
 #[cfg(test)]

@@ -1,7 +1,7 @@
 // Texts of models, and what they say. The faults and their order are those that the format is written down with for its users.
-use crate::metamodels::{cut, metamodel, replaced};
-use ecore_meta::{Metamodel, Value};
-use emfjson_model::{Doc, DocAttr, DocRefs, DocRow, read_model};
+use crate::metamodels::{cut, metamodel, plain, replaced};
+use ecore_meta::Metamodel;
+use emfjson_model::read_model;
 use std::alloc::Global;
 use std::process::Abort;
 use std::test::Fail;
@@ -135,48 +135,23 @@ const MODELS: &str = r###"0 []
 2 [{"eClass":"//Poet","_id":"p"},{"eClass":"//Writer","pair":[{"$ref":"p"}]}]
 1 {"eClass":"//Shelf","_id":"$x","name":"y"}"###;
 
-#[test]
-fn the_first_fault_is_told(rt: HostRuntime) -> Result<(), Fail> {
-    let alloc = rt.alloc();
-    let meta = metamodel(alloc, LIBRARY)?;
-    for line in FAULTS.lines() {
-        let (fault, text) = cut(line);
-        assert_eq!(&rt; answer(alloc, &meta, text)?.as_str(), fault, "{text}");
+fn check_table(rt: &impl Abort, alloc: Global, meta: &Metamodel, table: &str) -> Result<(), Fail> {
+    for line in table.lines() {
+        let (wanted, text) = cut(line);
+        assert_eq!(rt; answer(alloc, meta, text)?.as_str(), wanted, "{text}");
     }
     Ok(())
 }
 
 #[test]
-fn a_model_has_its_elements(rt: HostRuntime) -> Result<(), Fail> {
+fn a_text_has_its_elements_or_its_first_fault(rt: HostRuntime) -> Result<(), Fail> {
     let alloc = rt.alloc();
     let meta = metamodel(alloc, LIBRARY)?;
-    for line in MODELS.lines() {
-        let (count, text) = cut(line);
-        assert_eq!(&rt; answer(alloc, &meta, text)?.as_str(), count, "{text}");
-    }
-    Ok(())
+    check_table(&rt, alloc, &meta, FAULTS)?;
+    check_table(&rt, alloc, &meta, MODELS)
 }
 
-// The targets of a feature of a row, one after another.
-fn targets(alloc: Global, doc: &Doc, row: usize, feature: u32) -> Result<String, Fail> {
-    let mut out = String::new(alloc);
-    if let Some(row) = doc.rows.get(row) {
-        for refs in row.refs.as_slice() {
-            if refs.feature == feature {
-                push_targets(alloc, &mut out, refs)?;
-            }
-        }
-    }
-    Ok(out)
-}
-
-fn push_targets(alloc: Global, out: &mut String, refs: &DocRefs) -> Result<(), Fail> {
-    for target in refs.targets.as_slice() {
-        out.push_str(format!(in alloc; "{target} ")?.as_str())?;
-    }
-    Ok(())
-}
-
+// Texts of models and the rows that they have: an opposite counts where either side gives it.
 const TWO_BOOKS: &str = r#"{ "eClass" : "http://lib/1#//Library",
  "books" : [ { "eClass" : "http://lib/1#//Book", "title" : "Emma",
   "sequel" : { "eClass" : "http://lib/1#//Book", "$ref" : "//@books.1" } },
@@ -184,14 +159,50 @@ const TWO_BOOKS: &str = r#"{ "eClass" : "http://lib/1#//Library",
 }
 "#;
 
+const TWO_BOOKS_ROWS: &str = r#"[DocRow { id: None, class: 0, parent: None, attrs: [], refs: [] },
+DocRow { id: None, class: 1, parent: Some(DocParent { row: 0, feature: 0 }), attrs: [DocAttr { feature: 1, values: [Text("Emma")] }], refs: [DocRefs { feature: 4, targets: [] }, DocRefs { feature: 5, targets: [2] }, DocRefs { feature: 6, targets: [] }] },
+DocRow { id: None, class: 1, parent: Some(DocParent { row: 0, feature: 0 }), attrs: [DocAttr { feature: 1, values: [Text("Persuasion")] }], refs: [DocRefs { feature: 4, targets: [] }, DocRefs { feature: 5, targets: [] }, DocRefs { feature: 6, targets: [1] }] }]"#;
+
+// Three books of one writer: what the writer gives comes first, then the others in their order.
+const THREE_BOOKS: &str =
+    r#"[{"eClass":"//Book","authors":{"$ref":"w"}},{"eClass":"//Writer","_id":"w","books":{"$ref":"/3"}},
+{"eClass":"//Book","authors":{"$ref":"w"}},{"eClass":"//Book","authors":{"$ref":"w"}}]"#;
+
+const THREE_BOOKS_ROWS: &str =
+    r#"[DocRow { id: None, class: 1, parent: None, attrs: [], refs: [DocRefs { feature: 4, targets: [1] }, DocRefs { feature: 5, targets: [] }, DocRefs { feature: 6, targets: [] }] },
+DocRow { id: Some(Id { text: "w" }), class: 2, parent: None, attrs: [], refs: [DocRefs { feature: 12, targets: [3, 0, 2] }, DocRefs { feature: 13, targets: [] }] },
+DocRow { id: None, class: 1, parent: None, attrs: [], refs: [DocRefs { feature: 4, targets: [1] }, DocRefs { feature: 5, targets: [] }, DocRefs { feature: 6, targets: [] }] },
+DocRow { id: None, class: 1, parent: None, attrs: [], refs: [DocRefs { feature: 4, targets: [1] }, DocRefs { feature: 5, targets: [] }, DocRefs { feature: 6, targets: [] }] }]"#;
+
+// Rows stand in the order of a walk.
+const SHELVES: &str =
+    r#"[{"eClass":"//Library","books":[{"title":"x","tags":["b","a"],"pages":0,"colour":"RED"},{"pages":7}],"_id":"l"},
+{"eClass":"//Shelf","_id":"s","parts":[{"name":"t","parts":{}},{"name":""}]}]"#;
+
+const SHELVES_ROWS: &str =
+    r#"[DocRow { id: Some(Id { text: "l" }), class: 0, parent: None, attrs: [], refs: [] },
+DocRow { id: None, class: 1, parent: Some(DocParent { row: 0, feature: 0 }), attrs: [DocAttr { feature: 1, values: [Text("x")] }, DocAttr { feature: 3, values: [Text("b"), Text("a")] }, DocAttr { feature: 9, values: [Literal(1)] }], refs: [DocRefs { feature: 4, targets: [] }, DocRefs { feature: 5, targets: [] }, DocRefs { feature: 6, targets: [] }] },
+DocRow { id: None, class: 1, parent: Some(DocParent { row: 0, feature: 0 }), attrs: [DocAttr { feature: 2, values: [Whole(7)] }], refs: [DocRefs { feature: 4, targets: [] }, DocRefs { feature: 5, targets: [] }, DocRefs { feature: 6, targets: [] }] },
+DocRow { id: Some(Id { text: "s" }), class: 3, parent: None, attrs: [], refs: [] },
+DocRow { id: None, class: 3, parent: Some(DocParent { row: 3, feature: 15 }), attrs: [DocAttr { feature: 14, values: [Text("t")] }], refs: [] },
+DocRow { id: None, class: 3, parent: Some(DocParent { row: 4, feature: 15 }), attrs: [], refs: [] },
+DocRow { id: None, class: 3, parent: Some(DocParent { row: 3, feature: 15 }), attrs: [DocAttr { feature: 14, values: [Text("")] }], refs: [] }]"#;
+
+// The rows of a model, a row a line.
+fn rows(alloc: Global, meta: &Metamodel, text: &str) -> Result<String, Fail> {
+    let doc = read_model(alloc, text, meta)?;
+    let shown = format!(in alloc; "{:?}", doc.rows.as_slice())?;
+    let shown = plain(alloc, shown.as_str())?;
+    replaced(alloc, shown.as_str(), ", DocRow", ",\nDocRow")
+}
+
 #[test]
-fn an_opposite_counts_where_either_side_gives_it(rt: HostRuntime) -> Result<(), Fail> {
+fn rows_have_what_is_given_of_them(rt: HostRuntime) -> Result<(), Fail> {
     let alloc = rt.alloc();
     let meta = metamodel(alloc, LIBRARY)?;
-    let doc = read_model(alloc, TWO_BOOKS, &meta)?;
-    assert_eq!(&rt; doc.rows.len(), 3);
-    assert_eq!(&rt; targets(alloc, &doc, 1, 5)?.as_str(), "2 ");
-    assert_eq!(&rt; targets(alloc, &doc, 2, 6)?.as_str(), "1 ");
+    assert_eq!(&rt; rows(alloc, &meta, TWO_BOOKS)?.as_str(), TWO_BOOKS_ROWS);
+    assert_eq!(&rt; rows(alloc, &meta, THREE_BOOKS)?.as_str(), THREE_BOOKS_ROWS);
+    assert_eq!(&rt; rows(alloc, &meta, SHELVES)?.as_str(), SHELVES_ROWS);
     Ok(())
 }
 
@@ -204,81 +215,6 @@ fn a_path_past_the_last_finds_nothing(rt: HostRuntime) -> Result<(), Fail> {
         Err(fault) => assert_eq!(&rt; fault.number(), 6),
         Ok(_) => assert!(&rt; false),
     }
-    Ok(())
-}
-
-const THREE_BOOKS: &str =
-    r#"[{"eClass":"//Book","authors":{"$ref":"w"}},{"eClass":"//Writer","_id":"w","books":{"$ref":"/3"}},
-{"eClass":"//Book","authors":{"$ref":"w"}},{"eClass":"//Book","authors":{"$ref":"w"}}]"#;
-
-// Three books of one writer: what the writer gives comes first, then the others in their order.
-#[test]
-fn given_targets_come_first(rt: HostRuntime) -> Result<(), Fail> {
-    let alloc = rt.alloc();
-    let meta = metamodel(alloc, LIBRARY)?;
-    let doc = read_model(alloc, THREE_BOOKS, &meta)?;
-    assert_eq!(&rt; targets(alloc, &doc, 1, 12)?.as_str(), "3 0 2 ");
-    assert_eq!(&rt; targets(alloc, &doc, 3, 4)?.as_str(), "1 ");
-    Ok(())
-}
-
-// What a row says of itself: its id, its class, its place, and its attributes by number.
-fn shown(alloc: Global, row: &DocRow) -> Result<String, Fail> {
-    let mut out = match &row.id {
-        None => String::from_str(alloc, "-")?,
-        Some(id) => String::from_str(alloc, id.as_str())?,
-    };
-    out.push_str(format!(in alloc; " {}", row.class)?.as_str())?;
-    if let Some(parent) = row.parent {
-        out.push_str(format!(in alloc; " {}/{}", parent.row, parent.feature)?.as_str())?;
-    }
-    for attr in row.attrs.as_slice() {
-        push_attr(alloc, &mut out, attr)?;
-    }
-    Ok(out)
-}
-
-fn push_attr(alloc: Global, out: &mut String, attr: &DocAttr) -> Result<(), Fail> {
-    out.push_str(format!(in alloc; " {}=", attr.feature)?.as_str())?;
-    for value in attr.values.as_slice() {
-        out.push_str(shown_value(alloc, value)?.as_str())?;
-    }
-    Ok(())
-}
-
-fn shown_value(alloc: Global, value: &Value) -> Result<String, Fail> {
-    Ok(match value {
-        Value::Text(text) => format!(in alloc; "{};", text.as_str())?,
-        Value::Flag(flag) => format!(in alloc; "{flag};")?,
-        Value::Whole(n) => format!(in alloc; "{n};")?,
-        Value::Literal(n) => format!(in alloc; "#{n};")?,
-    })
-}
-
-const SHELVES: &str =
-    r#"[{"eClass":"//Library","books":[{"title":"x","tags":["b","a"],"pages":0,"colour":"RED"},{"pages":7}],"_id":"l"},
-{"eClass":"//Shelf","_id":"s","parts":[{"name":"t","parts":{}},{"name":""}]}]"#;
-
-const ROWS: &str = "l 0
-- 1 0/0 1=x; 3=b;a; 9=#1;
-- 1 0/0 2=7;
-s 3
-- 3 3/15 14=t;
-- 3 4/15
-- 3 3/15 14=;
-";
-
-#[test]
-fn rows_stand_in_the_order_of_a_walk(rt: HostRuntime) -> Result<(), Fail> {
-    let alloc = rt.alloc();
-    let meta = metamodel(alloc, LIBRARY)?;
-    let doc = read_model(alloc, SHELVES, &meta)?;
-    let mut rows = String::new(alloc);
-    for row in doc.rows.as_slice() {
-        rows.push_str(shown(alloc, row)?.as_str())?;
-        rows.push_str("\n")?;
-    }
-    assert_eq!(&rt; rows.as_str(), ROWS);
     Ok(())
 }
 
