@@ -1,7 +1,9 @@
 // Metamodels and what they say; and documents that are none, by the rules of metamodels. `E#` stands for Ecore's own namespace.
 use crate::ecore_texts::{LIBRARY, PACKAGE, check_line, check_table, read, worded};
 use ecore_json::EcoreFault;
-use ecore_meta::{Class, Feature, Metamodel, Scalar};
+use ecore_meta::{
+    Class, ClassRow, ClassifierRow, Feature, List, MetaRows, Metamodel, Scalar, Text, build,
+};
 use std::alloc::Global;
 use std::fmt::Write;
 use std::process::Abort;
@@ -157,6 +159,29 @@ fn the_library_is_read(rt: HostRuntime) -> Result<(), Fail> {
     Ok(())
 }
 
+#[test]
+fn rows_are_built(rt: HostRuntime) -> Result<(), Fail> {
+    let alloc = rt.alloc();
+    let mut classifiers = List::new(alloc);
+    classifiers.push(ClassifierRow::Plain(Text::new(alloc, "Date")?))?;
+    classifiers.push(ClassifierRow::Class(ClassRow {
+        name: Text::new(alloc, "Day")?,
+        is_abstract: true,
+        supers: List::new(alloc),
+        features: List::new(alloc),
+    }))?;
+    let rows = MetaRows {
+        name: Text::new(alloc, "days")?,
+        uri: Text::new(alloc, "http://days/1")?,
+        classifiers,
+    };
+    assert!(&rt; rows.is_numbered());
+    let meta = build(alloc, &rows)?;
+    assert_eq!(&rt; meta.uri(), "http://days/1");
+    assert_eq!(&rt; meta.class_named("Day"), Some(0));
+    Ok(())
+}
+
 // The number that a name is found to have: of a class, of a feature in a class, or of a literal in the first enum.
 const LIBRARY_NAMES: &str = "Some(0) class Library
 Some(1) class Book
@@ -183,16 +208,8 @@ fn found(meta: &Metamodel, kind: &str, name: &str) -> Option<u32> {
         "literal" => meta.literal_named(0, name),
         _ => {
             let (class, name) = worded(name);
-            feature_named(meta, meta.class_named(class)?, name)
+            meta.feature_named(meta.class_named(class)?, name)
         }
-    }
-}
-
-fn feature_named(meta: &Metamodel, class: u32, name: &str) -> Option<u32> {
-    if class < meta.class_count() {
-        meta.feature_named(class, name)
-    } else {
-        None
     }
 }
 
@@ -271,7 +288,7 @@ fn push_class(
     class: &Class,
 ) -> Result<(), Fail> {
     let (is, has) = (classes_of(alloc, meta, c)?, features_of(alloc, meta, c)?);
-    let (name, lists) = (class.name.as_str(), class.features.as_slice());
+    let (name, lists) = (class.name.as_str(), meta.features_of(c));
     write!(
         out,
         "{name} {} is {is:?} has {has:?} lists {lists:?}\n",
