@@ -18,17 +18,17 @@ returns-then-is_null c = (
 pub returns-then-is_default : goal.returns-then-is_default
 returns-then-is_default c = (
   no_part,
-  single_set c.args.meta.now c.args.feature c.args.scalar.now (view c.args.json.now) c.in-Ok.value true (sym c.is_null.ensures ∙ c.if-is_null.false) c.in-Ok.ensures (sym c.is_default.ensures ∙ c.if-is_default.true),
+  single_set c.args.meta.now c.args.feature c.args.scalar.now (view c.args.json.now) c.in_ok-value.value true (sym c.is_null.ensures ∙ c.if-is_null.false) c.in_ok-value.ensures (sym c.is_default.ensures ∙ c.if-is_default.true),
   sym (append-nil _),
   sym (append-nil _),
   refl,
 )
 
-pub returns-in-Ok-push : goal.returns-in-Ok-push
-returns-in-Ok-push c = (
-  attr_part c.args.feature (c.in-Ok.value ∷ []),
-  single_set c.args.meta.now c.args.feature c.args.scalar.now (view c.args.json.now) c.in-Ok.value false (sym c.is_null.ensures ∙ c.if-is_null.false) c.in-Ok.ensures (sym c.is_default.ensures ∙ c.if-is_default.false),
-  c.in-Ok-push.ensures.ok ∙ ap (λ (vs : List Value). c.args.held.now.attrs ++ record { feature = c.args.feature; values = vs } ∷ []) c.in-Ok-alone.ensures,
+pub returns : goal.returns
+returns c = (
+  attr_part c.args.feature (c.in_ok-value.value ∷ []),
+  single_set c.args.meta.now c.args.feature c.args.scalar.now (view c.args.json.now) c.in_ok-value.value false (sym c.is_null.ensures ∙ c.if-is_null.false) c.in_ok-value.ensures (sym c.is_default.ensures ∙ c.if-is_default.false),
+  c.in_ok-push.ensures.ok ∙ ap (λ (vs : List Value). c.args.held.now.attrs ++ record { feature = c.args.feature; values = vs } ∷ []) c.in_ok-values.ensures,
   sym (append-nil _),
   refl,
 )
