@@ -6,7 +6,6 @@ use Rattle.std.proofs.Common.{◌≡◌, ℕ, ◌+◌, ◌<◌, ◌≤◌, suc, 
 use Rattle.std.specs.Prelude.{Option, None, Some}
 use Rattle.std.specs.List.{count_by}
 use Rattle.finite_maps.specs.Equal.{option_eq}
-use Rattle.finite_maps.specs.Maps as maps
 use Rattle.finite_maps.proofs.Cases.{not_so, true_false}
 use Rattle.finite_maps.proofs.EqualLaws.{IsEquality, and_both, and_first, and_second, nat_equality, option_equality}
 use Rattle.ecore_meta.specs.Meta.{Meta, feature_named, name_at}
@@ -22,7 +21,7 @@ use Rattle.emfjson_model.specs.Parts.{Part, joined}
 use Rattle.emfjson_model.specs.References.{parent_eq}
 use Rattle.emfjson_model.proofs.Growing.{Kept, named_has}
 use Rattle.emfjson_model.proofs.Keys.{Above, above_more, not_own}
-use Rattle.emfjson_model.proofs.ValuesFit.{Plain, within_same}
+use Rattle.emfjson_model.proofs.ValuesFit.{Plain}
 
 pub parent_exact : (p q : DocParent) → parent_eq p q ≡ true → p ≡ q
 parent_exact p q h =
@@ -83,7 +82,7 @@ split m n = by_test (nat_lt m n) refl
     by_test true is = inl (grind (arith, nat_tests))
     by_test false is = inr (grind (arith, nat_tests))
 
-none_within : (upper : Option ℕ) → maps.is_within 0 upper ≡ true
+none_within : (upper : Option ℕ) → is_within 0 upper ≡ true
 none_within None = refl
 none_within (Some u) = grind (arith, nat_tests)
 
@@ -91,13 +90,13 @@ none_within (Some u) = grind (arith, nat_tests)
 pub record Rows (meta : Meta) (n : ℕ) (p : Option DocParent) (t : Option ℕ) (k : ℕ) (rows : List Draft) : Type 0 where
   pub tops : (q : DocParent) → p ≡ Some q → count q rows ≡ k
   pub others : (q : DocParent) → q.row < n → (p ≡ Some q → ⊥) → count q rows ≡ 0
-  pub within : (q : DocParent) → n ≤ q.row → maps.is_within (count q rows) (child_upper meta q.feature) ≡ true
+  pub within : (q : DocParent) → n ≤ q.row → is_within (count q rows) (child_upper meta q.feature) ≡ true
   pub beyond : (q : DocParent) → n + length rows ≤ q.row → count q rows ≡ 0
 
 -- the rows that the keys of an object gave: none in features whose names are above the last key
 pub record Keys (meta : Meta) (c own : ℕ) (last : Option Name) (part : Part) : Type 0 where
   pub outside : (q : DocParent) → q.row < own → count q part.rows ≡ 0
-  pub within : (q : DocParent) → own ≤ q.row → maps.is_within (count q part.rows) (child_upper meta q.feature) ≡ true
+  pub within : (q : DocParent) → own ≤ q.row → is_within (count q part.rows) (child_upper meta q.feature) ≡ true
   pub beyond : (q : DocParent) → suc own + length part.rows ≤ q.row → count q part.rows ≡ 0
   pub unseen : (f : ℕ) → Above last (name_at meta.features f) → count (record { row = own; feature = f }) part.rows ≡ 0
 
@@ -114,10 +113,10 @@ module _ (meta : Meta) where
     tops = λ q is. count_append q xs ys ∙ ap₂ (λ a b. a + b) (h.tops q is) (g.tops q is);
     others = λ q less other. count_append q xs ys ∙ both_none (count q xs) (count q ys) (h.others q less other) (g.others q (below_more q.row n (length xs) less) other);
     within = λ q le.
-        ap (λ m. maps.is_within m (child_upper meta q.feature)) (count_append q xs ys)
+        ap (λ m. is_within m (child_upper meta q.feature)) (count_append q xs ys)
         ∙ elim (split q.row (n + length xs)) [
-          | inl less ↦ ap (λ m. maps.is_within m (child_upper meta q.feature)) (second_none (count q xs) (count q ys) (count q xs) refl (g.others q less (other_row p q n before le))) ∙ h.within q le
-          | inr more ↦ ap (λ m. maps.is_within m (child_upper meta q.feature)) (first_none (count q xs) (count q ys) (count q ys) (h.beyond q more) refl) ∙ g.within q more
+          | inl less ↦ ap (λ m. is_within m (child_upper meta q.feature)) (second_none (count q xs) (count q ys) (count q xs) refl (g.others q less (other_row p q n before le))) ∙ h.within q le
+          | inr more ↦ ap (λ m. is_within m (child_upper meta q.feature)) (first_none (count q xs) (count q ys) (count q ys) (h.beyond q more) refl) ∙ g.within q more
         ];
     beyond = λ q le. count_append q xs ys ∙ both_none (count q xs) (count q ys) (h.beyond q (shorter n (length xs) (length ys) q.row (long n xs ys q.row le))) (g.beyond q (long n xs ys q.row le));
   }
@@ -132,7 +131,7 @@ module _ (meta : Meta) where
   rows_own n p t r c last part is before so = record {
     tops = λ q e. count_this q r part.rows (is ∙ e) (so.outside q (before_less n p q before e));
     others = λ q less other. count_other q r part.rows (λ e. other (sym is ∙ e)) ∙ so.outside q less;
-    within = λ q le. ap (λ m. maps.is_within m (child_upper meta q.feature)) (count_other q r part.rows (λ e. other_row p q n before le (sym is ∙ e))) ∙ so.within q le;
+    within = λ q le. ap (λ m. is_within m (child_upper meta q.feature)) (count_other q r part.rows (λ e. other_row p q n before le (sym is ∙ e))) ∙ so.within q le;
     beyond = λ q le. count_other q r part.rows (λ e. other_row p q n before (from n (length part.rows) q.row le) (sym is ∙ e)) ∙ so.beyond q (shifted n (length part.rows) q.row le);
   }
     where
@@ -143,9 +142,9 @@ module _ (meta : Meta) where
       shifted n l m le = omega (arith, le)
 
   -- the bound of a containment is that of its children
-  contains_upper : (f target : ℕ) (opposite : Option ℕ) (n : ℕ) → kind_of meta f ≡ Contains target opposite → is_within n (upper_of meta f) ≡ true → maps.is_within n (child_upper meta f) ≡ true
+  contains_upper : (f target : ℕ) (opposite : Option ℕ) (n : ℕ) → kind_of meta f ≡ Contains target opposite → is_within n (upper_of meta f) ≡ true → is_within n (child_upper meta f) ≡ true
   contains_upper f target opposite n kind within =
-      ap (λ (k : Kind). maps.is_within n (cond (contains_kind k) (upper_of meta f) None)) kind ∙ sym (within_same n (upper_of meta f)) ∙ within
+      ap (λ (k : Kind). is_within n (cond (contains_kind k) (upper_of meta f) None)) kind ∙ within
 
   named_is : (c : ℕ) (k : Name) (f : ℕ) → feature_named meta c k ≡ Some f → name_at meta.features f ≡ k
   named_is c k f named = (bytes_eq-Decides (name_at meta.features f) k).0 (named_has meta c k f named).1
@@ -170,19 +169,19 @@ module _ (meta : Meta) where
     counted : (q : DocParent) → count q (part.rows ++ rows) ≡ count q part.rows + count q rows
     counted q = count_append q part.rows rows
 
-    within_at : (q : DocParent) → own ≤ q.row → (b : Bool) → option_eq parent_eq (Some here) (Some q) ≡ b → maps.is_within (count q (part.rows ++ rows)) (child_upper meta q.feature) ≡ true
+    within_at : (q : DocParent) → own ≤ q.row → (b : Bool) → option_eq parent_eq (Some here) (Some q) ≡ b → is_within (count q (part.rows ++ rows)) (child_upper meta q.feature) ≡ true
     within_at q le true is =
         let e : Some here ≡ Some q = place_equality.exact (Some here) (Some q) is in
         let same : here ≡ q = cc in
         let none : count here part.rows ≡ 0 = so.unseen f (subst (Above last) (sym (named_is c k f named)) above) in
-        subst (λ (p : DocParent). maps.is_within (count p (part.rows ++ rows)) (child_upper meta p.feature) ≡ true) same
-        (ap (λ m. maps.is_within m (child_upper meta f)) (counted here ∙ first_none (count here part.rows) (count here rows) n none (held.tops here refl)) ∙ contains_upper f target opposite n kind within)
+        subst (λ (p : DocParent). is_within (count p (part.rows ++ rows)) (child_upper meta p.feature) ≡ true) same
+        (ap (λ m. is_within m (child_upper meta f)) (counted here ∙ first_none (count here part.rows) (count here rows) n none (held.tops here refl)) ∙ contains_upper f target opposite n kind within)
     within_at q le false is =
         let other : Some here ≡ Some q → ⊥ = λ e. true_false (option_eq parent_eq (Some here) (Some q)) (ap (λ p. option_eq parent_eq (Some here) p) (sym e) ∙ place_equality.own (Some here)) is in
-        ap (λ m. maps.is_within m (child_upper meta q.feature)) (counted q)
+        ap (λ m. is_within m (child_upper meta q.feature)) (counted q)
         ∙ elim (split q.row (suc own + length part.rows)) [
-          | inl less ↦ ap (λ m. maps.is_within m (child_upper meta q.feature)) (second_none (count q part.rows) (count q rows) (count q part.rows) refl (held.others q less other)) ∙ so.within q le
-          | inr more ↦ ap (λ m. maps.is_within m (child_upper meta q.feature)) (first_none (count q part.rows) (count q rows) (count q rows) (so.beyond q more) refl) ∙ held.within q more
+          | inl less ↦ ap (λ m. is_within m (child_upper meta q.feature)) (second_none (count q part.rows) (count q rows) (count q part.rows) refl (held.others q less other)) ∙ so.within q le
+          | inr more ↦ ap (λ m. is_within m (child_upper meta q.feature)) (first_none (count q part.rows) (count q rows) (count q rows) (so.beyond q more) refl) ∙ held.within q more
         ]
 
     keys_hold : Keys meta c own (Some k) (record part { rows = part.rows ++ rows })
@@ -218,7 +217,7 @@ module _ (meta : Meta) where
       let e : part.rows ≡ all.rows = sym same ∙ sym is in
       record {
         outside = λ q less. ap (count q) (sym e) ∙ so.outside q less;
-        within = λ q le. ap (λ rs. maps.is_within (count q rs) (child_upper meta q.feature)) (sym e) ∙ so.within q le;
+        within = λ q le. ap (λ rs. is_within (count q rs) (child_upper meta q.feature)) (sym e) ∙ so.within q le;
         beyond = λ q le. ap (count q) (sym e) ∙ so.beyond q (subst (λ (rs : List Draft). suc own + length rs ≤ q.row) (sym e) le);
         unseen = λ f higher. ap (count (record { row = own; feature = f })) (sym e) ∙ so.unseen f (above_more last k (name_at meta.features f) above higher);
       }

@@ -6,7 +6,7 @@ use Rattle.std.proofs.lemmas.List.Sums.{sum_by-cons}
 use Rattle.serde_json.specs.Data.{Data}
 use Rattle.serde_json.specs.Read.{read}
 use Rattle.finite_maps.specs.Equal.{option_eq}
-use Rattle.finite_maps.specs.Maps as maps
+use Rattle.finite_maps.specs.Maps.{is_within}
 use Rattle.ecore_meta.specs.Meta.{Meta, features_of}
 use Rattle.ecore_meta.specs.Sound.{Sound}
 use Rattle.model_state.specs.Typing.{child_upper, has_feature, is_concrete}
@@ -48,8 +48,8 @@ module _ (meta : Meta) (sound : Sound meta) (drafts : List Draft) (given : List 
       ∙ sym (parents_count (λ (r : Draft). r.parent) p drafts)
 
   -- no containment is above its bound
-  bound_fits : (k : ℕ) → bounds.Rows meta 0 None None k drafts → (p : DocParent) → maps.is_within (standing (Some p) rows) (child_upper meta p.feature) ≡ true
-  bound_fits k so p = ap (λ n. maps.is_within n (child_upper meta p.feature)) (same_count (Some p)) ∙ so.within p (none_more p.row)
+  bound_fits : (k : ℕ) → bounds.Rows meta 0 None None k drafts → (p : DocParent) → is_within (standing (Some p) rows) (child_upper meta p.feature) ≡ true
+  bound_fits k so p = ap (λ n. is_within n (child_upper meta p.feature)) (same_count (Some p)) ∙ so.within p (none_more p.row)
     where
       none_more : (n : ℕ) → 0 ≤ n
       none_more n = omega arith

@@ -7,7 +7,7 @@ use Rattle.ecore_meta.specs.Meta.{Meta}
 use Rattle.ecore_meta.specs.Sound.{Sound}
 use Rattle.ecore_meta.specs.declared.meta.Kind.{Kind}
 use Rattle.ecore_meta.specs.declared.meta.Kind.TheVariants.{Attr, AttrMany, Bounded, Free, Contains, Container, Skip}
-use Rattle.model_state.specs.Typing.{has_feature, is_plain, kind_of, links, opposite_of, plain_to, row_upper}
+use Rattle.model_state.specs.Typing.{has_feature, is_plain, kind_of, links, opposite_of, plain_to}
 use Rattle.emfjson_model.specs.declared.doc.DocRefs.{DocRefs}
 use Rattle.emfjson_model.specs.declared.doc.DocRow.{DocRow}
 use Rattle.emfjson_model.specs.declared.draft.Draft.{Draft}
@@ -20,7 +20,6 @@ use Rattle.emfjson_model.proofs.Given.{ListFits, ListsFit, given_fit, given_type
 use Rattle.emfjson_model.proofs.Merging.{IsMerged, features, features_same, listed, merged_list, merged_pairs, named_in, named_there, others_apart}
 use Rattle.emfjson_model.proofs.Numbers.{has, has_at, has_either, has_left, has_right, is_either, same_bool}
 use Rattle.emfjson_model.proofs.Pairs.{Paired, all_pairs, pair_back, pair_forth}
-use Rattle.emfjson_model.proofs.ValuesFit.{within_same}
 
 none_less : (n : ℕ) → 0 + n ≡ n
 none_less n = omega arith
@@ -148,7 +147,7 @@ module _ (meta : Meta) (sound : Sound meta) (drafts : List Draft) (given : List 
           held = subst (λ x. has_feature meta c x ≡ true) own plain.1;
           plain = subst (λ x. is_plain (kind_of meta x) ≡ true) own plain.0;
           apart = ap are_apart from.2.targets ∙ others_apart o n ts given by.2.1.apart;
-          bound = sym (within_same (length q.targets) (row_upper meta q.feature)) ∙ from.2.within;
+          bound = from.2.within;
           typed = λ b h.
               subst (λ x. TargetFits meta rows c x b) own
               (elim (has_either ts (others o n ts given) b (sym (ap (λ (xs : List ℕ). has xs b) from.2.targets) ∙ h)) [

@@ -4,7 +4,6 @@ use Rattle.std.specs.Prelude.{Option, None, Some, Ok, Err}
 use Rattle.std.specs.List.{AllByRecursion, list_all, list_any}
 use Rattle.std.proofs.lemmas.Bool.Decides.{nat_tests}
 use Rattle.serde_json.specs.Data.{Data}
-use Rattle.finite_maps.specs.Maps as maps
 use Rattle.finite_maps.proofs.EqualLaws.{and_both, and_first, and_second, apart}
 use Rattle.ecore_meta.specs.Meta.{Meta}
 use Rattle.ecore_meta.specs.declared.meta.Kind.{Kind}
@@ -24,11 +23,6 @@ use Rattle.emfjson_model.specs.Fits.{AttrFits}
 use Rattle.emfjson_model.specs.Parts.{Part, no_part}
 use Rattle.emfjson_model.specs.Reads.{Read, «then», collected, found, unless}
 use Rattle.emfjson_model.proofs.Apart.{of_ok, then_ok, unless_ok, unless_true}
-
--- the two tests of bounds are one
-pub within_same : (n : ℕ) (upper : Option ℕ) → is_within n upper ≡ maps.is_within n upper
-within_same n None = refl
-within_same n (Some u) = refl
 
 -- attributes that fit a class
 abbrev pub AttrsFit : Meta → ℕ → List DocAttr → Type 0
@@ -142,7 +136,7 @@ module _ (meta : Meta) (c f : ℕ) (has : has_feature meta c f ≡ true) where
           (
             has,
             subst (λ (k : Kind). ValuesOk meta k (upper_of meta f) (v ∷ vs)) (sym kind)
-                (so.typed, sym (within_same (length (v ∷ vs)) (upper_of meta f)) ∙ within, few (length (v ∷ vs)) small, so.once),
+                (so.typed, within, few (length (v ∷ vs)) small, so.once),
           ),
           tt,
         );

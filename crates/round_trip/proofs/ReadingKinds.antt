@@ -4,7 +4,6 @@ use Rattle.std.specs.Prelude.{Option, None, Some, Ok, nat_le}
 use Rattle.std.specs.List.{AllByRecursion}
 use Rattle.std.proofs.lemmas.List.{length-map}
 use Rattle.std.proofs.lemmas.Bool.Decides.{nat_tests}
-use Rattle.finite_maps.specs.Maps as maps
 use Rattle.serde_json.specs.Data.{Data, array, object, Members}
 use Rattle.serde_json.specs.View.{items_of}
 use Rattle.ecore_json.specs.Rows.{list_of}
@@ -34,12 +33,7 @@ use Rattle.round_trip.proofs.KeysTypes.{Draft}
 use Rattle.round_trip.proofs.ReadingTrees.{AreOk, all_from}
 use Rattle.round_trip.proofs.WalksRows.{Come, forest, kind_attrs, kind_links, kind_rows, set_attr, set_links}
 use Rattle.round_trip.proofs.WalksSteps.{Walked, items_walk}
-use Rattle.round_trip.proofs.ReadingParts.{held_once, list_items, not_null, one_within, same_one, value_again, values_again}
-
--- the same bound
-pub same_within : (n : ℕ) (upper : Option ℕ) → maps.is_within n upper ≡ true → is_within n upper ≡ true
-same_within n None h = refl
-same_within n (Some u) h = h
+use Rattle.round_trip.proofs.ReadingParts.{held_once, list_items, not_null, one_within, value_again, values_again}
 
 both : (a b : Bool) → a ≡ true → b ≡ true → a && b ≡ true
 both true true h k = refl
@@ -123,7 +117,7 @@ module _ (meta : Meta) (named : IsNamed meta) (m : State) (below : ℕ → Optio
   many_ok s unique [] at ok = (ap (λ xs. set_attr f xs) at, refl, λ n. refl)
   many_ok s unique (v ∷ vs) at ok = λ ids come.
       many_read meta f s unique (array (items_of (map (data_of meta s) (v ∷ vs)))) (v ∷ vs) true (map (data_of meta s) (v ∷ vs)) refl (sym (list_items (map (data_of meta s) (v ∷ vs))))
-      (values_again meta named s unique [] (v ∷ vs) (all_from (fits meta s) (v ∷ vs) ok.0) (held_once unique (v ∷ vs) ok.3)) (both (is_within (length (v ∷ vs)) (upper_of meta f)) (nat_le (length (v ∷ vs)) 4294967295) (same_within (length (v ∷ vs)) (upper_of meta f) ok.1) (few (length (v ∷ vs)) ok.2))
+      (values_again meta named s unique [] (v ∷ vs) (all_from (fits meta s) (v ∷ vs) ok.0) (held_once unique (v ∷ vs) ok.3)) (both (is_within (length (v ∷ vs)) (upper_of meta f)) (nat_le (length (v ∷ vs)) 4294967295) ok.1 (few (length (v ∷ vs)) ok.2))
       ∙ ap (λ xs. Ok (record { attrs = set_attr f xs; links = []; rows = [] })) (sym at)
 
   links_told : List Name → Part
@@ -132,8 +126,7 @@ module _ (meta : Meta) (named : IsNamed meta) (m : State) (below : ℕ → Optio
   links_ok : (bs : List Name) → (is_single meta f ≡ true → length bs ≤ 1) → (b : Name) (rest : List Name) → bs ≡ b ∷ rest → links_part f (is_one (upper_of meta f)) (one_or_all (is_single meta f) (reference b) (map reference rest)) ≡ links_told bs
   unfolding links_told
   links_ok bs few b rest is =
-      ap (λ s. links_part f s (one_or_all (is_single meta f) (reference b) (map reference rest))) (same_one (upper_of meta f))
-      ∙ links_again f (is_single meta f) b rest (subst (λ xs. is_single meta f ≡ true → length xs ≤ 1) is few)
+      links_again f (is_single meta f) b rest (subst (λ xs. is_single meta f ≡ true → length xs ≤ 1) is few)
       ∙ ap (λ xs. record { attrs = []; links = set_links f xs; rows = [] }) (sym is)
 
   bounded_ok : (target : ℕ) (opposite : Option ℕ) (bs : List Name) → target_ids m e f ≡ bs → (is_single meta f ≡ true → length bs ≤ 1) → FeatureOk (Bounded target opposite) (listed (is_single meta f) (map reference bs))
@@ -150,7 +143,7 @@ module _ (meta : Meta) (named : IsNamed meta) (m : State) (below : ℕ → Optio
       → FeatureOk (Contains target opposite) (listed (is_single meta f) (map whole cs))
   contains_ok target opposite [] at within all = (refl, refl, λ n. ap (λ xs. forest below n (Some here) xs) at)
   contains_ok target opposite (c ∷ cs) at within all = λ ids come.
-      ap (λ r. «then» r (λ rows. Ok (rows_part rows))) (held_again meta below whole objects here target (is_single meta f) c cs (same_one (upper_of meta f)) within all ids (subst (λ xs. Come ids (ids_of (forest below (length ids) (Some here) xs))) at come))
+      ap (λ r. «then» r (λ rows. Ok (rows_part rows))) (held_again meta below whole objects here target (is_single meta f) c cs refl within all ids (subst (λ xs. Come ids (ids_of (forest below (length ids) (Some here) xs))) at come))
       ∙ ap (λ xs. Ok (record { attrs = []; links = []; rows = forest below (length ids) (Some here) xs })) (sym at)
 
   pub feature_ok : (k : Kind) → kind_of meta f ≡ k → ContentFits k → FeatureOk k (content meta m whole e f k)

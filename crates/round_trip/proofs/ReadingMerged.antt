@@ -7,8 +7,7 @@ use Rattle.std.specs.List.{AllByRecursion, list_any}
 use Rattle.std.specs.Option.{option_map_or, option_map}
 use Rattle.std.proofs.lemmas.List.{length-map}
 use Rattle.std.proofs.lemmas.Option.{slice_get-map}
-use Rattle.finite_maps.specs.Equal.{text_eq}
-use Rattle.finite_maps.specs.Maps.{count, is_within}
+use Rattle.finite_maps.specs.Maps.{is_within}
 use Rattle.finite_maps.proofs.EqualLaws.{nat_equality}
 use Rattle.ecore_meta.specs.Meta.{Meta, features_of}
 use Rattle.ecore_meta.specs.Typing.{kind_of, opposite_of}
@@ -32,7 +31,6 @@ use Rattle.emfjson_text.specs.Tree.{target_ids}
 use Rattle.round_trip.proofs.KeysFound.{Stands, all_stand}
 use Rattle.round_trip.proofs.KeysPairs.{Pairs}
 use Rattle.round_trip.proofs.KeysTypes.{Draft}
-use Rattle.round_trip.proofs.ReadingKinds.{same_within}
 use Rattle.round_trip.proofs.ReadingLinks.{IsLink, collected_map, entries_told, plain_all, targets_at_map, targets_held_by, targets_linked}
 use Rattle.round_trip.proofs.ReadingSpots.{IsReady, place_stands, spot, spot_at, spot_same, targets_read}
 use Rattle.round_trip.proofs.ReadingTrees.{all_of, all_so}
@@ -174,7 +172,7 @@ module _ (meta : Meta) (m : State) (good : Good meta m) (forms : (e : Name) → 
 
   spots_within : (e : Name) (f : ℕ) → is_within (length (spots e f)) (row_upper meta f) ≡ true
   spots_within e f =
-      subst (λ n. is_within n (row_upper meta f) ≡ true) (sym (length-map (target_ids m e f) (spot names) ∙ target_count m e f)) (same_within (count (λ e'. text_eq e e'.0.0 && nat_eq f e'.0.1) m.row) (row_upper meta f) (good.rows.bound e f))
+      subst (λ n. is_within n (row_upper meta f) ≡ true) (sym (length-map (target_ids m e f) (spot names) ∙ target_count m e f)) (good.rows.bound e f)
 
   merged_list : (e : Name) (f : ℕ) → Stands e names → (before : List DocRefs) → merged_at meta given (spot names e) before (list_told e f) ≡ Ok (list_told e f)
   merged_list e f s before =

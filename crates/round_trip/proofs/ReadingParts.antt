@@ -25,7 +25,6 @@ use Rattle.emfjson_model.specs.declared.fault.ModelFault.TheVariants.{BadValue}
 use Rattle.finite_maps.specs.Maps.{is_within}
 use Rattle.emfjson_model.specs.Attributes.{is_null, new_value, next_value}
 use Rattle.emfjson_model.specs.Reads.{«then», unless, collected}
-use Rattle.emfjson_text.specs.Tree as written
 use Rattle.round_trip.specs.Named.{IsNamed}
 use Rattle.round_trip.proofs.ReadingPlain.{read_compact}
 use Rattle.round_trip.proofs.ReadingTrees.{plain_value}
@@ -91,10 +90,6 @@ module _ (meta : Meta) (named : IsNamed meta) where
       ∙ ap (λ xs. Ok xs) (append_assoc done (v ∷ []) vs)
 
 -- ---- bounds
-pub same_one : (upper : Option ℕ) → is_one upper ≡ written.is_one upper
-same_one None = refl
-same_one (Some n) = refl
-
 pub one_within : (upper : Option ℕ) (n : ℕ) → is_one upper ≡ true → is_within (suc (suc n)) upper ≡ true → ⊥
 one_within None n h k = cc
 one_within (Some m) n h k = let e : m ≡ 1 = nat_equality.exact m 1 h in more (subst (λ x. nat_le (suc (suc n)) x ≡ true) e k)

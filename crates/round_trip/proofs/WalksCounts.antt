@@ -8,7 +8,6 @@ use Rattle.std.specs.FinMap.{entries}
 use Rattle.std.proofs.lemmas.Bool.Decides.{nat_tests}
 use Rattle.std.proofs.lemmas.List.{length-map}
 use Rattle.finite_maps.specs.Equal.{text_eq}
-use Rattle.finite_maps.specs.Maps as maps
 use Rattle.finite_maps.specs.Maps.{count, is_within, tally}
 use Rattle.finite_maps.specs.Sorts.{put_in, in_order, picked}
 use Rattle.finite_maps.proofs.EqualLaws.{nat_equality}
@@ -25,7 +24,6 @@ use Rattle.model_state.specs.State.{State, place_eq}
 use Rattle.model_state.specs.Typing.{bounded_kind, contains_kind, child_upper, row_upper}
 use Rattle.emfjson_text.specs.Tree.{child_ids, is_single, target_ids}
 use Rattle.round_trip.specs.Named.{IsNamed}
-use Rattle.round_trip.proofs.ReadingKinds.{same_within}
 
 module _ {A : Type 0} where
   length-put_in : (cmp : A → A → Ordering) (x : A) (ys : List A) → length (put_in cmp x ys) ≡ suc (length ys)
@@ -69,7 +67,7 @@ child_count m p =
     ∙ length-filter (λ (e : Name × Place). place_eq p e.1) (entries m.place)
 
 -- a list within a bound of one has at most one
-few : (n : ℕ) (upper : Option ℕ) → is_one upper ≡ true → maps.is_within n upper ≡ true → n ≤ 1
+few : (n : ℕ) (upper : Option ℕ) → is_one upper ≡ true → is_within n upper ≡ true → n ≤ 1
 few n None h k = cc
 few n (Some u) h k = let e : u ≡ 1 = nat_equality.exact u 1 h in by_le (subst (λ x. nat_le n x ≡ true) e k)
   where
@@ -80,7 +78,7 @@ module _ (meta : Meta) (m : State) (good : Good meta m) where
   pub bounded_few : (a : Name) (f target : ℕ) (opposite : Option ℕ) → kind_of meta f ≡ Bounded target opposite → is_single meta f ≡ true → length (target_ids m a f) ≤ 1
   bounded_few a f target opposite kind single =
       let upper : row_upper meta f ≡ upper_of meta f = ap (λ k. cond (bounded_kind k) (upper_of meta f) None) kind in
-      subst (λ n. n ≤ 1) (sym (target_count m a f)) (few _ (upper_of meta f) single (subst (λ u. maps.is_within (count (λ e. text_eq a e.0.0 && nat_eq f e.0.1) m.row) u ≡ true) upper (good.rows.bound a f)))
+      subst (λ n. n ≤ 1) (sym (target_count m a f)) (few _ (upper_of meta f) single (subst (λ u. is_within (count (λ e. text_eq a e.0.0 && nat_eq f e.0.1) m.row) u ≡ true) upper (good.rows.bound a f)))
 
   pub free_few : IsNamed meta → (a : Name) (f target : ℕ) (opposite : Option ℕ) → kind_of meta f ≡ Free target opposite → is_single meta f ≡ true → length (target_ids m a f) ≤ 1
   free_few named a f target opposite kind single = absurd (none_one (upper_of meta f) (named.unbounded f target opposite kind) single)
@@ -92,5 +90,4 @@ module _ (meta : Meta) (m : State) (good : Good meta m) where
   pub children_within : (a : Name) (f target : ℕ) (opposite : Option ℕ) → kind_of meta f ≡ Contains target opposite → is_within (length (child_ids m (Inside a f))) (upper_of meta f) ≡ true
   children_within a f target opposite kind =
       let upper : child_upper meta f ≡ upper_of meta f = ap (λ k. cond (contains_kind k) (upper_of meta f) None) kind in
-      same_within (length (child_ids m (Inside a f))) (upper_of meta f)
-      (subst (λ n. maps.is_within n (upper_of meta f) ≡ true) (sym (child_count m (Inside a f))) (subst (λ u. maps.is_within (count (λ e. place_eq (Inside a f) e.1) m.place) u ≡ true) upper (good.places.bound a f)))
+      subst (λ n. is_within n (upper_of meta f) ≡ true) (sym (child_count m (Inside a f))) (subst (λ u. is_within (count (λ e. place_eq (Inside a f) e.1) m.place) u ≡ true) upper (good.places.bound a f))
