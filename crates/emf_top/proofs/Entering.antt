@@ -5,7 +5,6 @@ use Rattle.std.proofs.lemmas.List.{append-nil}
 use Rattle.host_port.specs.Host.{Told, Disk, MayLeave, Throughout, KeepsDisk, KeepsSaid, AddsPart, disk_now, said_now, StopLeaves}
 use Rattle.host_port.proofs.Course.{still_disk}
 use Rattle.commit_journal.specs.Journal.{StandsFor, IsAtRest, IsBeforeOrAfter}
-use Rattle.commit_journal.specs.Journal as journal
 use Rattle.commit_journal.proofs.Torn.{left_settled}
 use Rattle.commit_journal.proofs.Ends.{stands}
 use Rattle.command_runs.specs.Runs.{listed, played}
@@ -55,7 +54,7 @@ module _ (a b : Told) (state : State) (end : ℕ) (made : List Event) (event : E
     state_is = next_is ∙ ap (λ (s : State). play s event) holds.state_is ∙ sym (played-append play empty made (event ∷ []));
   }
 
-  pub event_entering : (bytes : List ℕ) → bytes ≡ event_form event → Throughout a b (λ disk said. journal.StopLeaves (IsBeforeOrAfter (map event_form made) bytes) disk) → Throughout a b (λ disk said. IsEntering made (Some event) disk)
+  pub event_entering : (bytes : List ℕ) → bytes ≡ event_form event → Throughout a b (λ disk said. StopLeaves (IsBeforeOrAfter (map event_form made) bytes) disk) → Throughout a b (λ disk said. IsEntering made (Some event) disk)
   event_entering bytes bytes_is moments told t low high x left =
       ⊎_elim
       (λ old. inl (record { forms = old; playable = holds.rests.playable }))
