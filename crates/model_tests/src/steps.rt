@@ -5,7 +5,7 @@ ghost use Rattle.step_apply.specs.View.{plain_state};
 use crate::answers::{Calls, wrong};
 use crate::reading::step;
 use ecore_meta::Metamodel;
-use model_state::Change;
+use model_state::{Change, StepFault};
 use std::alloc::Global;
 use std::test::Fail;
 use step_apply::Plain;
@@ -141,6 +141,13 @@ RerankPlace a 4 4 -> BadStep
 RerankPlace a 4 6 -> OldDiffers
 RerankPlace a 5 6 -> Ok"#;
 
+fn told(alloc: Global, answer: Result<(), StepFault>) -> Result<String, Fail> {
+    match answer {
+        Ok(()) => Ok(String::from_str(alloc, "Ok")?),
+        Err(fault) => Ok(format!(in alloc; "{fault:?}")?),
+    }
+}
+
 // What a model answers to a step.
 pub(crate) fn answer(
     alloc: Global,
@@ -150,10 +157,9 @@ pub(crate) fn answer(
 ) -> Result<String, Fail>
     requires { Good meta.now (plain_state plain.old) }
 {
-    match plain.apply(meta, &step(alloc, call)?) {
-        Ok(()) => Ok(format!(in alloc; "Ok")?),
-        Err(fault) => Ok(format!(in alloc; "{fault:?}")?),
-    }
+    let step = step(alloc, call)?;
+    let answer = plain.apply(meta, &step);
+    told(alloc, answer)
 }
 
 #[test]

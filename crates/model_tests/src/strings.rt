@@ -1,7 +1,9 @@
 // Strings as the texts of models have them: as `serde_json` writes JSON, with short escapes where there are some.
+ghost use Rattle.ecore_meta.specs.Sound.{Sound};
+
 use crate::metamodels::metamodel;
 use crate::reading::step;
-use ecore_meta::{Text, Value};
+use ecore_meta::{Metamodel, Text, Value};
 use emfjson_text::write_model;
 use model_laws::replay;
 use model_state::{Id, Step};
@@ -26,6 +28,15 @@ fn characters(alloc: Global, numbers: &str) -> Result<String, Fail> {
     Ok(text)
 }
 
+// The text of the model that the steps make.
+fn text_after(alloc: Global, meta: &Metamodel, steps: &[Step]) -> Result<Text, Fail>
+    requires { Sound meta.now }
+{
+    let mut plain = Plain::new(alloc);
+    replay(&mut plain, meta, steps)?;
+    Ok(write_model(alloc, &plain, meta)?)
+}
+
 // The text of a book of that title.
 fn titled(alloc: Global, title: &str) -> Result<Text, Fail> {
     let meta = metamodel(alloc, "library")?;
@@ -37,9 +48,7 @@ fn titled(alloc: Global, title: &str) -> Result<Text, Fail> {
         old: None,
         new: Some(Value::Text(Text::new(alloc, title)?)),
     })?;
-    let mut plain = Plain::new(alloc);
-    replay(&mut plain, &meta, steps.as_slice())?;
-    Ok(write_model(alloc, &plain, &meta)?)
+    text_after(alloc, &meta, steps.as_slice())
 }
 
 fn book(alloc: Global, title: &str) -> Result<String, Fail> {
