@@ -8,7 +8,7 @@ ghost use Rattle.step_apply.specs.View.{plain_state};
 
 use crate::metamodels::metamodel;
 use crate::reading::step;
-use crate::{edits, limits, looks, places, references, steps};
+use crate::{limits, looks, places, recordings, references, steps};
 use ecore_meta::Metamodel;
 use model_laws::replay;
 use std::alloc::Global;
@@ -33,7 +33,7 @@ fn take(alloc: Global, meta: &Metamodel, plain: &mut Plain, text: &str) -> Resul
     ensures { OnOk result (Good meta.now (plain_state plain.new)) }
 {
     if !matches!(text.as_bytes().first(), Some(b'A'..=b'Z')) {
-        edits::edit(alloc, meta, plain, text)??;
+        recordings::edit(alloc, meta, plain, text)??;
         return Ok(());
     }
     let mut steps = Vec::new(alloc);
@@ -69,7 +69,7 @@ fn answer(
     requires good { Good meta.now (plain_state plain.old) }
 {
     match calls {
-        Calls::Edits => edits::answer(alloc, meta, plain, call),
+        Calls::Edits => recordings::answer(alloc, meta, plain, call),
         Calls::Limits => limits::answer(alloc, call),
         Calls::Looks => looks::answer(alloc, meta, plain, call),
         Calls::Places => places::answer(alloc, meta, plain, call),

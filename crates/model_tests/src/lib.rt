@@ -6,8 +6,6 @@ mod answers;
 #[cfg(test)]
 mod deep;
 #[cfg(test)]
-mod edits;
-#[cfg(test)]
 mod limits;
 #[cfg(test)]
 mod lines;
@@ -19,6 +17,8 @@ mod metamodels;
 mod places;
 #[cfg(test)]
 mod reading;
+#[cfg(test)]
+mod recordings;
 #[cfg(test)]
 mod references;
 #[cfg(test)]
