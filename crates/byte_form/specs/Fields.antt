@@ -12,10 +12,11 @@ abbrev pub ◌>>=◌ : {A B E : Type 0} → Result A E → (A → Result B E) �
 (Ok x) >>= f = f x
 (Err e) >>= f = Err e
 
--- the spelling of a number in four bytes, and of one in eight, the most significant first
+-- the spelling of a number in four bytes, the most significant first
 unfoldable pub u32_form : ℕ → List ℕ
 u32_form n = to_be_bytes w32 n
 
+-- the same in eight bytes
 unfoldable pub u64_form : ℕ → List ℕ
 u64_form n = to_be_bytes w64 n
 
@@ -27,6 +28,7 @@ text_form text = u32_form (length text) ++ text
 abbrev pub past : Rest → ℕ → Rest
 past r n = record { bytes = drop n r.bytes; place = r.place + n }
 
+-- the first of the bytes that begin at a place, and what is left behind it
 abbrev pub byte_from : ℕ → List ℕ → Result (ℕ × Rest) ReadFault
 byte_from place [] = Err (Short place)
 byte_from place (b ∷ bytes) = Ok (b, record { bytes = bytes; place = place + 1 })

@@ -17,6 +17,7 @@ pub record StoodThere {X : Type 0} (Is : X → Type 0) (form : X → List ℕ) (
   pub bytes : before.bytes ≡ form x ++ after.bytes
   pub place : after.place ≡ before.place + length (form x)
 
+-- bytes are numbers below 256
 abbrev pub AreBytes : List ℕ → Type 0
 AreBytes bytes = (i : ℕ) → slice_index bytes i < 256
 
@@ -28,9 +29,11 @@ IsSpelledSo Is form read = (before : Rest) → AreBytes before.bytes → (x : _)
 abbrev pub NoneBeginsAnother : {X : Type 0} → (X → Type 0) → (X → List ℕ) → Type 0
 NoneBeginsAnother Is form = (x y : _) → Is x → Is y → (rest more : List ℕ) → form x ++ rest ≡ form y ++ more → x ≡ y
 
+-- a number below the limit
 abbrev pub IsBelow : ℕ → ℕ → Type 0
 IsBelow limit n = n < limit
 
+-- a byte is its own spelling
 abbrev pub byte_form : ℕ → List ℕ
 byte_form n = n ∷ []
 

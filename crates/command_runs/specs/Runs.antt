@@ -8,6 +8,7 @@ pub record Answer (E : Type 0) : Type 0 where
   pub refused : Bool
   pub event : Option E
 
+-- an event or none, as a list
 abbrev pub listed : {E : Type 0} → Option E → List E
 listed None = []
 listed (Some e) = e ∷ []

@@ -20,6 +20,7 @@ four_bytes n = to_be_bytes w32 n
 abbrev pub record_of : List ℕ → List ℕ
 record_of form = 165 ∷ four_bytes (length form) ++ form
 
+-- the records of some forms, one behind another
 abbrev pub records : List (List ℕ) → List ℕ
 records [] = []
 records (form ∷ forms) = record_of form ++ records forms
@@ -100,10 +101,12 @@ pub record IsAtRest (disk : Disk) (forms : List (List ℕ)) (end : ℕ) : Type 0
 abbrev pub IsGateLast : Disk → ℕ → List ℕ → Disk → Type 0
 IsGateLast old gate behind disk = StopLeaves (λ x. slice_index x gate ≡ slice_index old.now gate) disk ⊎ (take (length behind) (drop (gate + 1) disk.stable) ≡ behind)
 
+-- what contracts see of a journal: the place of its end, and whether an append failed
 pub record JournalState : Type 0 where
   pub end : ℕ
   pub broken : Bool
 
+-- what contracts see of a journal that is read: the place of the gate that was opened last, that of the next, and whether the closed gate was found
 pub record WalkState : Type 0 where
   pub place : ℕ
   pub next : ℕ

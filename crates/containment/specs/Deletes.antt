@@ -47,6 +47,7 @@ incoming_unlink meta row x i = unlink_step (opposite_of meta i.feature) i.source
 abbrev pub incoming_left : Meta → Rows → List AttrKey → Name → List Incoming
 incoming_left meta row slots x = filter (λ (i : Incoming). not (is_touched meta slots (i.source, i.feature, x))) (incoming row x)
 
+-- the unlinks of such rows to each of the elements, one element after another
 abbrev pub incoming_made : Meta → Rows → List AttrKey → List Name → List Step
 incoming_made meta row slots [] = []
 incoming_made meta row slots (x ∷ xs) = map (incoming_unlink meta row x) (incoming_left meta row slots x) ++ incoming_made meta row slots xs
@@ -60,6 +61,7 @@ is_attribute k = is_attr k || is_many k
 abbrev pub emptied_made : Meta → State → AttrKey → List Step
 emptied_made meta m s = cond (is_attr (kind_of meta s.1)) (put_made m s.0 s.1 None) (clear_made m s.0 s.1)
 
+-- the steps that empty each of these attributes
 abbrev pub values_made : Meta → State → List AttrKey → List Step
 values_made meta m [] = []
 values_made meta m (s ∷ ss) = emptied_made meta m s ++ values_made meta m ss

@@ -30,10 +30,12 @@ abbrev pub is_place : Meta → State → Place → Bool
 is_place meta m Root = true
 is_place meta m (Inside a f) = class_has meta (get m.kind a) f && contains_kind (kind_of meta f)
 
+-- the place is such a one
 abbrev pub IsPlace : Meta → State → Place → Type 0
 IsPlace meta m p = is_place meta m p ≡ true
 
 -- ---- the elements that another comes among
+-- the elements of a place, but for the one given
 abbrev pub others_in : State → Place → Option Name → List Entry
 others_in m p None = children m.place m.prank p
 others_in m p (Some e) = without_entry e (children m.place m.prank p)

@@ -28,9 +28,11 @@ abbrev pub optional : {X : Type 0} → (X → List ℕ) → Option X → List �
 optional word None = codes "-"
 optional word (Some x) = word x
 
+-- the name of the class of that number
 abbrev pub class_name : Meta → ℕ → List ℕ
 class_name meta c = option_map_or (λ class. class.name) (slice_get meta.classes c) []
 
+-- the name of the feature of that number
 abbrev pub feature_name : Meta → ℕ → List ℕ
 feature_name meta f = name_at meta.features f
 
@@ -40,6 +42,7 @@ text_of meta (Attr scalar default) v = value_text meta scalar v
 text_of meta (AttrMany scalar unique) v = value_text meta scalar v
 text_of meta k v = []
 
+-- the text of a value of the feature of that number
 abbrev pub value_word : Meta → ℕ → Value → List ℕ
 value_word meta f v = text_of meta (kind_of meta f) v
 
@@ -66,6 +69,7 @@ step_words meta (RerankPlace e old new) = codes "place" ∷ e ∷ decimal old �
 abbrev pub step_line : Meta → Step → List ℕ
 step_line meta s = spaced (step_words meta s)
 
+-- the word for a kind of operation
 abbrev pub kind_word : OpKind → List ℕ
 kind_word kinds.Create = codes "create"
 kind_word kinds.Delete = codes "delete"

@@ -12,9 +12,11 @@ use Rattle.model_state.specs.declared.step.Place.TheVariants.{Root, Inside}
 use Rattle.model_state.specs.declared.step.Step.{Step}
 use Rattle.model_state.specs.declared.step.Step.TheVariants.{Put, Ins, Del, Shift, Link, Unlink, RerankRow, New, Gone, Move, RerankPlace}
 
+-- the number of a class of the metamodel
 abbrev pub IsClass : Meta → ℕ → Type 0
 IsClass meta c = c < length meta.classes
 
+-- the number of a feature of the metamodel
 abbrev pub IsFeature : Meta → ℕ → Type 0
 IsFeature meta f = f < length meta.features
 
@@ -24,13 +26,16 @@ is_value meta (Attr scalar default) v = fits meta scalar v
 is_value meta (AttrMany scalar unique) v = fits meta scalar v
 is_value meta k v = false
 
+-- a value of the feature of that number
 abbrev pub IsValue : Meta → ℕ → Value → Type 0
 IsValue meta f v = is_value meta (kind_of meta f) v ≡ true
 
+-- such a value, or none
 abbrev pub IsValueIfAny : Meta → ℕ → Option Value → Type 0
 IsValueIfAny meta f None = Unit {0}
 IsValueIfAny meta f (Some v) = IsValue meta f v
 
+-- the root, or inside a feature of the metamodel
 abbrev pub IsPlace : Meta → Place → Type 0
 IsPlace meta Root = Unit {0}
 IsPlace meta (Inside parent f) = IsFeature meta f
@@ -49,6 +54,7 @@ IsTyped meta (Gone e class place rank) = IsClass meta class × IsPlace meta plac
 IsTyped meta (Move e from from_rank to to_rank above_from above_to) = IsPlace meta from × IsPlace meta to
 IsTyped meta (RerankPlace e old new) = Unit {0}
 
+-- so is each of the steps
 abbrev pub AreTyped : Meta → List Step → Type 0
 AreTyped meta steps = All (IsTyped meta) steps
 

@@ -20,6 +20,7 @@ stands_in f None = false
 stands_in f (Some Root) = false
 stands_in f (Some (Inside a g)) = nat_eq f g
 
+-- 1 where the test holds, else 0
 abbrev pub one_if : Bool → ℕ
 one_if b = cond b 1 0
 
@@ -34,6 +35,7 @@ held m e f (Contains target opposite) = length (children m.place m.prank (Inside
 held m e f (Container target opposite) = one_if (stands_in opposite (get m.place e))
 held m e f Skip = 0
 
+-- how much the feature of that number holds
 abbrev pub held_in : Meta → State → Name → ℕ → ℕ
 held_in meta m e f = held m e f (kind_of meta f)
 
@@ -42,6 +44,7 @@ abbrev pub lower_in : Kind → ℕ → ℕ
 lower_in Skip lower = 0
 lower_in k lower = lower
 
+-- the lower bound of the feature of that number
 abbrev pub lower_of : Meta → ℕ → ℕ
 lower_of meta f = lower_in (kind_of meta f) (option_map_or (λ feature. feature.lower) (slice_get meta.features f) 0)
 
@@ -49,6 +52,7 @@ lower_of meta f = lower_in (kind_of meta f) (option_map_or (λ feature. feature.
 abbrev pub shortage_line : Meta → State → Name → ℕ → List ℕ
 shortage_line meta m e f = e ++ spaced (feature_name meta f ∷ decimal (held_in meta m e f) ∷ decimal (lower_of meta f) ∷ [])
 
+-- the line of a feature that holds less than it has to, none of another
 abbrev pub line_if_short : Meta → State → Name → ℕ → List (List ℕ)
 line_if_short meta m e f = cond (nat_lt (held_in meta m e f) (lower_of meta f)) (shortage_line meta m e f ∷ []) []
 
@@ -62,6 +66,7 @@ abbrev pub features_at : Meta → Option ℕ → List ℕ
 features_at meta None = []
 features_at meta (Some c) = features_of meta c
 
+-- the lines of each of the elements
 abbrev pub element_lines : Meta → State → List Name → List (List ℕ)
 element_lines meta m [] = []
 element_lines meta m (e ∷ es) = feature_lines meta m e (features_at meta (get m.kind e)) ++ element_lines meta m es

@@ -28,6 +28,7 @@ abbrev pub root_of : Data → Option Items → Option Data
 root_of d None = Some d
 root_of d (Some ds) = sole ds
 
+-- the value, where it says that it is a package
 abbrev pub if_package : Option Data → Option Data
 if_package None = None
 if_package (Some d) = cond (is_a ecore_package d) (Some d) None
@@ -47,10 +48,12 @@ walked (Some BadKeyFound) rows = Err BadKey
 walked (Some LeftOutFound) rows = Err LeftOut
 walked None rows = built (fault rows.classifiers) rows
 
+-- the metamodel of a package, or its first fault
 abbrev pub of_package : Option Data → Result Meta EcoreFault
 of_package None = Err NotPackage
 of_package (Some d) = walked (package_fault (own_prefix d) d) (rows_of d)
 
+-- the metamodel of a document, or its first fault; None is a text that is no JSON
 abbrev pub of_document : Option Data → Result Meta EcoreFault
 of_document None = Err NotJson
 of_document (Some d) = of_package (package_of d)

@@ -10,6 +10,7 @@ use Rattle.ecore_json.specs.Classes.{ecore_types}
 abbrev pub is_mark : ℕ → Bool
 is_mark b = (b == 95) || (b == 36)
 
+-- a letter, a digit, `_` or `$`
 abbrev pub is_name_byte : ℕ → Bool
 is_name_byte b = is_ascii_alphanumeric b || is_mark b
 
@@ -28,6 +29,7 @@ behind [] t = Some t
 behind (p ∷ ps) [] = None
 behind (p ∷ ps) (b ∷ bs) = cond (p == b) (behind ps bs) None
 
+-- the text, where it is a name
 abbrev pub if_name : Option Name → Option Name
 if_name None = None
 if_name (Some t) = cond (is_name t) (Some t) None
@@ -36,6 +38,7 @@ if_name (Some t) = cond (is_name t) (Some t) None
 unfoldable pub name_behind : Name → Name → Option Name
 name_behind prefix t = if_name (behind prefix t)
 
+-- the first, or else the next
 abbrev pub or_else : {A : Type 0} → Option A → Option A → Option A
 or_else None next = next
 or_else (Some a) next = Some a
@@ -52,6 +55,7 @@ ecore_name t = name_behind ecore_types t
 abbrev pub is_type_reference : Name → Name → Bool
 is_type_reference own t = is_some (ecore_name t) || is_some (own_name own t)
 
+-- the byte `/`
 abbrev pub is_slash : ℕ → Bool
 is_slash b = b == 47
 
@@ -59,6 +63,7 @@ is_slash b = b == 47
 abbrev pub two_names : Name → Option (Name × Name)
 two_names t = cond (is_name (before_first is_slash t) && is_name (after_first is_slash t)) (Some (before_first is_slash t, after_first is_slash t)) None
 
+-- the two names of a text, where there is one
 abbrev pub if_two : Option Name → Option (Name × Name)
 if_two None = None
 if_two (Some t) = two_names t

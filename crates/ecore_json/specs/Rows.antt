@@ -26,10 +26,12 @@ text_at k d = option_map_or (λ t. t) (text_in k d) []
 abbrev pub whole_at : Name → ℤ → Data → ℤ
 whole_at k default d = option_map_or (λ n. n) (option_and_then whole_in (get k d)) default
 
+-- the values of an array
 abbrev pub list_of : Items → List Data
 list_of no_items = []
 list_of (item d ds) = d ∷ list_of ds
 
+-- the values of the array, or the value alone where it is none
 abbrev pub alone_or : Data → Option Items → List Data
 alone_or d None = d ∷ []
 alone_or d (Some ds) = list_of ds
@@ -43,6 +45,7 @@ elements (Some d) = alone_or d (as_array d)
 abbrev pub link_at : Name → Data → Name
 link_at k d = option_map_or (text_at (codes "$ref")) (get k d) []
 
+-- a type of Ecore by its name, or else one of the package
 abbrev pub type_from : Option Name → Option Name → TypeName
 type_from (Some t) own = Ecore t
 type_from None own = Own (option_map_or (λ t. t) own [])
@@ -55,9 +58,11 @@ type_name own t = type_from (ecore_name t) (own_name own t)
 abbrev pub super_name : Name → Name → Name
 super_name own t = cond (is_some (ecore_name t)) t (option_map_or (λ n. n) (own_name own t) [])
 
+-- the class that an object refers to as a supertype
 abbrev pub super_of : Name → Data → Name
 super_of own d = super_name own (text_at (codes "$ref") d)
 
+-- an opposite, by its class and its feature
 abbrev pub opposite_from : Option (Name × Name) → Option OppositeRow
 opposite_from None = None
 opposite_from (Some p) = Some (record { class = p.0; feature = p.1 })
@@ -70,6 +75,7 @@ opposite_at own d = opposite_from (own_feature own (link_at (codes "eOpposite") 
 abbrev pub default_at : Data → Option Name
 default_at d = cond (is_a ecore_reference d) None (text_in (codes "defaultValueLiteral") d)
 
+-- an attribute or a reference, with its defaults where something is not said
 abbrev pub feature_row : Name → Data → FeatureRow
 feature_row own d = record {
   name = text_at (codes "name") d;
@@ -92,6 +98,7 @@ literal_row d = record {
   literal = option_map_or (λ t. t) (text_in (codes "literal") d) (text_at (codes "name") d);
 }
 
+-- a class, with its supertypes and features
 abbrev pub class_row : Name → Data → ClassRow
 class_row own d = record {
   name = text_at (codes "name") d;
@@ -100,12 +107,14 @@ class_row own d = record {
   features = map (feature_row own) (elements (get (codes "eStructuralFeatures") d));
 }
 
+-- an enum, with its literals
 abbrev pub enum_row : Data → EnumRow
 enum_row d = record {
   name = text_at (codes "name") d;
   literals = map literal_row (elements (get (codes "eLiterals") d));
 }
 
+-- a class, an enum or else a data type
 abbrev pub classifier_row : Name → Data → ClassifierRow
 classifier_row own d =
     cond (is_a ecore_class d) (Class (class_row own d))

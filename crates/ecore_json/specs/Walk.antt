@@ -27,6 +27,7 @@ abbrev pub «then» : Option WalkFault → Option WalkFault → Option WalkFault
 «then» None next = next
 «then» (Some e) next = Some e
 
+-- the fault where the test holds
 abbrev pub fails : Bool → WalkFault → Option WalkFault
 fails b e = cond b (Some e) None
 
@@ -36,6 +37,7 @@ fails b e = cond b (Some e) None
 abbrev pub text_in : Name → Data → Option Name
 text_in k d = option_and_then as_str (get k d)
 
+-- the text is there, and is that one
 abbrev pub is_text : Option Name → Name → Bool
 is_text None t = false
 is_text (Some s) t = bytes_eq s t
@@ -44,12 +46,14 @@ is_text (Some s) t = bytes_eq s t
 abbrev pub is_a : Name → Data → Bool
 is_a class d = is_text (text_in (codes "eClass") d) class
 
+-- what a classifier is, by its `eClass`
 abbrev pub classifier_shape : Data → Option Shape
 classifier_shape d =
     cond (is_a ecore_class d) (Some Class)
     (cond (is_a ecore_enum d) (Some Enum)
     (cond (is_a ecore_data_type d) (Some DataType) None))
 
+-- what a feature is, by its `eClass`
 abbrev pub feature_shape : Data → Option Shape
 feature_shape d =
     cond (is_a ecore_attribute d) (Some Attribute)
@@ -66,9 +70,11 @@ shape_at OfOppositeLink d = Some OppositeLink
 
 -- ---- what is left out
 
+-- the object has the key
 abbrev pub has : Name → Data → Bool
 has k d = is_some (get k d)
 
+-- an array without items
 abbrev pub is_empty_list : Option Items → Bool
 is_empty_list None = false
 is_empty_list (Some no_items) = true
@@ -83,6 +89,7 @@ is_filled (Some d) = not (is_empty_list (as_array d))
 abbrev pub flag_at : Name → Bool → Data → Bool
 flag_at k default d = option_map_or (λ b. b) (option_and_then as_bool (get k d)) default
 
+-- the whole number that a value is, where 64 bits hold it
 abbrev pub whole_in : Data → Option ℤ
 whole_in d = option_and_then as_i64 (as_number d)
 
@@ -90,6 +97,7 @@ whole_in d = option_and_then as_i64 (as_number d)
 abbrev pub is_skipped : Data → Bool
 is_skipped d = flag_at (codes "volatile") false d || (flag_at (codes "transient") false d || flag_at (codes "derived") false d)
 
+-- the number is 1
 abbrev pub is_one : Option ℤ → Bool
 is_one None = false
 is_one (Some n) = int_eq n (pos 1)
@@ -178,6 +186,7 @@ unfoldable mutual
   array_fault own p (string t) = Some BadKey
   array_fault own p (object ms) = Some BadKey
 
+  -- its items, one after another
   pub items_fault : Name → Place → Items → Option WalkFault
   items_fault own p no_items = None
   items_fault own p (item d ds) = «then» (object_fault own p d) (items_fault own p ds)

@@ -27,6 +27,7 @@ abbrev pub natural : ℤ → ℕ
 natural (pos n) = min n 4294967295
 natural (negsuc n) = 0
 
+-- the number of the opposite, where there is one
 abbrev pub end_number : End → Option ℕ
 end_number Open = None
 end_number Nowhere = None
@@ -37,14 +38,17 @@ abbrev pub default_in : List (List EnumLiteral) → Scalar → Option (List ℕ)
 default_in literals s None = default_of s
 default_in literals s (Some text) = value_of literals s text
 
+-- an attribute: single where its upper bound is 1, else many-valued
 abbrev pub attribute : List (List EnumLiteral) → Draft → Scalar → Kind
 attribute literals d s = cond (int_eq d.upper (pos 1)) (Attr s (default_in literals s d.default_text)) (AttrMany s d.unique)
 
+-- a reference to the element around, by the containment that is its opposite
 abbrev pub container : ℕ → End → Kind
 container c Open = Skip
 container c Nowhere = Skip
 container c (At g) = Container c g
 
+-- a plain reference: free where it has no upper bound, else bounded
 abbrev pub plain : Draft → ℕ → Kind
 plain d c = cond (int_eq d.upper (negsuc 0)) (Free c (end_number d.end)) (Bounded c (end_number d.end))
 
@@ -52,6 +56,7 @@ plain d c = cond (int_eq d.upper (negsuc 0)) (Free c (end_number d.end)) (Bounde
 abbrev pub reference : List Draft → Draft → ℕ → Kind
 reference ds d c = cond d.containment (Contains c (end_number d.end)) (cond (contains_back ds d.end) (container c d.end) (plain d c))
 
+-- the kind of a feature, by what its type is
 abbrev pub kind_in : List (List EnumLiteral) → List Draft → Draft → Target → Kind
 kind_in literals ds d Skipped = Skip
 kind_in literals ds d Unsupported = Skip
@@ -63,9 +68,11 @@ kind_in literals ds d (Values s) = attribute literals d s
 abbrev pub lower_from : Draft → ℕ
 lower_from d = cond (is_skipped d.target) 0 (natural d.lower)
 
+-- the upper bound, None where there is none
 abbrev pub upper_from : Draft → Option ℕ
 upper_from d = cond (is_skipped d.target) (Some 1) (cond (int_eq d.upper (negsuc 0)) None (Some (natural d.upper)))
 
+-- a feature of the metamodel, by its draft
 abbrev pub feature_from : List (List EnumLiteral) → List Draft → Draft → Feature
 feature_from literals ds d = record { owner = d.owner; name = d.name; lower = lower_from d; upper = upper_from d; kind = kind_in literals ds d d.target }
 
@@ -76,6 +83,7 @@ classes_from n features (ClassOf c ∷ rows) = record { name = c.name; is_abstra
 classes_from n features (Enum e ∷ rows) = classes_from n features rows
 classes_from n features (Plain t ∷ rows) = classes_from n features rows
 
+-- the metamodel that a package stands for
 abbrev pub meta_of : MetaRows → Meta
 meta_of rows = record {
   uri = rows.uri;

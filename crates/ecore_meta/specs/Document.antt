@@ -10,9 +10,11 @@ use Rattle.ecore_meta.specs.declared.rows.FeatureRow.{FeatureRow}
 use Rattle.ecore_meta.specs.declared.classifiers.Classifier.{Classifier}
 use Rattle.ecore_meta.specs.declared.classifiers.Classifier.TheVariants.{Class as OfClass, Enum as OfEnum, Plain as OfPlain}
 
+-- the classifiers of a document, in its order
 abbrev pub Rows : Type 0
 Rows = List ClassifierRow
 
+-- the name of a classifier
 abbrev pub classifier_name : ClassifierRow → Name
 classifier_name (Class c) = c.name
 classifier_name (Enum e) = e.name
@@ -22,6 +24,7 @@ classifier_name (Plain t) = t
 abbrev pub feature_names : List FeatureRow → List Name
 feature_names fs = map (λ f. f.name) fs
 
+-- there are no literals
 abbrev pub has_none : List LiteralRow → Bool
 has_none [] = true
 has_none (l ∷ ls) = false
@@ -37,6 +40,7 @@ numbered c f e (Plain t ∷ rows) = OfPlain ∷ numbered c f e rows
 unfoldable pub classifier_named : Rows → Name → Option Classifier
 classifier_named rows q = option_and_then (λ p. slice_get (numbered 0 0 0 rows) p) (number_of q (map classifier_name rows))
 
+-- the number of the class, where the classifier is one
 abbrev pub class_in : Classifier → Option ℕ
 class_in (OfClass c f) = Some c
 class_in (OfEnum e empty) = None
@@ -62,6 +66,7 @@ number_in (Some (Enum e)) k feature = None
 number_in (Some (Plain t)) k feature = None
 number_in None k feature = None
 
+-- the same of the classifier at a place
 abbrev pub number_at : Rows → ℕ → Name → Option ℕ
 number_at rows p feature = number_in (slice_get rows p) (slice_get (numbered 0 0 0 rows) p) feature
 

@@ -35,10 +35,12 @@ own_scalar (Some (OfClass c f)) = Missing
 own_scalar (Some (OfEnum e empty)) = cond empty Missing (Values (Literal e))
 own_scalar (Some OfPlain) = Values Text
 
+-- an attribute's type: one of the package or of Ecore
 abbrev pub value_target : Rows → TypeName → Target
 value_target all (Own t) = own_scalar (classifier_named all t)
 value_target all (Ecore t) = ecore_scalar t
 
+-- a reference's type, by what its name stands for
 abbrev pub own_class : Option Classifier → Target
 own_class None = Missing
 own_class (Some (OfClass c f)) = Elements c
@@ -50,13 +52,16 @@ abbrev pub class_target : Rows → TypeName → Target
 class_target all (Own t) = own_class (classifier_named all t)
 class_target all (Ecore t) = Missing
 
+-- what a feature's type is; that of a skipped feature is not looked at
 abbrev pub target_of : Rows → FeatureRow → Target
 target_of all f = cond f.skipped Skipped (cond f.is_reference (class_target all f.target) (value_target all f.target))
 
+-- the opposite that was found, or nowhere
 abbrev pub end_at : Option ℕ → End
 end_at None = Nowhere
 end_at (Some n) = At n
 
+-- the opposite of that name, where one is named
 abbrev pub named_end : Rows → Option OppositeRow → End
 named_end all None = Open
 named_end all (Some o) = end_at (feature_number all o.class o.feature)
@@ -86,5 +91,6 @@ drafts_from all n (Class c ∷ rows) = map (draft all n) c.features ++ drafts_fr
 drafts_from all n (Enum e ∷ rows) = drafts_from all n rows
 drafts_from all n (Plain t ∷ rows) = drafts_from all n rows
 
+-- the features of a document, in the order of their declaration
 unfoldable pub drafts : Rows → List Draft
 drafts all = drafts_from all 0 all

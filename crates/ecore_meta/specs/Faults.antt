@@ -26,9 +26,11 @@ repeats_within (Class c) = has_repeat (feature_names c.features)
 repeats_within (Enum e) = has_repeat (map (λ l. l.name) e.literals) || has_repeat (map (λ l. l.literal) e.literals)
 repeats_within (Plain t) = false
 
+-- two classifiers have one name, or one of them has such a repeat
 abbrev pub dup_name : Rows → Bool
 dup_name rows = has_repeat (map classifier_name rows) || list_any repeats_within rows
 
+-- a type of Ecore that is not read
 abbrev pub is_unsupported : Target → Bool
 is_unsupported Unsupported = true
 is_unsupported Skipped = false
@@ -40,6 +42,7 @@ is_unsupported (Values s) = false
 abbrev pub unsupported : List Draft → Bool
 unsupported ds = list_any (λ d. is_unsupported d.target) ds
 
+-- a type that is none of the package that fits
 abbrev pub is_missing : Target → Bool
 is_missing Missing = true
 is_missing Skipped = false
@@ -72,6 +75,7 @@ own_features f (Class c ∷ rows) = range_with_len f (length c.features) ∷ own
 own_features f (Enum e ∷ rows) = own_features f rows
 own_features f (Plain t ∷ rows) = own_features f rows
 
+-- the features that the class of that number declares
 abbrev pub own_of : List (List ℕ) → ℕ → List ℕ
 own_of own d = option_map_or (λ fs. fs) (slice_get own d) []
 
@@ -83,6 +87,7 @@ inherited supers own c = flat_map (own_of own) (filter (is_above supers c) (rang
 abbrev pub all_inherited : List (List ℕ) → List (List ℕ) → List (List ℕ)
 all_inherited supers own = map (inherited supers own) (range_with_len 0 (length supers))
 
+-- the name of the feature of that number
 abbrev pub draft_name : List Draft → ℕ → Name
 draft_name ds f = option_map_or (λ d. d.name) (slice_get ds f) []
 
@@ -95,6 +100,7 @@ abbrev pub any_from : (ℕ → Draft → Bool) → ℕ → List Draft → Bool
 any_from p n [] = false
 any_from p n (d ∷ ds) = p n d || any_from p (suc n) ds
 
+-- the opposite has that number
 abbrev pub is_at : ℕ → End → Bool
 is_at n Open = false
 is_at n Nowhere = false
@@ -104,6 +110,7 @@ is_at n (At g) = nat_eq n g
 abbrev pub is_self : ℕ → Draft → Bool
 is_self n d = is_at n d.end
 
+-- the type is the class of that number
 abbrev pub is_to : ℕ → Target → Bool
 is_to c (Elements d) = nat_eq c d
 is_to c Skipped = false
@@ -116,6 +123,7 @@ abbrev pub answers : ℕ → Draft → Option Draft → Bool
 answers n d None = false
 answers n d (Some o) = is_at n o.end && (is_to o.owner d.target && (is_to d.owner o.target && not (d.containment && o.containment)))
 
+-- an opposite that is named is none, or doesn't answer
 abbrev pub bad_end : List Draft → ℕ → Draft → End → Bool
 bad_end ds n d Open = false
 bad_end ds n d Nowhere = true
@@ -125,6 +133,7 @@ bad_end ds n d (At g) = not (answers n d (slice_get ds g))
 abbrev pub is_unanswered : List Draft → ℕ → Draft → Bool
 is_unanswered ds n d = bad_end ds n d d.end
 
+-- the opposite is a containment
 abbrev pub contains_back : List Draft → End → Bool
 contains_back ds Open = false
 contains_back ds Nowhere = false
@@ -137,6 +146,7 @@ bad_bounds ds d =
     || not (int_eq d.upper (negsuc 0)) && (int_lt d.upper (pos 1) || int_lt d.upper d.lower)
     || contains_back ds d.end && not (int_eq d.upper (pos 1))
 
+-- the feature is skipped
 abbrev pub is_skipped : Target → Bool
 is_skipped Skipped = true
 is_skipped Unsupported = false
@@ -144,9 +154,11 @@ is_skipped Missing = false
 is_skipped (Elements c) = false
 is_skipped (Values s) = false
 
+-- a feature that isn't skipped has such bounds
 abbrev pub bad_bound : List Draft → Draft → Bool
 bad_bound ds d = not (is_skipped d.target) && bad_bounds ds d
 
+-- the text stands for no value of the type
 abbrev pub no_value : List (List EnumLiteral) → Target → Option Name → Bool
 no_value literals (Values s) (Some text) = not (is_some (value_of literals s text))
 no_value literals (Values s) None = false
@@ -159,6 +171,7 @@ no_value literals (Elements c) text = false
 abbrev pub bad_default : List (List EnumLiteral) → Draft → Bool
 bad_default literals d = int_eq d.upper (pos 1) && no_value literals d.target d.default_text
 
+-- a literal by its name and its text
 abbrev pub literal : LiteralRow → EnumLiteral
 literal row = record { name = row.name; text = row.literal }
 
@@ -169,6 +182,7 @@ literals_in (Class c ∷ rows) = literals_in rows
 literals_in (Enum e ∷ rows) = map literal e.literals ∷ literals_in rows
 literals_in (Plain t ∷ rows) = literals_in rows
 
+-- the fault of the first test that holds
 abbrev pub first_true : List (Bool × MetaFault) → Option MetaFault
 first_true [] = None
 first_true (t ∷ ts) = cond t.0 (Some t.1) (first_true ts)

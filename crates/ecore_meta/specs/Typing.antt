@@ -57,6 +57,7 @@ opposite_in (Bounded target opposite) = opposite
 opposite_in (Free target opposite) = opposite
 opposite_in k = None
 
+-- the opposite of the feature of that number
 abbrev pub opposite_of : Meta → ℕ → Option ℕ
 opposite_of meta f = opposite_in (kind_of meta f)
 

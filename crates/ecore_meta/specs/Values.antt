@@ -37,15 +37,19 @@ whole_of text =
 abbrev pub wide : Option ℤ → Option ℤ
 wide o = option_and_then (λ n. cond (in_width 9223372036854775808 n) (Some n) None) o
 
+-- the number as a value, where the width holds it
 abbrev pub narrow : ℕ → ℤ → Option Value
 narrow half n = cond (in_width half n) (Some (Whole n)) None
 
+-- the whole number that a text says, where the width holds it
 abbrev pub whole_in : ℕ → List ℕ → Option Value
 whole_in half text = option_and_then (narrow half) (whole_of text)
 
+-- the flag of `true` or `false`
 abbrev pub flag_of : List ℕ → Option Value
 flag_of text = if bytes_eq text (codes "true") then Some (Flag true) else if bytes_eq text (codes "false") then Some (Flag false) else None
 
+-- the literals of the enum of that number, none where there is no such enum
 abbrev pub literals_at : List (List EnumLiteral) → ℕ → List EnumLiteral
 literals_at literals e = option_map_or (λ ls. ls) (slice_get literals e) []
 
@@ -53,6 +57,7 @@ literals_at literals e = option_map_or (λ ls. ls) (slice_get literals e) []
 abbrev pub text_in : List EnumLiteral → ℕ → List ℕ
 text_in literals n = option_map_or (λ l. l.text) (slice_get literals n) []
 
+-- the first, or else the second
 abbrev pub or_else : Option ℕ → Option ℕ → Option ℕ
 or_else None o = o
 or_else (Some n) o = Some n

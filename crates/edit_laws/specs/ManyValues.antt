@@ -24,6 +24,7 @@ abbrev pub with_values : State → Name → ℕ → List Value → State
 with_values m e f vs = record m { attr = set m.attr (e, f) (entry_of vs) }
 
 -- ---- a value comes in at an index
+-- one value more
 abbrev pub insert_after : State → Name → ℕ → ℕ → Value → State
 insert_after m e f k v = with_values m e f (insert (values_in m e f) k v)
 
@@ -32,6 +33,7 @@ abbrev pub insert_made : Name → ℕ → ℕ → Value → List Step
 insert_made e f k v = Ins e f k v ∷ []
 
 -- ---- the value at an index goes
+-- one value less
 abbrev pub remove_after : State → Name → ℕ → ℕ → State
 remove_after m e f k = with_values m e f (remove (values_in m e f) k)
 
@@ -40,6 +42,7 @@ abbrev pub remove_made : State → Name → ℕ → ℕ → List Step
 remove_made m e f k = option_map_or (λ v. Del e f k v ∷ []) (slice_get (values_in m e f) k) []
 
 -- ---- the value at an index is taken out and put at another
+-- the same values in another order
 abbrev pub shift_after : State → Name → ℕ → ℕ → ℕ → State
 shift_after m e f from to = with_values m e f (shifted (values_in m e f) from to)
 
@@ -48,6 +51,7 @@ abbrev pub shift_made : State → Name → ℕ → ℕ → ℕ → List Step
 shift_made m e f from to = cond (list_eq value_eq (shifted (values_in m e f) from to) (values_in m e f)) [] (Shift e f from to ∷ [])
 
 -- ---- all values go
+-- the attribute is not set
 abbrev pub clear_after : State → Name → ℕ → State
 clear_after m e f = with_values m e f []
 

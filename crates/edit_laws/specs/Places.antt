@@ -17,6 +17,7 @@ use Rattle.edit_laws.specs.References.{without_entry, stands_at}
 use Rattle.std.specs.List.{list_any}
 use Rattle.finite_maps.specs.Equal.{text_eq}
 
+-- the rank of each element where it stands
 abbrev pub Ranks : Type 0
 Ranks = FinMap id_cmp ℕ
 

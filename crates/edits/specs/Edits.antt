@@ -45,24 +45,33 @@ use Rattle.containment.specs.Containers.{containers_of}
 abbrev pub Reading : Type 0
 Reading = Scalar → List ℕ → Option Value
 
--- The effect of an edit, with its names looked up and its value read. Creates: an element of a class comes, last in a place. Moves: an element comes to stand
--- in a place, at an index of the others there, None for their end. Deletes: it goes with its subtree. Puts: a single attribute has
--- the value, or none. Clears: a many-valued attribute has no value. Inserts: a value comes into it at an index. Removes: the value at an index goes. Shifts:
--- the value at an index is taken out and put at another. Of a plain reference: Refers: it has the target alone. Forgets: it has no target. Links: the target
--- comes at an index. Unlinks: the target goes. Reorders: the target stands at an index.
+-- the effect of an edit, with its names looked up and its value read
 pub data Effect : Type 0 where
+  -- an element of a class comes, last in a place
   Creates : Name → ℕ → Place → Effect
+  -- an element comes to stand in a place, at an index of the others there, None for their end
   Moves : Name → Place → Option ℕ → Effect
+  -- an element goes with its subtree
   Deletes : Name → Effect
+  -- a single attribute has the value, or none
   Puts : Name → ℕ → Option Value → Effect
+  -- a many-valued attribute has no value
   Clears : Name → ℕ → Effect
+  -- a value comes into a many-valued attribute at an index
   Inserts : Name → ℕ → ℕ → Value → Effect
+  -- the value of such an attribute at an index goes
   Removes : Name → ℕ → ℕ → Effect
+  -- the value of such an attribute at an index is taken out and put at another
   Shifts : Name → ℕ → ℕ → ℕ → Effect
+  -- a plain reference has the target alone
   Refers : Name → ℕ → Name → Effect
+  -- a plain reference has no target
   Forgets : Name → ℕ → Effect
+  -- the target comes into a plain reference, at an index
   Links : Name → ℕ → Name → ℕ → Effect
+  -- the target of a plain reference goes
   Unlinks : Name → ℕ → Name → Effect
+  -- the target of a plain reference stands at an index
   Reorders : Name → ℕ → Name → ℕ → Effect
 
 -- ---- the effect of an edit, or its first refusal
@@ -232,6 +241,7 @@ effect_of reading meta m ws (Reorder id feature target index) = of_feature meta 
 effect_of reading meta m ws (Move id destination index) = move_effect meta m id destination index
 
 -- ---- the model after an effect, said without steps
+-- what each effect leaves
 abbrev pub after : Meta → State → Effect → State
 after meta m (Creates e class place) = create_after m e class place
 after meta m (Moves e place at) = move_after m e place at
@@ -248,6 +258,7 @@ after meta m (Unlinks a f b) = record m { row = unlink_after meta a f b m.row }
 after meta m (Reorders a f b k) = record m { row = reorder_after a f b k m.row }
 
 -- ---- the steps of an effect, and what is recorded
+-- the steps of each effect
 abbrev pub made : Meta → State → Effect → List Step
 made meta m (Creates e class place) = create_made m e class place
 made meta m (Moves e place at) = move_made m e place at (containers_of m (place_of m e)) (containers_of m place)
@@ -289,6 +300,7 @@ operation_of kind (s ∷ ss) = Some (Simple kind (s ∷ ss))
 abbrev pub recording : Meta → State → Effect → Recorded
 recording meta m effect = record { operation = operation_of (operation_kind effect) (made meta m effect); id = new_id effect }
 
+-- what is recorded of an effect, or the refusal
 abbrev pub recording_of : Meta → State → Result Effect EditFault → Result Recorded EditFault
 recording_of meta m (Err fault) = Err fault
 recording_of meta m (Ok effect) = Ok (recording meta m effect)

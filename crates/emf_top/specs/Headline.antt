@@ -19,13 +19,15 @@ use Rattle.emf_top.specs.declared.session.SessionFault.TheVariants as session
 abbrev pub script : List ℕ → Script
 script input = script_of takes_block input
 
--- what is said in reply to a script, which events it makes, and whether a reply is a refusal
+-- what is said in reply to a script
 abbrev pub said_by : State → Script → List ℕ
 said_by s commands = replies decide play s commands.items
 
+-- which events a script makes
 abbrev pub made_by : State → Script → List Event
 made_by s commands = events decide play s commands.items
 
+-- whether some reply to a script is a refusal
 abbrev pub refused_in : State → Script → Bool
 refused_in s commands = refuses decide play s commands.items
 
@@ -49,6 +51,7 @@ end_of (Some fault) refused = input_status fault
 end_of None true = Refused
 end_of None false = Accepted
 
+-- the answer to a script, by its fault and its refusals
 abbrev pub outcome : State → Script → Status
 outcome s commands = end_of commands.fault (refused_in s commands)
 
@@ -91,12 +94,14 @@ Ends s commands first before now ReadFault = IsHalted s commands first before no
 Ends s commands first before now DiskFault = IsHalted s commands first before now ⊎ IsUnsaid s commands first before now
 Ends s commands first before now Memory = IsHalted s commands first before now
 
+-- the answer to a fault of the session
 abbrev pub session_status : SessionFault → Status
 session_status session.DiskFault = DiskFault
 session_status session.SayFault = WriteFault
 session_status (session.Damaged at) = Damaged at
 session_status session.Memory = Memory
 
+-- the program's exit status
 abbrev pub code_of : Status → ℕ
 code_of Accepted = 0
 code_of Refused = 1

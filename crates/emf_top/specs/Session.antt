@@ -32,6 +32,7 @@ pub record Holds (disk : Disk) (state : State) (end : ℕ) (made : List Event) :
 abbrev pub IsEntering : List Event → Option Event → Disk → Type 0
 IsEntering first event disk = StopLeaves (λ x. Stands x first ⊎ Stands x (first ++ listed event)) disk
 
+-- how a command is answered, by whether its reply is a refusal
 abbrev pub answered_as : Bool → Answered
 answered_as true = Refused
 answered_as false = Accepted
@@ -80,6 +81,7 @@ IfDamaged DiskFault P = Unit {0}
 IfDamaged SayFault P = Unit {0}
 IfDamaged Memory P = Unit {0}
 
+-- a fault of the journal, as one of the session
 abbrev pub fault_of : JournalFault → SessionFault
 fault_of (journals.Damaged at) = Damaged at
 fault_of journals.DiskFault = DiskFault

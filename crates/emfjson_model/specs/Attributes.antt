@@ -22,6 +22,7 @@ is_null d = is_some (as_null d)
 abbrev pub elements : Data → List Data
 elements d = alone_or d (as_array d)
 
+-- one attribute with its values
 abbrev pub attr_part : ℕ → List Value → Part
 attr_part f vs = record no_part { attrs = record { feature = f; values = vs } ∷ [] }
 
@@ -44,6 +45,7 @@ abbrev pub new_value : Bool → List Value → Option Value → Read Value
 new_value unique vs None = Err BadValue
 new_value unique vs (Some v) = unless (not (unique && list_any (value_eq v) vs)) BadValue (Ok v)
 
+-- the same, by the JSON of the value
 abbrev pub next_value : Meta → Scalar → Bool → List Value → Data → Read Value
 next_value meta s unique vs d = new_value unique vs (value_in meta s d)
 

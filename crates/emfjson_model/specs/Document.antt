@@ -16,6 +16,7 @@ use Rattle.emfjson_model.specs.Merged.{rows_by}
 abbrev pub resolved : Meta → List Draft → Read (List DocRow)
 resolved meta drafts = «then» (given_by meta drafts) (λ given. rows_by meta given drafts)
 
+-- the elements that a document says, or its first fault; None is a text that is no JSON
 abbrev pub of_json : Meta → Option Data → Read (List DocRow)
 of_json meta None = Err NotJson
 of_json meta (Some d) = «then» (walked meta d) (resolved meta)

@@ -12,6 +12,7 @@ use Rattle.emfjson_model.specs.Document.{doc_of}
 abbrev pub gives_id : Name → DocRow → Bool
 gives_id e r = option_eq text_eq (Some e) r.id
 
+-- one of the rows has the id, where there is one
 abbrev pub is_given : Option Name → List DocRow → Bool
 is_given None rows = false
 is_given (Some id) rows = list_any (gives_id id) rows

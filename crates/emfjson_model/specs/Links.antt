@@ -14,5 +14,6 @@ entry_of d = option_and_then as_str (get (codes "$ref") d)
 abbrev pub entries_of : Bool → Data → List (Option Name)
 entries_of single d = cond (single && is_some (as_array d)) (None ∷ []) (map entry_of (elements d))
 
+-- one reference with its entries; null gives none
 abbrev pub links_part : ℕ → Bool → Data → Part
 links_part f single d = cond (is_null d) no_part (record no_part { links = record { feature = f; entries = entries_of single d } ∷ [] })

@@ -61,9 +61,11 @@ abbrev pub attrs_by : List DocAttr → List DocAttr → List ℕ → List DocAtt
 attrs_by attrs all [] = all
 attrs_by attrs all (f ∷ fs) = attrs_by attrs (attrs_more attrs all f) fs
 
+-- the row of an element: its attributes by number, and these references
 abbrev pub row_of : Meta → Draft → List DocRefs → DocRow
 row_of meta r refs = record { id = r.id; class = r.class; parent = r.parent; attrs = attrs_by r.attrs [] (features_of meta r.class); refs = refs }
 
+-- the references that the element of that number gives
 abbrev pub given_at : List (List DocRefs) → ℕ → List DocRefs
 given_at given n = option_map_or (λ refs. refs) (slice_get given n) []
 

@@ -11,9 +11,11 @@ pub record Part : Type 0 where
   pub links : List Links
   pub rows : List Draft
 
+-- nothing is given
 abbrev pub no_part : Part
 no_part = record { attrs = []; links = []; rows = [] }
 
+-- one part behind another
 abbrev pub joined : Part → Part → Part
 joined p q = record { attrs = p.attrs ++ q.attrs; links = p.links ++ q.links; rows = p.rows ++ q.rows }
 
@@ -21,5 +23,6 @@ joined p q = record { attrs = p.attrs ++ q.attrs; links = p.links ++ q.links; ro
 abbrev pub Ids : Type 0
 Ids = List (Option Name)
 
+-- the ids of the rows
 abbrev pub ids_of : List Draft → Ids
 ids_of rows = map (λ r. r.id) rows

@@ -2,6 +2,7 @@
 use Rattle.std.specs.Prelude.{List, [], ◌∷◌, ◌++◌, Bool, true, false, Option, None, Some, Result, Ok, Err}
 use Rattle.emfjson_model.specs.declared.fault.ModelFault.{ModelFault}
 
+-- what reading gives: a value, or the first fault
 abbrev pub Read : Type 0 → Type 0
 Read A = Result A ModelFault
 

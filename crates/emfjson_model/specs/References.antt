@@ -18,12 +18,15 @@ use Rattle.ecore_meta.specs.Typing.{is_one}
 use Rattle.emfjson_model.specs.Reads.{Read, «then», unless, collected}
 
 -- ---- elements by their place and by their id
+-- equal places
 abbrev pub parent_eq : DocParent → DocParent → Bool
 parent_eq p q = nat_eq p.row q.row && nat_eq p.feature q.feature
 
+-- the element stands in the place
 abbrev pub stands_in : Option DocParent → Draft → Bool
 stands_in place r = option_eq parent_eq r.parent place
 
+-- the element has that id
 abbrev pub has_id : Name → Draft → Bool
 has_id t r = option_eq text_eq r.id (Some t)
 
@@ -58,10 +61,11 @@ child_by meta rows p None index = None
 child_by meta rows p (Some f) index =
     cond (contains_kind (kind_of meta f)) (option_and_then (child_at rows (Some (record { row = p; feature = f }))) (index_of (is_one (upper_of meta f)) index)) None
 
+-- the class of the element of that number
 abbrev pub class_at : List Draft → ℕ → ℕ
 class_at rows n = option_map_or (λ r. r.class) (slice_get rows n) 0
 
--- what stands before the dot and behind it
+-- the child that the parts of a step name: a feature, and behind the dot an index
 abbrev pub child_named : Meta → List Draft → ℕ → List Name → Option ℕ
 child_named meta rows p [] = None
 child_named meta rows p (name ∷ []) = child_by meta rows p (feature_named meta (class_at rows p) name) None
@@ -72,6 +76,7 @@ child_named meta rows p (name ∷ index ∷ part ∷ parts) = None
 abbrev pub step_from : Meta → List Draft → Name → ℕ → Option ℕ
 step_from meta rows step p = option_and_then (λ t. child_named meta rows p (slice_split (λ b. b == 46) t)) (behind (codes "@") step)
 
+-- the element at the end of these steps
 abbrev pub along : Meta → List Draft → List Name → Option ℕ → Option ℕ
 along meta rows [] here = here
 along meta rows (step ∷ steps) here = along meta rows steps (option_and_then (step_from meta rows step) here)
@@ -97,6 +102,7 @@ abbrev pub located_by : Meta → List Draft → Name → Option Name → Option 
 located_by meta rows t None = named rows t
 located_by meta rows t (Some path) = along_parts meta rows (slice_split (λ b. b == 47) path)
 
+-- the element of a reference without the number sign
 abbrev pub located_bare : Meta → List Draft → Name → Option ℕ
 located_bare meta rows t = located_by meta rows t (behind (codes "/") t)
 

@@ -24,6 +24,7 @@ use Rattle.emfjson_model.specs.Attributes.{single_part, many_part}
 use Rattle.ecore_meta.specs.Typing.{is_one}
 use Rattle.emfjson_model.specs.Links.{links_part}
 
+-- the key of a feature, or one that no feature has
 abbrev pub feature_key : Option ℕ → Key
 feature_key None = Unknown
 feature_key (Some f) = Of f
@@ -32,6 +33,7 @@ feature_key (Some f) = Of f
 abbrev pub key_named : Meta → ℕ → Name → Key
 key_named meta c k = cond (bytes_eq k (codes "eClass") || bytes_eq k (codes "_id")) Own (feature_key (feature_named meta c k))
 
+-- the elements inside
 abbrev pub rows_part : List Draft → Part
 rows_part rows = record no_part { rows = rows }
 
@@ -45,6 +47,7 @@ feature_part meta f (Contains target opposite) d held = «then» (held f target)
 feature_part meta f (Container target opposite) d held = Ok no_part
 feature_part meta f Skip d held = Ok no_part
 
+-- what a key gives: an unknown one is a fault, and one that is read first gives nothing more
 abbrev pub key_part : Meta → Key → Data → (ℕ → ℕ → Read (List Draft)) → Read Part
 key_part meta Unknown d held = Err NoFeature
 key_part meta Own d held = Ok no_part

@@ -27,11 +27,13 @@ use Rattle.emfjson_text.specs.Tree.{entry_ids, listed, members, part, reference,
 abbrev pub text_if : Option Data → Option (List ℕ)
 text_if o = option_map compact_text o
 
+-- the text of a part, None where nothing stands there
 abbrev pub shown : (Name → Data) → Part → Option (List ℕ)
 shown below Absent = None
 shown below (Leaf t) = Some t
 shown below (Elements single entries) = text_if (listed single (map below (entry_ids entries)))
 
+-- nothing stands there: an empty list is absent too
 abbrev pub is_absent : Part → Bool
 is_absent Absent = true
 is_absent (Leaf t) = false
@@ -41,6 +43,7 @@ is_absent (Elements single entries) = nat_eq (length entries) 0
 abbrev pub part_text : Meta → State → Part → List ℕ
 part_text meta m p = unwrap_or (shown (whole meta m) p) []
 
+-- a key with its colon, behind a comma where it is not the first
 abbrev pub key_text : Bool → List ℕ → List ℕ
 key_text later k = comma_if later ++ (quoted k ++ 58 ∷ [])
 
@@ -50,10 +53,11 @@ only single [] = None
 only single (e ∷ []) = cond single (Some e) None
 only single (e ∷ d ∷ es) = None
 
--- arrays of values and of references, with the closing bracket
+-- the values of an array, with the closing bracket
 abbrev pub values_text : Meta → Scalar → Bool → List Value → List ℕ
 values_text meta scalar later vs = items_text later (items_of (map (data_of meta scalar) vs))
 
+-- the references of an array, with the closing bracket
 abbrev pub references_text : Bool → List Entry → List ℕ
 references_text later es = items_text later (items_of (map reference (entry_ids es)))
 
@@ -71,6 +75,7 @@ Finds meta m e c keys next (Some found) =
 
 -- ---- the stack
 
+-- what is left to write of an object or an array that is begun
 abbrev pub frame_text : Meta → State → Frame → List ℕ
 frame_text meta m (ObjectFrame o) = members_text o.later (members_from meta m o.id o.class o.keys o.next)
 frame_text meta m (ArrayFrame entries next) = items_text (nat_lt 0 next) (items_of (map (whole meta m) (entry_ids (drop next entries))))

@@ -8,6 +8,7 @@ use Rattle.ecore_meta.specs.Meta.{Meta, features_of, name_at}
 use Rattle.emfjson_text.specs.declared.key.Key.{Key}
 use Rattle.emfjson_text.specs.declared.key.Key.TheVariants.{Ident, Class, Feature}
 
+-- the name of a key
 abbrev pub key_name : Meta → Key → List ℕ
 key_name meta Ident = codes "_id"
 key_name meta Class = codes "eClass"

@@ -24,6 +24,7 @@ use Rattle.emfjson_text.specs.Keys.{key_name, keys_of}
 
 -- ---- the lists of a state, without their ranks
 
+-- the ids of entries
 abbrev pub entry_ids : List Entry → List Name
 entry_ids es = map (λ (e : Entry). e.id) es
 
@@ -53,6 +54,7 @@ abbrev pub first_value : Meta → Scalar → List Value → Option Data
 first_value meta scalar [] = None
 first_value meta scalar (v ∷ vs) = Some (data_of meta scalar v)
 
+-- a reference to an element, by its id
 abbrev pub reference : Name → Data
 reference b = object (member (codes "$ref") (string b) no_members)
 
@@ -80,6 +82,7 @@ part meta m below e c Ident = Some (string e)
 part meta m below e c Class = Some (string (class_text meta c))
 part meta m below e c (Feature f) = content meta m below e f (kind_of meta f)
 
+-- one member more, where something stands under the key
 abbrev pub with_member : List ℕ → Option Data → Members → Members
 with_member k None ms = ms
 with_member k (Some d) ms = member k d ms
@@ -110,6 +113,7 @@ abbrev pub one_or_list : Bool → List Data → Data
 one_or_list single [] = array no_items
 one_or_list single (d ∷ ds) = one_or_all single d ds
 
+-- the tree of a model
 abbrev pub tree : Meta → State → Data
 tree meta m = one_or_list true (map (whole meta m) (child_ids m Root))
 

@@ -1,4 +1,4 @@
--- Ordered maps of ordered maps as one finite map, finite_maps by pairs.
+-- Ordered maps of ordered maps, as one finite map whose keys are pairs.
 use Rattle.std.specs.Prelude.{List, [], ◌∷◌, Option, None, Some}
 use Rattle.std.specs.declared.cmp.Ordering.{Ordering}
 use Rattle.std.specs.Ordering.{eq_by_cmp, ordering_then}
@@ -15,6 +15,7 @@ abbrev pub over : {K L X : Type 0} {R : K × L → K × L → Ordering} → K �
 over k [] m = m
 over k (x ∷ xs) m = insert (over k xs m) (k, x.0) x.1
 
+-- the entries of inner maps, each under the pair of its two keys
 abbrev pub joined : {K L X : Type 0} (R : K → K → Ordering) (S : L → L → Ordering) → List (K × BTreeMap L X) → FinMap (pair_cmp R S) X
 joined R S [] = empty
 joined R S (e ∷ es) = over e.0 e.1.entries (without (λ k. eq_by_cmp R e.0 k.0) (joined R S es))

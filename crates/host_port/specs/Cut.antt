@@ -6,6 +6,7 @@ use Rattle.host_port.specs.declared.lines.LineFault.{LineFault}
 use Rattle.host_port.specs.declared.lines.LineFault.TheVariants.{LineTooLong, BlockTooLong, NotText, UnendedBlock, InputTooLong}
 use Rattle.host_port.specs.declared.lines.TheConstants.{LINE_LIMIT, BLOCK_LIMIT, INPUT_LIMIT}
 
+-- a line feed
 abbrev pub is_lf : ℕ → Bool
 is_lf b = b == 10
 
@@ -21,10 +22,12 @@ line_bytes ended raw = if ended then without_cr raw else raw
 abbrev pub text_at : ℕ → List ℕ → Result (List ℕ) LineFault
 text_at place bytes = if utf8_valid_len bytes == length bytes then Ok bytes else Err (NotText (place + utf8_valid_len bytes))
 
+-- the text as a line
 abbrev pub line_text : Result (List ℕ) LineFault → Result (Option (List ℕ)) LineFault
 line_text (Ok t) = Ok (Some t)
 line_text (Err e) = Err e
 
+-- a line, or the end where no byte is left
 abbrev pub line_or_end : ℕ → List ℕ → Bool → Result (Option (List ℕ)) LineFault
 line_or_end place raw ended = if not ended && (length raw == 0) then Ok None else line_text (text_at place (line_bytes ended raw))
 
@@ -36,9 +39,11 @@ line_of place raw ended =
     else if nat_le INPUT_LIMIT (place + length raw) then Err (InputTooLong INPUT_LIMIT)
     else line_or_end place raw ended
 
+-- the bytes up to the next line feed
 abbrev pub raw_line : List ℕ → List ℕ
 raw_line unread = before_first is_lf unread
 
+-- a line feed follows them
 abbrev pub is_ended : List ℕ → Bool
 is_ended unread = nat_lt (length (raw_line unread)) (length unread)
 
@@ -56,9 +61,11 @@ pub record Script : Type 0 where
   pub items : List Item
   pub fault : Option LineFault
 
+-- the script with one more item in front
 abbrev pub with_item : List ℕ → Option (List ℕ) → Script → Script
 with_item line block script = record { items = record { line = line; block = block } ∷ script.items; fault = script.fault }
 
+-- a script without items, with what ends it
 abbrev pub ends_by : Option LineFault → Script
 ends_by fault = record { items = []; fault = fault }
 
@@ -68,11 +75,12 @@ is_dot [] = false
 is_dot (b ∷ []) = b == 46
 is_dot (b ∷ c ∷ bs) = false
 
--- the text of a block with one more line, which stands at place; a line that is no text is the block's fault from then on
+-- the text of a block with one more line; a line that is no text is the block's fault from then on
 abbrev pub line_added : List ℕ → Result (List ℕ) LineFault → Result (List ℕ) LineFault
 line_added text (Err e) = Err e
 line_added text (Ok line) = Ok (text ++ line ++ 10 ∷ [])
 
+-- the same of a line's bytes, which stand at place; a fault that is there stays
 abbrev pub text_with : ℕ → Result (List ℕ) LineFault → List ℕ → Result (List ℕ) LineFault
 text_with place (Err e) line = Err e
 text_with place (Ok text) line = line_added text (text_at place line)
@@ -104,13 +112,13 @@ abbrev pub after_block : List ℕ → Result (List ℕ) LineFault → Script →
 after_block line (Err e) rest = ends_by (Some e)
 after_block line (Ok text) rest = with_item line (Some text) rest
 
+-- the script behind a line of a block, unless that is a fault
 abbrev pub in_block_by : Result (Result (List ℕ) LineFault) LineFault → (Result (List ℕ) LineFault → Script) → Script
 in_block_by (Err e) rest = ends_by (Some e)
 in_block_by (Ok text) rest = rest text
 
--- The script whose lines, between line feeds, are these, from place on; and the same within the block of a line,
--- which began at start, and of which text stands before place.
 unfoldable mutual
+  -- the script whose lines, between line feeds, are these, from place on
   pub cut : (List ℕ → Bool) → ℕ → List (List ℕ) → Script
   cut takes_block place [] = ends_by None
   cut takes_block place (raw ∷ []) =
@@ -120,6 +128,7 @@ unfoldable mutual
       (λ line. cut_block takes_block line (place + length raw + 1) (place + length raw + 1) (Ok []) (next ∷ parts))
       (cut takes_block (place + length raw + 1) (next ∷ parts))
 
+  -- the same within the block of a line, which began at start, and of which text stands before place
   pub cut_block : (List ℕ → Bool) → List ℕ → ℕ → ℕ → Result (List ℕ) LineFault → List (List ℕ) → Script
   cut_block takes_block line start place text [] = ends_by None
   cut_block takes_block line start place text (raw ∷ []) =

@@ -12,6 +12,7 @@ pub record Disk : Type 0 where
   pub stable : List ℕ
   pub loose : List Span
 
+-- the place is not in the range
 abbrev pub IsOutside : Span → ℕ → Type 0
 IsOutside span i = (i < span.from) ⊎ (span.to ≤ i)
 
@@ -42,9 +43,11 @@ pub record Told : Type 0 where
   pub say_faults : ℕ
   pub disk_faults : ℕ
 
+-- the file at the clock
 abbrev pub disk_now : Told → Disk
 disk_now host = host.disk host.clock
 
+-- all that was said by now
 abbrev pub said_now : Told → List ℕ
 said_now host = host.said host.clock
 
@@ -78,6 +81,7 @@ KeepsDisk old new = Throughout old new (λ disk said. disk ≡ disk_now old)
 abbrev pub KeepsSaid : Told → Told → Type 0
 KeepsSaid old new = Throughout old new (λ disk said. said ≡ said_now old)
 
+-- no input was taken
 pub record KeepsInput (old new : Told) : Type 0 where
   pub taken : new.taken ≡ old.taken
   pub left : new.left ≡ old.left
@@ -119,6 +123,7 @@ pub record WrittenPart (old : Disk) (span : Span) (disk : Disk) : Type 0 where
   pub no_longer : length disk.now ≤ max (length old.now) span.to
   pub kept : (i : ℕ) → i < length old.now → IsOutside span i → slice_index disk.now i ≡ slice_index old.now i
 
+-- the file once these bytes are written from a place on; they are not stable yet
 abbrev pub written : Disk → ℕ → List ℕ → Disk
 written old at bytes = record {
   now = overwritten old.now at bytes;
@@ -126,5 +131,6 @@ written old at bytes = record {
   loose = old.loose ++ record { from = at; to = at + length bytes } ∷ [];
 }
 
+-- the file once it is synced: what a read gives is stable
 abbrev pub synced : Disk → Disk
 synced old = record { now = old.now; stable = old.now; loose = [] }

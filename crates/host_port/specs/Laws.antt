@@ -7,16 +7,20 @@ use Rattle.host_port.specs.declared.calls.Call.TheVariants.{Quiet, Say, Write, S
 use Rattle.host_port.specs.Host.{Disk, Span, IsOutside, furthest, MayLeave, overwritten}
 use Rattle.host_port.specs.Replay.{at_start, after_call, after_calls, disk_after}
 
+-- the furthest with one more range
 pub furthest-push : (n : ℕ) (spans : List Span) (span : Span) → furthest n (spans ++ span ∷ []) ≡ max span.to (furthest n spans)
 furthest-push n [] span = refl
 furthest-push n (s ∷ spans) span = omega (arith, furthest-push n spans span)
 
+-- a file that is overwritten gets no shorter
 longer : (old : List ℕ) (at : ℕ) (bytes : List ℕ) → length old ≤ length (overwritten old at bytes)
 longer old at bytes = omega (arith, length-append (take at old ++ bytes) (drop (at + length bytes) old), length-append (take at old) bytes, length-take at old, length-drop (at + length bytes) old)
 
+-- and no longer than it was, or than to the end of what is written
 not_past : (old : List ℕ) (at : ℕ) (bytes : List ℕ) → length (overwritten old at bytes) ≤ max (length old) (at + length bytes)
 not_past old at bytes = omega (arith, length-append (take at old ++ bytes) (drop (at + length bytes) old), length-append (take at old) bytes, length-take at old, length-drop (at + length bytes) old)
 
+-- its bytes outside the range stay
 pub kept_outside : (old : List ℕ) (at : ℕ) (bytes : List ℕ) (i : ℕ) → i < length old → IsOutside (record { from = at; to = at + length bytes }) i → get_or (overwritten old at bytes) i 0 ≡ get_or old i 0
 kept_outside old at bytes i below (inl before) =
     let front : i < length (take at old) = omega (arith, length-take at old) in
@@ -26,9 +30,11 @@ kept_outside old at bytes i below (inr behind) =
     get_or-append_right (take at old ++ bytes) _ (at + length bytes) i 0 long behind ∙ get_or-drop (at + length bytes) old (i - (at + length bytes)) 0
     ∙ ap (λ (k : ℕ). get_or old k 0) (let e : (at + length bytes) + (i - (at + length bytes)) ≡ i = omega (arith, behind) in e)
 
+-- what all have, those but the last have
 pub front_of : (P : Span → Type 0) (spans : List Span) (span : Span) → All P (spans ++ span ∷ []) → All P spans
 front_of P spans span all k d low = subst P (get_or_append_left spans (span ∷ []) d k low) (all k d (omega (arith, low, length-append spans (span ∷ []))))
 
+-- and so has the last
 pub last_of : (P : Span → Type 0) (spans : List Span) (span : Span) → All P (spans ++ span ∷ []) → P span
 last_of P spans span all = subst P (get_or_append_right_zero spans span) (all (length spans) span (omega (arith, length-append spans (span ∷ []))))
   where
@@ -36,6 +42,7 @@ last_of P spans span all = subst P (get_or_append_right_zero spans span) (all (l
     get_or_append_right_zero [] span = refl
     get_or_append_right_zero (s ∷ spans) span = get_or_append_right_zero spans span
 
+-- a call keeps this: what a read gives is what a stop may leave
 step : (disk : Disk) (call : Call) → MayLeave disk disk.now → MayLeave (after_call disk call) (after_call disk call).now
 step disk Quiet left = left
 step disk (Say bytes) left = left
@@ -48,6 +55,7 @@ step disk (Write at bytes) left = record {
       ∙ left.kept i below (front_of (λ (s : Span). IsOutside s i) disk.loose (record { from = at; to = at + length bytes.items }) all);
 }
 
+-- so do some calls, one by one
 left_after : (disk : Disk) (calls : List Call) → MayLeave disk disk.now → MayLeave (after_calls disk calls) (after_calls disk calls).now
 left_after disk [] left = left
 left_after disk (call ∷ calls) left = left_after (after_call disk call) calls (step disk call left)

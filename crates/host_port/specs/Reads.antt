@@ -17,9 +17,11 @@ IsFault Failed read = Unit {0}
 IsFault Memory read = Unit {0}
 IsFault fault read = read ≡ Err fault
 
+-- the same of a line
 abbrev pub IsLineFault : LineFault → Result (Option (List ℕ)) LineFault → Type 0
 IsLineFault fault read = IsFault fault read
 
+-- the same of a text
 abbrev pub IsTextFault : LineFault → Result (List ℕ) LineFault → Type 0
 IsTextFault fault read = IsFault fault read
 
@@ -61,6 +63,7 @@ is_feed Far = false
 abbrev pub FarFault : ℕ → LineFault → Type 0
 FarFault start e = ((e ≡ BlockTooLong (start + BLOCK_LIMIT)) × (start + BLOCK_LIMIT < INPUT_LIMIT)) ⊎ ((e ≡ InputTooLong INPUT_LIMIT) × (INPUT_LIMIT ≤ start + BLOCK_LIMIT))
 
+-- the fault of a line of a block, by what its bytes stopped at
 abbrev pub BlockFault : Stop → ℕ → ℕ → Result (List ℕ) LineFault → List ℕ → LineFault → Type 0
 BlockFault Far start place text raw e = FarFault start e
 BlockFault Feed start place text raw e = (ends_block place true raw ≡ false) × (block_line start place true text raw ≡ Err e)
@@ -86,5 +89,6 @@ abbrev pub so_far : List ℕ → Option ℕ → Result (List ℕ) LineFault
 so_far text None = Ok text
 so_far text (Some at) = Err (NotText at)
 
+-- the same of a block that is being read
 abbrev pub read_so_far : Block → Result (List ℕ) LineFault
 read_so_far block = so_far (string_bytes block.text) block.not_text

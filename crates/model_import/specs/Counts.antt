@@ -9,6 +9,7 @@ use Rattle.emfjson_model.specs.Finder.{place_cmp}
 use Rattle.emfjson_model.specs.References.{parent_eq}
 use Rattle.emfjson_model.specs.Fits.{standing}
 
+-- how many rows the map counts in a place, none at the root
 abbrev pub counted : BTreeMap (ℕ × ℕ) ℕ → Option DocParent → ℕ
 counted counts None = 0
 counted counts (Some p) = count_at (get place_cmp counts) (p.row, p.feature)

@@ -16,11 +16,12 @@ use Rattle.model_import.specs.News.{news_made}
 use Rattle.model_import.specs.Values.{values_made}
 use Rattle.model_import.specs.Links.{links_made}
 
--- the elements come, then they get their values, then they are linked
+-- the steps and then more, or why there are none
 abbrev pub and_then : Result (List Step) EditFault → List Step → Result (List Step) EditFault
 and_then (Err fault) more = Err fault
 and_then (Ok steps) more = Ok (steps ++ more)
 
+-- the elements come, then they get their values, then they are linked
 abbrev pub steps_made : Meta → State → List Name → List DocRow → Result (List Step) EditFault
 steps_made meta m names rows = and_then (news_made (children m.place m.prank Root) names rows) (values_made meta names rows ++ links_made meta names rows)
 
@@ -29,6 +30,7 @@ abbrev pub composite : List DocRow → List Step → Option Operation
 composite [] steps = None
 composite (r ∷ rows) steps = Some (Composite (codes "import") steps)
 
+-- what is recorded of the steps, or why there are none
 abbrev pub of_steps : List DocRow → Result (List Step) EditFault → Result (Option Operation) EditFault
 of_steps rows (Err fault) = Err fault
 of_steps rows (Ok steps) = Ok (composite rows steps)

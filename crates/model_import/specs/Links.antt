@@ -22,6 +22,7 @@ abbrev pub index_in : ℕ → List ℕ → ℕ
 index_in n [] = 0
 index_in n (x ∷ xs) = cond (nat_eq n x) 0 (suc (index_in n xs))
 
+-- the lists of references of row b
 abbrev pub refs_at : List DocRow → ℕ → List DocRefs
 refs_at rows b = option_map_or (λ r. r.refs) (slice_get rows b) []
 
@@ -37,10 +38,12 @@ link_to meta rows n e f k b (Some x) =
     cond (is_made (opposite_of meta f) n f b) []
     (link_step (opposite_of meta f) e f (rank_of k) x (mirror_of rows (opposite_of meta f) n b) ∷ [])
 
+-- the links to the targets of one list, from index k on
 abbrev pub targets_made : Meta → List Name → List DocRow → ℕ → Name → ℕ → ℕ → List ℕ → List Step
 targets_made meta names rows n e f k [] = []
 targets_made meta names rows n e f k (b ∷ bs) = link_to meta rows n e f k b (slice_get names b) ++ targets_made meta names rows n e f (suc k) bs
 
+-- the links of the lists of one row
 abbrev pub refs_made : Meta → List Name → List DocRow → ℕ → Name → List DocRefs → List Step
 refs_made meta names rows n e [] = []
 refs_made meta names rows n e (q ∷ refs) = targets_made meta names rows n e q.feature 0 q.targets ++ refs_made meta names rows n e refs
@@ -50,5 +53,6 @@ abbrev pub links_from : Meta → List Name → List DocRow → ℕ → List DocR
 links_from meta names rows n [] = []
 links_from meta names rows n (r ∷ rest) = refs_made meta names rows n (name_at names n) r.refs ++ links_from meta names rows (suc n) rest
 
+-- the links of all rows
 abbrev pub links_made : Meta → List Name → List DocRow → List Step
 links_made meta names rows = links_from meta names rows 0 rows

@@ -34,11 +34,12 @@ AreNames m rows ws from (r ∷ rest) (x ∷ xs) = (next : ℕ) × IsName m rows 
 abbrev pub name_at : List Name → ℕ → Name
 name_at names n = unwrap_or (slice_get names n) []
 
--- the document gives an id that is live
+-- the id that a row gives is live
 abbrev pub in_use : State → Option Name → Bool
 in_use m None = false
 in_use m (Some id) = is_live m id
 
+-- one of the rows does so
 abbrev pub any_in_use : State → List DocRow → Bool
 any_in_use m rows = list_any (λ (r : DocRow). in_use m r.id) rows
 

@@ -18,6 +18,7 @@ use Rattle.model_import.specs.Roots.{has_end, root_after, root_made}
 abbrev pub rank_of : ℕ → ℕ
 rank_of k = min ((k + 1) * 4294967296) 18446744073709551615
 
+-- inside the element of that id, or at the root
 abbrev pub inside : Option Name → ℕ → Place
 inside None f = Root
 inside (Some a) f = Inside a f

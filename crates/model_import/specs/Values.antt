@@ -20,9 +20,11 @@ abbrev pub inserts_made : Name → ℕ → ℕ → List Value → List Step
 inserts_made e f at [] = []
 inserts_made e f at (v ∷ vs) = Ins e f at v ∷ inserts_made e f (min (at + 1) 4294967295) vs
 
+-- the values of one attribute
 abbrev pub attr_made : Meta → Name → DocAttr → List Step
 attr_made meta e a = cond (is_attr (kind_of meta a.feature)) (put_made e a.feature a.values) (inserts_made e a.feature 0 a.values)
 
+-- the values of an element's attributes
 abbrev pub attrs_made : Meta → Name → List DocAttr → List Step
 attrs_made meta e [] = []
 attrs_made meta e (a ∷ attrs) = attr_made meta e a ++ attrs_made meta e attrs
@@ -32,5 +34,6 @@ abbrev pub values_from : Meta → List Name → ℕ → List DocRow → List Ste
 values_from meta names n [] = []
 values_from meta names n (r ∷ rest) = attrs_made meta (name_at names n) r.attrs ++ values_from meta names (suc n) rest
 
+-- the values of all rows
 abbrev pub values_made : Meta → List Name → List DocRow → List Step
 values_made meta names rows = values_from meta names 0 rows

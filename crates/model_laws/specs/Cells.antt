@@ -23,6 +23,7 @@ pub data Cell : Type 0 where
   OfWhole : Name → ℕ → Cell
   About : Name → Cell
 
+-- a plain reference with a finite upper bound
 abbrev pub is_bounded : Meta → ℕ → Bool
 is_bounded meta f = bounded_kind (kind_of meta f)
 
@@ -41,6 +42,7 @@ cell_eq (OfWhole a f) (OfWhole b g) = text_eq a b && nat_eq f g
 cell_eq (About a) (About b) = text_eq a b
 cell_eq c d = false
 
+-- the cell is one of these
 abbrev pub has : List Cell → Cell → Bool
 has cs c = list_any (cell_eq c) cs
 
@@ -66,6 +68,7 @@ Agree meta m n (About e) = ((f : ℕ) → get m.attr (e, f) ≡ get n.attr (e, f
 abbrev pub side : Meta → Name → ℕ → Name → Cell
 side meta a f b = elim (is_bounded meta f) [ true ↦ OfWhole a f | false ↦ OfRow a f b ]
 
+-- the cell of the other end, where there is an opposite
 abbrev pub mirror_side : Meta → Option ℕ → Name → Name → List Cell
 mirror_side meta None a b = []
 mirror_side meta (Some g) a b = side meta b g a ∷ []
@@ -75,6 +78,7 @@ abbrev pub place_list : Meta → Place → List Cell
 place_list meta Root = []
 place_list meta (Inside a f) = elim (is_finite meta f) [ true ↦ OfWhole a f ∷ [] | false ↦ [] ]
 
+-- the element that a place is inside, if any
 abbrev pub parent_kind : Place → List Name
 parent_kind Root = []
 parent_kind (Inside a f) = a ∷ []
@@ -123,17 +127,20 @@ others_read s = []
 abbrev pub step_reads : Step → List Cell
 step_reads s = map OfKind (kinds_read s) ++ others_read s
 
--- what a step stands on, and what it may change: its cells, with all that hangs on the elements that it makes or names
+-- what a step stands on: its cells, and all that hangs on the elements that come or go
 abbrev pub needs : Meta → Step → List Cell
 needs meta s = step_reads s ++ (map About (kinds_written s) ++ step_writes meta s)
 
+-- what a step may change: the cells that it writes, and all that hangs on the elements whose class it reads or writes
 abbrev pub touches : Meta → Step → List Cell
 touches meta s = step_writes meta s ++ map About (kinds_read s ++ kinds_written s)
 
+-- what some steps stand on
 abbrev pub needs_all : Meta → List Step → List Cell
 needs_all meta [] = []
 needs_all meta (s ∷ ss) = needs meta s ++ needs_all meta ss
 
+-- what some steps may change
 abbrev pub touches_all : Meta → List Step → List Cell
 touches_all meta [] = []
 touches_all meta (s ∷ ss) = touches meta s ++ touches_all meta ss
@@ -142,10 +149,12 @@ touches_all meta (s ∷ ss) = touches meta s ++ touches_all meta ss
 abbrev pub AgreeAt : Meta → State → State → List Cell → Type 0
 AgreeAt meta m n cs = (c : Cell) → has cs c ≡ true → Agree meta m n c
 
+-- the cells that some steps write
 abbrev pub writes_all : Meta → List Step → List Cell
 writes_all meta [] = []
 writes_all meta (s ∷ ss) = step_writes meta s ++ writes_all meta ss
 
+-- the cells that some steps read
 abbrev pub reads_all : List Step → List Cell
 reads_all [] = []
 reads_all (s ∷ ss) = step_reads s ++ reads_all ss

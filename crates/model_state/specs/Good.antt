@@ -66,6 +66,7 @@ pub record GoodPlaces (meta : Meta) (kind : FinMap id_cmp ℕ) (place : FinMap i
   pub bound : (a : Name) (f : ℕ) → is_within (count (λ e. place_eq (Inside a f) e.1) place) (child_upper meta f) ≡ true
   pub ends : (e : Name) (p : Place) → get place e ≡ Some p → (xs : List Name) × IsChain place (Some p) xs
 
+-- a good state: its places, its attributes and its rows are good
 pub record Good (meta : Meta) (m : State) : Type 0 where
   pub places : GoodPlaces meta m.kind m.place m.prank
   pub attrs : GoodAttrs meta m.kind m.attr

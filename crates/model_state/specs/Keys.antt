@@ -8,6 +8,7 @@ use Rattle.std.specs.Cmp.Lexicographic.{slice_cmp}
 abbrev pub Name : Type 0
 Name = List ℕ
 
+-- the order of ids
 abbrev pub id_cmp : Name → Name → Ordering
 id_cmp = slice_cmp nat_cmp
 
@@ -15,6 +16,7 @@ id_cmp = slice_cmp nat_cmp
 abbrev pub AttrKey : Type 0
 AttrKey = Name × ℕ
 
+-- by the element, and then by the feature
 abbrev pub attr_cmp : AttrKey → AttrKey → Ordering
 attr_cmp x y = ordering_then (id_cmp x.0 y.0) (nat_cmp x.1 y.1)
 
@@ -22,5 +24,6 @@ attr_cmp x y = ordering_then (id_cmp x.0 y.0) (nat_cmp x.1 y.1)
 abbrev pub RowKey : Type 0
 RowKey = Name × ℕ × Name
 
+-- by the source, then by the feature, then by the target
 abbrev pub row_cmp : RowKey → RowKey → Ordering
 row_cmp x y = ordering_then (ordering_then (id_cmp x.0 y.0) (nat_cmp x.1 y.1)) (id_cmp x.2 y.2)

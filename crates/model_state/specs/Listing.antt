@@ -24,6 +24,7 @@ values_at m e f = unwrap_or (get m.attr (e, f)) []
 abbrev pub is_of : Name → ℕ → RowKey → Bool
 is_of a f k = text_eq a k.0 && nat_eq f k.1
 
+-- the target of a row, with its rank
 abbrev pub row_entry : RowKey × ℕ → Entry
 row_entry e = record { rank = e.1; id = e.0.2 }
 
@@ -31,6 +32,7 @@ row_entry e = record { rank = e.1; id = e.0.2 }
 abbrev pub targets : FinMap row_cmp ℕ → Name → ℕ → List Entry
 targets row a f = in_order entry_cmp (map row_entry (picked (λ e. is_of a f e.0) row))
 
+-- the rank of an element where it stands
 abbrev pub rank_at : FinMap id_cmp ℕ → Name → ℕ
 rank_at prank e = unwrap_or (get prank e) 0
 
@@ -38,6 +40,7 @@ rank_at prank e = unwrap_or (get prank e) 0
 abbrev pub children : FinMap id_cmp Place → FinMap id_cmp ℕ → Place → List Entry
 children place prank p = in_order entry_cmp (map (λ (e : Name × Place). record { rank = rank_at prank e.0; id = e.0 }) (picked (λ e. place_eq p e.1) place))
 
+-- the source and the feature of a row, with its rank
 abbrev pub row_incoming : RowKey × ℕ → Incoming
 row_incoming e = record { source = e.0.0; feature = e.0.1; rank = e.1 }
 

@@ -8,6 +8,7 @@ use Rattle.model_state.specs.declared.step.Place.{Place}
 use Rattle.model_state.specs.declared.step.Place.TheVariants.{Root, Inside}
 use Rattle.model_state.specs.Keys.{Name, AttrKey, RowKey, id_cmp, attr_cmp, row_cmp}
 
+-- the five maps of a model
 pub record State : Type 0 where
   -- the class of each live element
   pub kind : FinMap id_cmp ℕ
@@ -31,6 +32,7 @@ place_eq Root (Inside b g) = false
 place_eq (Inside a f) Root = false
 place_eq (Inside a f) (Inside b g) = text_eq a b && nat_eq f g
 
+-- the element is there
 abbrev pub is_live : State → Name → Bool
 is_live m e = is_some (get m.kind e)
 
@@ -47,13 +49,15 @@ child_count m p = count (λ e. place_eq p e.1) m.place
 abbrev pub row_count : State → Name → ℕ → ℕ
 row_count m a f = count (λ e. text_eq a e.0.0 && nat_eq f e.0.1) m.row
 
--- what an element holds: its values, its references in and out, its children
+-- how many attributes of an element are set
 abbrev pub value_count : State → Name → ℕ
 value_count m e = count (λ x. text_eq e x.0.0) m.attr
 
+-- how many references go out of an element or come to it
 abbrev pub link_count : State → Name → ℕ
 link_count m e = count (λ x. text_eq e x.0.0 || text_eq e x.0.2) m.row
 
+-- how many elements stand inside an element
 abbrev pub inner_count : State → Name → ℕ
 inner_count m e = count (λ x. is_inside e x.1) m.place
 
@@ -65,9 +69,11 @@ pub record Writes : Type 0 where
   pub attr : List (AttrKey × Option (List Value))
   pub row : List (RowKey × Option ℕ)
 
+-- nothing is written
 abbrev pub no_writes : Writes
 no_writes = record { kind = []; place = []; prank = []; attr = []; row = [] }
 
+-- the state once each map has its writes
 abbrev pub written : State → Writes → State
 written m w = record {
   kind = set_all m.kind w.kind;

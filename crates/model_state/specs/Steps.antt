@@ -51,11 +51,12 @@ abbrev pub has_room : Meta → State → Place → Bool
 has_room meta m Root = true
 has_room meta m (Inside a f) = is_below (child_count m (Inside a f)) (child_upper meta f)
 
--- a value that is not set, or one of the attribute that is not its default
+-- a value that is not set, or one of the attribute
 abbrev pub value_fits : Meta → ℕ → Option Value → Bool
 value_fits meta f None = true
 value_fits meta f (Some v) = attr_fits meta (kind_of meta f) v
 
+-- a value that is not set, or one that is not the default of the attribute
 abbrev pub not_default : Meta → ℕ → Option Value → Bool
 not_default meta f None = true
 not_default meta f (Some v) = not (is_default (kind_of meta f) v)

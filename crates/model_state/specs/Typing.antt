@@ -11,6 +11,7 @@ use Rattle.ecore_meta.specs.declared.meta.Kind.TheVariants.{Attr, AttrMany, Boun
 use Rattle.ecore_meta.specs.declared.meta.Value.{Value}
 use Rattle.ecore_meta.specs.declared.meta.Value.TheVariants.{Text, Flag, Whole, Literal}
 
+-- equal flags
 abbrev pub flag_eq : Bool → Bool → Bool
 flag_eq true b = b
 flag_eq false b = not b
@@ -47,26 +48,30 @@ abbrev pub is_attr : Kind → Bool
 is_attr (Attr scalar default) = true
 is_attr k = false
 
+-- a plain reference with a finite upper bound
 abbrev pub bounded_kind : Kind → Bool
 bounded_kind (Bounded target opposite) = true
 bounded_kind k = false
 
+-- a containment
 abbrev pub contains_kind : Kind → Bool
 contains_kind (Contains target opposite) = true
 contains_kind k = false
 
--- the bound of a feature's rows, and of its children
+-- the bound of a feature's rows
 abbrev pub row_upper : Meta → ℕ → Option ℕ
 row_upper meta f = cond (bounded_kind (kind_of meta f)) (upper_of meta f) None
 
+-- the bound of a feature's children
 abbrev pub child_upper : Meta → ℕ → Option ℕ
 child_upper meta f = cond (contains_kind (kind_of meta f)) (upper_of meta f) None
 
--- a many-valued attribute, and whether it holds each value once
+-- a many-valued attribute
 abbrev pub is_many : Kind → Bool
 is_many (AttrMany scalar unique) = true
 is_many k = false
 
+-- one that holds each value once
 abbrev pub is_unique : Kind → Bool
 is_unique (AttrMany scalar unique) = unique
 is_unique k = false

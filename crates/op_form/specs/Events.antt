@@ -9,15 +9,19 @@ use Rattle.op_form.specs.declared.event.Event.TheVariants.{Init, Checkout, Edit,
 use Rattle.op_form.specs.Reading.{Reading, made, ◌⊗◌, field, u8_at, u32_at, any_text_at}
 use Rattle.op_form.specs.Packages.{package_at, package_form}
 
+-- Init: the text of the metamodel
 unfoldable pub init_at : Reading Event
 init_at r = made (λ t. Init t) (any_text_at r)
 
+-- Checkout: the version and the branch
 unfoldable pub checkout_at : Reading Event
 checkout_at r = made (λ t. Checkout t.0 t.1) ((u32_at ⊗ u32_at) r)
 
+-- Edit: the workspace and the package
 unfoldable pub edit_at : Reading Event
 edit_at r = made (λ t. Edit t.0 t.1) ((u32_at ⊗ package_at) r)
 
+-- Begin: the workspace and the name
 unfoldable pub begin_at : Reading Event
 begin_at r = made (λ t. Begin t.0 t.1) ((u32_at ⊗ any_text_at) r)
 
@@ -33,6 +37,7 @@ event_of place kind =
     else if kind.0 == 7 then made (λ ws. Discard ws) (u32_at kind.1)
     else Err (NotForm place)
 
+-- an event: its kind's byte, and the fields of that kind
 unfoldable pub event_at : Reading Event
 event_at r = u8_at r >>= event_of r.place
 

@@ -15,13 +15,15 @@ use Rattle.model_state.specs.declared.operation.Operation.TheVariants.{Simple, C
 use Rattle.op_form.specs.declared.event.Event.{Event}
 use Rattle.op_form.specs.declared.event.Event.TheVariants.{Init, Checkout, Edit, Begin, End, Undo, Discard}
 
--- the numbers of 32 and of 64 bits, and the signed ones of 64
+-- a number of 32 bits
 abbrev pub is_u32 : ℕ → Bool
 is_u32 n = nat_lt n (2 ^ 32)
 
+-- a number of 64 bits
 abbrev pub is_u64 : ℕ → Bool
 is_u64 n = nat_lt n (2 ^ 64)
 
+-- a signed number of 64 bits
 abbrev pub is_i64 : ℤ → Bool
 is_i64 (pos n) = nat_lt n (2 ^ 63)
 is_i64 (negsuc n) = nat_lt n (2 ^ 63)
@@ -30,6 +32,7 @@ is_i64 (negsuc n) = nat_lt n (2 ^ 63)
 abbrev pub is_short_text : List ℕ → Bool
 is_short_text text = is_u32 (length text) && is_utf8 text
 
+-- a value that passes the test, or none
 abbrev pub is_given : {X : Type 0} → (X → Bool) → Option X → Bool
 is_given test None = true
 is_given test (Some x) = test x
@@ -42,16 +45,19 @@ is_list test xs = is_u32 (length xs) && list_all test xs
 abbrev pub is_some_list : {X : Type 0} → (X → Bool) → List X → Bool
 is_some_list test xs = nat_le 1 (length xs) && is_u32 (length xs) && list_all test xs
 
+-- is there a spelling of the value
 unfoldable pub is_value : Value → Bool
 is_value (Text t) = is_short_text t
 is_value (Flag b) = true
 is_value (Whole z) = is_i64 z
 is_value (Literal n) = is_u32 n
 
+-- is there a spelling of the place
 unfoldable pub is_place : Place → Bool
 is_place Root = true
 is_place (Inside parent feature) = is_id parent && is_u32 feature
 
+-- is there a spelling of the step
 unfoldable pub is_step : Step → Bool
 is_step (Put e f old new) = is_id e && is_u32 f && is_given is_value old && is_given is_value new
 is_step (Ins e f at v) = is_id e && is_u32 f && is_u32 at && is_value v
@@ -71,6 +77,7 @@ unfoldable pub is_operation : Operation → Bool
 is_operation (Simple kind steps) = is_some_list is_step steps
 is_operation (Composite name steps) = is_name name && is_some_list is_step steps
 
+-- fewer than 2 ^ 32 such operations
 unfoldable pub is_package : List Operation → Bool
 is_package operations = is_list is_operation operations
 

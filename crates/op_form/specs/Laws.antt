@@ -19,18 +19,23 @@ use Rattle.op_form.specs.Packages.{package_at, package_form}
 use Rattle.op_form.specs.Events.{event_at, event_form, whole_of}
 use Rattle.op_form.specs.Formed.{is_event}
 
+-- a number of 32 bits
 abbrev pub IsU32 : ℕ → Type 0
 IsU32 n = n < 2 ^ 32
 
+-- a number of 64 bits
 abbrev pub IsU64 : ℕ → Type 0
 IsU64 n = n < 2 ^ 64
 
+-- a text that is an id
 abbrev pub IsIdText : List ℕ → Type 0
 IsIdText text = is_id text ≡ true
 
+-- a text that is a name
 abbrev pub IsNameText : List ℕ → Type 0
 IsNameText text = is_name text ≡ true
 
+-- a value of the kind, or none
 abbrev pub IsGiven : {X : Type 0} → (X → Type 0) → Option X → Type 0
 IsGiven Is None = Unit {0}
 IsGiven Is (Some x) = Is x
@@ -43,16 +48,19 @@ IsList Is xs = (length xs < 2 ^ 32) × All Is xs
 abbrev pub IsSomeList : {X : Type 0} → (X → Type 0) → List X → Type 0
 IsSomeList Is xs = (1 ≤ length xs) × (length xs < 2 ^ 32) × All Is xs
 
+-- a value that has a spelling
 abbrev pub IsValue : Value → Type 0
 IsValue (Text t) = IsShortText t
 IsValue (Flag b) = Unit {0}
 IsValue (Whole z) = FitsSigned w64 z
 IsValue (Literal n) = IsU32 n
 
+-- a place that has a spelling
 abbrev pub IsPlace : Place → Type 0
 IsPlace Root = Unit {0}
 IsPlace (Inside parent feature) = IsIdText parent × IsU32 feature
 
+-- a step that has a spelling
 abbrev pub IsStep : Step → Type 0
 IsStep (Put e f old new) = IsIdText e × (IsU32 f × (IsGiven IsValue old × IsGiven IsValue new))
 IsStep (Ins e f at v) = IsIdText e × (IsU32 f × (IsU32 at × IsValue v))
@@ -67,13 +75,16 @@ IsStep (Move e from from_rank to to_rank above_from above_to) =
     IsIdText e × (IsPlace from × (IsU64 from_rank × (IsPlace to × (IsU64 to_rank × (IsList IsIdText above_from × IsList IsIdText above_to)))))
 IsStep (RerankPlace e old new) = IsIdText e × (IsU64 old × IsU64 new)
 
+-- an operation that has a spelling
 abbrev pub IsOperation : Operation → Type 0
 IsOperation (Simple kind steps) = Unit {0} × IsSomeList IsStep steps
 IsOperation (Composite name steps) = IsNameText name × IsSomeList IsStep steps
 
+-- a package that has a spelling
 abbrev pub IsPackage : List Operation → Type 0
 IsPackage operations = IsList IsOperation operations
 
+-- an event that has a spelling
 abbrev pub IsEvent : Event → Type 0
 IsEvent (Init text) = IsShortText text
 IsEvent (Checkout version branch) = IsU32 version × IsU32 branch
@@ -91,21 +102,27 @@ AreReadAgain Is form read = (x : _) → Is x → read (form x) ≡ Ok x
 abbrev pub AreSpelledSo : {X : Type 0} → (X → Type 0) → (X → List ℕ) → (List ℕ → Result X FormFault) → Type 0
 AreSpelledSo Is form read = (bytes : List ℕ) → AreBytes bytes → (x : _) → read bytes ≡ Ok x → Is x × (bytes ≡ form x)
 
+-- the spelling of each package is read as it
 abbrev pub PackagesAreReadAgain : Type 0
 PackagesAreReadAgain = AreReadAgain IsPackage package_form (whole_of package_at)
 
+-- bytes that are read as a package are its spelling
 abbrev pub PackagesAreSpelledSo : Type 0
 PackagesAreSpelledSo = AreSpelledSo IsPackage package_form (whole_of package_at)
 
+-- no package's spelling begins that of another
 abbrev pub NoPackageBeginsAnother : Type 0
 NoPackageBeginsAnother = NoneBeginsAnother IsPackage package_form
 
+-- the spelling of each event is read as it
 abbrev pub EventsAreReadAgain : Type 0
 EventsAreReadAgain = AreReadAgain IsEvent event_form (whole_of event_at)
 
+-- bytes that are read as an event are its spelling
 abbrev pub EventsAreSpelledSo : Type 0
 EventsAreSpelledSo = AreSpelledSo IsEvent event_form (whole_of event_at)
 
+-- no event's spelling begins that of another
 abbrev pub NoEventBeginsAnother : Type 0
 NoEventBeginsAnother = NoneBeginsAnother IsEvent event_form
 

@@ -24,13 +24,16 @@ kind_of byte =
     else if byte == 6 then Some kinds.Move
     else None
 
+-- the kind, where the byte is one's
 abbrev pub kind_from : ℕ → Option OpKind → Rest → Result (OpKind × Rest) FormFault
 kind_from place None r = Err (NotForm place)
 kind_from place (Some kind) r = Ok (kind, r)
 
+-- the next byte, as a kind
 unfoldable pub kind_at : Reading OpKind
 kind_at r = u8_at r >>= λ byte. kind_from r.place (kind_of byte.0) byte.1
 
+-- the byte of a kind
 abbrev pub kind_byte : OpKind → ℕ
 kind_byte kinds.Create = 1
 kind_byte kinds.Delete = 2
@@ -39,6 +42,7 @@ kind_byte kinds.ManyAttribute = 4
 kind_byte kinds.Reference = 5
 kind_byte kinds.Move = 6
 
+-- the spelling of a kind
 abbrev pub kind_form : OpKind → List ℕ
 kind_form kind = kind_byte kind ∷ []
 
@@ -46,9 +50,11 @@ kind_form kind = kind_byte kind ∷ []
 unfoldable pub name_at : Reading (List ℕ)
 name_at r = any_text_at r >>= told_text is_name r.place
 
+-- a simple operation: its kind and its steps
 unfoldable pub simple_at : Reading Operation
 simple_at r = made (λ t. Simple t.0 t.1) ((kind_at ⊗ some_at step_at) r)
 
+-- a composite: its name and its steps
 unfoldable pub composite_at : Reading Operation
 composite_at r = made (λ t. Composite t.0 t.1) ((name_at ⊗ some_at step_at) r)
 
@@ -59,9 +65,11 @@ operation_of place tag =
     else if tag.0 == 2 then composite_at tag.1
     else Err (NotForm place)
 
+-- an operation, by its first byte
 unfoldable pub operation_at : Reading Operation
 operation_at r = u8_at r >>= operation_of r.place
 
+-- the spelling of an operation
 unfoldable pub operation_form : Operation → List ℕ
 operation_form (Simple kind steps) = 1 ∷ (kind_form kind ++ list_form step_form steps)
 operation_form (Composite name steps) = 2 ∷ (text_form name ++ list_form step_form steps)
@@ -70,5 +78,6 @@ operation_form (Composite name steps) = 2 ∷ (text_form name ++ list_form step_
 unfoldable pub package_at : Reading (List Operation)
 package_at r = list_at operation_at r
 
+-- the spelling of a package
 unfoldable pub package_form : List Operation → List ℕ
 package_form operations = list_form operation_form operations

@@ -19,20 +19,24 @@ not_form (read.BadText at) = NotForm at
 not_form (read.Spare at) = NotForm at
 not_form read.Memory = Memory
 
+-- a field that is read, with its fault as one of forms
 abbrev pub field : {X : Type 0} → Result X ReadFault → Result X FormFault
 field (Ok x) = Ok x
 field (Err e) = Err (not_form e)
 
--- the fields: a byte, a number of four bytes, one of eight, a text
+-- a byte
 abbrev pub u8_at : Reading ℕ
 u8_at r = field (byte_at r)
 
+-- a number of four bytes
 abbrev pub u32_at : Reading ℕ
 u32_at r = field (number_at w32 r)
 
+-- a number of eight bytes
 abbrev pub u64_at : Reading ℕ
 u64_at r = field (number_at w64 r)
 
+-- a text
 abbrev pub any_text_at : Reading (List ℕ)
 any_text_at r = field (text_at r)
 
@@ -53,9 +57,11 @@ option_of read place tag =
     else if tag.0 == 1 then made (λ x. Some x) (read tag.1)
     else Err (NotForm place)
 
+-- a value or none, by its first byte
 unfoldable pub option_at : {X : Type 0} → Reading X → Reading (Option X)
 option_at read r = u8_at r >>= option_of read r.place
 
+-- the spelling of a value or none
 abbrev pub option_form : {X : Type 0} → (X → List ℕ) → Option X → List ℕ
 option_form form None = 0 ∷ []
 option_form form (Some x) = 1 ∷ form x
@@ -65,6 +71,7 @@ abbrev pub items_at : {X : Type 0} → Reading X → ℕ → Reading (List X)
 items_at read zero r = Ok ([], r)
 items_at read (suc n) r = read r >>= λ x. made (λ xs. x.0 ∷ xs) (items_at read n x.1)
 
+-- the spellings of items, one behind another
 abbrev pub items_form : {X : Type 0} → (X → List ℕ) → List X → List ℕ
 items_form form [] = []
 items_form form (x ∷ xs) = form x ++ items_form form xs
@@ -77,5 +84,6 @@ list_at read r = u32_at r >>= λ count. items_at read count.0 count.1
 unfoldable pub some_at : {X : Type 0} → Reading X → Reading (List X)
 some_at read r = u32_at r >>= λ count. if count.0 == 0 then Err (NotForm r.place) else items_at read count.0 count.1
 
+-- the spelling of a list
 abbrev pub list_form : {X : Type 0} → (X → List ℕ) → List X → List ℕ
 list_form form xs = u32_form (length xs) ++ items_form form xs

@@ -18,5 +18,6 @@ PackagesKeepGood = (meta : Meta) → Sound meta → (m n : State) → Good meta 
 abbrev pub TwiceReversedIsSame : Type 0
 TwiceReversedIsSame = (p : List Operation) → rev_package (rev_package p) ≡ p
 
+-- an operation reversed twice is the operation
 abbrev pub OperationTwiceReversedIsSame : Type 0
 OperationTwiceReversedIsSame = (o : Operation) → rev_op (rev_op o) ≡ o

@@ -10,19 +10,23 @@ use Rattle.model_state.specs.declared.operation.Operation.TheVariants.{Simple, C
 use Rattle.op_form.specs.declared.event.Event.{Event}
 use Rattle.op_form.specs.declared.event.Event.TheVariants.{Init, Checkout, Edit, Begin, End, Undo, Discard}
 
+-- a text or a list of fewer than 2 ^ 32 items
 abbrev pub IsShort : {X : Type 0} → List X → Type 0
 IsShort xs = length xs < 2 ^ 32
 
+-- a value whose text is short
 abbrev pub FitsValue : Value → Type 0
 FitsValue (Text t) = IsShort t
 FitsValue (Flag b) = Unit {0}
 FitsValue (Whole z) = Unit {0}
 FitsValue (Literal n) = Unit {0}
 
+-- such a value, or none
 abbrev pub FitsIfAny : Option Value → Type 0
 FitsIfAny None = Unit {0}
 FitsIfAny (Some v) = FitsValue v
 
+-- a step whose values and lists of containers are
 abbrev pub FitsStep : Step → Type 0
 FitsStep (Put e f old new) = FitsIfAny old × FitsIfAny new
 FitsStep (Ins e f at v) = FitsValue v
@@ -40,13 +44,16 @@ FitsStep (RerankPlace e old new) = Unit {0}
 abbrev pub FitsSteps : List Step → Type 0
 FitsSteps steps = (1 ≤ length steps) × IsShort steps × All FitsStep steps
 
+-- an operation of such steps; a composite has a name's form too
 abbrev pub FitsOperation : Operation → Type 0
 FitsOperation (Simple kind steps) = FitsSteps steps
 FitsOperation (Composite name steps) = (is_name name ≡ true) × IsShort name × FitsSteps steps
 
+-- a list of such operations
 abbrev pub FitsPackage : List Operation → Type 0
 FitsPackage operations = IsShort operations × All FitsOperation operations
 
+-- an event whose text, name or package is short
 abbrev pub FitsEvent : Event → Type 0
 FitsEvent (Init text) = IsShort text
 FitsEvent (Checkout version branch) = Unit {0}

@@ -24,6 +24,7 @@ id_at r = any_text_at r >>= told_text is_id r.place
 abbrev pub flag_of : ℕ → ℕ × Rest → Result (Value × Rest) FormFault
 flag_of place byte = if byte.0 == 0 then Ok (Flag false, byte.1) else if byte.0 == 1 then Ok (Flag true, byte.1) else Err (NotForm place)
 
+-- the next byte, as a flag
 unfoldable pub flag_at : Reading Value
 flag_at r = u8_at r >>= flag_of r.place
 
@@ -36,13 +37,16 @@ value_of place kind =
     else if kind.0 == 4 then made (λ n. Literal n) (u32_at kind.1)
     else Err (NotForm place)
 
+-- a value, by its kind's byte
 unfoldable pub value_at : Reading Value
 value_at r = u8_at r >>= value_of r.place
 
+-- the spelling of a flag
 abbrev pub flag_form : Bool → List ℕ
 flag_form true = 1 ∷ []
 flag_form false = 0 ∷ []
 
+-- the spelling of a value
 unfoldable pub value_form : Value → List ℕ
 value_form (Text t) = 1 ∷ text_form t
 value_form (Flag b) = 2 ∷ flag_form b
@@ -56,9 +60,11 @@ place_of place kind =
     else if kind.0 == 1 then made (λ t. Inside t.0 t.1) ((id_at ⊗ u32_at) kind.1)
     else Err (NotForm place)
 
+-- a place, by its first byte
 unfoldable pub place_at : Reading Place
 place_at r = u8_at r >>= place_of r.place
 
+-- the spelling of a place
 unfoldable pub place_form : Place → List ℕ
 place_form Root = 0 ∷ []
 place_form (Inside parent feature) = 1 ∷ (text_form parent ++ u32_form feature)

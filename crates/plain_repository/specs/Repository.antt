@@ -63,6 +63,7 @@ pub record State : Type 0 where
   pub events : ℕ
   pub end : ℕ
 
+-- the repository before its first event
 abbrev pub empty : State
 empty = record { meta = None; workspaces = []; events = 0; end = 16 }
 
@@ -79,6 +80,7 @@ workspace_of s (suc n) = slice_get s.workspaces n
 abbrev pub untouched : Workspace
 untouched = record { operations = []; composite = None }
 
+-- the steps of the open composite, none where none is open
 abbrev pub open_steps : Option Composite → List Step
 open_steps None = []
 open_steps (Some composite) = composite.steps
@@ -106,6 +108,7 @@ abbrev pub changed : (Workspace → Workspace) → List Workspace → ℕ → Li
 changed change ws zero = ws
 changed change ws (suc n) = changed_at change ws n
 
+-- operations come behind the others, or their steps into the composite that is open
 abbrev pub added : List Operation → List Operation → Option Composite → Workspace
 added more operations None = record { operations = operations ++ more; composite = None }
 added more operations (Some composite) = record { operations = operations; composite = Some (record { name = composite.name; steps = composite.steps ++ steps_all more }) }
@@ -123,6 +126,7 @@ abbrev pub composed : List ℕ → List Step → List Operation
 composed name [] = []
 composed name (s ∷ ss) = operation.Composite name (s ∷ ss) ∷ []
 
+-- the open composite as an operation, where one is open and has steps
 abbrev pub operation_of_open : Option Composite → List Operation
 operation_of_open None = []
 operation_of_open (Some composite) = composed composite.name composite.steps
@@ -131,12 +135,15 @@ operation_of_open (Some composite) = composed composite.name composite.steps
 abbrev pub with_closed : Workspace → Workspace
 with_closed w = record { operations = w.operations ++ operation_of_open w.composite; composite = None }
 
+-- the last operation goes
 abbrev pub without_last : Workspace → Workspace
 without_last w = record { operations = take (length w.operations - 1) w.operations; composite = w.composite }
 
+-- nothing is recorded any more
 abbrev pub without_any : Workspace → Workspace
 without_any w = untouched
 
+-- the metamodel, where the text reads as one
 abbrev pub meta_of_read : Result Meta EcoreFault → Option Meta
 meta_of_read (Ok meta) = Some meta
 meta_of_read (Err fault) = None
@@ -184,6 +191,7 @@ has_operations None = false
 abbrev pub most_bytes : ℕ
 most_bytes = 16777211
 
+-- what each event asks of the state, by the metamodel
 abbrev pub playable_with : State → Option Meta → Event → Bool
 playable_with s None (Init text) = is_ok (metamodel_of text)
 playable_with s (Some meta) (Checkout version branch) = (version == 0) && (branch == 0)
@@ -212,6 +220,7 @@ pub record Decision : Type 0 where
   pub reply : Reply
   pub event : Option Event
 
+-- a refusal, which makes no event
 abbrev pub refused : Refusal → Decision
 refused refusal = record { reply = record { lines = []; last = last.No refusal }; event = None }
 
@@ -219,6 +228,7 @@ refused refusal = record { reply = record { lines = []; last = last.No refusal }
 abbrev pub told : List (List ℕ) → List ℕ → Decision
 told lines words = record { reply = record { lines = lines; last = last.Ok words }; event = None }
 
+-- an answer to what makes an event
 abbrev pub accepted : List (List ℕ) → List ℕ → Event → Decision
 accepted lines words event = record { reply = record { lines = lines; last = last.Ok words }; event = Some event }
 
@@ -250,6 +260,7 @@ unknown (specs.Tag name) = Some refusals.NoVersion
 abbrev pub first_text : Meta → List ℕ
 first_text meta = text meta nothing
 
+-- a new workspace, unless the version is unknown
 abbrev pub checked_out : State → Meta → Option Refusal → Decision
 checked_out s meta (Some refusal) = refused refusal
 checked_out s meta None = with_room s (first_text meta ∷ []) (decimal (length s.workspaces + 1) ++ codes " 0 trunk") (Checkout 0 0)
@@ -258,6 +269,7 @@ checked_out s meta None = with_room s (first_text meta ∷ []) (decimal (length 
 unfoldable pub decide_checkout : State → Meta → Spec → Decision
 decide_checkout s meta spec = checked_out s meta (unknown spec)
 
+-- the text of the version, unless it is unknown
 abbrev pub text_of : Meta → Option Refusal → Decision
 text_of meta (Some refusal) = refused refusal
 text_of meta None = told (first_text meta ∷ []) []
@@ -293,10 +305,12 @@ abbrev pub with_operation : State → ℕ → List ℕ → Option Operation → 
 with_operation s ws words None = told [] words
 with_operation s ws words (Some operation) = with_room s [] words (Edit ws (operation ∷ []))
 
+-- the answer to an edit, by what is recorded of it
 abbrev pub edited : State → ℕ → Result Recorded EditFault → Decision
 edited s ws (Err fault) = refused (refusal_of fault)
 edited s ws (Ok r) = with_operation s ws (id_words r.id) r.operation
 
+-- the same, by the workspace
 abbrev pub edit_in : State → Meta → ℕ → Option Workspace → edits.Edit → Decision
 edit_in s meta ws None edit = refused refusals.NoWorkspace
 edit_in s meta ws (Some workspace) edit = edited s ws (recorded meta (model_of meta workspace) ws edit)
@@ -305,15 +319,17 @@ edit_in s meta ws (Some workspace) edit = edited s ws (recorded meta (model_of m
 unfoldable pub decide_edit : State → Meta → ℕ → edits.Edit → Decision
 decide_edit s meta ws edit = edit_in s meta ws (workspace_of s ws) edit
 
--- how many elements came
+-- the answer to an import: how many elements came
 abbrev pub imported : State → ℕ → List DocRow → Result (Option Operation) EditFault → Decision
 imported s ws rows (Err fault) = refused (refusal_of fault)
 imported s ws rows (Ok operation) = with_operation s ws (decimal (length rows)) operation
 
+-- the same, by what its block reads as
 abbrev pub import_read : State → Meta → ℕ → Workspace → Result (List DocRow) ModelFault → Decision
 import_read s meta ws workspace (Err fault) = refused (refusals.BadModel (model_fault_number fault))
 import_read s meta ws workspace (Ok rows) = imported s ws rows (recorded_import meta (model_of meta workspace) ws rows)
 
+-- the same, by the workspace
 abbrev pub import_in : State → Meta → ℕ → Option Workspace → List ℕ → Decision
 import_in s meta ws None text = refused refusals.NoWorkspace
 import_in s meta ws (Some workspace) text = import_read s meta ws workspace (doc_of meta text)
@@ -322,6 +338,7 @@ import_in s meta ws (Some workspace) text = import_read s meta ws workspace (doc
 unfoldable pub decide_import : State → Meta → ℕ → List ℕ → Decision
 decide_import s meta ws text = import_in s meta ws (workspace_of s ws) text
 
+-- a composite is open, where none was
 abbrev pub begun : State → ℕ → List ℕ → Option Workspace → Decision
 begun s ws name None = refused refusals.NoWorkspace
 begun s ws name (Some workspace) = if is_open (Some workspace) then refused refusals.CompositeOpen else with_room s [] [] (Begin ws name)
@@ -330,6 +347,7 @@ begun s ws name (Some workspace) = if is_open (Some workspace) then refused refu
 unfoldable pub decide_begin : State → ℕ → List ℕ → Decision
 decide_begin s ws name = begun s ws name (workspace_of s ws)
 
+-- the composite is closed, where one was open
 abbrev pub ended : State → ℕ → Option Workspace → Decision
 ended s ws None = refused refusals.NoWorkspace
 ended s ws (Some workspace) = if is_open (Some workspace) then with_room s [] [] (End ws) else refused refusals.NoComposite
@@ -338,6 +356,7 @@ ended s ws (Some workspace) = if is_open (Some workspace) then with_room s [] []
 unfoldable pub decide_end : State → ℕ → Decision
 decide_end s ws = ended s ws (workspace_of s ws)
 
+-- the last operation goes, where there is one and no composite is open
 abbrev pub undone : State → ℕ → Option Workspace → Decision
 undone s ws None = refused refusals.NoWorkspace
 undone s ws (Some workspace) =
@@ -349,6 +368,7 @@ undone s ws (Some workspace) =
 unfoldable pub decide_undo : State → ℕ → Decision
 decide_undo s ws = undone s ws (workspace_of s ws)
 
+-- all that is recorded goes, and nothing changes where nothing is
 abbrev pub discarded : State → ℕ → Option Workspace → Decision
 discarded s ws None = refused refusals.NoWorkspace
 discarded s ws (Some workspace) = if is_open (Some workspace) || has_operations (Some workspace) then with_room s [] [] (Discard ws) else told [] []
@@ -357,10 +377,12 @@ discarded s ws (Some workspace) = if is_open (Some workspace) || has_operations 
 unfoldable pub decide_discard : State → ℕ → Decision
 decide_discard s ws = discarded s ws (workspace_of s ws)
 
+-- the lines of the open composite, none where none is open
 abbrev pub lines_of_open : Meta → Option Composite → List (List ℕ)
 lines_of_open meta None = []
 lines_of_open meta (Some composite) = open_lines meta composite.name composite.steps
 
+-- the lines of a workspace
 abbrev pub changes_of : Meta → Option Workspace → Decision
 changes_of meta None = refused refusals.NoWorkspace
 changes_of meta (Some workspace) = told (operation_lines meta workspace.operations ++ lines_of_open meta workspace.composite) []
@@ -369,6 +391,7 @@ changes_of meta (Some workspace) = told (operation_lines meta workspace.operatio
 unfoldable pub decide_changes : State → Meta → ℕ → Decision
 decide_changes s meta ws = changes_of meta (workspace_of s ws)
 
+-- the text of its working model
 abbrev pub shown : Meta → Option Workspace → Decision
 shown meta None = refused refusals.NoWorkspace
 shown meta (Some workspace) = told (text meta (model_of meta workspace) ∷ []) []
@@ -377,6 +400,7 @@ shown meta (Some workspace) = told (text meta (model_of meta workspace) ∷ []) 
 unfoldable pub decide_show : State → Meta → ℕ → Decision
 decide_show s meta ws = shown meta (workspace_of s ws)
 
+-- the lines on its working model
 abbrev pub validated : Meta → Option Workspace → Decision
 validated meta None = refused refusals.NoWorkspace
 validated meta (Some workspace) = told (validate_lines meta (model_of meta workspace)) []
@@ -385,6 +409,7 @@ validated meta (Some workspace) = told (validate_lines meta (model_of meta works
 unfoldable pub decide_validate : State → Meta → ℕ → Decision
 decide_validate s meta ws = validated meta (workspace_of s ws)
 
+-- the text of a block, empty where there is none
 abbrev pub block_text : Option (List ℕ) → List ℕ
 block_text None = []
 block_text (Some text) = text
@@ -410,6 +435,7 @@ decide_with s (Some meta) block command = decide_begun s meta block command
 decide_with s None block commands.Init = decide_init s None (block_text block)
 decide_with s None block command = refused refusals.NotInit
 
+-- a command on a state
 unfoldable pub decide_command : State → Option (List ℕ) → Command → Decision
 decide_command s block command = decide_with s s.meta block command
 
@@ -418,16 +444,20 @@ abbrev pub decide_read : State → Option (List ℕ) → Result Command ℕ → 
 decide_read s block (Ok command) = decide_command s block command
 decide_read s block (Err column) = refused (refusals.BadLine column)
 
+-- a line with its block, on a state
 unfoldable pub decide_line : State → List ℕ → Option (List ℕ) → Decision
 decide_line s line block = decide_read s block (command_of line)
 
+-- the last line is a refusal
 abbrev pub ends_refused : Last → Bool
 ends_refused (last.Ok words) = false
 ends_refused (last.No refusal) = true
 
+-- the reply is a refusal
 abbrev pub is_refusal : Reply → Bool
 is_refusal reply = ends_refused reply.last
 
+-- a decision, with its reply printed
 abbrev pub answer_of : Decision → Answer Event
 answer_of decision = record { reply = printed decision.reply; refused = is_refusal decision.reply; event = decision.event }
 

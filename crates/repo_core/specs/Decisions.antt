@@ -23,6 +23,7 @@ pub record CanMake (state : State) (made : Made) : Type 0 where
   pub short : length (event_form made.event) ≤ 16777211
   pub fits : state.end + length (event_form made.event) + 6 ≤ 2 ^ 40
 
+-- such an event, or none
 abbrev pub CanMakeIt : State → Option Made → Type 0
 CanMakeIt state None = Unit {0}
 CanMakeIt state (Some made) = CanMake state made

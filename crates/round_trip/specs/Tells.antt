@@ -13,11 +13,12 @@ use Rattle.emfjson_text.specs.Tree.{child_ids, target_ids}
 use Rattle.model_import.specs.Names.{name_at}
 use Rattle.model_import.specs.News.{place_of}
 
--- the values that a row gives an attribute, none where it gives none
+-- the values of the first attribute, none where there is none
 abbrev pub first_values : List DocAttr → List Value
 first_values [] = []
 first_values (a ∷ attrs) = a.values
 
+-- the values that a row gives an attribute, none where it gives none
 abbrev pub values_told : ℕ → List DocAttr → List Value
 values_told f attrs = first_values (attr_at f attrs)
 

@@ -17,6 +17,7 @@ abbrev pub tag_of : List ℕ → Option Spec
 tag_of [] = None
 tag_of (b ∷ bs) = if (b == 64) && is_name bs then Some (Tag bs) else None
 
+-- a name is a branch's, and else a tag's behind `@`
 abbrev pub name_or_tag : List ℕ → Option Spec
 name_or_tag word = if is_name word then Some (Branch word) else tag_of word
 

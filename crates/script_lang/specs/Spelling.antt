@@ -18,14 +18,17 @@ use Rattle.script_lang.specs.Command.{command_of}
 abbrev pub IsWord : List ℕ → Type 0
 IsWord word = (0 < length word) × (list_any is_space word ≡ false)
 
+-- a number of 32 bits
 abbrev pub IsNumber : ℕ → Type 0
 IsNumber n = n < 2 ^ 32
 
+-- a version as a word can name it
 abbrev pub IsSpec : Spec → Type 0
 IsSpec (Number n) = IsNumber n
 IsSpec (Branch name) = is_name name ≡ true
 IsSpec (Tag name) = is_name name ≡ true
 
+-- a word, or none
 abbrev pub IsOptionalWord : Option (List ℕ) → Type 0
 IsOptionalWord None = Unit {0}
 IsOptionalWord (Some word) = IsWord word
@@ -34,6 +37,7 @@ IsOptionalWord (Some word) = IsWord word
 abbrev pub IsText : List ℕ → Type 0
 IsText text = 0 < length text
 
+-- a number, or none
 abbrev pub IsOptionalNumber : Option ℕ → Type 0
 IsOptionalNumber None = Unit {0}
 IsOptionalNumber (Some n) = IsNumber n
@@ -76,11 +80,13 @@ IsCommand (commands.Show ws) = IsWorkspace ws
 IsCommand (commands.Cat spec) = IsSpec spec
 IsCommand (commands.Validate ws) = IsWorkspace ws
 
+-- the word that names a version
 abbrev pub spec_word : Spec → List ℕ
 spec_word (Number n) = decimal n
 spec_word (Branch name) = name
 spec_word (Tag name) = 64 ∷ name
 
+-- a word, where there is one
 abbrev pub optional_word : Option (List ℕ) → List (List ℕ)
 optional_word None = []
 optional_word (Some word) = word ∷ []

@@ -16,6 +16,7 @@ abbrev pub ◌>>=◌ : {A B : Type 0} → Result A ℕ → (A → Result B ℕ) 
 (Ok x) >>= f = f x
 (Err e) >>= f = Err e
 
+-- a space
 abbrev pub is_space : ℕ → Bool
 is_space b = b == 32
 
@@ -70,6 +71,7 @@ abbrev pub end_from : Option (List ℕ) → ℕ → Result (Unit {0}) ℕ
 end_from None column = Ok tt
 end_from (Some rest) column = Err column
 
+-- the line ends here
 abbrev pub end_at : Left → Result (Unit {0}) ℕ
 end_at left = end_from left.rest left.column
 
@@ -83,6 +85,7 @@ name_at left = do
   word ← word_at left
   found_at left.column (if is_name word.0 then Some word.0 else None) word.1
 
+-- the next word where something is left, else none
 abbrev pub optional_from : Option (List ℕ) → Left → Result (Option (List ℕ) × Left) ℕ
 optional_from None left = Ok (None, left)
 optional_from (Some rest) left = word_at left >>= λ word. Ok (Some word.0, word.1)
@@ -91,6 +94,7 @@ optional_from (Some rest) left = word_at left >>= λ word. Ok (Some word.0, word
 unfoldable pub optional_at : Left → Result (Option (List ℕ) × Left) ℕ
 optional_at left = optional_from left.rest left
 
+-- the next word, an index, where something is left, else none
 abbrev pub optional_number_from : Option (List ℕ) → Left → Result (Option ℕ × Left) ℕ
 optional_number_from None left = Ok (None, left)
 optional_number_from (Some rest) left = number_at 0 left >>= λ number. Ok (Some number.0, number.1)
@@ -105,9 +109,11 @@ rest_from None column = Err (column - 1)
 rest_from (Some []) column = Err column
 rest_from (Some (b ∷ bs)) column = Ok (b ∷ bs)
 
+-- the rest of the line
 unfoldable pub rest_at : Left → Result (List ℕ) ℕ
 rest_at left = rest_from left.rest left.column
 
+-- the index, or none where the word is `end`
 abbrev pub index_from : Option ℕ → List ℕ → Option (Option ℕ)
 index_from (Some index) word = Some (Some index)
 index_from None word = if is_word word (codes "end") then Some None else None
@@ -132,18 +138,22 @@ abbrev pub Gives : {X : Type 0} → Left → Result X ParseFault → Result (X �
 Gives new (Ok x) read = read ≡ Ok (x, new)
 Gives new (Err e) read = IsBad e read
 
+-- the same of a call that gives a text
 abbrev pub GivesText : Left → Result (Bor (List ℕ)) ParseFault → Result (List ℕ × Left) ℕ → Type 0
 GivesText new (Ok x) read = read ≡ Ok (x.now, new)
 GivesText new (Err e) read = IsBad e read
 
+-- the same of a call that looks for the line's end
 abbrev pub GivesEnd : Result (Unit {0}) ParseFault → Result (Unit {0}) ℕ → Type 0
 GivesEnd (Ok x) read = read ≡ Ok tt
 GivesEnd (Err e) read = IsBad e read
 
+-- the same of a call that may give a text
 abbrev pub GivesOptional : Left → Result (Option (Bor (List ℕ))) ParseFault → Result (Option (List ℕ) × Left) ℕ → Type 0
 GivesOptional new (Ok o) read = read ≡ Ok (left_of o, new)
 GivesOptional new (Err e) read = IsBad e read
 
+-- the same of a call that gives the rest of the line
 abbrev pub GivesRest : Result (Bor (List ℕ)) ParseFault → Result (List ℕ) ℕ → Type 0
 GivesRest (Ok x) read = read ≡ Ok x.now
 GivesRest (Err e) read = IsBad e read

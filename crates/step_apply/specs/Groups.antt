@@ -50,6 +50,7 @@ abbrev pub rows_of : Option (BTreeMap RowKey ℕ) → FinMap row_cmp ℕ
 rows_of None = empty
 rows_of (Some t) = table row_cmp t
 
+-- those to the element of that id
 abbrev pub arriving : BTreeMap Name (BTreeMap RowKey ℕ) → Name → FinMap row_cmp ℕ
 arriving t b = rows_of (tree.get id_cmp t b)
 

@@ -13,20 +13,26 @@ pub record Spots : Type 0 where
   pub place : FinMap id_cmp Place
   pub rank : FinMap id_cmp ℕ
 
+-- the code of an id
 abbrev pub coded_name : Coded Name
 coded_name = coded_list coded_ℕ
 
+-- the code of where elements stand
 abbrev pub spots_code : Coded Spots
 spots_code = code_by (FinMap id_cmp Place × FinMap id_cmp ℕ) (coded× (code coded_name place_type.the_row.coded) (code coded_name coded_ℕ)) (λ s. (s.place, s.rank)) (λ p. record { place = p.0; rank = p.1 }) (λ _. refl)
 
+-- the values of each attribute that is set
 abbrev pub Values : Type 0
 Values = FinMap attr_cmp (List Value)
 
+-- the code of those values
 abbrev pub values_code : Coded Values
 values_code = code (coded× coded_name coded_ℕ) (coded_list value_type.the_row.coded)
 
+-- the rank of each row
 abbrev pub Ranks : Type 0
 Ranks = FinMap row_cmp ℕ
 
+-- the code of those ranks
 abbrev pub ranks_code : Coded Ranks
 ranks_code = code (code_by (Name × (ℕ × Name)) (coded× coded_name (coded× coded_ℕ coded_name)) (λ k. (k.0, (k.1, k.2))) (λ p. (p.0, p.1.0, p.1.1)) (λ _. refl)) coded_ℕ
