@@ -1,4 +1,4 @@
-// Fields, read from the front.
+//! Fields, read from the front.
 ghost use Rattle.std.specs.Prelude.{◌≡◌, ◌≢◌, ◌≤◌, length, take, IfOk, IfErr, MatchResult, Ok, Err, string_bytes};
 ghost use Rattle.std.specs.Int.{w32, w64, from_be_bytes};
 ghost use Rattle.byte_form.specs.Fields.{Reads, byte_at, number_at, text_at, ends_at, past};

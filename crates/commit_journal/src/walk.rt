@@ -1,4 +1,4 @@
-// Reading a journal's records, one after the other.
+//! Reading a journal's records, one after the other.
 ghost use Rattle.std.specs.Prelude.{◌≡◌, ◌⊎◌, ◌+◌, ◌^◌, ◌<◌, ◌≤◌, ◌++◌, [], ◌∷◌, List, ℕ, length, IsTrue, IfOk, OnOk, IfErr, IfSome, IfNone, OnErr, IsErrOf, true, false};
 ghost use Rattle.host_port.specs.Host.{disk_now, Rose, GoesOn, Throughout, KeepsDisk, KeepsSaid, KeepsInput, RaisesDiskAlone, StopLeaves};
 ghost use Rattle.std.specs.Bool.{OnTrue, OnFalse};

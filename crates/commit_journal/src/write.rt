@@ -1,4 +1,4 @@
-// A write that is on the disk when it is answered.
+//! A write that is on the disk when it is answered.
 ghost use Rattle.std.specs.Prelude.{◌≡◌, ◌+◌, ◌^◌, ◌≤◌, length, IsTrue, OnOk, OnErr};
 ghost use Rattle.host_port.specs.Host.{disk_now, Rose, GoesOn, Throughout, KeepsSaid, KeepsInput, RaisesDiskAlone, written, synced};
 ghost use Rattle.commit_journal.specs.Stop.{IsWriting};

@@ -48,6 +48,7 @@ pub fn create_at<L: Look>(
     requires rank { (end_spot (children (L.state look.now).place (L.state look.now).prank place)).rank ≡ Some spot.rank }
     ensures made { IfOk result (λ s. s ≡ create_made (L.state look.now) e.now class place) }
 {
+    // The contract alone speaks of it.
     let _look = look;
     let Spot { mut steps, rank } = spot;
     steps.push(Step::New {

@@ -1,4 +1,4 @@
-// A line in the making.
+//! A line in the making.
 ghost use Rattle.std.specs.Prelude.{◌≡◌, ◌++◌, ◌∷◌, [], IfOk, OnOk, true};
 ghost use Rattle.std.specs.Fmt.{decimal};
 ghost use Rattle.ecore_meta.specs.Typing.{fits};
@@ -26,6 +26,7 @@ impl Model for Line {
 }
 
 impl Line {
+    /// A line without a word.
     pub(crate) fn new(alloc: Global) -> Line
         ensures { result ≡ [] }
     {
@@ -73,6 +74,7 @@ impl Line {
         self.push_word(text.as_str())
     }
 
+    /// The line, as a text of its own.
     pub(crate) fn into_text(self) -> Result<Text, AllocError>
         ensures { IfOk result (λ t. t ≡ self) }
     {

@@ -1,4 +1,4 @@
-// The lines of operations, and those of an open composite.
+//! The lines of operations, and those of an open composite.
 ghost use Rattle.std.specs.Prelude.{◌≡◌, ◌++◌, ◌∷◌, [], IfOk, OnOk, codes, map};
 ghost use Rattle.data_lines.specs.Lines.{kind_word, kind_words, open_lines, operation_line, operation_lines, spaced, step_line};
 ghost use Rattle.data_lines.specs.Typed.{AreTyped, IsTypedPackage};
@@ -56,6 +56,7 @@ fn open_line(alloc: Global, name: &Text) -> Result<Text, AllocError>
     line.into_text()
 }
 
+/// The steps of an operation, simple or composite.
 pub(crate) fn steps_of(operation: &Operation) -> &[Step]
     ensures { result.now ≡ steps_of operation.now }
 {

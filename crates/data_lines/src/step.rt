@@ -1,4 +1,4 @@
-// The line of a step.
+//! The line of a step.
 ghost use Rattle.std.specs.Prelude.{◌≡◌, ◌++◌, ◌∷◌, [], IfOk, OnOk};
 ghost use Rattle.std.specs.Fmt.{decimal};
 ghost use Rattle.data_lines.specs.Lines.{class_name, feature_name, optional, place_word, spaced, step_line, value_word};

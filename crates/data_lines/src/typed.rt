@@ -1,4 +1,4 @@
-// Whether steps are of a metamodel, as the lines of steps ask.
+//! Whether steps are of a metamodel, as the lines of steps ask.
 ghost use Rattle.std.specs.Prelude.{◌≡◌, ◌↔◌, IsTrue};
 ghost use Rattle.model_state.specs.Packages.{steps_of};
 ghost use Rattle.model_state.specs.Typing.{kind_of};

@@ -1,4 +1,4 @@
-// The lines of features that are below their lower bounds.
+//! The lines of features that are below their lower bounds.
 ghost use Rattle.std.specs.Prelude.{◌≡◌, ◌++◌, ◌∷◌, [], IfOk, OnOk, length};
 ghost use Rattle.std.specs.Fmt.{decimal};
 ghost use Rattle.std.specs.Option.{option_copied, option_map};

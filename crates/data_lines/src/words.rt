@@ -1,4 +1,4 @@
-// Words of a step's line.
+//! Words of a step's line.
 ghost use Rattle.std.specs.Prelude.{◌≡◌, ◌++◌, ◌∷◌, OnOk};
 ghost use Rattle.std.specs.Fmt.{decimal};
 ghost use Rattle.data_lines.specs.Lines.{class_name, feature_name, optional, place_word, value_word};
@@ -9,6 +9,7 @@ use ecore_meta::{Kind, Metamodel, Value};
 use model_state::Place;
 use std::alloc::AllocError;
 
+/// The name of a class as the metamodel has it.
 pub(crate) fn class_name(meta: &Metamodel, c: u32) -> &str
     requires { IsClass meta.now c }
     ensures { result.now ≡ class_name meta.now c }
@@ -16,6 +17,7 @@ pub(crate) fn class_name(meta: &Metamodel, c: u32) -> &str
     meta.class(c).name.as_str()
 }
 
+/// The name of a feature as the metamodel has it.
 pub(crate) fn feature_name(meta: &Metamodel, f: u32) -> &str
     requires { IsFeature meta.now f }
     ensures { result.now ≡ feature_name meta.now f }
@@ -23,6 +25,7 @@ pub(crate) fn feature_name(meta: &Metamodel, f: u32) -> &str
     meta.feature(f).name.as_str()
 }
 
+/// Adds a space and the JSON text of a value of the feature.
 pub(crate) fn push_value(
     line: &mut Line,
     meta: &Metamodel,
@@ -40,6 +43,7 @@ pub(crate) fn push_value(
     }
 }
 
+/// Adds a space and the JSON text of a value, or `-` where there is none.
 pub(crate) fn push_value_if_any(
     line: &mut Line,
     meta: &Metamodel,
@@ -56,6 +60,7 @@ pub(crate) fn push_value_if_any(
     }
 }
 
+/// Adds a space and a rank in decimal, or `-` where there is none.
 pub(crate) fn push_rank_if_any(line: &mut Line, rank: Option<u64>) -> Result<(), AllocError>
     ensures { OnOk result (line.new ≡ line.old ++ 32 ∷ optional decimal rank) }
 {
@@ -65,6 +70,7 @@ pub(crate) fn push_rank_if_any(line: &mut Line, rank: Option<u64>) -> Result<(),
     }
 }
 
+/// Adds a space and `/` for the root, or the parent's id, `/` and the feature's name.
 pub(crate) fn push_place(line: &mut Line, meta: &Metamodel, place: &Place) -> Result<(), AllocError>
     requires { IsPlace meta.now place.now }
     ensures { OnOk result (line.new ≡ line.old ++ 32 ∷ place_word meta.now place.now) }

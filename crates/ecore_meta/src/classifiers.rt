@@ -62,6 +62,7 @@ impl<'a> Classifiers<'a> {
         }
     }
 
+    /// What a name stands for, found in the index.
     pub fn named(&self, name: &str) -> Option<Classifier>
         ensures { result ≡ classifier_named self.now name.now }
     {
@@ -71,6 +72,7 @@ impl<'a> Classifiers<'a> {
         }
     }
 
+    /// The number of the class of that name, `None` where the name is that of an enum or a data type, or of nothing.
     pub fn class_number(&self, name: &str) -> Option<u32>
         ensures { result ≡ class_number self.now name.now }
     {

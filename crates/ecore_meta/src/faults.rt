@@ -114,6 +114,7 @@ impl<'a> Classifiers<'a> {
         }
     }
 
+    /// Whether some class names a supertype that is no class of the document.
     pub fn any_lacks_super(&self, rows: &[ClassifierRow]) -> bool
         ensures { result ≡ list_any (lacks_super self.now) rows.now }
     {

@@ -75,6 +75,7 @@ pub struct Feature {
     pub kind: Kind,
 }
 
+/// A class of a metamodel. The list that it stands in gives it its number.
 #[derive(Debug, Drop)]
 pub struct Class {
     pub name: Text,
@@ -91,6 +92,7 @@ pub struct EnumLiteral {
 }
 
 impl Value {
+    /// The same value, a text in memory of its own.
     pub fn copy(&self, alloc: Global) -> Result<Value, AllocError>
         ensures { IfOk result (λ v. v ≡ self.now) }
     {

@@ -91,18 +91,21 @@ impl Metamodel {
         self.uri.as_str()
     }
 
+    /// How many classes there are; they are numbered from 0.
     pub fn class_count(&self) -> u32
         ensures { result ≡ length self.now.classes }
     {
         self.classes.len() as u32
     }
 
+    /// How many features all classes declare; they are numbered from 0.
     pub fn feature_count(&self) -> u32
         ensures { result ≡ length self.now.features }
     {
         self.features.len() as u32
     }
 
+    /// How many enums there are; they are numbered from 0.
     pub fn enum_count(&self) -> u32
         ensures { result ≡ length self.now.literals }
     {
@@ -131,6 +134,7 @@ impl Metamodel {
     pub fn sound(&self)
         ensures { Sound self.now }
     {
+        // For what the type's invariant says.
         let _uri = &self.uri;
     }
 

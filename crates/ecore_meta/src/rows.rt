@@ -15,6 +15,7 @@ pub struct MetaRows {
     pub classifiers: List<ClassifierRow>,
 }
 
+/// A classifier as a document says it.
 #[derive(Debug, Drop)]
 pub enum ClassifierRow {
     Class(ClassRow),
@@ -23,6 +24,7 @@ pub enum ClassifierRow {
     Plain(Text),
 }
 
+/// A class as a document says it: its supertypes and the types of its features are names, which may be none of the document's.
 #[derive(Debug, Drop)]
 pub struct ClassRow {
     pub name: Text,
@@ -33,16 +35,18 @@ pub struct ClassRow {
     pub features: List<FeatureRow>,
 }
 
+/// An enum as a document says it, with its literals in their order.
 #[derive(Debug, Drop)]
 pub struct EnumRow {
     pub name: Text,
     pub literals: List<LiteralRow>,
 }
 
+/// A literal of an enum as a document says it.
 #[derive(Debug, Drop)]
 pub struct LiteralRow {
     pub name: Text,
-    /// Ecore's number of the literal; it is kept by nothing.
+    /// Ecore's number of the literal; the metamodel doesn't keep it.
     pub value: i64,
     /// The text that stands for the literal in a model.
     pub literal: Text,
@@ -64,6 +68,7 @@ pub struct OppositeRow {
     pub feature: Text,
 }
 
+/// An attribute or a reference as a document says it; the names in it may be none of the document's.
 #[derive(Debug, Drop)]
 pub struct FeatureRow {
     pub name: Text,
@@ -81,6 +86,7 @@ pub struct FeatureRow {
 }
 
 impl ClassifierRow {
+    /// The name under which other rows refer to the classifier.
     pub fn name(&self) -> &str
         ensures { result.now ≡ classifier_name self.now }
     {

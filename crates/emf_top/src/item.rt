@@ -37,6 +37,7 @@ fn is_skipped(line: &str) -> bool
 }
 
 impl Item {
+    /// The line, without its line feed and a carriage return right before that.
     pub fn line(&self) -> &str
         ensures { result.now ≡ self.now.line }
     {

@@ -23,7 +23,7 @@ pub enum Status {
     Accepted,
     /// The input was read to its end, and some reply is a refusal.
     Refused,
-    /// The words are of no form.
+    /// The program was given words, and it takes none.
     BadWords,
     /// The host failed to hand over input.
     ReadFault,

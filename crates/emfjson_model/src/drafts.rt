@@ -30,6 +30,7 @@ impl Model for Drafts {
 }
 
 impl Drafts {
+    /// No element is read yet.
     pub fn new(alloc: Global) -> Drafts
         ensures { result ≡ [] }
     {
@@ -39,6 +40,7 @@ impl Drafts {
         }
     }
 
+    /// How many elements are read.
     pub fn len(&self) -> usize
         ensures { result ≡ length self.now }
     {

@@ -36,6 +36,7 @@ impl<'a> Model for Finder<'a> {
 }
 
 impl<'a> Finder<'a> {
+    /// Makes the maps that the elements are found by, from all of them. The error is want of memory.
     pub fn new(alloc: Global, rows: &'a [Draft]) -> Result<Finder<'a>, AllocError>
         ensures { IfOk result (λ finder. finder ≡ rows.now) }
     {

@@ -33,6 +33,7 @@ impl<'a> Model for Sources<'a> {
 }
 
 impl<'a> Sources<'a> {
+    /// Makes the map of the elements that name others, from what each gives. The error is want of memory.
     pub fn new(alloc: Global, given: &'a [List<DocRefs>]) -> Result<Sources<'a>, AllocError>
         ensures { IfOk result (λ sources. sources ≡ given.now) }
     {

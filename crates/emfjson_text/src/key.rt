@@ -15,6 +15,7 @@ pub(crate) enum Key {
     Feature(u32),
 }
 
+/// The name that a key has in an element's object; that of a feature is the metamodel's.
 pub(crate) fn key_name(meta: &Metamodel, key: Key) -> &str
     ensures { result.now ≡ key_name meta.now key }
 {

@@ -33,6 +33,7 @@ pub(crate) struct Found {
 }
 
 impl Part {
+    /// Whether the key is left out of the object.
     pub(crate) fn is_absent(&self) -> bool
         ensures { result ≡ is_absent self.now }
     {

@@ -50,6 +50,7 @@ fn sync_all<F: OpenFile>(file: &Option<F>) -> Option<()> {
 }
 
 impl<'a, R: Files + Input + Print> FileHost<'a, R> {
+    /// Opens the file, or makes it. It never fails: where the file can't be opened, each disk call does.
     pub fn new(rt: &'a R) -> FileHost<'a, R> {
         FileHost {
             rt,

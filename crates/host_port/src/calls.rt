@@ -1,4 +1,4 @@
-// The list of calls that a host in memory keeps, and what each of them does.
+//! The list of calls that a host in memory keeps, and what each of them does.
 ghost use Rattle.std.specs.Prelude.{◌≡◌, ◌⊎◌, ◌+◌, ◌-◌, ◌^◌, ◌≤◌, ◌↔◌, ◌++◌, [], ◌∷◌, length, take, min, IsTrue, IfOk, OnOk, OnErr, Contains, Vec};
 ghost use Rattle.std.specs.Bool.{OnTrue, OnFalse};
 ghost use Rattle.host_port.specs.Host.{Rose, overwritten};

@@ -1,4 +1,4 @@
-// A host that stops answering after a number of calls.
+//! A host that stops answering after a number of calls.
 ghost use Rattle.std.specs.Prelude.{◌≡◌, ◌⊎◌, ◌+◌, ◌^◌, ◌<◌, ◌≤◌, ◌++◌, length, take, drop, min, IsTrue, IfOk, OnOk, OnErr};
 ghost use Rattle.host_port.specs.Host.{Rose};
 

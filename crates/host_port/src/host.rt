@@ -1,4 +1,4 @@
-// One object holds the store and the console, so that one clock orders what is written and what is said.
+//! One object holds the store and the console, so that one clock orders what is written and what is said.
 ghost use Rattle.std.specs.Prelude.{◌≡◌, ◌⊎◌, ◌++◌, ℕ, ◌+◌, ◌^◌, ◌<◌, ◌≤◌, length, take, drop, IsTrue, IfOk, OnOk, OnErr};
 ghost use Rattle.host_port.specs.Host.{Told, MayLeave, disk_now, said_now, Rose, GoesOn, Throughout, KeepsDisk, KeepsSaid, KeepsInput, Moves, AddsPart, RaisesTakesAlone, RaisesSaysAlone, RaisesDiskAlone, WrittenPart, written, synced};
 

@@ -1,4 +1,4 @@
-// The file after a stop, from the list of calls.
+//! The file after a stop, from the list of calls.
 ghost use Rattle.std.specs.Prelude.{◌≡◌, ◌-◌, ◌++◌, length, replicate, IfOk, OnOk};
 ghost use Rattle.host_port.specs.Host.{Disk, MayLeave};
 ghost use Rattle.host_port.specs.Image.{IsFilled, IsShownAs};

@@ -1,4 +1,4 @@
-// A host whose input depends on what was said.
+//! A host whose input depends on what was said.
 ghost use Rattle.std.specs.Prelude.{◌≡◌, ◌⊎◌, ◌+◌, ◌-◌, ◌^◌, ◌<◌, ◌≤◌, ◌++◌, [], true, false, length, take, drop, map, min, IsTrue, IfOk, OnOk, OnErr};
 ghost use Rattle.host_port.specs.Host.{Rose, overwritten};
 ghost use Rattle.host_port.specs.Talk.{turn, taken_on, pieces_in, padded};

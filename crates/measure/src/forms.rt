@@ -26,6 +26,7 @@ fn short_text(number: u32) -> &'static str
         2 => "",
         _ => "Grüße",
     };
+    // For what the call's contract says.
     let _bytes = text.as_bytes();
     text
 }

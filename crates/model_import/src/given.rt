@@ -29,6 +29,7 @@ impl<'a> Model for Given<'a> {
 }
 
 impl<'a> Given<'a> {
+    /// Makes the set of the ids, from all rows. The error is want of memory.
     pub fn new(alloc: Global, rows: &'a [DocRow]) -> Result<Given<'a>, AllocError>
         ensures { IfOk result (λ given. given ≡ rows.now) }
     {

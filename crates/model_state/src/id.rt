@@ -84,6 +84,7 @@ impl Id {
         }
     }
 
+    /// The text of the id: 1 to 128 bytes of printable ASCII.
     pub fn as_str(&self) -> &str
         ensures bytes { result.now ≡ self.now }
         ensures form { is_id self.now ≡ true }
@@ -91,6 +92,7 @@ impl Id {
         self.text.as_str()
     }
 
+    /// The same id in memory of its own.
     pub fn copy(&self, alloc: Global) -> Result<Id, AllocError>
         ensures { IfOk result (λ t. t ≡ self.now) }
     {

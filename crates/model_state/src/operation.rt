@@ -36,6 +36,7 @@ fn copy_steps(alloc: Global, steps: &List<Step>) -> Result<List<Step>, AllocErro
 }
 
 impl Operation {
+    /// The same operation in memory of its own.
     pub fn copy(&self, alloc: Global) -> Result<Operation, AllocError>
         ensures { IfOk result (λ o. o ≡ self.now) }
     {

@@ -181,6 +181,7 @@ impl Place {
         }
     }
 
+    /// The same place, the parent's id in memory of its own.
     pub fn copy(&self, alloc: Global) -> Result<Place, AllocError>
         ensures { IfOk result (λ p. p ≡ self.now) }
     {
@@ -214,6 +215,7 @@ fn copy_ids(alloc: Global, ids: &List<Id>) -> Result<List<Id>, AllocError>
 }
 
 impl Step {
+    /// The same step in memory of its own.
     pub fn copy(&self, alloc: Global) -> Result<Step, AllocError>
         ensures { IfOk result (λ s. s ≡ self.now) }
     {

@@ -1,5 +1,5 @@
-// Whether an event has a spelling. Lengths and names are looked at; what a type says of its values, as the range of a number, the form
-// of an id or that a text is UTF-8, is known without a look, and the tests of it are always true.
+//! Whether an event has a spelling. Lengths and names are looked at; what a type says of its values, as the range of a number, the form
+//! of an id or that a text is UTF-8, is known without a look, and the tests of it are always true.
 ghost use Rattle.std.specs.Prelude.{◌≡◌, ◌&&◌, IsTrue};
 ghost use Rattle.model_state.specs.Ident.{is_id};
 ghost use Rattle.std.specs.List.{list_all};
@@ -22,6 +22,7 @@ pub fn has_form(event: &Event) -> bool
 fn is_u32(number: u32) -> bool
     ensures { result ≡ is_u32 number }
 {
+    // The contract alone speaks of it.
     let _number = number;
     true
 }
@@ -29,6 +30,7 @@ fn is_u32(number: u32) -> bool
 fn is_u64(number: u64) -> bool
     ensures { result ≡ is_u64 number }
 {
+    // The contract alone speaks of it.
     let _number = number;
     true
 }
@@ -36,6 +38,7 @@ fn is_u64(number: u64) -> bool
 fn is_i64(number: i64) -> bool
     ensures { result ≡ is_i64 number }
 {
+    // The contract alone speaks of it.
     let _number = number;
     true
 }
@@ -43,6 +46,7 @@ fn is_i64(number: i64) -> bool
 fn is_id(id: &Id) -> bool
     ensures { result ≡ is_id id.now }
 {
+    // For what the call's contract says.
     let _text = id.as_str();
     true
 }

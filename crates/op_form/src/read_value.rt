@@ -1,4 +1,4 @@
-// Ids, values and places, read from the front.
+//! Ids, values and places, read from the front.
 ghost use Rattle.op_form.specs.Reading.{any_text_at, option_at, list_at, items_at, u64_at};
 ghost use Rattle.op_form.specs.Values.{id_at, value_at, place_at, flag_at};
 ghost use Rattle.op_form.specs.Given.{Gives};
@@ -9,6 +9,7 @@ use ecore_meta::{List, Text, Value};
 use model_state::{Id, IdFault, Place};
 use std::alloc::Global;
 
+/// A text: the count of its bytes in four bytes, and the bytes.
 pub(crate) fn take_text(alloc: Global, reader: &mut Reader<'_>) -> Result<Text, FormFault>
     ensures { Gives reader.new result (any_text_at reader.old) }
 {
@@ -16,6 +17,7 @@ pub(crate) fn take_text(alloc: Global, reader: &mut Reader<'_>) -> Result<Text, 
     Ok(Text::new(alloc, text.as_str())?)
 }
 
+/// An id: a text of its form. Where the form is another, the fault has the place of the text.
 #[tactic(auto, unfolding(crate::specs::Values::id_at))]
 pub(crate) fn take_id(alloc: Global, reader: &mut Reader<'_>) -> Result<Id, FormFault>
     ensures { Gives reader.new result (id_at reader.old) }
@@ -41,6 +43,7 @@ fn take_flag(reader: &mut Reader<'_>) -> Result<Value, FormFault>
     }
 }
 
+/// A value: the byte of its kind, from 1 to 4, and what that kind has.
 #[tactic(auto, unfolding(crate::specs::Values::value_at))]
 pub(crate) fn take_value(alloc: Global, reader: &mut Reader<'_>) -> Result<Value, FormFault>
     ensures { Gives reader.new result (value_at reader.old) }
@@ -55,6 +58,7 @@ pub(crate) fn take_value(alloc: Global, reader: &mut Reader<'_>) -> Result<Value
     }
 }
 
+/// A value behind a byte 1, or none behind a byte 0.
 #[tactic(auto, unfolding(crate::specs::Reading::option_at))]
 pub(crate) fn take_value_if_any(
     alloc: Global,
@@ -70,6 +74,7 @@ pub(crate) fn take_value_if_any(
     }
 }
 
+/// A rank of eight bytes behind a byte 1, or none behind a byte 0.
 #[tactic(auto, unfolding(crate::specs::Reading::option_at))]
 pub(crate) fn take_rank_if_any(reader: &mut Reader<'_>) -> Result<Option<u64>, FormFault>
     ensures { Gives reader.new result (option_at u64_at reader.old) }
@@ -82,6 +87,7 @@ pub(crate) fn take_rank_if_any(reader: &mut Reader<'_>) -> Result<Option<u64>, F
     }
 }
 
+/// A place: a byte 0 for the root, or a byte 1, the parent's id and the feature's number.
 #[tactic(auto, unfolding(crate::specs::Values::place_at))]
 pub(crate) fn take_place(alloc: Global, reader: &mut Reader<'_>) -> Result<Place, FormFault>
     ensures { Gives reader.new result (place_at reader.old) }
@@ -98,6 +104,7 @@ pub(crate) fn take_place(alloc: Global, reader: &mut Reader<'_>) -> Result<Place
     }
 }
 
+/// The ids of a list: their count in four bytes, and each as a text.
 #[tactic(auto, unfolding(crate::specs::Reading::list_at))]
 pub(crate) fn take_ids(alloc: Global, reader: &mut Reader<'_>) -> Result<List<Id>, FormFault>
     ensures { Gives reader.new result (list_at id_at reader.old) }

@@ -1,4 +1,4 @@
-// Packages and events, as bytes.
+//! Packages and events, as bytes.
 ghost use Rattle.byte_form.specs.Fields.{u32_form};
 ghost use Rattle.std.specs.Prelude.{◌≡◌, ◌++◌, ◌∷◌, IfOk, OnOk, All};
 ghost use Rattle.op_form.specs.Reading.{items_form, list_form};

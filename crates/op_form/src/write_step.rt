@@ -1,4 +1,4 @@
-// Steps, written behind what stands: ids, values, places, and each kind's fields.
+//! Steps, written behind what stands: ids, values, places, and each kind's fields.
 ghost use Rattle.std.specs.Prelude.{◌≡◌, ◌++◌, ◌∷◌, ◌<◌, OnOk};
 ghost use Rattle.byte_form.specs.Fields.{text_form, u32_form, u64_form};
 ghost use Rattle.op_form.specs.Reading.{option_form, items_form, list_form};
@@ -11,6 +11,7 @@ use ecore_meta::{List, Value};
 use model_state::{Id, Place, Step};
 use std::alloc::AllocError;
 
+/// Writes an id as a text: the count of its bytes, and the bytes. The error is want of memory.
 pub(crate) fn put_id(form: &mut Form, id: &Id) -> Result<(), AllocError>
     ensures { OnOk result (form.new ≡ form.old ++ text_form id.now) }
 {
@@ -23,6 +24,7 @@ fn put_flag(form: &mut Form, flag: bool) -> Result<(), AllocError>
     form.put_u8(if flag { 1 } else { 0 })
 }
 
+/// Writes the byte of a value's kind, from 1 to 4, and what that kind has. The error is want of memory.
 #[tactic(auto, unfolding(crate::specs::Values::value_form))]
 pub(crate) fn put_value(form: &mut Form, value: &Value) -> Result<(), AllocError>
     requires { FitsValue value.now }
@@ -73,6 +75,7 @@ fn put_rank_if_any(form: &mut Form, rank: Option<u64>) -> Result<(), AllocError>
     }
 }
 
+/// Writes a byte 0 for the root, or a byte 1, the parent's id and the feature's number. The error is want of memory.
 #[tactic(auto, unfolding(crate::specs::Values::place_form))]
 pub(crate) fn put_place(form: &mut Form, place: &Place) -> Result<(), AllocError>
     ensures { OnOk result (form.new ≡ form.old ++ place_form place.now) }

@@ -86,6 +86,7 @@ pub fn reorder_steps<L: Look>(
     ensures taken { OnOk result (reorder_refusal (L.state look.now) a.now f b.now at ≡ None) }
     ensures refused { IfErr result (λ e. IsRefusal (reorder_refusal (L.state look.now) a.now f b.now at) e) }
 {
+    // The contract alone speaks of it.
     let _meta = meta;
     let Some(old) = rank_of(alloc, look, a, f, b)? else {
         return Err(LinkFault::NoEntry);

@@ -42,6 +42,7 @@ fn count<L: Look>(look: &L, meta: &Metamodel, e: &Id, f: u32) -> u32
     requires many { is_many (kind_of meta.now f) ≡ true }
     ensures { result ≡ length (values_in (L.state look.now) e.now f) }
 {
+    // The contract alone speaks of it.
     let _meta = meta;
     look.attr(e, f).len() as u32
 }
@@ -86,6 +87,7 @@ pub fn clear<L: Look>(
     requires many { is_many (kind_of meta.now named.now.feature) ≡ true }
     ensures { IfOk result (λ r. r ≡ recording meta.now (L.state look.now) (Clears named.now.id named.now.feature)) }
 {
+    // The contract alone speaks of it.
     let _meta = meta;
     let values = look.attr(&named.id, named.feature);
     let steps = dels(alloc, &named.id, named.feature, values)?;

@@ -17,7 +17,7 @@ pub enum Spec {
 pub enum Command {
     /// `init`: the block behind the line is the metamodel.
     Init,
-    /// `import WS`: the elements of the documents in the block behind the line come into the workspace's model.
+    /// `import WS`: the elements of the document in the block behind the line come into the workspace's model.
     Import { ws: u32 },
     /// `checkout SPEC`: a new workspace at that version.
     Checkout { spec: Spec },

@@ -1,4 +1,4 @@
-// A line as a command: one private function a command.
+//! A line as a command: one private function a command.
 ghost use Rattle.std.specs.Prelude.{◌≡◌, ◌-◌, ◌<◌, ◌^◌, length, IfOk, IfNone, IfSome, None, Some};
 ghost use Rattle.script_lang.specs.Words.{Gives};
 ghost use Rattle.script_lang.specs.Command.{GivesCommand, GivesSpec, command_of, init_at, import_at, checkout_at, create_at, delete_at, move_at, destination_at, set_at, unset_at, add_at, remove_at, shift_at, link_at, unlink_at, reorder_at, begin_at, end_line_at, undo_at, discard_at, changes_at, show_at, cat_at, validate_at, spec_of, spec_at, tag_of};

@@ -1,4 +1,4 @@
-// A reply, and the bytes that are said of it.
+//! A reply, and the bytes that are said of it.
 ghost use Rattle.std.specs.Prelude.{◌≡◌, ◌++◌, ◌∷◌, [], IfOk, OnOk, string_bytes};
 ghost use Rattle.script_lang.specs.Reply.{printed, printed_lines, last_line, ok_line};
 
@@ -37,15 +37,15 @@ pub enum Refusal {
     NoFeature,
     /// 16: the feature is of a kind that the command does not take.
     WrongKind,
-    /// 17: the text is no value of the attribute's type.
+    /// 17: the text is no value of the attribute's type, or for a reference no JSON text.
     BadValue,
     /// 18: the class of what would be linked or contained is not the feature's type, nor below it.
     WrongType,
-    /// 19: a list that would get an entry more is full.
+    /// 19: a list that would get an entry more is full, or a list or place must be ranked anew and is too long.
     Bound,
     /// 20: the feature holds each value once, and holds that one already.
     AlreadyThere,
-    /// 21: the list has no entry at that index.
+    /// 21: the list or place has no such index, or the list no such target.
     NoEntry,
     /// 22: the element would come to lie in itself.
     WouldCycle,

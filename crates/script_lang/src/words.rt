@@ -1,4 +1,4 @@
-// The words of a line, one after another.
+//! The words of a line, one after another.
 ghost use Rattle.std.specs.Prelude.{◌≡◌, ◌-◌, ◌<◌, ◌^◌, length, OnOk, Some};
 ghost use Rattle.std.specs.List.{list_all};
 ghost use Rattle.script_lang.specs.Words.{Gives, GivesText, GivesEnd, GivesOptional, GivesRest, name_at, optional_at, optional_number_at, rest_at, index_or_end_at, word_at, number_at, number_of, is_numeral, end_at};
@@ -167,6 +167,7 @@ impl<'a> Words<'a> {
     }
 }
 
+/// The fault of a line whose word at the column, from 1, doesn't fit.
 pub(crate) fn bad_line(column: usize) -> ParseFault
     requires { column < 2 ^ 32 }
     ensures { result ≡ ParseFault.BadLine column }

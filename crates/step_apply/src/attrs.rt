@@ -29,6 +29,7 @@ impl Model for Attrs {
 }
 
 impl Attrs {
+    /// No attribute is set.
     pub fn new(alloc: Global) -> Attrs
         ensures { result ≡ empty }
     {
@@ -60,6 +61,7 @@ impl Attrs {
         }
     }
 
+    /// Gives an attribute its values, in place of those that it has. The error is want of memory.
     pub fn put(
         &mut self,
         alloc: Global,
@@ -84,6 +86,7 @@ impl Attrs {
         }
     }
 
+    /// Takes the values of an attribute away, where it is set.
     pub fn drop_at(&mut self, e: &Id, f: u32)
         ensures { self.new ≡ set self.old (e.now, f) None }
     {

@@ -167,6 +167,7 @@ pub(crate) fn is_bare(inside: &BTreeMap<Id, BTreeMap<u32, BTreeMap<Id, u64>>>, a
 }
 
 impl Groups {
+    /// No element stands anywhere.
     pub fn new(alloc: Global) -> Groups
         ensures { (p : Spot) → standing result p ≡ empty }
     {
@@ -176,6 +177,7 @@ impl Groups {
         }
     }
 
+    /// Gives an element its rank in the list of a place, whether it comes or is there. The error is want of memory.
     pub fn put(&mut self, alloc: Global, place: &Place, e: Id, rank: u64) -> Result<(), AllocError>
         ensures here { OnOk result (standing self.new place.now ≡ set (standing self.old place.now) e (Some rank)) }
         ensures there { (p : Spot) → place_eq place.now p ≡ false → standing self.new p ≡ standing self.old p }
@@ -205,6 +207,7 @@ impl Groups {
         }
     }
 
+    /// How many elements stand in a place.
     pub fn count(&self, place: &Place) -> usize
         ensures { result ≡ length (entries (standing self.now place.now)) }
     {

@@ -44,6 +44,7 @@ impl Model for Kinds {
 }
 
 impl Kinds {
+    /// No element is live.
     pub fn new(alloc: Global) -> Kinds
         ensures { result ≡ empty }
     {
@@ -52,12 +53,14 @@ impl Kinds {
         }
     }
 
+    /// The number of an element's class, `None` where it isn't live.
     pub fn find(&self, e: &Id) -> Option<u32>
         ensures { result ≡ get self.now e.now }
     {
         self.tree.get(e).copied()
     }
 
+    /// Makes an element live, with its class. The error is want of memory.
     pub fn put(&mut self, e: Id, class: u32) -> Result<(), AllocError>
         ensures ok { OnOk result (self.new ≡ set self.old e (Some class)) }
         ensures err { OnErr result (self.new ≡ self.old) }
@@ -66,12 +69,14 @@ impl Kinds {
         Ok(())
     }
 
+    /// Makes an element live no more.
     pub fn drop_at(&mut self, e: &Id)
         ensures { self.new ≡ set self.old e.now None }
     {
         self.tree.remove(e);
     }
 
+    /// The ids of the live elements, in the order of their bytes.
     pub fn ids(&self, alloc: Global) -> Result<List<Id>, AllocError>
         ensures { IfOk result (λ l. l ≡ keys self.now) }
     {

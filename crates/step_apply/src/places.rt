@@ -22,6 +22,7 @@ fn standing_inside(tree: &BTreeMap<Id, Placed>, e: &Id) -> usize
     ensures count { result ≡ count_by (λ p. is_inside e.now p.place) (values tree.now) }
     ensures ordered { IsOrdered id_cmp tree.now }
 {
+    // For what the call's contract says.
     let _len = tree.len();
     tree.values().filter(|p| p.place.is_inside(e)).count()
 }
@@ -74,6 +75,7 @@ impl Model for Places {
 }
 
 impl Places {
+    /// No element stands anywhere.
     pub fn new(alloc: Global) -> Places
         ensures place { result.place ≡ empty }
         ensures rank { result.rank ≡ empty }
@@ -85,6 +87,7 @@ impl Places {
         }
     }
 
+    /// The place and the rank of an element, `None` where it isn't live.
     pub fn find(&self, e: &Id) -> Option<&Placed>
         ensures place { option_map (λ p. p.place) (option_copied result) ≡ get self.now.place e.now }
         ensures rank { option_map (λ p. p.rank) (option_copied result) ≡ get self.now.rank e.now }
@@ -92,6 +95,7 @@ impl Places {
         self.tree.get(e)
     }
 
+    /// How many elements stand in a place. This goes over none of them.
     pub fn count_at(&self, place: &Place) -> usize
         ensures { result ≡ count (λ e. place_eq place.now e.1) self.now.place }
     {
@@ -109,6 +113,7 @@ impl Places {
         standing_inside(&self.tree, e)
     }
 
+    /// Puts an element to a place with a rank; where it stood elsewhere, it leaves that place. The error is want of memory.
     pub fn put(&mut self, e: Id, placed: Placed) -> Result<(), AllocError>
         ensures place { OnOk result (self.new.place ≡ set self.old.place e (Some placed.place)) }
         ensures rank { OnOk result (self.new.rank ≡ set self.old.rank e (Some placed.rank)) }
@@ -141,6 +146,7 @@ impl Places {
         }
     }
 
+    /// Takes an element away from where it stands, if it stands anywhere.
     pub fn drop_at(&mut self, e: &Id)
         ensures place { self.new.place ≡ set self.old.place e.now None }
         ensures rank { self.new.rank ≡ set self.old.rank e.now None }
@@ -149,6 +155,7 @@ impl Places {
         leave(&mut self.groups, old, e);
     }
 
+    /// The elements of a place, by rank and then by id. This sorts these alone, whatever else the model holds.
     pub fn children(&self, alloc: Global, place: &Place) -> Result<List<Entry>, AllocError>
         ensures { IfOk result (λ l. l ≡ children self.now.place self.now.rank place.now) }
     {

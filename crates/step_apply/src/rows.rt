@@ -29,6 +29,7 @@ fn counted_at(tree: &BTreeMap<(Id, u32, Id), u64>, e: &Id) -> usize
     ensures count { result ≡ count_by (λ k. text_eq e.now k.0 || text_eq e.now k.2) (ordered_map.keys tree.now) }
     ensures ordered { IsOrdered row_cmp tree.now }
 {
+    // For what the call's contract says.
     let _len = tree.len();
     tree.keys().filter(|key| is_row_at(key, e)).count()
 }
@@ -153,6 +154,7 @@ impl Model for Rows {
 }
 
 impl Rows {
+    /// No rows.
     pub fn new(alloc: Global) -> Rows
         ensures { result ≡ empty }
     {
@@ -164,12 +166,14 @@ impl Rows {
         }
     }
 
+    /// The rank of the row from the first element to the second by the feature between them, `None` where there is no such row.
     pub fn find(&self, key: &(Id, u32, Id)) -> Option<u64>
         ensures { result ≡ get self.now key.now }
     {
         self.tree.get(key).copied()
     }
 
+    /// Gives a row its rank, a new row or one that is there. The error is want of memory.
     pub fn put(&mut self, key: (Id, u32, Id), rank: u64) -> Result<(), AllocError>
         ensures ok { OnOk result (self.new ≡ set self.old key (Some rank)) }
         ensures err { OnErr result (self.new ≡ self.old) }
@@ -195,6 +199,7 @@ impl Rows {
         }
     }
 
+    /// Takes a row away, where there is one.
     pub fn drop_at(&mut self, key: &(Id, u32, Id))
         ensures { self.new ≡ set self.old key.now None }
     {
@@ -225,6 +230,7 @@ impl Rows {
         counted_at(&self.tree, e)
     }
 
+    /// The targets of a feature of an element, by rank and then by id. This sorts these alone, whatever else the model holds.
     pub fn targets(&self, alloc: Global, a: &Id, f: u32) -> Result<List<Entry>, AllocError>
         ensures { IfOk result (λ l. l ≡ targets self.now a.now f) }
     {
@@ -238,6 +244,7 @@ impl Rows {
         }
     }
 
+    /// The rows to an element, by source and then by feature. This goes over these alone.
     pub fn incoming(&self, alloc: Global, b: &Id) -> Result<List<Incoming>, AllocError>
         ensures { IfOk result (λ l. l ≡ incoming self.now b.now) }
     {

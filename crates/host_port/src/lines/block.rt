@@ -43,6 +43,7 @@ fn is_feed(stop: Stop) -> bool
 }
 
 impl Block {
+    /// A block without a line; `alloc` is where its text takes its memory from.
     pub fn new(alloc: Global) -> Block {
         Block {
             text: String::new(alloc),

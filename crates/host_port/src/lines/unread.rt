@@ -45,6 +45,7 @@ fn line_feed(bytes: &[u8], from: usize) -> Option<usize>
 }
 
 impl Unread {
+    /// Nothing is at hand, and the input is at its start.
     pub fn new(alloc: Global) -> Unread
         ensures pending { result.pending.items ≡ [] }
         ensures place { result.place ≡ 0 }
