@@ -59,7 +59,7 @@ link_index m a f at = unwrap_or at (length (targets m.row a f))
 abbrev pub link_refusal : Meta → State → Name → ℕ → Name → Option ℕ → Option EditFault
 link_refusal meta m a f b at = first_refusal (link_tests meta m a f b (link_index m a f at))
 
--- reorder: the row is there, the index is one of the list's, and where the row isn't there yet there is a rank
+-- reorder: the row is there, the index is one of the list's, and where the target doesn't stand at it yet there is a rank
 abbrev pub reorder_tests : State → Name → ℕ → Name → ℕ → List (Bool × EditFault)
 reorder_tests m a f b k =
     (is_some (get m.row (a, f, b)), NoEntry)

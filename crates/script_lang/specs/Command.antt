@@ -265,7 +265,7 @@ abbrev pub GivesCommand : Result Command ParseFault → Result Command ℕ → T
 GivesCommand (Ok c) read = read ≡ Ok c
 GivesCommand (Err e) read = IsBad e read
 
--- a word's version, or none where it is of no form
+-- a call gave the version that reading gives, and stands behind it, or its column
 abbrev pub GivesSpec : Left → Result Spec ParseFault → Result (Spec × Left) ℕ → Type 0
 GivesSpec new (Ok spec) read = read ≡ Ok (spec, new)
 GivesSpec new (Err e) read = IsBad e read
