@@ -39,7 +39,7 @@ abbrev pub in_use : State → Option Name → Bool
 in_use m None = false
 in_use m (Some id) = is_live m id
 
--- one of the rows does so
+-- one of the rows gives an id that is live
 abbrev pub any_in_use : State → List DocRow → Bool
 any_in_use m rows = list_any (λ (r : DocRow). in_use m r.id) rows
 

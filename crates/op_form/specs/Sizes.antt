@@ -26,7 +26,7 @@ abbrev pub FitsIfAny : Option Value → Type 0
 FitsIfAny None = Unit {0}
 FitsIfAny (Some v) = FitsValue v
 
--- a step whose values and lists of containers are
+-- a step whose values and lists of containers are short
 abbrev pub FitsStep : Step → Type 0
 FitsStep (Put e f old new) = FitsIfAny old × FitsIfAny new
 FitsStep (Ins e f at v) = FitsValue v
@@ -49,7 +49,7 @@ abbrev pub FitsOperation : Operation → Type 0
 FitsOperation (Simple kind steps) = FitsSteps steps
 FitsOperation (Composite name steps) = (is_name name ≡ true) × IsShort name × FitsSteps steps
 
--- a list of such operations
+-- a short list of such operations
 abbrev pub FitsPackage : List Operation → Type 0
 FitsPackage operations = IsShort operations × All FitsOperation operations
 

@@ -228,7 +228,7 @@ refused refusal = record { reply = record { lines = []; last = last.No refusal }
 abbrev pub told : List (List ℕ) → List ℕ → Decision
 told lines words = record { reply = record { lines = lines; last = last.Ok words }; event = None }
 
--- an answer to what makes an event
+-- an answer, with the event that the command makes
 abbrev pub accepted : List (List ℕ) → List ℕ → Event → Decision
 accepted lines words event = record { reply = record { lines = lines; last = last.Ok words }; event = Some event }
 
@@ -400,7 +400,7 @@ shown meta (Some workspace) = told (text meta (model_of meta workspace) ∷ []) 
 unfoldable pub decide_show : State → Meta → ℕ → Decision
 decide_show s meta ws = shown meta (workspace_of s ws)
 
--- the lines on its working model
+-- the lines of what its working model lacks
 abbrev pub validated : Meta → Option Workspace → Decision
 validated meta None = refused refusals.NoWorkspace
 validated meta (Some workspace) = told (validate_lines meta (model_of meta workspace)) []
