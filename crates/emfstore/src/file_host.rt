@@ -7,8 +7,8 @@ use std::rt::Files;
 
 const JOURNAL: &str = "emfstore.journal";
 
-/// The file `emfstore.journal` in the working folder, made where it is missing, and the standard
-/// streams. It tells nothing. Where the file can't be opened every disk call fails.
+/// The file `emfstore.journal` in the working folder, and the standard streams. The first call that needs the file opens it,
+/// and makes it where it is missing; a call that finds it can't be opened fails. It tells nothing.
 #[derive(Drop)]
 pub struct FileHost<'a, R: Files + Input + Print> {
     rt: &'a R,
@@ -27,34 +27,50 @@ fn opened<R: Files>(rt: &R) -> Option<R::File> {
     how.open(rt, JOURNAL).ok()
 }
 
-fn length_of<F: OpenFile>(file: &Option<F>) -> Option<u64> {
-    let file = file.as_ref()?;
+/// The file, which is opened where it isn't yet.
+fn at_hand<'h, R: Files>(rt: &R, file: &'h mut Option<R::File>) -> Option<&'h mut R::File> {
+    if file.is_none() {
+        *file = opened(rt);
+    }
+    file.as_mut()
+}
+
+fn length_of<F: OpenFile>(file: &F) -> Option<u64> {
     Some(file.metadata().ok()?.len())
 }
 
-fn read_all<F: Read + Seek>(file: &mut Option<F>, at: u64, into: &mut [u8]) -> Option<()> {
-    let file = file.as_mut()?;
+fn read_all<F: Read + Seek>(file: &mut F, at: u64, into: &mut [u8]) -> Option<()> {
     file.seek(SeekFrom::Start(at)).ok()?;
     file.read_exact(into).ok()
 }
 
-fn write_all<F: Write + Seek>(file: &mut Option<F>, at: u64, bytes: &[u8]) -> Option<()> {
-    let file = file.as_mut()?;
+fn write_all<F: Write + Seek>(file: &mut F, at: u64, bytes: &[u8]) -> Option<()> {
     file.seek(SeekFrom::Start(at)).ok()?;
     file.write_all(bytes).ok()
 }
 
-fn sync_all<F: OpenFile>(file: &Option<F>) -> Option<()> {
-    let file = file.as_ref()?;
-    file.sync_all().ok()
+fn length<R: Files>(rt: &R, file: &mut Option<R::File>) -> Option<u64> {
+    length_of(at_hand(rt, file)?)
+}
+
+fn read<R: Files>(rt: &R, file: &mut Option<R::File>, at: u64, into: &mut [u8]) -> Option<()> {
+    read_all(at_hand(rt, file)?, at, into)
+}
+
+fn write<R: Files>(rt: &R, file: &mut Option<R::File>, at: u64, bytes: &[u8]) -> Option<()> {
+    write_all(at_hand(rt, file)?, at, bytes)
+}
+
+fn sync<R: Files>(rt: &R, file: &mut Option<R::File>) -> Option<()> {
+    at_hand(rt, file)?.sync_all().ok()
 }
 
 impl<'a, R: Files + Input + Print> FileHost<'a, R> {
-    /// Opens the file, or makes it. It never fails: where the file can't be opened, each disk call does.
+    /// A host that has opened nothing yet.
     pub fn new(rt: &'a R) -> FileHost<'a, R> {
         FileHost {
             rt,
-            file: opened(rt),
+            file: None,
             reader: rt.reader(),
             take_faults: 0,
             say_faults: 0,
@@ -93,7 +109,7 @@ impl<R: Files + Input + Print> Host for FileHost<'_, R> {
     }
 
     fn len(&mut self) -> Result<u64, Failed> {
-        match length_of(&self.file) {
+        match length(self.rt, &mut self.file) {
             Some(len) => Ok(len),
             None => {
                 self.disk_faults = self.disk_faults.saturating_add(1);
@@ -103,7 +119,7 @@ impl<R: Files + Input + Print> Host for FileHost<'_, R> {
     }
 
     fn read_at(&mut self, at: u64, into: &mut [u8]) -> Result<(), Failed> {
-        match read_all(&mut self.file, at, into) {
+        match read(self.rt, &mut self.file, at, into) {
             Some(()) => Ok(()),
             None => {
                 self.disk_faults = self.disk_faults.saturating_add(1);
@@ -113,7 +129,7 @@ impl<R: Files + Input + Print> Host for FileHost<'_, R> {
     }
 
     fn write_at(&mut self, at: u64, bytes: &[u8]) -> Result<(), Failed> {
-        match write_all(&mut self.file, at, bytes) {
+        match write(self.rt, &mut self.file, at, bytes) {
             Some(()) => Ok(()),
             None => {
                 self.disk_faults = self.disk_faults.saturating_add(1);
@@ -123,7 +139,7 @@ impl<R: Files + Input + Print> Host for FileHost<'_, R> {
     }
 
     fn sync(&mut self) -> Result<(), Failed> {
-        match sync_all(&self.file) {
+        match sync(self.rt, &mut self.file) {
             Some(()) => Ok(()),
             None => {
                 self.disk_faults = self.disk_faults.saturating_add(1);

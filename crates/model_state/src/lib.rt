@@ -2,6 +2,7 @@
 #![tactic(auto)]
 
 mod containers;
+mod copies;
 mod entry;
 mod id;
 mod look;

@@ -114,31 +114,13 @@ pub(crate) fn put_step(form: &mut Form, step: &Step) -> Result<(), AllocError>
     ensures { OnOk result (form.new ≡ form.old ++ step_form step.now) }
 {
     match step {
-        Step::Put { e, f, old, new } => {
-            form.put_u8(1)?;
-            put_id(form, e)?;
-            form.put_u32(*f)?;
-            put_value_if_any(form, old)?;
-            put_value_if_any(form, new)
-        }
+        Step::Put { e, f, old, new } => put_change(form, e, *f, old, new),
         Step::Ins { e, f, at, v } => put_at_index(form, 2, e, *f, *at, v),
         Step::Del { e, f, at, v } => put_at_index(form, 3, e, *f, *at, v),
-        Step::Shift { e, f, from, to } => {
-            form.put_u8(4)?;
-            put_id(form, e)?;
-            form.put_u32(*f)?;
-            form.put_u32(*from)?;
-            form.put_u32(*to)
-        }
+        Step::Shift { e, f, from, to } => put_shift(form, e, *f, *from, *to),
         Step::Link { a, f, ra, b, rb } => put_row(form, 5, a, *f, *ra, b, *rb),
         Step::Unlink { a, f, ra, b, rb } => put_row(form, 6, a, *f, *ra, b, *rb),
-        Step::RerankRow { a, f, b, old, new } => {
-            form.put_u8(7)?;
-            put_id(form, a)?;
-            form.put_u32(*f)?;
-            put_id(form, b)?;
-            put_ranks(form, *old, *new)
-        }
+        Step::RerankRow { a, f, b, old, new } => put_rank_of_row(form, a, *f, b, *old, *new),
         Step::New {
             e,
             class,
@@ -159,20 +141,86 @@ pub(crate) fn put_step(form: &mut Form, step: &Step) -> Result<(), AllocError>
             to_rank,
             above_from,
             above_to,
-        } => {
-            form.put_u8(10)?;
-            put_id(form, e)?;
-            put_spot(form, from, *from_rank)?;
-            put_spot(form, to, *to_rank)?;
-            put_ids(form, above_from)?;
-            put_ids(form, above_to)
-        }
-        Step::RerankPlace { e, old, new } => {
-            form.put_u8(11)?;
-            put_id(form, e)?;
-            put_ranks(form, *old, *new)
-        }
+        } => put_move(
+            form, e, from, *from_rank, to, *to_rank, above_from, above_to,
+        ),
+        Step::RerankPlace { e, old, new } => put_rank_of_place(form, e, *old, *new),
     }
+}
+
+fn put_change(
+    form: &mut Form,
+    e: &Id,
+    f: u32,
+    old: &Option<Value>,
+    new: &Option<Value>,
+) -> Result<(), AllocError>
+    requires { FitsIfAny old.now }
+    requires { FitsIfAny new.now }
+    ensures { OnOk result (form.new ≡ form.old ++ 1 ∷ (text_form e.now ++ (u32_form f ++ (option_form value_form old.now ++ option_form value_form new.now)))) }
+{
+    form.put_u8(1)?;
+    put_id(form, e)?;
+    form.put_u32(f)?;
+    put_value_if_any(form, old)?;
+    put_value_if_any(form, new)
+}
+
+fn put_shift(form: &mut Form, e: &Id, f: u32, from: u32, to: u32) -> Result<(), AllocError>
+    ensures { OnOk result (form.new ≡ form.old ++ 4 ∷ (text_form e.now ++ (u32_form f ++ (u32_form from ++ u32_form to)))) }
+{
+    form.put_u8(4)?;
+    put_id(form, e)?;
+    form.put_u32(f)?;
+    form.put_u32(from)?;
+    form.put_u32(to)
+}
+
+fn put_rank_of_row(
+    form: &mut Form,
+    a: &Id,
+    f: u32,
+    b: &Id,
+    old: u64,
+    new: u64,
+) -> Result<(), AllocError>
+    ensures { OnOk result (form.new ≡ form.old ++ 7 ∷ (text_form a.now ++ (u32_form f ++ (text_form b.now ++ (u64_form old ++ u64_form new))))) }
+{
+    form.put_u8(7)?;
+    put_id(form, a)?;
+    form.put_u32(f)?;
+    put_id(form, b)?;
+    put_ranks(form, old, new)
+}
+
+fn put_move(
+    form: &mut Form,
+    e: &Id,
+    from: &Place,
+    from_rank: u64,
+    to: &Place,
+    to_rank: u64,
+    above_from: &List<Id>,
+    above_to: &List<Id>,
+) -> Result<(), AllocError>
+    requires { IsShort above_from.now }
+    requires { IsShort above_to.now }
+    ensures { OnOk result (form.new ≡ form.old ++ 10 ∷ (text_form e.now ++ (place_form from.now ++ (u64_form from_rank ++ (place_form to.now ++ (u64_form to_rank ++ (list_form text_form above_from.now ++ list_form text_form above_to.now))))))) }
+{
+    form.put_u8(10)?;
+    put_id(form, e)?;
+    put_spot(form, from, from_rank)?;
+    put_spot(form, to, to_rank)?;
+    put_ids(form, above_from)?;
+    put_ids(form, above_to)
+}
+
+fn put_rank_of_place(form: &mut Form, e: &Id, old: u64, new: u64) -> Result<(), AllocError>
+    ensures { OnOk result (form.new ≡ form.old ++ 11 ∷ (text_form e.now ++ (u64_form old ++ u64_form new))) }
+{
+    form.put_u8(11)?;
+    put_id(form, e)?;
+    put_ranks(form, old, new)
 }
 
 fn put_at_index(
