@@ -73,7 +73,7 @@ fn operation(alloc: Global, first: u32, end: u32) -> Result<Operation, MeasureFa
 }
 
 /// A package of so many steps, a hundred in each operation and the rest in the last.
-pub fn package_of(alloc: Global, steps: u32) -> Result<Package, MeasureFault>
+pub(crate) fn package_of(alloc: Global, steps: u32) -> Result<Package, MeasureFault>
     ensures is { IfOk result IsPackage }
     ensures fits { IfOk result FitsPackage }
     ensures count { IfOk result (λ p. step_count p ≡ steps) }
@@ -88,7 +88,11 @@ pub fn package_of(alloc: Global, steps: u32) -> Result<Package, MeasureFault>
 }
 
 /// The package that its own spelling is read as.
-pub fn read_again(alloc: Global, package: &Package, bytes: &[u8]) -> Result<Package, MeasureFault>
+pub(crate) fn read_again(
+    alloc: Global,
+    package: &Package,
+    bytes: &[u8],
+) -> Result<Package, MeasureFault>
     requires is { IsPackage «package».now }
     requires form { bytes.now ≡ package_form «package».now }
     ensures same { IfOk result (λ p. p ≡ «package».now) }

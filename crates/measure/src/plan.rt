@@ -27,7 +27,7 @@ fn number(word: &String) -> Result<u32, MeasureFault> {
 }
 
 /// Reads the words behind the program's name.
-pub fn read_plan(alloc: Global, words: &[String]) -> Result<Plan, MeasureFault> {
+pub(crate) fn read_plan(alloc: Global, words: &[String]) -> Result<Plan, MeasureFault> {
     let mut tasks = List::new(alloc);
     let mut is_timed = false;
     let mut rest = words;

@@ -113,7 +113,7 @@ fn class_row(
 }
 
 /// The rows of so many classes, each of which declares so many features.
-pub fn rows_of(alloc: Global, classes: u32, features: u32) -> Result<MetaRows, AllocError>
+pub(crate) fn rows_of(alloc: Global, classes: u32, features: u32) -> Result<MetaRows, AllocError>
     ensures classes { IfOk result (λ rows. length rows.classifiers ≡ classes) }
     ensures features { IfOk result (λ rows. feature_total rows.classifiers ≡ classes * features) }
 {
