@@ -16,7 +16,7 @@ use Rattle.emfjson_model.specs.declared.doc.DocRefs.{DocRefs}
 use Rattle.emfjson_model.specs.declared.doc.DocRow.{DocRow}
 use Rattle.emfjson_model.specs.declared.draft.Draft.{Draft}
 use Rattle.emfjson_model.specs.Document.{doc_of, of_json, resolved}
-use Rattle.emfjson_model.specs.Fits.{AttrFits, DocumentsFit, Fits, RefsFit, RowFits, StandsFit, are_apart, standing}
+use Rattle.emfjson_model.specs.Fits.{AttrFits, DocumentsFit, Fits, Follows, RefsFit, RowFits, StandsFit, are_apart, standing}
 use Rattle.emfjson_model.specs.Merged.{rows_by}
 use Rattle.emfjson_model.specs.References.{given_by, parent_eq}
 use Rattle.emfjson_model.specs.Walk.{walked}
@@ -26,8 +26,8 @@ use Rattle.emfjson_model.proofs.Bounds as bounds
 use Rattle.emfjson_model.proofs.Every.{every_at}
 use Rattle.emfjson_model.proofs.Growing.{walked_grows}
 use Rattle.emfjson_model.proofs.Keys.{Trim, read_trim}
-use Rattle.emfjson_model.proofs.Made.{Made, list_fits, made, mirrored, refs_apart, row_at}
-use Rattle.emfjson_model.proofs.SetAttrs.{by_apart, by_keeps}
+use Rattle.emfjson_model.proofs.Made.{Made, list_fits, made, mirrored, refs_apart, refs_in_order, row_at}
+use Rattle.emfjson_model.proofs.SetAttrs.{by_apart, by_in_order, by_keeps}
 use Rattle.emfjson_model.proofs.Standing as standings
 use Rattle.emfjson_model.proofs.Standing.{Inside, OnTop}
 use Rattle.emfjson_model.proofs.ValuesFit.{AttrsFit}
@@ -82,8 +82,10 @@ module _ (meta : Meta) (sound : Sound meta) (drafts : List Draft) (given : List 
           concrete = ap (is_concrete meta) class_is ∙ placed.0.concrete;
           stands = subst (λ (x : DocRow). StandsFit meta rows x.class x.parent) m.same (stands_in placed.1);
           attrs_apart = subst (λ (x : DocRow). are_apart (map (λ (a : DocAttr). a.feature) x.attrs) ≡ true) m.same (by_apart draft.attrs [] fs refl);
+          attrs_in_order = subst (λ (x : DocRow). Follows (map (λ (a : DocAttr). a.feature) x.attrs) (features_of meta x.class)) m.same (by_in_order draft.attrs fs);
           attrs = λ i a at. every_at (AttrFits meta w.class) w.attrs i a attrs at;
           refs_apart = refs_apart meta sound drafts given rows gives makes n w m;
+          refs_in_order = subst (λ c. Follows (map (λ (q : DocRefs). q.feature) w.refs) (features_of meta c)) (sym class_is) (refs_in_order meta sound drafts given rows gives makes n w m);
           refs = λ i q at. subst (λ c. RefsFit meta rows c q) (sym class_is) (list_fits meta sound drafts given rows gives makes n w m i q at);
         }
 

@@ -1,5 +1,5 @@
 -- The lists of references that each element gives: one for each plain reference of its class, with targets of its type, each once.
-use Rattle.std.proofs.Common.{◌≡◌, ℕ, suc, Bool, true, false, ◌&&◌, ◌||◌, not, cond, List, [], ◌∷◌, ◌++◌, nat_eq, refl, sym, ap, subst, ◌∙◌, ◌⊎◌, inl, inr}
+use Rattle.std.proofs.Common.{◌≡◌, ℕ, suc, Bool, true, false, ◌&&◌, ◌||◌, not, cond, List, [], ◌∷◌, ◌++◌, nat_eq, refl, sym, ap, subst, ◌∙◌, ◌⊎◌, inl, inr, append-nil}
 use Rattle.std.specs.Prelude.{Option, None, Some, Ok, option_and_then, slice_get}
 use Rattle.std.specs.List.{list_any}
 use Rattle.std.specs.Option.{option_map_or}
@@ -13,11 +13,12 @@ use Rattle.emfjson_model.specs.declared.doc.DocRefs.{DocRefs}
 use Rattle.emfjson_model.specs.declared.draft.Draft.{Draft}
 use Rattle.emfjson_model.specs.declared.draft.Links.{Links}
 use Rattle.emfjson_model.specs.declared.fault.ModelFault.TheVariants.{BadRef, WrongType}
-use Rattle.emfjson_model.specs.Fits.{are_apart}
+use Rattle.emfjson_model.specs.Fits.{Follows, are_apart}
 use Rattle.emfjson_model.specs.Merged.{targets_at}
 use Rattle.emfjson_model.specs.Reads.{Read, collected, unless}
 use Rattle.emfjson_model.specs.References.{class_at, entries_at, given_by, located, new_target, plain_features, plain_more, refs_at, refs_of, target_of, targets_of}
 use Rattle.emfjson_model.proofs.Apart.{then_ok, unless_ok, unless_true}
+use Rattle.emfjson_model.proofs.InOrder.{Longer, OneOrNone, no_longer, one_first}
 use Rattle.emfjson_model.proofs.Keys.{and_then_some}
 use Rattle.emfjson_model.proofs.Located.{IsRow, located_row}
 use Rattle.emfjson_model.proofs.Numbers.{apart_last, has, has_either, has_left, has_one, has_right, is_either, not_is, not_not}
@@ -48,6 +49,19 @@ module _ (meta : Meta) where
 
   pub plain_apart : (c : ℕ) → are_apart (plain_of meta c) ≡ true
   plain_apart c = features_apart [] (features_of meta c) refl
+
+  more_is : (plain : List ℕ) (f : ℕ) (b : Bool) → (some : List ℕ) × OneOrNone f some × (cond b (plain ++ f ∷ []) plain ≡ plain ++ some)
+  more_is plain f true = (f ∷ [], inr refl, refl)
+  more_is plain f false = ([], inl refl, sym (append-nil plain))
+
+  features_follow : (plain fs : List ℕ) → Longer plain fs (plain_features meta plain fs)
+  features_follow plain [] = no_longer plain
+  features_follow plain (f ∷ fs) =
+      let more = more_is plain f (new plain f) in
+      one_first f fs plain more.0 (plain_more meta plain f) (plain_features meta (plain_more meta plain f) fs) more.1 more.2 (features_follow (plain_more meta plain f) fs)
+
+  pub plain_in_order : (c : ℕ) → Follows (plain_of meta c) (features_of meta c)
+  plain_in_order c = let all = features_follow [] (features_of meta c) in subst (λ fs. Follows fs (features_of meta c)) (sym all.1) all.2
 
   abbrev Among : List ℕ → List ℕ → ℕ → Type 0
   Among plain fs x = (has plain x ≡ true) ⊎ ((is_plain (kind_of meta x) ≡ true) × (has fs x ≡ true))

@@ -14,6 +14,7 @@ pub mod Bounds
 pub mod Numbers
 pub mod Located
 pub mod Pairs
+pub mod InOrder
 pub mod Given
 pub mod Merging
 pub mod SetAttrs

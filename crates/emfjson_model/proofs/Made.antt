@@ -3,7 +3,7 @@ use Rattle.std.proofs.Common.{◌≡◌, ℕ, suc, ◌+◌, true, List, [], ◌�
 use Rattle.std.specs.Prelude.{Option, None, Some, Ok, slice_get}
 use Rattle.std.specs.Option.{option_map_or}
 use Rattle.finite_maps.proofs.EqualLaws.{and_both, and_first, and_second}
-use Rattle.ecore_meta.specs.Meta.{Meta}
+use Rattle.ecore_meta.specs.Meta.{Meta, features_of}
 use Rattle.ecore_meta.specs.Sound.{Sound}
 use Rattle.ecore_meta.specs.declared.meta.Kind.{Kind}
 use Rattle.ecore_meta.specs.declared.meta.Kind.TheVariants.{Attr, AttrMany, Bounded, Free, Contains, Container, Skip}
@@ -11,12 +11,12 @@ use Rattle.model_state.specs.Typing.{has_feature, is_plain, kind_of, links, oppo
 use Rattle.emfjson_model.specs.declared.doc.DocRefs.{DocRefs}
 use Rattle.emfjson_model.specs.declared.doc.DocRow.{DocRow}
 use Rattle.emfjson_model.specs.declared.draft.Draft.{Draft}
-use Rattle.emfjson_model.specs.Fits.{RefsFit, TargetFits, are_apart}
+use Rattle.emfjson_model.specs.Fits.{Follows, RefsFit, TargetFits, are_apart}
 use Rattle.emfjson_model.specs.Merged.{given_at, merged, merged_all, naming, next_row, others, row_of, rows_by, targets_at}
 use Rattle.emfjson_model.specs.Reads.{Read}
 use Rattle.emfjson_model.specs.References.{given_by}
 use Rattle.emfjson_model.proofs.Apart.{then_ok}
-use Rattle.emfjson_model.proofs.Given.{ListFits, ListsFit, given_fit, given_typed, has_plain, plain_apart, plain_has, plain_of}
+use Rattle.emfjson_model.proofs.Given.{ListFits, ListsFit, given_fit, given_typed, has_plain, plain_apart, plain_has, plain_in_order, plain_of}
 use Rattle.emfjson_model.proofs.Merging.{IsMerged, features, features_same, listed, merged_list, merged_pairs, named_in, named_there, others_apart}
 use Rattle.emfjson_model.proofs.Numbers.{has, has_at, has_either, has_left, has_right, is_either, same_bool}
 use Rattle.emfjson_model.proofs.Pairs.{Paired, all_pairs, pair_back, pair_forth}
@@ -119,6 +119,9 @@ module _ (meta : Meta) (sound : Sound meta) (drafts : List Draft) (given : List 
 
     pub refs_apart : are_apart (features w.refs) ≡ true
     refs_apart = ap are_apart features_of_row ∙ plain_apart meta c
+
+    pub refs_in_order : Follows (features w.refs) (features_of meta c)
+    refs_in_order = subst (λ fs. Follows fs (features_of meta c)) (sym features_of_row) (plain_in_order meta c)
 
     target_at : (f b : ℕ) (d : Draft) → slice_get drafts b ≡ Some d → links meta c f d.class ≡ true → TargetFits meta rows c f b
     target_at f b d at linked =

@@ -1,12 +1,13 @@
--- The attributes of a row: those of its draft, each once.
-use Rattle.std.proofs.Common.{◌≡◌, ℕ, Bool, true, false, cond, List, [], ◌∷◌, ◌++◌, map, nat_eq, refl, sym, ap, ◌∙◌, append-nil}
+-- The attributes of a row: those of its draft, each once, in the order of its class's features.
+use Rattle.std.proofs.Common.{◌≡◌, ℕ, Bool, true, false, cond, List, [], ◌∷◌, ◌++◌, map, nat_eq, refl, sym, ap, subst, ◌∙◌, inl, inr, append-nil}
 use Rattle.std.specs.List.{AllByRecursion}
 use Rattle.std.proofs.lemmas.List.{map-append}
 use Rattle.finite_maps.proofs.EqualLaws.{nat_equality}
 use Rattle.emfjson_model.specs.declared.doc.DocAttr.{DocAttr}
-use Rattle.emfjson_model.specs.Fits.{are_apart}
+use Rattle.emfjson_model.specs.Fits.{Follows, are_apart}
 use Rattle.emfjson_model.specs.Merged.{attr_at, attrs_by, attrs_more, is_set}
 use Rattle.emfjson_model.proofs.Every.{every_append}
+use Rattle.emfjson_model.proofs.InOrder.{Longer, OneOrNone, no_longer, one_first}
 use Rattle.emfjson_model.proofs.Numbers.{any_map, apart_last, has}
 
 abbrev numbers : List DocAttr → List ℕ
@@ -47,3 +48,25 @@ more_apart attrs all f false is h = at_is f attrs all (sym (any_map (λ (a : Doc
 pub by_apart : (attrs all : List DocAttr) (fs : List ℕ) → are_apart (numbers all) ≡ true → are_apart (numbers (attrs_by attrs all fs)) ≡ true
 by_apart attrs all [] h = h
 by_apart attrs all (f ∷ fs) h = by_apart attrs (attrs_more attrs all f) fs (more_apart attrs all f (is_set f all) refl h)
+
+-- ---- their order
+at_number : (f : ℕ) (attrs : List DocAttr) → OneOrNone f (numbers (attr_at f attrs))
+at_number f [] = inl refl
+at_number f (a ∷ attrs) = by_test (nat_eq f a.feature) refl (at_number f attrs)
+  where
+    by_test : (b : Bool) → nat_eq f a.feature ≡ b → OneOrNone f (numbers (attr_at f attrs)) → OneOrNone f (numbers (cond b (a ∷ []) (attr_at f attrs)))
+    by_test true is later = inr (ap (λ n. n ∷ []) (sym (nat_equality.exact f a.feature is)))
+    by_test false is later = later
+
+more_is : (attrs all : List DocAttr) (f : ℕ) (b : Bool) → (some : List ℕ) × OneOrNone f some × (numbers (cond b all (all ++ attr_at f attrs)) ≡ numbers all ++ some)
+more_is attrs all f true = ([], inl refl, sym (append-nil (numbers all)))
+more_is attrs all f false = (numbers (attr_at f attrs), at_number f attrs, map-append (λ (a : DocAttr). a.feature) all (attr_at f attrs))
+
+by_follow : (attrs all : List DocAttr) (fs : List ℕ) → Longer (numbers all) fs (numbers (attrs_by attrs all fs))
+by_follow attrs all [] = no_longer (numbers all)
+by_follow attrs all (f ∷ fs) =
+    let more = more_is attrs all f (is_set f all) in
+    one_first f fs (numbers all) more.0 (numbers (attrs_more attrs all f)) (numbers (attrs_by attrs (attrs_more attrs all f) fs)) more.1 more.2 (by_follow attrs (attrs_more attrs all f) fs)
+
+pub by_in_order : (attrs : List DocAttr) (fs : List ℕ) → Follows (numbers (attrs_by attrs [] fs)) fs
+by_in_order attrs fs = let all = by_follow attrs [] fs in subst (λ ns. Follows ns fs) (sym all.1) all.2

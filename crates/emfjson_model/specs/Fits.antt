@@ -1,9 +1,9 @@
 -- The elements of a document that fit a metamodel and each other: what holds of each document that is read.
-use Rattle.std.specs.Prelude.{◌≡◌, ℕ, Bool, true, false, ◌&&◌, not, List, [], ◌∷◌, Option, None, Some, Ok, length, map, nat_eq, slice_get}
+use Rattle.std.specs.Prelude.{◌≡◌, ◌⊎◌, ℕ, Bool, true, false, ◌&&◌, not, List, [], ◌∷◌, Option, None, Some, Ok, length, map, nat_eq, slice_get}
 use Rattle.std.specs.List.{count_by, list_any}
 use Rattle.finite_maps.specs.Maps.{is_within}
 use Rattle.finite_maps.specs.Equal.{option_eq}
-use Rattle.ecore_meta.specs.Meta.{Meta}
+use Rattle.ecore_meta.specs.Meta.{Meta, features_of}
 use Rattle.ecore_meta.specs.Sound.{Sound}
 use Rattle.model_state.specs.Good.{ValuesOk}
 use Rattle.model_state.specs.Typing.{child_upper, contains_to, has_feature, is_concrete, is_plain, kind_of, links, opposite_of, row_upper, upper_of}
@@ -20,6 +20,11 @@ use Rattle.emfjson_model.specs.References.{parent_eq}
 abbrev pub are_apart : List ℕ → Bool
 are_apart [] = true
 are_apart (n ∷ ns) = not (list_any (nat_eq n) ns) && are_apart ns
+
+-- the one list has some of the other's numbers, in its order
+abbrev pub Follows : List ℕ → List ℕ → Type 0
+Follows xs [] = xs ≡ []
+Follows xs (n ∷ ns) = Follows xs ns ⊎ ((rest : List ℕ) × (xs ≡ n ∷ rest) × Follows rest ns)
 
 -- a row of a class stands at the root, or in a containment of its parent's class that takes elements of the class
 abbrev pub StandsFit : Meta → List DocRow → ℕ → Option DocParent → Type 0
@@ -42,13 +47,15 @@ pub record RefsFit (meta : Meta) (rows : List DocRow) (c : ℕ) (q : DocRefs) : 
   pub bound : is_within (length q.targets) (row_upper meta q.feature) ≡ true
   pub typed : (b : ℕ) → list_any (nat_eq b) q.targets ≡ true → TargetFits meta rows c q.feature b
 
--- a row that fits: its class has elements, and each of its features comes once
+-- a row that fits: its class has elements, and each of its features comes once, in the order of the class's features
 pub record RowFits (meta : Meta) (rows : List DocRow) (r : DocRow) : Type 0 where
   pub concrete : is_concrete meta r.class ≡ true
   pub stands : StandsFit meta rows r.class r.parent
   pub attrs_apart : are_apart (map (λ (a : DocAttr). a.feature) r.attrs) ≡ true
+  pub attrs_in_order : Follows (map (λ (a : DocAttr). a.feature) r.attrs) (features_of meta r.class)
   pub attrs : (k : ℕ) (a : DocAttr) → slice_get r.attrs k ≡ Some a → AttrFits meta r.class a
   pub refs_apart : are_apart (map (λ (q : DocRefs). q.feature) r.refs) ≡ true
+  pub refs_in_order : Follows (map (λ (q : DocRefs). q.feature) r.refs) (features_of meta r.class)
   pub refs : (k : ℕ) (q : DocRefs) → slice_get r.refs k ≡ Some q → RefsFit meta rows r.class q
 
 -- how many of the rows stand where the parent says
