@@ -1,9 +1,9 @@
 -- The steps of an import can be taken one by one, and leave the model with the document's elements.
-use Rattle.std.proofs.Common.{◌≡◌, ℕ, ◌<◌, Bool, true, false, List, [], ◌∷◌, ◌++◌, length, refl, sym, ap, ◌∙◌}
-use Rattle.std.specs.Prelude.{Option, None, Some, Result, Ok, Err, if◌then◌else◌}
+use Rattle.std.proofs.Common.{◌≡◌, ℕ, ◌<◌, Bool, true, false, List, [], ◌∷◌, ◌++◌, length, refl, sym, ap, ◌∙◌, arith}
+use Rattle.std.specs.Prelude.{Option, None, Some, Result, Ok, Err, if◌then◌else◌, slice_get}
 use Rattle.std.specs.List.{list_any}
 use Rattle.std.specs.FinMap.{get}
-use Rattle.finite_maps.proofs.Cases.{no_some}
+use Rattle.finite_maps.proofs.Cases.{no_some, some_none}
 use Rattle.ecore_meta.specs.Meta.{Meta}
 use Rattle.model_state.specs.declared.operation.Operation.{Operation}
 use Rattle.model_state.specs.declared.step.Place.TheVariants.{Root}
@@ -19,7 +19,7 @@ use Rattle.edit_laws.specs.declared.fault.EditFault.{EditFault}
 use Rattle.edit_laws.specs.declared.fault.EditFault.TheVariants.{IdInUse}
 use Rattle.emfjson_model.specs.declared.doc.DocRow.{DocRow}
 use Rattle.emfjson_model.specs.Fits.{Fits}
-use Rattle.model_import.specs.After.{attrs_from, import_after, kinds_from, places_from, ranks_from}
+use Rattle.model_import.specs.After.{Kinds, attrs_from, import_after, kinds_from, places_from, ranks_from}
 use Rattle.model_import.specs.Import.{and_then, composite, of_steps, steps_made}
 use Rattle.model_import.specs.Laws.{ImportsLead, are_apart}
 use Rattle.model_import.specs.Links.{links_made}
@@ -63,6 +63,17 @@ nothing_made meta m names rows ss h is = same_steps ss (sym (ap (steps_made meta
     same_steps : (y : List Step) → ◌≡◌ {A = Result (List Step) EditFault} (Ok []) (Ok y) → y ≡ []
     same_steps y h = cc
 
+-- ---- nothing is recorded exactly where the model stays
+no_rows : (rows : List DocRow) (ss : List Step) → composite rows ss ≡ None → rows ≡ []
+no_rows [] ss h = refl
+no_rows (r ∷ rows) ss h = cc
+
+-- the first element would be live, and would not
+none_come : (kind : Kinds) (names : List Name) (rows : List DocRow) → ((i : ℕ) (r : DocRow) → slice_get rows i ≡ Some r → get kind (name_at names i) ≡ Some r.class) → ((i : ℕ) → i < length rows → get kind (name_at names i) ≡ None)
+    → rows ≡ []
+none_come kind names [] live dead = refl
+none_come kind names (r ∷ rest) live dead = absurd (some_none (get kind (name_at names 0)) r.class (live 0 r refl) (dead 0 (omega arith)))
+
 module _ (meta : Meta) (sound : Sound meta) (m : State) (good : Good meta m) (names : List Name) (rows : List DocRow) (fit : Fits meta rows) (as_many : length names ≡ length rows) (dead : list_any (is_live m) names ≡ false)
     (differ : are_apart names ≡ true) where
   not_there : (i : ℕ) → i < length names → get m.kind (name_at names i) ≡ None
@@ -82,6 +93,11 @@ module _ (meta : Meta) (sound : Sound meta) (m : State) (good : Good meta m) (na
       ∙ fold_append meta come valued (values_made meta names rows) (links_made meta names rows) given
       ∙ links_led meta sound valued (steps_keep_good meta sound come valued led.good (values_made meta names rows) given) names rows fit as_many differ led.kinds (λ i f y small. dead_from meta m good (name_at names i) (not_there i small) f y)
 
+  stays : (news : List Step) → news_made (children m.place m.prank Root) names rows ≡ Ok news → import_after m names rows ≡ m → rows ≡ []
+  stays news is same =
+      let led = news_led meta sound m names rows fit as_many differ good dead news is in
+      none_come m.kind names rows (λ i r at. ap (λ (s : State). get s.kind (name_at names i)) (sym same) ∙ led.kinds i r at) (λ i small. not_there i (omega (arith, as_many, small)))
+
 pub imports_lead : ImportsLead
 imports_lead meta sound m good ws rows fit names are operation is =
     let unused = allowed (any_in_use m rows) (of_steps rows (steps_made meta m names rows)) operation is in
@@ -90,4 +106,11 @@ imports_lead meta sound m good ws rows fit names are operation is =
     let news = parts (news_made (children m.place m.prank Root) names rows) (values_made meta names rows ++ links_made meta names rows) steps.0 steps.1 in
     let listed : steps_in operation ≡ steps.0 = ap steps_in (sym steps.2) ∙ steps_are rows steps.0 (nothing_made meta m names rows steps.0 steps.1) in
     let led : fold meta m (steps_in operation) ≡ Some (import_after m names rows) = ap (fold meta m) (listed ∙ news.2) ∙ run meta sound m good names rows fit new.0 new.1 new.2 news.0 news.1 in
-    record { run = led; good = steps_keep_good meta sound m (import_after m names rows) good (steps_in operation) led }
+    record {
+      run = led;
+      good = steps_keep_good meta sound m (import_after m names rows) good (steps_in operation) led;
+      idle = (
+        λ none. ap (import_after m names) (no_rows rows steps.0 (steps.2 ∙ none)),
+        λ same. sym steps.2 ∙ ap (λ rs. composite rs steps.0) (stays meta sound m good names rows fit new.0 new.1 new.2 news.0 news.1 same),
+      );
+    }

@@ -1,5 +1,5 @@
 -- The ids that the elements of a document get are new; the steps of an import lead to a good model, which is said map by map.
-use Rattle.std.specs.Prelude.{◌≡◌, ℕ, Bool, true, false, ◌&&◌, not, List, [], ◌∷◌, Option, Some, Ok, length}
+use Rattle.std.specs.Prelude.{◌≡◌, ℕ, Bool, true, false, ◌&&◌, not, List, [], ◌∷◌, Option, None, Some, Ok, length}
 use Rattle.std.specs.List.{list_any}
 use Rattle.finite_maps.specs.Equal.{text_eq}
 use Rattle.ecore_meta.specs.Meta.{Meta}
@@ -26,10 +26,11 @@ abbrev pub NamesAreNew : Type 0
 NamesAreNew = (m : State) (rows : List DocRow) (ws : ℕ) (names : List Name) → AreNames m rows ws 1 rows names → any_in_use m rows ≡ false → ids_repeat rows ≡ false
     → (length names ≡ length rows) × (list_any (is_live m) names ≡ false) × (are_apart names ≡ true)
 
--- the steps of what is recorded can be taken one by one, and leave the model with the document's elements, a good one
+-- the steps of what is recorded can be taken one by one, and leave the model with the document's elements, a good one; nothing is recorded exactly where that is the model at hand
 pub record LeadsIn (meta : Meta) (m : State) (names : List Name) (rows : List DocRow) (operation : Option Operation) : Type 0 where
   pub run : fold meta m (steps_in operation) ≡ Some (import_after m names rows)
   pub good : Good meta (import_after m names rows)
+  pub idle : (operation ≡ None → import_after m names rows ≡ m) × (import_after m names rows ≡ m → operation ≡ None)
 
 -- so it is with each import of a document that fits
 abbrev pub ImportsLead : Type 0

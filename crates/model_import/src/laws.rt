@@ -7,6 +7,7 @@ pub fn law_of_names()
 {}
 
 /// The steps that are recorded of a document that fits can be taken one by one, and leave the model with its elements, a good one.
+/// Nothing is recorded exactly where that is the model at hand.
 pub fn law_of_imports()
     ensures { ImportsLead }
 {}
