@@ -2,7 +2,7 @@
 ghost use Rattle.std.specs.Prelude.{◌≡◌, ◌≤◌, false};
 
 use crate::spelling::{bytes_of, text_of};
-use host_port::{Got, Host, LineFault, Lines, MemoryHost, TalkHost};
+use host_port::{Got, Host, LineFault, Lines, MemoryHost};
 use std::alloc::Global;
 use std::process::Abort;
 use std::test::Fail;
@@ -105,25 +105,6 @@ fn every_cutting_gives_the_same_lines_and_blocks(rt: HostRuntime) -> Result<(), 
     Ok(())
 }
 
-#[test]
-fn a_block_is_read_before_more_is_asked_for(rt: HostRuntime) -> Result<(), Fail> {
-    let alloc = rt.alloc();
-    let mut pieces = Vec::new(alloc);
-    pieces.push(b"init\n{}\n.\n".to_vec(alloc)?)?;
-    pieces.push(b"checkout 0\n".to_vec(alloc)?)?;
-    let mut host = TalkHost::new(alloc, pieces, Vec::new(alloc));
-    let mut lines = Lines::new(alloc)?;
-    assert_eq!(&rt; lines.next_line(&mut host)?, Got::Line);
-    assert_eq!(&rt; lines.text(), "init");
-    lines.next_block(&mut host)?;
-    assert_eq!(&rt; lines.text(), "{}\n");
-    host.say(b"ok\n").map_err(|_| LineFault::Failed)?;
-    assert_eq!(&rt; lines.next_line(&mut host)?, Got::Line);
-    assert_eq!(&rt; lines.text(), "checkout 0");
-    assert_eq!(&rt; lines.next_line(&mut host)?, Got::End);
-    Ok(())
-}
-
 // What is told where the second call for input fails.
 fn told_of_one_piece(alloc: Global, input: &[u8], piece: u32) -> Result<String, Fail>
     requires { 1 ≤ piece }
@@ -145,29 +126,27 @@ fn a_failed_call_ends_a_line_and_a_block(rt: HostRuntime) -> Result<(), Fail> {
     Ok(())
 }
 
-// A case a line: how many bytes stand in the second line, what stands behind them, and what is told of that line.
-const LONG_LINES: &str = r"1048576|\n|Line
-1048576||Line
-1048575|\r\n|Line
-1048577|\n|LineTooLong { at: 1048578 }
-1048577||LineTooLong { at: 1048578 }
-1048576|\r\n|LineTooLong { at: 1048578 }
-1048576|\xff\n|LineTooLong { at: 1048578 }
-1048575|\xff\n|NotText { at: 1048577 }
-3145728||LineTooLong { at: 1048578 }";
-
-// The same of the block's first line, and of that block.
-const LONG_BLOCKS: &str = r"8388607|\n.\n|Line
-8388607|\n.|Line
-8388606|\r\n.\r\n|Line
-8388608|\n.\n|BlockTooLong { at: 8388613 }
-8388607|\r\n.\n|BlockTooLong { at: 8388613 }
-8388607|\n..|BlockTooLong { at: 8388613 }
-8388609||BlockTooLong { at: 8388613 }
-8388608||UnendedBlock { at: 8388613 }
-8388607|\n|UnendedBlock { at: 8388613 }
-8388607|\xff\n.|BlockTooLong { at: 8388613 }
-8388606|\xff\n.|NotText { at: 8388611 }";
+// A case a line: the first line, how many bytes stand behind it and with which end, and what is told of the line or block that they are.
+const LONG: &str = r"a\n|1048576|\n => Line
+a\n|1048576| => Line
+a\n|1048575|\r\n => Line
+a\n|1048577|\n => LineTooLong { at: 1048578 }
+a\n|1048577| => LineTooLong { at: 1048578 }
+a\n|1048576|\r\n => LineTooLong { at: 1048578 }
+a\n|1048576|\xff\n => LineTooLong { at: 1048578 }
+a\n|1048575|\xff\n => NotText { at: 1048577 }
+a\n|3145728| => LineTooLong { at: 1048578 }
+init\n|8388607|\n.\n => Line
+init\n|8388607|\n. => Line
+init\n|8388606|\r\n.\r\n => Line
+init\n|8388608|\n.\n => BlockTooLong { at: 8388613 }
+init\n|8388607|\r\n.\n => BlockTooLong { at: 8388613 }
+init\n|8388607|\n.. => BlockTooLong { at: 8388613 }
+init\n|8388609| => BlockTooLong { at: 8388613 }
+init\n|8388608| => UnendedBlock { at: 8388613 }
+init\n|8388607|\n => UnendedBlock { at: 8388613 }
+init\n|8388607|\xff\n. => BlockTooLong { at: 8388613 }
+init\n|8388606|\xff\n. => NotText { at: 8388611 }";
 
 // What is told of the line or block behind the first line.
 fn second(alloc: Global, host: &mut MemoryHost) -> Result<String, Fail> {
@@ -179,48 +158,29 @@ fn second(alloc: Global, host: &mut MemoryHost) -> Result<String, Fail> {
     }
 }
 
-// So many bytes behind the first line, and a rest.
-fn long(alloc: Global, head: &[u8], count: &str, rest: &str) -> Result<Vec<u8>, Fail> {
-    let mut input = head.to_vec(alloc)?;
-    let count: u32 = count.parse()?;
-    input.resize(input.len().saturating_add(count as usize), b'x')?;
-    input.extend_from_slice(bytes_of(alloc, rest)?.as_slice())?;
+// The input that a case spells.
+fn long(alloc: Global, spelled: &str) -> Result<Vec<u8>, Fail> {
+    let mut parts = spelled.split('|');
+    let mut input = bytes_of(alloc, parts.next().unwrap_or(""))?;
+    let count = parts.next().unwrap_or("").parse().unwrap_or(0);
+    input.resize(input.len().saturating_add(count), b'x')?;
+    input.extend_from_slice(&bytes_of(alloc, parts.next().unwrap_or(""))?)?;
     Ok(input)
 }
 
-// A long input behind its first line is told as its case says.
-fn is_judged(
-    rt: &impl Abort,
-    alloc: Global,
-    head: &[u8],
-    piece: u32,
-    case: &str,
-) -> Result<(), Fail>
-    requires { 1 ≤ piece }
-{
-    let (count, behind) = case.split_once('|').ok_or("a case without a rest")?;
-    let (rest, wanted) = behind.split_once('|').ok_or("a case without an answer")?;
-    let input = long(alloc, head, count, rest)?;
-    let mut host = over(alloc, input, piece);
+// A long input is told as its case says.
+fn is_judged(rt: &impl Abort, alloc: Global, case: &str) -> Result<(), Fail> {
+    let (spelled, wanted) = case.split_once(" => ").ok_or("a case without an answer")?;
+    let mut host = over(alloc, long(alloc, spelled)?, 65_536);
     let told = second(alloc, &mut host)?;
-    assert_eq!(rt; told.as_str(), wanted, "{case} {piece}");
+    assert_eq!(rt; told.as_str(), wanted, "{case}");
     Ok(())
 }
 
 #[test]
-fn the_limit_of_a_line_is_kept_to_the_byte(rt: HostRuntime) -> Result<(), Fail> {
-    for case in LONG_LINES.lines() {
-        is_judged(&rt, rt.alloc(), b"a\n", 7, case)?;
-        is_judged(&rt, rt.alloc(), b"a\n", 65_536, case)?;
-    }
-    Ok(())
-}
-
-#[test]
-fn the_limit_of_a_block_is_kept_to_the_byte(rt: HostRuntime) -> Result<(), Fail> {
-    for case in LONG_BLOCKS.lines() {
-        is_judged(&rt, rt.alloc(), b"init\n", 999, case)?;
-        is_judged(&rt, rt.alloc(), b"init\n", 65_536, case)?;
+fn the_limits_of_a_line_and_of_a_block_are_kept_to_the_byte(rt: HostRuntime) -> Result<(), Fail> {
+    for case in LONG.lines() {
+        is_judged(&rt, rt.alloc(), case)?;
     }
     Ok(())
 }

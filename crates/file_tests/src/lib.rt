@@ -1,10 +1,6 @@
-//! Tests of the layers that read and write bytes, inputs and the file, over their public calls: a crate that holds its own tests is proved twice.
+//! Tests of the layers that read inputs and the file, over their public calls: a crate that holds its own tests is proved twice.
 #![tactic(auto)]
 
-#[cfg(test)]
-mod fields;
-#[cfg(test)]
-mod hosts;
 #[cfg(test)]
 mod inputs;
 #[cfg(test)]

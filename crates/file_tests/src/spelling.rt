@@ -1,34 +1,36 @@
 // Bytes as a table spells them: `\n`, `\r`, `\0`, and `\x` with two digits, as in Rust; all else stands for itself.
+ghost use Rattle.std.specs.Prelude.{◌<◌};
+
 use std::alloc::Global;
 use std::test::Fail;
 
-// The byte that stands behind a `\`, and what is left behind it.
-fn escaped(spelled: &str) -> Result<(u8, &str), Fail> {
-    if let Some(rest) = spelled.strip_prefix('n') {
-        return Ok((b'\n', rest));
+// The byte that stands behind a `\`, and how many letters spell it.
+fn escaped(spelled: &str) -> (u8, usize) {
+    match spelled.as_bytes() {
+        [b'n', ..] => (b'\n', 1),
+        [b'r', ..] => (b'\r', 1),
+        [b'x', high, low, ..] => (16 * digit(*high) + digit(*low), 3),
+        _ => (0, 1),
     }
-    if let Some(rest) = spelled.strip_prefix('r') {
-        return Ok((b'\r', rest));
+}
+
+fn digit(letter: u8) -> u8
+    ensures { result < 16 }
+{
+    match letter {
+        b'0'..=b'9' => letter - b'0',
+        b'a'..=b'f' => letter - b'a' + 10,
+        _ => 0,
     }
-    if let Some(rest) = spelled.strip_prefix('0') {
-        return Ok((0, rest));
-    }
-    let Some(digits) = spelled.get(1..3) else {
-        return Err("no byte is spelled")?;
-    };
-    Ok((
-        u8::from_str_radix(digits, 16)?,
-        spelled.get(3..).unwrap_or(""),
-    ))
 }
 
 pub(crate) fn bytes_of(alloc: Global, spelled: &str) -> Result<Vec<u8>, Fail> {
     let mut parts = spelled.split('\\');
     let mut bytes = parts.next().unwrap_or("").as_bytes().to_vec(alloc)?;
     for part in parts {
-        let (byte, rest) = escaped(part)?;
+        let (byte, letters) = escaped(part);
         bytes.push(byte)?;
-        bytes.extend_from_slice(rest.as_bytes())?;
+        bytes.extend_from_slice(part.get(letters..).unwrap_or("").as_bytes())?;
     }
     Ok(bytes)
 }
