@@ -1,7 +1,9 @@
 // Whole sessions: the lines of a script, and what is said to them. In a table a line behind `> ` is one of the script, below it
 // stands what is said to it, and a session's last line is how it ends: the exit status and its name.
 mod composites;
+mod crowds;
 mod imports;
+mod library;
 mod links;
 mod stores;
 mod trees;
@@ -9,8 +11,8 @@ mod values;
 
 use emf_top::{Status, run};
 use host_port::{Host, MemoryHost, TalkHost};
+use library::{LIBRARY, TITLED};
 use std::alloc::{AllocError, Global};
-use std::fmt::Write;
 use std::process::Abort;
 use std::test::Fail;
 
@@ -67,50 +69,70 @@ fn serve<H: Host>(alloc: Global, host: &mut H) -> Status {
     run(alloc, words.as_slice(), host)
 }
 
-// All that is said in a run, and how it ends: the exit status and its name.
-fn told(rt: &impl Abort, alloc: Global, host: &mut MemoryHost) -> Result<String, Fail> {
-    let status = serve(alloc, host);
-    assert_eq!(rt; host.starved(), 0);
-    let mut told = String::from_utf8(host.said().to_vec(alloc)?)?;
-    let code = status.code();
-    write!(told, "{code} {status:?}\n")?;
-    Ok(told)
+// All that is said in a run with this input over a file, how it ends (the exit status and its name), and the file behind it.
+#[derive(Drop)]
+struct Run {
+    said: String,
+    end: String,
+    file: Vec<u8>,
 }
 
-// What is told of a run with this input over a file, and the file behind it.
-fn ran(
-    rt: &impl Abort,
-    alloc: Global,
-    input: Vec<u8>,
-    file: Vec<u8>,
-) -> Result<(String, Vec<u8>), Fail> {
+fn ran(rt: &impl Abort, alloc: Global, input: Vec<u8>, file: Vec<u8>) -> Result<Run, Fail> {
     let mut host = over(alloc, input, file);
-    let told = told(rt, alloc, &mut host)?;
-    Ok((told, host.file().to_vec(alloc)?))
+    let status = serve(alloc, &mut host);
+    assert_eq!(rt; host.starved(), 0);
+    let code = status.code();
+    Ok(Run {
+        said: String::from_utf8(host.said().to_vec(alloc)?)?,
+        end: format!(in alloc; "{code} {status:?}\n")?,
+        file: host.file().to_vec(alloc)?,
+    })
 }
 
 fn are_bytes(rt: &impl Abort, found: &[u8], wanted: &[u8]) {
     assert_eq!(rt; found, wanted);
 }
 
-// A session behind an opening is told as it is written down; the file that it leaves.
+// A session behind an opening is told as it is written down.
 fn play(
     rt: &impl Abort,
     alloc: Global,
     opening: &str,
     opened: &str,
     session: &str,
-) -> Result<Vec<u8>, Fail> {
+) -> Result<(String, Run), Fail> {
     let (script, wanted) = parts_of(alloc, opening, opened, session)?;
-    let (told, file) = ran(rt, alloc, script.into_bytes(), Vec::new(alloc))?;
+    let run = ran(
+        rt,
+        alloc,
+        script.as_str().as_bytes().to_vec(alloc)?,
+        Vec::new(alloc),
+    )?;
+    let (said, end) = (run.said.as_str(), run.end.as_str());
+    let told = format!(in alloc; "{said}{end}")?;
     assert_eq!(rt; told.as_str(), wanted.as_str(), "{session}");
-    Ok(file)
+    Ok((script, run))
 }
 
-// A store in which there is a workspace is read again.
-fn is_read_again(rt: &impl Abort, alloc: Global, file: Vec<u8>) -> Result<(), Fail> {
-    let (told, _) = ran(rt, alloc, b"changes 1\n".to_vec(alloc)?, file)?;
-    assert!(rt; told.as_str().ends_with("0 Accepted\n"), "{told}");
+const QUESTIONS: &str = "changes 1\nshow 1\n";
+
+// The store that a run of a script leaves is read again: to questions it says what the script with these behind it says. A script that
+// ends within a block is asked nothing more.
+fn is_read_again(
+    rt: &impl Abort,
+    alloc: Global,
+    mut script: String,
+    mut run: Run,
+) -> Result<(), Fail> {
+    let again = ran(rt, alloc, QUESTIONS.as_bytes().to_vec(alloc)?, run.file)?;
+    assert_eq!(rt; again.end.as_str(), "0 Accepted\n", "{script}");
+    if run.end.as_str().starts_with("8 Input") {
+        return Ok(());
+    }
+    run.said.push_str(again.said.as_str())?;
+    script.push_str(QUESTIONS)?;
+    let asked = ran(rt, alloc, script.into_bytes(), Vec::new(alloc))?;
+    assert_eq!(rt; asked.said.as_str(), run.said.as_str());
     Ok(())
 }
 
@@ -118,8 +140,8 @@ fn is_read_again(rt: &impl Abort, alloc: Global, file: Vec<u8>) -> Result<(), Fa
 fn are_answered(rt: &impl Abort, alloc: Global, metamodel: &str, table: &str) -> Result<(), Fail> {
     let opening = beginning(alloc, metamodel, "")?;
     for session in table.split("\n\n") {
-        let file = play(rt, alloc, opening.as_str(), OPENED, session)?;
-        is_read_again(rt, alloc, file)?;
+        let (script, run) = play(rt, alloc, opening.as_str(), OPENED, session)?;
+        is_read_again(rt, alloc, script, run)?;
     }
     Ok(())
 }
@@ -130,6 +152,14 @@ const LINES: &str = r##"0 Accepted
 ok a
 > create 1 Book / b
 ok b
+0 Accepted
+
+> create 1 Book /
+ok w1n1
+> create 1 Book / w1n2
+ok w1n2
+> create 1 Book /
+ok w1n3
 0 Accepted
 
 > create 1 Book / a
@@ -188,20 +218,20 @@ ok a
 8 Input { fault: 4, at: 343 }"##;
 
 #[test]
-fn lines_behind_the_opening_are_answered_one_by_one(rt: HostRuntime) -> Result<(), Fail> {
-    are_answered(&rt, rt.alloc(), METAMODEL, LINES)
-}
-
-#[test]
-fn a_last_line_needs_no_line_feed(rt: HostRuntime) -> Result<(), Fail> {
-    let alloc = rt.alloc();
-    let lines = "create 1 Book /\ncreate 1 Book / w1n2\ncreate 1 Book /";
-    let script = beginning(alloc, METAMODEL, lines)?;
-    let (told, _) = ran(&rt, alloc, script.into_bytes(), Vec::new(alloc))?;
-    assert_eq!(&rt;
-        told.as_str(),
-        "ok\n[]\nok 1 0 trunk\nok w1n1\nok w1n2\nok w1n3\n0 Accepted\n"
-    );
+fn sessions_are_answered_line_by_line(rt: HostRuntime) -> Result<(), Fail> {
+    for (metamodel, table) in [
+        (METAMODEL, LINES),
+        (LIBRARY, library::SESSIONS),
+        (LIBRARY, crowds::SESSIONS),
+        (TITLED, library::OF_TITLES),
+        (values::NOTES, values::SESSIONS),
+        (composites::LACKING, composites::SESSIONS),
+        (links::SHELF, links::SESSIONS),
+        (trees::HOUSE, trees::SESSIONS),
+        (trees::HOUSE, imports::SESSIONS),
+    ] {
+        are_answered(&rt, rt.alloc(), metamodel, table)?;
+    }
     Ok(())
 }
 
@@ -221,29 +251,19 @@ no 1 BadLine 14
 > []
 > .
 no 4 BadMetamodel 2
-1 Refused"##;
+1 Refused
+
+> init
+> {
+8 Input { fault: 4, at: 7 }"##;
 
 #[test]
 fn before_there_is_a_metamodel_only_init_is_accepted(rt: HostRuntime) -> Result<(), Fail> {
     for session in BEFORE.split("\n\n") {
-        let file = play(&rt, rt.alloc(), "", "", session)?;
-        are_bytes(&rt, &file, NOTHING_STORED);
+        let (_, run) = play(&rt, rt.alloc(), "", "", session)?;
+        are_bytes(&rt, &run.file, NOTHING_STORED);
     }
     Ok(())
-}
-
-fn is_no_script(rt: &impl Abort, alloc: Global, input: &[u8], wanted: &str) -> Result<(), Fail> {
-    let (told, file) = ran(rt, alloc, input.to_vec(alloc)?, Vec::new(alloc))?;
-    assert_eq!(rt; told.as_str(), wanted);
-    are_bytes(rt, &file, NOTHING_STORED);
-    Ok(())
-}
-
-#[test]
-fn an_input_that_is_no_script_is_told_with_its_place(rt: HostRuntime) -> Result<(), Fail> {
-    let alloc = rt.alloc();
-    is_no_script(&rt, alloc, b"init\n{", "8 Input { fault: 4, at: 6 }\n")?;
-    is_no_script(&rt, alloc, b"\xff", "8 Input { fault: 3, at: 0 }\n")
 }
 
 #[test]
@@ -258,17 +278,5 @@ fn a_reply_is_said_before_the_next_line_is_asked_for(rt: HostRuntime) -> Result<
     let mut host = TalkHost::new(alloc, pieces, Vec::new(alloc));
     assert_eq!(&rt; serve(alloc, &mut host), Status::Accepted);
     are_bytes(&rt, host.said(), OPENED.as_bytes());
-    Ok(())
-}
-
-#[test]
-fn words_of_no_form_end_it_at_once(rt: HostRuntime) -> Result<(), Fail> {
-    let alloc = rt.alloc();
-    let mut words = Vec::new(alloc);
-    words.push(String::from_str(alloc, "fly")?)?;
-    let script = beginning(alloc, METAMODEL, "")?;
-    let mut host = over(alloc, script.into_bytes(), Vec::new(alloc));
-    assert_eq!(&rt; run(alloc, words.as_slice(), &mut host), Status::BadWords);
-    are_bytes(&rt, host.file(), b"");
     Ok(())
 }

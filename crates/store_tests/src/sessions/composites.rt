@@ -1,9 +1,7 @@
 // Sessions with composites, and what their models lack.
-use crate::sessions::are_answered;
-use std::test::Fail;
 
 // A metamodel with the class Note, which has a title, stars (3 where none is set), two tags at least, and one note that it is about.
-const LACKING: &str =
+pub(crate) const LACKING: &str =
     r#"{"eClass":"http://www.eclipse.org/emf/2002/Ecore#//EPackage","name":"notes","nsURI":"http://notes/1","nsPrefix":"notes","eClassifiers":[
 {"eClass":"http://www.eclipse.org/emf/2002/Ecore#//EClass","name":"Note","eStructuralFeatures":[
 {"eClass":"http://www.eclipse.org/emf/2002/Ecore#//EAttribute","name":"title","lowerBound":1,"eType":{"$ref":"http://www.eclipse.org/emf/2002/Ecore#//EString"}},
@@ -12,7 +10,7 @@ const LACKING: &str =
 {"eClass":"http://www.eclipse.org/emf/2002/Ecore#//EReference","name":"about","lowerBound":1,"eType":{"$ref":"//Note"}}]}]}
 "#;
 
-const SESSIONS: &str = r##"> # composites are recorded, told and undone
+pub(crate) const SESSIONS: &str = r##"> # composites are recorded, told and undone
 > begin 1 fill
 ok
 > create 1 Note / n
@@ -56,6 +54,8 @@ ok
 ok
 > create 1 Note / n
 ok n
+> create 1 Note / n
+no 11 IdInUse
 > begin 1 c
 no 27 CompositeOpen
 > undo 1
@@ -169,8 +169,3 @@ no 5 NoWorkspace
 > validate
 no 1 BadLine 9
 1 Refused"##;
-
-#[test]
-fn composites_and_what_a_model_lacks_are_told(rt: HostRuntime) -> Result<(), Fail> {
-    are_answered(&rt, rt.alloc(), LACKING, SESSIONS)
-}

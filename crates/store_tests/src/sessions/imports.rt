@@ -1,9 +1,6 @@
 // Sessions that bring models in.
-use crate::sessions::are_answered;
-use crate::sessions::trees::HOUSE;
-use std::test::Fail;
 
-const SESSIONS: &str = r##"> # models are brought in or refused
+pub(crate) const SESSIONS: &str = r##"> # models are brought in or refused
 > import 1
 > {"eClass":"//House","_id":"h","rooms":[{"_id":"a","name":"hall","doors":{"$ref":"//@rooms.1"}},{"name":"attic","inner":[{"_id":"c","window":{"$ref":"#a"}}]}],"roof":{}}
 > .
@@ -148,8 +145,3 @@ ok
 []
 ok
 0 Accepted"##;
-
-#[test]
-fn models_are_brought_in_or_refused(rt: HostRuntime) -> Result<(), Fail> {
-    are_answered(&rt, rt.alloc(), HOUSE, SESSIONS)
-}

@@ -1,12 +1,8 @@
 // Sessions that edit references.
-use crate::sessions::{are_answered, beginning, ran};
-use std::alloc::Global;
-use std::fmt::Write;
-use std::test::Fail;
 
 // A metamodel with Books and Writers: a book has one sequel at most and one prequel at most, which are opposites, and writers; a writer
 // has books, the opposite of writers, and two friends at most, without an opposite.
-const SHELF: &str =
+pub(crate) const SHELF: &str =
     r#"{"eClass":"http://www.eclipse.org/emf/2002/Ecore#//EPackage","name":"shelf","nsURI":"http://shelf/1","nsPrefix":"shelf","eClassifiers":[
 {"eClass":"http://www.eclipse.org/emf/2002/Ecore#//EClass","name":"Book","eStructuralFeatures":[
 {"eClass":"http://www.eclipse.org/emf/2002/Ecore#//EReference","name":"sequel","eType":{"$ref":"//Book"},"eOpposite":{"$ref":"//Book/prequel"}},
@@ -17,7 +13,7 @@ const SHELF: &str =
 {"eClass":"http://www.eclipse.org/emf/2002/Ecore#//EReference","name":"friends","upperBound":2,"eType":{"$ref":"//Writer"}}]}]}
 "#;
 
-const REFERENCES: &str = r##"> create 1 Book / a
+pub(crate) const SESSIONS: &str = r##"> create 1 Book / a
 ok a
 > create 1 Book / b
 ok b
@@ -165,33 +161,3 @@ op 6 reference
  unlink b writers 4294967296 w 4294967296
 ok
 1 Refused"##;
-
-#[test]
-fn references_change_on_both_sides(rt: HostRuntime) -> Result<(), Fail> {
-    are_answered(&rt, rt.alloc(), SHELF, REFERENCES)
-}
-
-// Books from b0 on, each put in front of a writer's list, until the list has no rank left in front: the last one ranks the list anew.
-fn crowding(alloc: Global) -> Result<String, Fail> {
-    let mut lines = String::from_str(alloc, "create 1 Writer / w\n")?;
-    for k in 0..34 {
-        write!(lines, "create 1 Book / b{k}\nlink 1 w books b{k} 0\n")?;
-    }
-    lines.push_str("changes 1\n")?;
-    Ok(lines)
-}
-
-const LAST_RANK: &str = "\n link b32 writers 4294967296 w 1\n";
-
-const RANKED_ANEW: &str =
-    "\n rerank w books b0 4294967296 141733920768\n link b33 writers 4294967296 w 2147483648\nok\n0 Accepted\n";
-
-#[test]
-fn a_list_without_room_is_ranked_anew(rt: HostRuntime) -> Result<(), Fail> {
-    let alloc = rt.alloc();
-    let script = beginning(alloc, SHELF, crowding(alloc)?.as_str())?;
-    let (told, _) = ran(&rt, alloc, script.into_bytes(), Vec::new(alloc))?;
-    assert!(&rt; told.as_str().contains(LAST_RANK), "{told}");
-    assert!(&rt; told.as_str().ends_with(RANKED_ANEW), "{told}");
-    Ok(())
-}

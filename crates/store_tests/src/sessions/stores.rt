@@ -48,12 +48,9 @@ fn the_store_of_two_creations_is_these_bytes_which_are_read_again(
     rt: HostRuntime,
 ) -> Result<(), Fail> {
     let alloc = rt.alloc();
-    let (told, file) = ran(&rt, alloc, script_of_two(alloc)?, Vec::new(alloc))?;
-    assert_eq!(&rt; told.as_str(), told_after(0));
-    are_bytes(&rt, &file, &store_of(alloc, B)?);
-    let (told, _) = ran(&rt, alloc, script_of_two(alloc)?, file)?;
-    assert_eq!(&rt; told.as_str(), told_after(4));
-    Ok(())
+    let run = ran(&rt, alloc, script_of_two(alloc)?, Vec::new(alloc))?;
+    are_bytes(&rt, &run.file, &store_of(alloc, B)?);
+    is_said_after(&rt, alloc, run.file, 4)
 }
 
 // The calls of a run of the opening and two creations over a new file: six of opening the store, the input, five for each
@@ -77,31 +74,21 @@ fn kept_at(calls: u64, fill: u8) -> u64 {
     (calls / 5).max(1).min(5) - 1
 }
 
-// What is told of the same script over a store of its first events.
-fn told_after(kept: u64) -> &'static str {
+// What a run of the script of two says over a store of its first events.
+fn said_after(kept: u64) -> &'static str {
     match kept {
-        0 => "ok\n[]\nok 1 0 trunk\nok a\nok b\n0 Accepted\n",
-        1 => "no 3 AlreadyInit\n[]\nok 1 0 trunk\nok a\nok b\n1 Refused\n",
-        2 => "no 3 AlreadyInit\n[]\nok 2 0 trunk\nok a\nok b\n1 Refused\n",
-        3 => "no 3 AlreadyInit\n[]\nok 2 0 trunk\nno 11 IdInUse\nok b\n1 Refused\n",
-        _ => "no 3 AlreadyInit\n[]\nok 2 0 trunk\nno 11 IdInUse\nno 11 IdInUse\n1 Refused\n",
+        0 => "ok\n[]\nok 1 0 trunk\nok a\nok b\n",
+        1 => "no 3 AlreadyInit\n[]\nok 1 0 trunk\nok a\nok b\n",
+        2 => "no 3 AlreadyInit\n[]\nok 2 0 trunk\nok a\nok b\n",
+        3 => "no 3 AlreadyInit\n[]\nok 2 0 trunk\nno 11 IdInUse\nok b\n",
+        _ => "no 3 AlreadyInit\n[]\nok 2 0 trunk\nno 11 IdInUse\nno 11 IdInUse\n",
     }
 }
 
-fn first_events_are_kept(
-    rt: &impl Abort,
-    alloc: Global,
-    host: &MemoryHost,
-    calls: u64,
-    fill: u8,
-) -> Result<(), Fail> {
-    let file = host.stop_image(fill)?;
-    let (told, _) = ran(rt, alloc, script_of_two(alloc)?, file)?;
-    assert_eq!(rt;
-        told.as_str(),
-        told_after(kept_at(calls, fill)),
-        "{calls} {fill}"
-    );
+// A run of the script of two over a store of its first events says what is said then.
+fn is_said_after(rt: &impl Abort, alloc: Global, file: Vec<u8>, kept: u64) -> Result<(), Fail> {
+    let run = ran(rt, alloc, script_of_two(alloc)?, file)?;
+    assert_eq!(rt; run.said.as_str(), said_after(kept));
     Ok(())
 }
 
@@ -119,26 +106,13 @@ fn a_stop_behind_any_call_leaves_the_first_events_whole(rt: HostRuntime) -> Resu
     for calls in 0..29 {
         let host = stopped(&rt, alloc, calls)?;
         for fill in [0, 1, 164, 165, 166, 255] {
-            first_events_are_kept(&rt, alloc, &host, calls, fill)?;
+            is_said_after(&rt, alloc, host.stop_image(fill)?, kept_at(calls, fill))?;
         }
     }
     Ok(())
 }
 
-// How a run without input ends over a file.
-fn is_opened(rt: &impl Abort, alloc: Global, file: &[u8], wanted: &str) -> Result<(), Fail> {
-    let (told, _) = ran(rt, alloc, Vec::new(alloc), file.to_vec(alloc)?)?;
-    assert_eq!(rt; told.as_str(), wanted, "{file:?}");
-    Ok(())
-}
-
-// The same over the store of two creations, the second of which is this one.
-fn is_second(rt: &impl Abort, alloc: Global, second: &[u8], wanted: &str) -> Result<(), Fail> {
-    let (told, _) = ran(rt, alloc, Vec::new(alloc), store_of(alloc, second)?)?;
-    assert_eq!(rt; told.as_str(), wanted, "{second:?}");
-    Ok(())
-}
-
+// A creation of b of a later rank, one of a again, one of the abstract class, and one of no class.
 const B_LATER: &[u8] = b"b\0\0\0\0\0\0\0\0\x03\0\0\0\0";
 
 const A_AGAIN: &[u8] = b"a\0\0\0\0\0\0\0\0\x02\0\0\0\0";
@@ -147,17 +121,6 @@ const B_ABSTRACT: &[u8] = b"b\0\0\0\x01\0\0\0\0\x02\0\0\0\0";
 
 const B_OF_NO_CLASS: &[u8] = b"b\0\0\0\x02\0\0\0\0\x02\0\0\0\0";
 
-// A store of events that can not all be played is damaged where the first that can not begins.
-#[test]
-fn a_store_of_no_events_is_damaged_at_its_place(rt: HostRuntime) -> Result<(), Fail> {
-    let alloc = rt.alloc();
-    is_second(&rt, alloc, B, "0 Accepted\n")?;
-    is_second(&rt, alloc, B_LATER, "0 Accepted\n")?;
-    is_second(&rt, alloc, A_AGAIN, "6 Damaged { at: 378 }\n")?;
-    is_second(&rt, alloc, B_ABSTRACT, "6 Damaged { at: 378 }\n")?;
-    is_second(&rt, alloc, B_OF_NO_CLASS, "6 Damaged { at: 378 }\n")
-}
-
 // The header and an open gate; behind it nothing, a length that is too great, and the event of a checkout before any project.
 const OPEN: &[u8] = b"EMFSTORE\0\0\0\x01\0\0\0\0\xa5";
 
@@ -165,12 +128,35 @@ const LONG: &[u8] = b"EMFSTORE\0\0\0\x01\0\0\0\0\xa5\xff\xff\xff\xff";
 
 const EARLY: &[u8] = b"EMFSTORE\0\0\0\x01\0\0\0\0\xa5\0\0\0\x09\x02\0\0\0\0\0\0\0\0\0";
 
+fn is_opened(rt: &impl Abort, alloc: Global, file: Vec<u8>, wanted: &str) -> Result<(), Fail> {
+    let run = ran(rt, alloc, Vec::new(alloc), file)?;
+    assert_eq!(rt; run.end.as_str(), wanted);
+    Ok(())
+}
+
+// How a run without input ends over a file, or over the store whose second creation is this one. A store of events that can not all be
+// played is damaged where the first that can not begins.
 #[test]
-fn a_file_of_no_records_is_new_or_damaged(rt: HostRuntime) -> Result<(), Fail> {
+fn a_file_is_opened_or_damaged_at_its_place(rt: HostRuntime) -> Result<(), Fail> {
     let alloc = rt.alloc();
-    is_opened(&rt, alloc, &[0; 40], "6 Damaged { at: 0 }\n")?;
-    is_opened(&rt, alloc, &[0; 10], "0 Accepted\n")?;
-    is_opened(&rt, alloc, OPEN, "0 Accepted\n")?;
-    is_opened(&rt, alloc, LONG, "6 Damaged { at: 16 }\n")?;
-    is_opened(&rt, alloc, EARLY, "6 Damaged { at: 16 }\n")
+    for (is_second, bytes, wanted) in [
+        (false, [0; 10].as_slice(), "0 Accepted\n"),
+        (false, &[0; 40], "6 Damaged { at: 0 }\n"),
+        (false, OPEN, "0 Accepted\n"),
+        (false, LONG, "6 Damaged { at: 16 }\n"),
+        (false, EARLY, "6 Damaged { at: 16 }\n"),
+        (true, B, "0 Accepted\n"),
+        (true, B_LATER, "0 Accepted\n"),
+        (true, A_AGAIN, "6 Damaged { at: 378 }\n"),
+        (true, B_ABSTRACT, "6 Damaged { at: 378 }\n"),
+        (true, B_OF_NO_CLASS, "6 Damaged { at: 378 }\n"),
+    ] {
+        let file = if is_second {
+            store_of(alloc, bytes)?
+        } else {
+            bytes.to_vec(alloc)?
+        };
+        is_opened(&rt, alloc, file, wanted)?;
+    }
+    Ok(())
 }

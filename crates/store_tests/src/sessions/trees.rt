@@ -1,6 +1,4 @@
 // Sessions whose elements contain others.
-use crate::sessions::are_answered;
-use std::test::Fail;
 
 // A metamodel of houses: a house has rooms, one roof and two sheds at most; a room has a name, rooms inside, doors to rooms and entries from them, which are
 // opposites, and a window to one room. Place is abstract.
@@ -19,7 +17,7 @@ pub(crate) const HOUSE: &str =
 {"eClass":"http://www.eclipse.org/emf/2002/Ecore#//EClass","name":"Place","abstract":true}]}
 "#;
 
-const SESSIONS: &str = r##"> # elements are created inside others
+pub(crate) const SESSIONS: &str = r##"> # elements are created inside others
 > create 1 House / h
 ok h
 > create 1 Room h rooms r
@@ -295,10 +293,3 @@ ok
 []
 ok
 0 Accepted"##;
-
-#[test]
-fn elements_are_created_moved_and_deleted_with_what_they_contain(
-    rt: HostRuntime,
-) -> Result<(), Fail> {
-    are_answered(&rt, rt.alloc(), HOUSE, SESSIONS)
-}

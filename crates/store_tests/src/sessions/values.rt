@@ -1,9 +1,7 @@
 // Sessions that edit attributes.
-use crate::sessions::are_answered;
-use std::test::Fail;
 
 // A metamodel with the class Note, which has a title, a number of stars (3 where none is set) and tags, each at most once.
-const NOTES: &str =
+pub(crate) const NOTES: &str =
     r#"{"eClass":"http://www.eclipse.org/emf/2002/Ecore#//EPackage","name":"notes","nsURI":"http://notes/1","nsPrefix":"notes","eClassifiers":[
 {"eClass":"http://www.eclipse.org/emf/2002/Ecore#//EClass","name":"Note","eStructuralFeatures":[
 {"eClass":"http://www.eclipse.org/emf/2002/Ecore#//EAttribute","name":"title","eType":{"$ref":"http://www.eclipse.org/emf/2002/Ecore#//EString"}},
@@ -11,7 +9,7 @@ const NOTES: &str =
 {"eClass":"http://www.eclipse.org/emf/2002/Ecore#//EAttribute","name":"tags","upperBound":-1,"eType":{"$ref":"http://www.eclipse.org/emf/2002/Ecore#//EString"}}]}]}
 "#;
 
-const SESSIONS: &str = r##"> # edits of attributes are recorded, told and undone
+pub(crate) const SESSIONS: &str = r##"> # edits of attributes are recorded, told and undone
 > create 1 Note / n
 ok n
 > set 1 n title "Emma"
@@ -228,8 +226,3 @@ ok
 []
 ok
 1 Refused"##;
-
-#[test]
-fn attributes_are_edited_recorded_told_and_undone(rt: HostRuntime) -> Result<(), Fail> {
-    are_answered(&rt, rt.alloc(), NOTES, SESSIONS)
-}
