@@ -17,11 +17,11 @@ use Rattle.step_apply.specs.View.{plain_state}
 use Rattle.data_lines.specs.Typed.{AreTyped, IsTypedPackage}
 use Rattle.data_lines.proofs.Taken.{packages_typed, steps_typed}
 use Rattle.plain_repository.specs.Repository.{State, Workspace, untouched, open_steps, workspace_of, changed, changed_at}
+use Rattle.plain_repository.proofs.Recorded.{ByWay, by_way}
 use Rattle.repo_core.specs.declared.workspace.Composite.{Composite as Open}
 use Rattle.repo_core.specs.declared.workspace.Workspace.{Workspace as Kept}
 use Rattle.repo_core.specs.Keeping.{Keeps, AreKept, plain_composite, plain_of}
 use Rattle.repo_core.proofs.Keeping.{untouched_lead}
-use Rattle.repo_core.proofs.Folding.{ByWay, by_way}
 
 -- the workspace at a place is set to what the change makes of it
 pub set_is : (change : Workspace → Workspace) (ws : List Kept) (i : ℕ) (d new : Kept) → i < length ws → plain_of new ≡ change (plain_of (get_or ws i d)) → map plain_of (set ws i new) ≡ changed_at change (map plain_of ws) i

@@ -1,7 +1,7 @@
 -- Packages taken one operation after another.
 use Rattle.std.proofs.Math.ListN.{get_or}
 use Rattle.std.proofs.Math.Seq.{drop-cons, take-suc}
-use Rattle.std.proofs.Common.{◌≡◌, ◌≢◌, ℕ, suc, ◌+◌, ◌<◌, List, [], ◌∷◌, ◌++◌, true, length, drop, take, Option, Some, None, is_some, Result, Ok, Err, ⊎_elim, refl, sym, ◌∙◌, ap, subst, append_assoc, append-nil, arith}
+use Rattle.std.proofs.Common.{◌≡◌, ◌≢◌, ℕ, suc, ◌+◌, ◌<◌, List, [], ◌∷◌, ◌++◌, true, length, drop, take, Option, Some, None, is_some, Result, Ok, Err, ⊎_elim, refl, ◌∙◌, ap, subst, append-nil, arith}
 use Rattle.std.specs.Prelude.{IfErr}
 use Rattle.std.specs.Result.{IsErr, IsErrAnd}
 use Rattle.model_state.specs.declared.step.StepFault.TheVariants.{Memory}
@@ -27,6 +27,7 @@ use Rattle.model_import.specs.After.{import_after}
 use Rattle.model_import.specs.Import.{Imports}
 use Rattle.model_import.proofs.ImportLead.{imports_lead}
 use Rattle.edits.specs.Answers.{steps_in}
+use Rattle.plain_repository.proofs.Recorded.{steps_append}
 
 -- steps with one that can't be taken lead nowhere
 pub fold_none : (meta : Meta) (m : State) (ss : List Step) (e : StepFault) → fault_along meta m ss ≡ Some e → fold meta m ss ≡ None
@@ -54,26 +55,6 @@ package_on meta m n o os is = fold_append meta m n (steps_of o) (steps_all os) i
 
 pub package_none : (meta : Meta) (m : State) (o : Operation) (os : List Operation) → fold meta m (steps_of o) ≡ None → fold_package meta m (o ∷ os) ≡ None
 package_none meta m o os is = fold_append_none meta m (steps_of o) (steps_all os) is
-
-pub steps_append : (ps qs : List Operation) → steps_all (ps ++ qs) ≡ steps_all ps ++ steps_all qs
-steps_append [] qs = refl
-steps_append (p ∷ ps) qs = ap (λ l. steps_of p ++ l) (steps_append ps qs) ∙ sym (append_assoc (steps_of p) (steps_all ps) (steps_all qs))
-
--- where steps lead by way of what the first of them lead to
-pub record ByWay (meta : Meta) (m n : State) (ss ts : List Step) : Type 0 where
-  pub way : State
-  pub first : fold meta m ss ≡ Some way
-  pub rest : fold meta way ts ≡ Some n
-
-pub by_way : (meta : Meta) (m n : State) (ss ts : List Step) → fold meta m (ss ++ ts) ≡ Some n → ByWay meta m n ss ts
-by_way meta m n ss ts is = by (fold meta m ss) refl
-  where
-    some_none : (x : State) → ◌≡◌ {A = Option State} (Some x) None → ⊥
-    some_none x is = cc
-
-    by : (o : Option State) → fold meta m ss ≡ o → ByWay meta m n ss ts
-    by (Some k) at = record { way = k; first = at; rest = sym (fold_append meta m k ss ts at) ∙ is }
-    by None at = absurd (some_none n (sym is ∙ fold_append_none meta m ss ts at))
 
 -- the steps of one operation more lead to where the operation leads
 pub steps_of_one : (o : Operation) → steps_all (o ∷ []) ≡ steps_of o

@@ -1,5 +1,5 @@
 -- A workspace keeps its working model: a package taken and recorded, a composite opened and closed, the last operation taken back, all let go.
-use Rattle.std.proofs.Common.{◌≡◌, ◌-◌, List, [], ◌∷◌, ◌++◌, ℕ, Bool, true, false, length, length-append, take, Option, Some, None, is_some, ⊎_elim, refl, sym, ◌∙◌, ap, subst, append-nil, append_assoc, arith}
+use Rattle.std.proofs.Common.{◌≡◌, ◌-◌, List, [], ◌∷◌, ◌++◌, ℕ, Bool, true, false, length, length-append, take, Option, Some, None, is_some, ⊎_elim, refl, sym, ◌∙◌, ap, subst, append-nil, arith}
 use Rattle.std.specs.Prelude.{not, ◌&&◌, unwrap_or}
 use Rattle.ecore_meta.specs.Meta.{Meta}
 use Rattle.ecore_meta.specs.Sound.{Sound}
@@ -15,10 +15,11 @@ use Rattle.model_state.specs.declared.operation.Operation.{Operation}
 use Rattle.model_laws.proofs.Start.{starts_good}
 use Rattle.model_laws.proofs.Runs.{fold_append, steps_keep_good}
 use Rattle.op_form.proofs.Reversals.{packages_undone}
-use Rattle.plain_repository.specs.Repository.{Composite, Workspace, untouched, recorded_steps, open_steps, model_of, added, with_more, with_open, composed, operation_of_open, with_closed, is_open, is_closed, has_operations}
+use Rattle.plain_repository.specs.Repository.{Composite, Workspace, untouched, recorded_steps, open_steps, model_of, with_more, with_open, with_closed, is_open, is_closed, has_operations}
 use Rattle.plain_repository.proofs.Forms.{and_left, and_right}
+use Rattle.plain_repository.proofs.Recorded.{ByWay, by_way, steps_append, more_steps, opened_steps, closed_steps}
 use Rattle.repo_core.specs.Keeping.{Lead}
-use Rattle.repo_core.proofs.Folding.{ByWay, by_way, steps_append, steps_of_one, fold_none}
+use Rattle.repo_core.proofs.Folding.{steps_of_one, fold_none}
 
 -- what the recorded steps lead to is the working model
 pub model_is : (meta : Meta) (w : Workspace) (m : State) → Lead meta (recorded_steps w) m → model_of meta w ≡ m
@@ -33,11 +34,6 @@ untouched_lead meta w m none is =
 same_lead : (meta : Meta) (ss ts : List Step) (m : State) → ss ≡ ts → Lead meta ss m → Lead meta ts m
 same_lead meta ss ts m same lead = subst (λ (l : List Step). Lead meta l m) same lead
 
--- the steps of operations that come behind those that are there, or join the composite that is open
-more_steps : (more os : List Operation) (c : Option Composite) → recorded_steps (added more os c) ≡ (steps_all os ++ open_steps c) ++ steps_all more
-more_steps more os None = append-nil (steps_all (os ++ more)) ∙ steps_append os more ∙ ap (λ (l : List Step). l ++ steps_all more) (sym (append-nil (steps_all os)))
-more_steps more os (Some c) = sym (append_assoc (steps_all os) c.steps (steps_all more))
-
 -- a package that is taken and recorded
 pub recorded_lead : (meta : Meta) (w new : Workspace) (more : List Operation) (m n : State) → Lead meta (recorded_steps w) m → fold_package meta m more ≡ Some n → new ≡ with_more more w → Good meta n → Lead meta (recorded_steps new) n
 recorded_lead meta w new more m n lead taken is good = record {
@@ -47,23 +43,11 @@ recorded_lead meta w new more m n lead taken is good = record {
 
 -- a composite that is opened where none is has no step
 pub opened_lead : (meta : Meta) (name : List ℕ) (w new : Workspace) (m : State) → is_open (Some w) ≡ false → new ≡ with_open name w → Lead meta (recorded_steps w) m → Lead meta (recorded_steps new) m
-opened_lead meta name w new m closed is lead = same_lead meta (recorded_steps w) (recorded_steps new) m (sym (ap recorded_steps is ∙ opened w.operations w.composite closed)) lead
-  where
-    opened : (os : List Operation) (c : Option Composite) → is_some c ≡ false → steps_all os ++ [] ≡ steps_all os ++ open_steps c
-    opened os None closed = refl
-    opened os (Some c) closed = absurd cc
+opened_lead meta name w new m closed is lead = same_lead meta (recorded_steps w) (recorded_steps new) m (sym (ap recorded_steps is ∙ opened_steps w.operations w.composite closed)) lead
 
 -- the steps of a composite stay where they are when it is closed
 pub closed_lead : (meta : Meta) (w new : Workspace) (m : State) → new ≡ with_closed w → Lead meta (recorded_steps w) m → Lead meta (recorded_steps new) m
-closed_lead meta w new m is lead = same_lead meta (recorded_steps w) (recorded_steps new) m (sym (ap recorded_steps is ∙ closing w.operations w.composite)) lead
-  where
-    filled : (os : List Operation) (name : List ℕ) (steps : List Step) → steps_all (os ++ composed name steps) ++ [] ≡ steps_all os ++ steps
-    filled os name [] = ap (λ (l : List Operation). steps_all l ++ []) (append-nil os)
-    filled os name (s ∷ ss) = append-nil (steps_all (os ++ composed name (s ∷ ss))) ∙ steps_append os (composed name (s ∷ ss)) ∙ ap (λ (l : List Step). steps_all os ++ l) (append-nil (s ∷ ss))
-
-    closing : (os : List Operation) (c : Option Composite) → steps_all (os ++ operation_of_open c) ++ [] ≡ steps_all os ++ open_steps c
-    closing os None = ap (λ (l : List Operation). steps_all l ++ []) (append-nil os)
-    closing os (Some c) = filled os c.name c.steps
+closed_lead meta w new m is lead = same_lead meta (recorded_steps w) (recorded_steps new) m (sym (ap recorded_steps is ∙ closed_steps w.operations w.composite)) lead
 
 -- where the steps before those of an operation lead, and its reversal leads back
 record Before (meta : Meta) (front : List Step) (o : Operation) (m : State) : Type 0 where
