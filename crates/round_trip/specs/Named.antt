@@ -26,7 +26,7 @@ NamesFit (Class c ∷ rows) = (list_any (λ b. b == 47) c.name ≡ false) × All
 NamesFit (Enum e ∷ rows) = NamesFit rows
 NamesFit (Plain t ∷ rows) = NamesFit rows
 
--- each element's name has the form of an id
+-- each element's name has the form of an id; so it is in each working model of the repository, by the law of working models
 abbrev pub HasIds : State → Type 0
 HasIds m = (e : Name) → is_live m e ≡ true → is_id e ≡ true
 

@@ -24,7 +24,9 @@ pub fn law_of_tellings()
     ensures { TellingsAreShown }
 {}
 
-/// The law of round trips: the text of a good model, brought into the empty project, leaves a model that is shown as the same text.
+/// The law of round trips: the text of a good model whose elements have ids of the form of ids, brought into the empty project,
+/// leaves a model that is shown as the same text. Each working model of the repository is good and has such ids, by the law of
+/// working models of `plain_repository`.
 pub fn law_of_round_trips()
     ensures { TextsComeBack }
 {}
