@@ -155,8 +155,8 @@ fn put_change(
     old: &Option<Value>,
     new: &Option<Value>,
 ) -> Result<(), AllocError>
-    requires { FitsIfAny old.now }
-    requires { FitsIfAny new.now }
+    requires old { FitsIfAny old.now }
+    requires new { FitsIfAny new.now }
     ensures { OnOk result (form.new ≡ form.old ++ 1 ∷ (text_form e.now ++ (u32_form f ++ (option_form value_form old.now ++ option_form value_form new.now)))) }
 {
     form.put_u8(1)?;
@@ -203,8 +203,8 @@ fn put_move(
     above_from: &List<Id>,
     above_to: &List<Id>,
 ) -> Result<(), AllocError>
-    requires { IsShort above_from.now }
-    requires { IsShort above_to.now }
+    requires above_from { IsShort above_from.now }
+    requires above_to { IsShort above_to.now }
     ensures { OnOk result (form.new ≡ form.old ++ 10 ∷ (text_form e.now ++ (place_form from.now ++ (u64_form from_rank ++ (place_form to.now ++ (u64_form to_rank ++ (list_form text_form above_from.now ++ list_form text_form above_to.now))))))) }
 {
     form.put_u8(10)?;
