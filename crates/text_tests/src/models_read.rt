@@ -1,7 +1,7 @@
 // Texts of models, and what they say. The faults and their order are those that the format is written down with for its users.
 use crate::metamodels::{cut, metamodel, plain, replaced};
 use ecore_meta::Metamodel;
-use emfjson_model::read_model;
+use emfjson_model::{ModelFault, read_model};
 use std::alloc::Global;
 use std::process::Abort;
 use std::test::Fail;
@@ -37,108 +37,105 @@ const LIBRARY: &str =
 {"eClass":"E#//EEnum","name":"Colour","eLiterals":[{"name":"RED","literal":"red"},{"name":"GREEN","literal":"RED"}]}
 ]}"##;
 
-// The number of a text's elements, or its first fault.
-fn answer(alloc: Global, meta: &Metamodel, text: &str) -> Result<String, Fail> {
-    Ok(match read_model(alloc, text, meta) {
-        Ok(doc) => format!(in alloc; "{}", doc.rows.len())?,
-        Err(fault) => format!(in alloc; "{fault:?}")?,
-    })
-}
-
 // The first fault of a text, and the text.
-const FAULTS: &str = r###"NotJson 
-NotJson {"eClass":"//Book"
-NotJson {"eClass":"//Nothing","title":1e309}
-NoClass 5
-NoClass null
-NoClass ["x"]
-NoClass {}
-NoClass {"eClass":null}
-NoClass {"eClass":"Book"}
-NoClass {"eClass":"//Colour"}
-NoClass {"eClass":"http://lib/2#//Book"}
-NoClass {"eClass":"//Library","books":[{"eClass":"//Page"}]}
-NoClass {"eClass":"//Library","books":[{"eClass":null}]}
-NoClass {"_id":5,"title":5}
-Abstract {"eClass":"//Thing"}
-Abstract {"eClass":"//Thing","_id":5,"x":1}
-Abstract {"eClass":"//Shelf","top":{}}
-Abstract {"eClass":"//Library","books":[{"eClass":"//Thing"}]}
-NoFeature {"eClass":"//Book","name":"x"}
-NoFeature {"eClass":"//Book","$ref":"x"}
-NoFeature {"eClass":"//Book","pages":1,"shelf":1,"title":5}
-BadValue {"eClass":"//Book","_id":"b","pages":"7"}
-BadValue {"eClass":"//Book","pages":2147483648}
-BadValue {"eClass":"//Book","pages":1.0}
-BadValue {"eClass":"//Book","title":["x"]}
-BadValue {"eClass":"//Book","colour":"green"}
-BadValue {"eClass":"//Book","tags":["x","x"]}
-BadValue {"eClass":"//Book","tags":["x",null]}
-BadValue {"eClass":"//Book","tags":["x","y","x"]}
-BadValue {"eClass":"//Book","tags":["x","y","z",5]}
-BadValue {"eClass":"//Book","pages":"7","shelf":1}
-BadValue {"eClass":"//Book","sequel":5,"title":5}
-BadRef {"eClass":"//Book","sequel":5}
-BadRef {"eClass":"//Book","sequel":{}}
-BadRef {"eClass":"//Book","sequel":{"$ref":5}}
-BadRef {"eClass":"//Book","sequel":[]}
-BadRef {"eClass":"//Book","sequel":{"$ref":""}}
-BadRef {"eClass":"//Book","_id":"b","sequel":{"$ref":"c"}}
-BadRef {"eClass":"//Book","_id":"b","sequel":{"$ref":"##b"}}
-BadRef {"eClass":"//Book","sequel":{"$ref":"/1"}}
-BadRef {"eClass":"//Book","sequel":{"$ref":"/-0"}}
-BadRef {"eClass":"//Book","sequel":{"$ref":"/0/"}}
-BadRef {"eClass":"//Writer","_id":"w","pair":[{"$ref":"w"},{"$ref":"/"}]}
-WrongType [{"eClass":"//Writer","pair":[{"$ref":"/1"},{"$ref":"x"}]},{"eClass":"//Book"}]
-BadRef [{"eClass":"//Book","authors":[{"$ref":"x"}]},{"eClass":"//Writer","pair":{"$ref":"/0"}}]
-DupId [{"eClass":"//Book","_id":"b"},{"eClass":"//Book","_id":"b","x":1}]
-DupId {"eClass":"//Shelf","_id":"s","parts":[{"_id":"s"}]}
-BadId {"eClass":"//Book","_id":""}
-BadId {"eClass":"//Book","_id":null}
-BadId {"eClass":"//Book","_id":5}
-BadId {"eClass":"//Book","_id":"/b","A":1}
-BadId {"eClass":"//Book","_id":"a b"}
-Bound {"eClass":"//Book","tags":["x","y","z"]}
-Bound {"eClass":"//Shelf","parts":[{},{},5]}
-Bound [{"eClass":"//Book","_id":"a"},{"eClass":"//Book","sequel":{"$ref":"a"}},{"eClass":"//Book","sequel":{"$ref":"a"}}]
-Bound [{"eClass":"//Writer","_id":"a","pair":[{"$ref":"a"},{"$ref":"b"},{"$ref":"c"}]},{"eClass":"//Writer","_id":"b"},{"eClass":"//Writer","_id":"c"}]
-BadRef [{"eClass":"//Book","sequel":{"$ref":"a"}},{"eClass":"//Book","sequel":{"$ref":"a"}},{"eClass":"//Book","_id":"a","authors":{"$ref":"x"}}]
-BadRef {"eClass":"//Writer","_id":"w","pair":[{"$ref":"w"},{"$ref":"v"},{"$ref":"w"}]}
-WrongType {"eClass":"//Library","books":[null]}
-WrongType {"eClass":"//Library","books":5}
-WrongType {"eClass":"//Library","books":[{"eClass":"//Writer","_id":5}]}
-WrongType {"eClass":"//Shelf","top":[]}
-WrongType [{"eClass":"//Book","authors":[{"$ref":"/0"}]}]
-WrongType {"eClass":"//Shelf","parts":[{},"x"],"x":1}"###;
+const FAULTS: &str = r###"Err(NotJson) 
+Err(NotJson) {"eClass":"//Book"
+Err(NotJson) {"eClass":"//Nothing","title":1e309}
+Err(NoClass) 5
+Err(NoClass) null
+Err(NoClass) ["x"]
+Err(NoClass) {}
+Err(NoClass) {"eClass":null}
+Err(NoClass) {"eClass":"Book"}
+Err(NoClass) {"eClass":"//Colour"}
+Err(NoClass) {"eClass":"http://lib/2#//Book"}
+Err(NoClass) {"eClass":"//Library","books":[{"eClass":"//Page"}]}
+Err(NoClass) {"eClass":"//Library","books":[{"eClass":null}]}
+Err(NoClass) {"_id":5,"title":5}
+Err(Abstract) {"eClass":"//Thing"}
+Err(Abstract) {"eClass":"//Thing","_id":5,"x":1}
+Err(Abstract) {"eClass":"//Shelf","top":{}}
+Err(Abstract) {"eClass":"//Library","books":[{"eClass":"//Thing"}]}
+Err(NoFeature) {"eClass":"//Book","name":"x"}
+Err(NoFeature) {"eClass":"//Book","$ref":"x"}
+Err(NoFeature) {"eClass":"//Book","pages":1,"shelf":1,"title":5}
+Err(BadValue) {"eClass":"//Book","_id":"b","pages":"7"}
+Err(BadValue) {"eClass":"//Book","pages":2147483648}
+Err(BadValue) {"eClass":"//Book","pages":1.0}
+Err(BadValue) {"eClass":"//Book","title":["x"]}
+Err(BadValue) {"eClass":"//Book","colour":"green"}
+Err(BadValue) {"eClass":"//Book","tags":["x","x"]}
+Err(BadValue) {"eClass":"//Book","tags":["x",null]}
+Err(BadValue) {"eClass":"//Book","tags":["x","y","x"]}
+Err(BadValue) {"eClass":"//Book","tags":["x","y","z",5]}
+Err(BadValue) {"eClass":"//Book","pages":"7","shelf":1}
+Err(BadValue) {"eClass":"//Book","sequel":5,"title":5}
+Err(BadRef) {"eClass":"//Book","sequel":5}
+Err(BadRef) {"eClass":"//Book","sequel":{}}
+Err(BadRef) {"eClass":"//Book","sequel":{"$ref":5}}
+Err(BadRef) {"eClass":"//Book","sequel":[]}
+Err(BadRef) {"eClass":"//Book","sequel":{"$ref":""}}
+Err(BadRef) {"eClass":"//Book","_id":"b","sequel":{"$ref":"c"}}
+Err(BadRef) {"eClass":"//Book","_id":"b","sequel":{"$ref":"##b"}}
+Err(BadRef) {"eClass":"//Book","sequel":{"$ref":"/1"}}
+Err(BadRef) {"eClass":"//Book","sequel":{"$ref":"/-0"}}
+Err(BadRef) {"eClass":"//Book","sequel":{"$ref":"/0/"}}
+Err(BadRef) {"eClass":"//Library","books":[{"sequel":{"$ref":"//@books.2"}},{}]}
+Err(BadRef) {"eClass":"//Writer","_id":"w","pair":[{"$ref":"w"},{"$ref":"/"}]}
+Err(WrongType) [{"eClass":"//Writer","pair":[{"$ref":"/1"},{"$ref":"x"}]},{"eClass":"//Book"}]
+Err(BadRef) [{"eClass":"//Writer","pair":[{"$ref":"x"},{"$ref":"/1"}]},{"eClass":"//Book"}]
+Err(WrongType) [{"eClass":"//Book","prequel":{"$ref":"x"},"sequel":{"$ref":"/1"}},{"eClass":"//Writer"}]
+Err(BadRef) [{"eClass":"//Book","authors":[{"$ref":"x"}]},{"eClass":"//Writer","pair":{"$ref":"/0"}}]
+Err(DupId) [{"eClass":"//Book","_id":"b"},{"eClass":"//Book","_id":"b","A":1}]
+Err(DupId) {"eClass":"//Shelf","_id":"s","parts":[{"_id":"s"}]}
+Err(BadId) {"eClass":"//Book","_id":""}
+Err(BadId) {"eClass":"//Book","_id":null}
+Err(BadId) {"eClass":"//Book","_id":5}
+Err(BadId) {"eClass":"//Book","_id":"/b","A":1}
+Err(BadId) {"eClass":"//Book","_id":"a b"}
+Err(Bound) {"eClass":"//Book","tags":["x","y","z"]}
+Err(Bound) {"eClass":"//Shelf","parts":[{},{},5]}
+Err(Bound) [{"eClass":"//Book","_id":"a"},{"eClass":"//Book","sequel":{"$ref":"a"}},{"eClass":"//Book","sequel":{"$ref":"a"}}]
+Err(Bound) [{"eClass":"//Writer","_id":"a","pair":[{"$ref":"a"},{"$ref":"b"},{"$ref":"c"}]},{"eClass":"//Writer","_id":"b"},{"eClass":"//Writer","_id":"c"}]
+Err(BadRef) [{"eClass":"//Book","sequel":{"$ref":"a"}},{"eClass":"//Book","sequel":{"$ref":"a"}},{"eClass":"//Book","_id":"a","authors":{"$ref":"x"}}]
+Err(BadRef) {"eClass":"//Writer","_id":"w","pair":[{"$ref":"w"},{"$ref":"v"},{"$ref":"w"}]}
+Err(WrongType) {"eClass":"//Library","books":[null]}
+Err(WrongType) {"eClass":"//Library","books":5}
+Err(WrongType) {"eClass":"//Library","books":[{"eClass":"//Writer","_id":5}]}
+Err(WrongType) {"eClass":"//Shelf","top":[]}
+Err(WrongType) [{"eClass":"//Book","authors":[{"$ref":"/0"}]}]
+Err(WrongType) {"eClass":"//Shelf","parts":[{},"x"],"x":1}"###;
 
 // The number of elements of a model, and its text.
-const MODELS: &str = r###"0 []
-0  [ ] 
-1 {"eClass":"//Shelf","_id":"s"}
-3 [{"eClass":"#//Book"},{"eClass":"http://lib/1#//Book"},{"eClass":"//Poet"}]
-2 {"eClass":"//Library","books":{"title":"x"}}
-1 {"eClass":"//Library","books":null}
-1 {"eClass":"//Library","books":[]}
-4 {"eClass":"//Shelf","parts":[{},{"parts":{}}]}
-1 {"eClass":"//Book","title":null,"tags":null,"sequel":null,"isbn":5,"library":{"$ref":7}}
-1 {"eClass":"//Book","tags":"x","notes":["x","x"],"authors":[]}
-1 {"eClass":"//Book","colour":"red"}
-1 {"eClass":"//Book","colour":"GREEN"}
-1 {"eClass":"//Book","sequel":{"$ref":"/","title":5}}
-1 {"eClass":"//Book","sequel":{"$ref":"#/00"}}
-1 {"eClass":"//Book","_id":"b","sequel":{"$ref":"#b"}}
-5 [{"eClass":"//Shelf","parts":[{},{"parts":[{"name":"x"}]}]},{"eClass":"//Writer","pair":[{"$ref":"/1"}]}]
-4 [{"eClass":"//Library","books":[{},{}]},{"eClass":"//Book","sequel":{"$ref":"//@books.01"}}]
-3 [{"eClass":"//Library"},{"eClass":"//Library","books":[{"sequel":{"$ref":"/1/@books.0"}}]}]
-1 {"eClass":"//Writer","_id":"w","pair":{"$ref":"w"}}
-2 [{"eClass":"//Writer","_id":"w","books":[{"$ref":"b"}]},{"eClass":"//Book","_id":"b","authors":[{"$ref":"w"}]}]
-2 [{"eClass":"//Poet","_id":"p"},{"eClass":"//Writer","pair":[{"$ref":"p"}]}]
-1 {"eClass":"//Shelf","_id":"$x","name":"y"}"###;
+const MODELS: &str = r###"Ok(0) []
+Ok(0)  [ ] 
+Ok(1) {"eClass":"//Shelf","_id":"s"}
+Ok(3) [{"eClass":"#//Book"},{"eClass":"http://lib/1#//Book"},{"eClass":"//Poet"}]
+Ok(2) {"eClass":"//Library","books":{"title":"x"}}
+Ok(1) {"eClass":"//Library","books":null}
+Ok(1) {"eClass":"//Library","books":[]}
+Ok(4) {"eClass":"//Shelf","parts":[{},{"parts":{}}]}
+Ok(1) {"eClass":"//Book","title":null,"tags":null,"sequel":null,"isbn":5,"library":{"$ref":7}}
+Ok(1) {"eClass":"//Book","tags":"x","notes":["x","x"],"authors":[]}
+Ok(1) {"eClass":"//Book","colour":"red"}
+Ok(1) {"eClass":"//Book","colour":"GREEN"}
+Ok(1) {"eClass":"//Book","sequel":{"$ref":"/","title":5}}
+Ok(1) {"eClass":"//Book","sequel":{"$ref":"#/00"}}
+Ok(1) {"eClass":"//Book","_id":"b","sequel":{"$ref":"#b"}}
+Ok(5) [{"eClass":"//Shelf","parts":[{},{"parts":[{"name":"x"}]}]},{"eClass":"//Writer","pair":[{"$ref":"/1"}]}]
+Ok(4) [{"eClass":"//Library","books":[{},{}]},{"eClass":"//Book","sequel":{"$ref":"//@books.01"}}]
+Ok(3) [{"eClass":"//Library"},{"eClass":"//Library","books":[{"sequel":{"$ref":"/1/@books.0"}}]}]
+Ok(1) {"eClass":"//Writer","_id":"w","pair":{"$ref":"w"}}
+Ok(2) [{"eClass":"//Writer","_id":"w","books":[{"$ref":"b"}]},{"eClass":"//Book","_id":"b","authors":[{"$ref":"w"}]}]
+Ok(2) [{"eClass":"//Poet","_id":"p"},{"eClass":"//Writer","pair":[{"$ref":"p"}]}]
+Ok(1) {"eClass":"//Shelf","_id":"$x","name":"y"}"###;
 
+// Each text of a table has its elements, so many, or its first fault.
 fn check_table(rt: &impl Abort, alloc: Global, meta: &Metamodel, table: &str) -> Result<(), Fail> {
     for line in table.lines() {
         let (wanted, text) = cut(line);
-        assert_eq!(rt; answer(alloc, meta, text)?.as_str(), wanted, "{text}");
+        let count = read_model(alloc, text, meta).map(|doc| doc.rows.len());
+        assert_eq!(rt; format!(in alloc; "{count:?}")?.as_str(), wanted, "{text}");
     }
     Ok(())
 }
@@ -206,78 +203,83 @@ fn rows_have_what_is_given_of_them(rt: HostRuntime) -> Result<(), Fail> {
     Ok(())
 }
 
+// A shelf in a shelf, that many levels deep.
+fn nested(alloc: Global, levels: usize) -> Result<String, Fail> {
+    let mut text = String::from_str(alloc, r#"{"eClass":"//Shelf"}"#)?;
+    for _ in 1..levels {
+        text = format!(in alloc; r#"{{"eClass":"//Shelf","parts":{text}}}"#)?;
+    }
+    Ok(text)
+}
+
 #[test]
-fn a_path_past_the_last_finds_nothing(rt: HostRuntime) -> Result<(), Fail> {
+fn a_text_nests_at_most_127_levels_deep(rt: HostRuntime) -> Result<(), Fail> {
     let alloc = rt.alloc();
     let meta = metamodel(alloc, LIBRARY)?;
-    let past = replaced(alloc, TWO_BOOKS, "@books.1", "@books.2")?;
-    match read_model(alloc, past.as_str(), &meta) {
-        Err(fault) => assert_eq!(&rt; fault.number(), 6),
-        Ok(_) => assert!(&rt; false),
-    }
+    let deepest = nested(alloc, 127)?;
+    let doc = read_model(alloc, deepest.as_str(), &meta)?;
+    assert_eq!(&rt; doc.rows.len(), 127);
+    let deeper = nested(alloc, 128)?;
+    let fault = read_model(alloc, deeper.as_str(), &meta).err();
+    assert_eq!(&rt; fault, Some(ModelFault::NotJson));
     Ok(())
 }
 
-// When a fault is looked for: 0 on the walk, 1 with the references, 2 with the bounds of merged lists. Then the fault, and a root that has it.
-const FAULTY: &str = r#"0 NoClass {"eClass":"//Page"}
-0 Abstract {"eClass":"//Thing"}
-0 NoFeature {"eClass":"//Book","x":1}
-0 BadValue {"eClass":"//Book","pages":"7"}
-0 DupId {"eClass":"//Shelf","_id":"d","parts":[{"_id":"d"}]}
-0 BadId {"eClass":"//Book","_id":"a b"}
-0 Bound {"eClass":"//Shelf","parts":[{},{},{}]}
-0 WrongType {"eClass":"//Shelf","parts":[5]}
-1 BadRef {"eClass":"//Book","sequel":{"$ref":"none"}}
-1 WrongType {"eClass":"//Book","_id":"t","authors":[{"$ref":"t"}]}
-2 Bound {"eClass":"//Library","books":[{"_id":"m"},{"sequel":{"$ref":"m"}},{"sequel":{"$ref":"m"}}]}"#;
+// Roots and their faults: those found with the bounds of merged lists, with the references, and on the walk.
+const BY_BOUNDS: &str =
+    r#"Bound {"eClass":"//Library","books":[{},{"sequel":{"$ref":"/0/@books.0"}},{"sequel":{"$ref":"/0/@books.0"}}]}"#;
 
-fn faulty(line: &str) -> (&str, &str, &str) {
-    let (when, rest) = cut(line);
-    let (fault, root) = cut(rest);
-    (when, fault, root)
+const BY_REFERENCES: &str = r#"BadRef {"eClass":"//Book","sequel":{"$ref":"none"}}
+WrongType {"eClass":"//Book","authors":[{"$ref":"/0"}]}"#;
+
+const ON_WALK: &str = r#"NoClass {"eClass":"//Page"}
+Abstract {"eClass":"//Thing"}
+NoFeature {"eClass":"//Book","x":1}
+BadValue {"eClass":"//Book","pages":"7"}
+DupId {"eClass":"//Shelf","_id":"d","parts":[{"_id":"d"}]}
+BadId {"eClass":"//Book","_id":"a b"}
+Bound {"eClass":"//Shelf","parts":[{},{},{}]}
+WrongType {"eClass":"//Shelf","parts":[5]}"#;
+
+// The roots of a table, with a comma behind each.
+fn roots(alloc: Global, table: &str) -> Result<String, Fail> {
+    let mut roots = String::new(alloc);
+    for line in table.lines() {
+        let (_, root) = cut(line);
+        roots.push_str(root)?;
+        roots.push(',')?;
+    }
+    Ok(roots)
 }
 
-fn chosen<'a>(is_first: bool, first: &'a str, second: &'a str) -> &'a str {
-    if is_first { first } else { second }
-}
-
-// What is looked for sooner is told, or else what stands first.
-fn first_is_told(
+// Each root of a table, behind these and in front of all of the table, has its fault told.
+fn check_first(
     rt: &impl Abort,
     alloc: Global,
     meta: &Metamodel,
-    one: &str,
-    other: &str,
+    before: &str,
+    table: &str,
 ) -> Result<(), Fail> {
-    let (sooner, first, one) = faulty(one);
-    let (later, second, other) = faulty(other);
-    if one == other {
-        return Ok(());
-    }
-    let wanted = chosen(sooner <= later, first, second);
-    let told = of_two(alloc, meta, one, other)?;
-    assert_eq!(rt; told.as_str(), wanted, "{one},{other}");
-    Ok(())
-}
-
-fn beside_each(rt: &impl Abort, alloc: Global, meta: &Metamodel, one: &str) -> Result<(), Fail> {
-    for other in FAULTY.lines() {
-        first_is_told(rt, alloc, meta, one, other)?;
+    let behind = roots(alloc, table)?;
+    for line in table.lines() {
+        let (wanted, root) = cut(line);
+        let text = format!(in alloc; r#"[{before}{root},{behind}{{"eClass":"//Book"}}]"#)?;
+        let fault = read_model(alloc, text.as_str(), meta)
+            .err()
+            .ok_or("no fault")?;
+        assert_eq!(rt; format!(in alloc; "{fault:?}")?.as_str(), wanted, "{text}");
     }
     Ok(())
-}
-
-fn of_two(alloc: Global, meta: &Metamodel, one: &str, other: &str) -> Result<String, Fail> {
-    let text = format!(in alloc; "[{one},{other}]")?;
-    answer(alloc, meta, text.as_str())
 }
 
 #[test]
-fn of_two_faults_the_first_is_told(rt: HostRuntime) -> Result<(), Fail> {
+fn of_many_faults_the_first_is_told(rt: HostRuntime) -> Result<(), Fail> {
     let alloc = rt.alloc();
     let meta = metamodel(alloc, LIBRARY)?;
-    for one in FAULTY.lines() {
-        beside_each(&rt, alloc, &meta, one)?;
+    let mut before = String::new(alloc);
+    for table in [BY_BOUNDS, BY_REFERENCES, ON_WALK] {
+        check_first(&rt, alloc, &meta, before.as_str(), table)?;
+        before.push_str(roots(alloc, table)?.as_str())?;
     }
     Ok(())
 }

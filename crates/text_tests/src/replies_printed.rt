@@ -34,8 +34,8 @@ const REFUSALS: [Refusal; 27] = [
     Refusal::JournalFull,
 ];
 
-// Their replies, in that order.
-const REFUSED: &str = "no 1 BadLine 10
+// Their replies, in that order, and those of two commands that are accepted.
+const REPLIES: &str = "no 1 BadLine 10
 no 2 NotInit
 no 3 AlreadyInit
 no 4 BadMetamodel 18
@@ -62,39 +62,32 @@ no 29 BadModel 10
 no 33 HistoryFull
 no 34 TooLarge
 no 35 JournalFull
+[]
+ok 1 0 trunk
+ok
 ";
 
-#[test]
-fn refusals_are_printed(rt: HostRuntime) -> Result<(), Fail> {
-    let alloc = rt.alloc();
-    let mut printed = Vec::new(alloc);
-    for refusal in REFUSALS {
-        let reply = Reply {
-            lines: List::new(alloc),
-            last: Last::No(refusal),
-        };
-        printed.extend_from_slice(print_reply(alloc, &reply)?.as_slice())?;
-    }
-    assert_eq!(&rt; printed.as_slice(), REFUSED.as_bytes());
+// Puts the bytes of a reply behind those of others.
+fn print(alloc: Global, printed: &mut Vec<u8>, lines: List<Text>, last: Last) -> Result<(), Fail> {
+    let reply = Reply { lines, last };
+    let bytes = print_reply(alloc, &reply)?;
+    printed.extend_from_slice(bytes.as_slice())?;
     Ok(())
 }
 
-fn accepted(alloc: Global, words: &str) -> Result<Vec<u8>, Fail> {
-    let mut reply = Reply {
-        lines: List::new(alloc),
-        last: Last::Ok(Text::new(alloc, words)?),
-    };
-    reply.lines.push(Text::new(alloc, "[]")?)?;
-    Ok(print_reply(alloc, &reply)?)
-}
-
 #[test]
-fn what_is_accepted_is_printed(rt: HostRuntime) -> Result<(), Fail> {
+fn replies_are_printed(rt: HostRuntime) -> Result<(), Fail> {
     let alloc = rt.alloc();
-    assert_eq!(&rt;
-        accepted(alloc, "1 0 trunk")?.as_slice(),
-        b"[]\nok 1 0 trunk\n".as_slice()
-    );
-    assert_eq!(&rt; accepted(alloc, "")?.as_slice(), b"[]\nok\n".as_slice());
+    let mut printed = Vec::new(alloc);
+    for refusal in REFUSALS {
+        print(alloc, &mut printed, List::new(alloc), Last::No(refusal))?;
+    }
+    let mut lines = List::new(alloc);
+    lines.push(Text::new(alloc, "[]")?)?;
+    let opened = Last::Ok(Text::new(alloc, "1 0 trunk")?);
+    print(alloc, &mut printed, lines, opened)?;
+    let done = Last::Ok(Text::new(alloc, "")?);
+    print(alloc, &mut printed, List::new(alloc), done)?;
+    assert_eq!(&rt; printed.as_slice(), REPLIES.as_bytes());
     Ok(())
 }
