@@ -12,6 +12,7 @@ use crate::{limits, looks, places, recordings, references, steps};
 use ecore_meta::Metamodel;
 use model_laws::replay;
 use std::alloc::Global;
+use std::process::Abort;
 use std::test::Fail;
 use step_apply::Plain;
 
@@ -78,64 +79,43 @@ fn answer(
     }
 }
 
-// What is wrong with a line, or nothing.
-fn differs(
+fn check_line(
+    rt: &impl Abort,
     alloc: Global,
     meta: &Metamodel,
     start: &str,
     calls: Calls,
     line: &str,
-) -> Result<String, Fail>
+) -> Result<(), Fail>
     requires { Sound meta.now }
 {
     let (beside, case) = line.split_once(" | ").unwrap_or(("", line));
-    let (call, want) = case.split_once(" -> ").unwrap_or((case, "no answer"));
+    let (call, wanted) = case.split_once(" -> ").unwrap_or((case, "no answer"));
     let mut plain = model(alloc, meta, start, beside)?;
-    let got = answer(alloc, meta, &mut plain, calls, call)?;
-    let got = if got.is_empty() {
-        "nothing"
-    } else {
-        got.as_str()
-    };
-    if got == want {
-        return Ok(String::new(alloc));
+    let mut told = answer(alloc, meta, &mut plain, calls, call)?;
+    if told.is_empty() {
+        told.push_str("nothing")?;
     }
-    Ok(format!(in alloc; "{got} and not as in {line} after {start}\n")?)
+    assert_eq!(rt; told.as_str(), wanted, "{line} after {start}");
+    Ok(())
 }
 
-// What is wrong with the lines of a part.
-fn wrong_in(alloc: Global, calls: Calls, part: &str) -> Result<String, Fail> {
+fn check_part(rt: &impl Abort, alloc: Global, calls: Calls, part: &str) -> Result<(), Fail> {
     let (head, lines) = part.split_once('\n').unwrap_or((part, ""));
     let (name, start) = head.split_once("; ").unwrap_or((head, ""));
     let meta = metamodel(alloc, name)?;
-    let mut out = String::new(alloc);
     for line in lines.lines() {
         if !line.starts_with('#') {
-            out.push_str(differs(alloc, &meta, start, calls, line)?.as_str())?;
+            check_line(rt, alloc, &meta, start, calls, line)?;
         }
     }
-    Ok(out)
+    Ok(())
 }
 
-// What is wrong with the lines of a table.
-pub(crate) fn wrong(alloc: Global, calls: Calls, table: &str) -> Result<String, Fail> {
-    let mut out = String::new(alloc);
+// Each call of a table is answered so.
+pub(crate) fn check(rt: &impl Abort, alloc: Global, calls: Calls, table: &str) -> Result<(), Fail> {
     for part in table.split("\n\n") {
-        out.push_str(wrong_in(alloc, calls, part)?.as_str())?;
+        check_part(rt, alloc, calls, part)?;
     }
-    Ok(out)
-}
-
-#[test]
-fn a_wrong_line_is_told(rt: HostRuntime) -> Result<(), Fail> {
-    let told = wrong(
-        rt.alloc(),
-        Calls::Places,
-        "parts; New o 1 / 30\n# o\ndelete o -> o",
-    )?;
-    assert_eq!(rt;
-        told.as_str(),
-        "Gone o 1 / 30 and not as in delete o -> o after New o 1 / 30\n"
-    );
     Ok(())
 }

@@ -23,5 +23,3 @@ mod recordings;
 mod references;
 #[cfg(test)]
 mod steps;
-#[cfg(test)]
-mod strings;

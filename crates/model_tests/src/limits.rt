@@ -1,5 +1,5 @@
 // Ids and ranks at their limits, and copies.
-use crate::answers::{Calls, wrong};
+use crate::answers::{Calls, check};
 use crate::lines::{operation_line, rank};
 use crate::reading::{Words, operation, words_of};
 use model_state::{Id, IdFault, rank_between};
@@ -80,6 +80,5 @@ pub(crate) fn answer(alloc: Global, call: &str) -> Result<String, Fail> {
 
 #[test]
 fn ranks_ids_and_copies_are_as_told(rt: HostRuntime) -> Result<(), Fail> {
-    assert_eq!(rt; wrong(rt.alloc(), Calls::Limits, TABLE)?.as_str(), "");
-    Ok(())
+    check(&rt, rt.alloc(), Calls::Limits, TABLE)
 }

@@ -9,7 +9,7 @@ ghost use Rattle.ecore_meta.specs.Sound.{Sound};
 ghost use Rattle.model_state.specs.Good.{Good};
 ghost use Rattle.step_apply.specs.View.{plain_state};
 
-use crate::answers::{Calls, wrong};
+use crate::answers::{Calls, check};
 use crate::lines::operation_line;
 use ecore_meta::Metamodel;
 use model_laws::replay;
@@ -447,6 +447,5 @@ pub(crate) fn answer(
 
 #[test]
 fn edits_are_recorded_or_refused(rt: HostRuntime) -> Result<(), Fail> {
-    assert_eq!(rt; wrong(rt.alloc(), Calls::Edits, TABLE)?.as_str(), "");
-    Ok(())
+    check(&rt, rt.alloc(), Calls::Edits, TABLE)
 }

@@ -2,7 +2,7 @@
 ghost use Rattle.model_state.specs.Good.{Good};
 ghost use Rattle.step_apply.specs.View.{plain_state};
 
-use crate::answers::{Calls, wrong};
+use crate::answers::{Calls, check};
 use crate::reading::step;
 use ecore_meta::Metamodel;
 use model_state::{Change, StepFault};
@@ -164,6 +164,5 @@ pub(crate) fn answer(
 
 #[test]
 fn steps_answer_their_first_fault(rt: HostRuntime) -> Result<(), Fail> {
-    assert_eq!(rt; wrong(rt.alloc(), Calls::Steps, TABLE)?.as_str(), "");
-    Ok(())
+    check(&rt, rt.alloc(), Calls::Steps, TABLE)
 }
