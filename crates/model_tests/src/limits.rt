@@ -1,6 +1,6 @@
 // Ids and ranks at their limits, and copies.
 use crate::answers::{Calls, check};
-use crate::lines::{operation_line, rank};
+use crate::lines::{operation_line, words as line_of};
 use crate::reading::{Words, operation, words_of};
 use model_state::{Id, IdFault, rank_between};
 use std::alloc::Global;
@@ -47,7 +47,8 @@ fn rank_told(alloc: Global, words: &mut Words) -> Result<String, Fail> {
             return Err("no order")?;
         }
     }
-    rank(alloc, &rank_between(lo, hi))
+    let rank = format!(in alloc; "{:?}", rank_between(lo, hi))?;
+    line_of(alloc, rank.as_str())
 }
 
 fn id_told(alloc: Global, answer: Result<Id, IdFault>) -> Result<String, Fail> {

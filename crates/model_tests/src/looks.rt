@@ -4,7 +4,7 @@ ghost use Rattle.model_state.specs.Good.{Good};
 ghost use Rattle.step_apply.specs.View.{plain_state};
 
 use crate::answers::{Calls, check};
-use crate::lines::{add, ids, texts, value as line_of};
+use crate::lines::{add, ids, texts, words};
 use crate::reading::{Words, operation, steps, words_of};
 use containment::{delete_steps, subtree};
 use data_lines::{are_typed, is_typed_package, open_lines, operation_lines, validate_lines};
@@ -37,10 +37,10 @@ targets b 6 -> nothing
 incoming c -> a 8 2 b 5 4
 incoming l -> nothing
 # values are those that the steps left
-values a 2 -> "t" "u"
+values a 2 -> "t","u"
 values b 2 -> "w"
 values c 0 -> "x"
-values a 0 -> nothing
+values a 0 -> -
 
 library
 # equal ranks stand by their ids, others by rank; one author is an array of one, and so is one writer of up to two
@@ -116,11 +116,8 @@ fn incoming(alloc: Global, plain: &Plain, b: &Id) -> Result<String, Fail> {
 }
 
 fn values(alloc: Global, plain: &Plain, e: &Id, f: u32) -> Result<String, Fail> {
-    let mut text = String::new(alloc);
-    for value in plain.attr(e, f) {
-        add(&mut text, " ", line_of(alloc, value)?.as_str())?;
-    }
-    Ok(text)
+    let shown = format!(in alloc; "{:?}", plain.attr(e, f))?;
+    words(alloc, shown.as_str())
 }
 
 fn number(alloc: Global, n: usize) -> Result<String, Fail> {
