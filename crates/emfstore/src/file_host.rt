@@ -67,7 +67,7 @@ fn sync<R: Files>(rt: &R, file: &mut Option<R::File>) -> Option<()> {
 
 impl<'a, R: Files + Input + Print> FileHost<'a, R> {
     /// A host that has opened nothing yet.
-    pub fn new(rt: &'a R) -> FileHost<'a, R> {
+    pub(crate) fn new(rt: &'a R) -> FileHost<'a, R> {
         FileHost {
             rt,
             file: None,
