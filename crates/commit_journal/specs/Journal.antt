@@ -72,6 +72,12 @@ pub record IsStuck (file : List ℕ) (place : ℕ) : Type 0 where
   pub not_closed : place < length file → slice_index file place ≡ 165
   pub no_record : (form : List ℕ) → IsShort form → place + 5 + length form < 2 ^ 40 → ¬ (take (5 + length form) (drop place file) ≡ record_of form)
 
+-- an open gate stands there, then the length of a form, and behind it so many bytes
+pub record IsOpen (file : List ℕ) (place size : ℕ) : Type 0 where
+  pub opened : slice_index file place ≡ 165
+  pub length_is : take 4 (drop (place + 1) file) ≡ four_bytes size
+  pub whole : place + 5 + size ≤ length file
+
 -- the first byte that differs from the header
 pub record IsNoHeader (file : List ℕ) (at : ℕ) : Type 0 where
   pub within : at < 16

@@ -2,13 +2,13 @@
 ghost use Rattle.std.specs.Prelude.{◌≡◌, ◌⊎◌, ◌+◌, ◌^◌, ◌<◌, ◌≤◌, ◌++◌, [], ◌∷◌, List, ℕ, length, IsTrue, IfOk, OnOk, IfErr, IfSome, IfNone, OnErr, IsErrOf, true, false};
 ghost use Rattle.host_port.specs.Host.{disk_now, Rose, GoesOn, Throughout, KeepsDisk, KeepsSaid, KeepsInput, RaisesDiskAlone, StopLeaves};
 ghost use Rattle.std.specs.Bool.{OnTrue, OnFalse};
-ghost use Rattle.commit_journal.specs.Journal.{WalkState, header, four_bytes, IsWalked, IsClosed, IsStuck, IsNoHeader, IsAtRest, IsShort, MountedFrom, StandsForSame, StandsForNone};
+ghost use Rattle.commit_journal.specs.Journal.{WalkState, header, four_bytes, IsWalked, IsClosed, IsStuck, IsOpen, IsNoHeader, IsAtRest, IsShort, MountedFrom, StandsForSame, StandsForNone};
 ghost use Rattle.commit_journal.specs.Walk.{IfDamaged};
 
 use crate::fault::JournalFault;
 use crate::journal::Journal;
 use crate::write::write_durably;
-use host_port::Host;
+use host_port::{Failed, Host};
 use std::alloc::Global;
 use std::marker::Model;
 
@@ -58,6 +58,55 @@ fn has_room(length: u64, gate: u64, size: u64) -> bool
     ensures none { OnFalse result ((size ≤ 16777211) → (gate + 5 + size < 2 ^ 40) → length < gate + 5 + size) }
 {
     size <= 16_777_211 && gate + 5 + size < 1 << 40 && size <= length - gate - 5
+}
+
+/// What stands at the place where a record's gate may stand.
+enum Gate {
+    /// No record: the journal ends here.
+    Closed,
+    /// A record whose form has so many bytes, all of them in the file.
+    Open { size: u64 },
+    /// Neither, so the file stands for no list of forms.
+    Broken,
+}
+
+// The gate, and the length behind it in the same read.
+fn read_gate<H: Host>(host: &mut H, gate: u64) -> Result<Gate, Failed>
+    requires gate { gate < 2 ^ 40 }
+    ensures closed { IfOk result (λ found. found ≡ Gate.Closed → IsTrue (H.told host.old).tells → IsClosed (disk_now (H.told host.old)).now gate) }
+    ensures broken { IfOk result (λ found. found ≡ Gate.Broken → IsTrue (H.told host.old).tells → IsStuck (disk_now (H.told host.old)).now gate) }
+    ensures open { IfOk result (λ found. (size : ℕ) → found ≡ Gate.Open size → IsTrue (H.told host.old).tells → IsOpen (disk_now (H.told host.old)).now gate size) }
+    ensures short { IfOk result (λ found. (size : ℕ) → found ≡ Gate.Open size → (size ≤ 16777211) × (gate + 5 + size < 2 ^ 40)) }
+    ensures cause { OnErr result (Rose (H.told host.old).disk_faults (H.told host.new).disk_faults) }
+    ensures alone { RaisesDiskAlone (H.told host.old) (H.told host.new) }
+    ensures course { GoesOn (H.told host.old) (H.told host.new) }
+    ensures disk { KeepsDisk (H.told host.old) (H.told host.new) }
+    ensures said { KeepsSaid (H.told host.old) (H.told host.new) }
+    ensures input { KeepsInput (H.told host.old) (H.told host.new) }
+{
+    let length = host.len()?;
+    if length <= gate {
+        return Ok(Gate::Broken);
+    }
+    if length - gate < 5 {
+        let mut mark = [0; 1];
+        host.read_at(gate, &mut mark)?;
+        return Ok(if mark[0] == 165 {
+            Gate::Broken
+        } else {
+            Gate::Closed
+        });
+    }
+    let mut head = [0; 5];
+    host.read_at(gate, &mut head)?;
+    if head[0] != 165 {
+        return Ok(Gate::Closed);
+    }
+    let size = u64::from(number_in(&[head[1], head[2], head[3], head[4]]));
+    if !has_room(length, gate, size) {
+        return Ok(Gate::Broken);
+    }
+    Ok(Gate::Open { size })
 }
 
 impl Walk {
@@ -137,30 +186,20 @@ impl Walk {
         ensures input { KeepsInput (H.told host.old) (H.told host.new) }
     {
         let gate = self.next;
-        let length = host.len()?;
-        if length <= gate {
-            return Err(JournalFault::Damaged { at: gate });
+        match read_gate(host, gate)? {
+            Gate::Closed => {
+                self.ended = true;
+                Ok(None)
+            }
+            Gate::Broken => Err(JournalFault::Damaged { at: gate }),
+            Gate::Open { size } => {
+                let mut form = vec![in alloc; 0; size as usize]?;
+                host.read_at(gate + 5, &mut form)?;
+                self.place = gate;
+                self.next = gate + 5 + size;
+                Ok(Some(form))
+            }
         }
-        let mut mark = [0; 1];
-        host.read_at(gate, &mut mark)?;
-        if mark[0] != 165 {
-            self.ended = true;
-            return Ok(None);
-        }
-        if length - gate < 5 {
-            return Err(JournalFault::Damaged { at: gate });
-        }
-        let mut field = [0; 4];
-        host.read_at(gate + 1, &mut field)?;
-        let size = u64::from(number_in(&field));
-        if !has_room(length, gate, size) {
-            return Err(JournalFault::Damaged { at: gate });
-        }
-        let mut form = vec![in alloc; 0; size as usize]?;
-        host.read_at(gate + 5, &mut form)?;
-        self.place = gate;
-        self.next = gate + 5 + size;
-        Ok(Some(form))
     }
 
     /// The journal, once its closed gate was found.

@@ -1,76 +1,142 @@
-//! The real outside: a file and the standard streams.
+//! The real outside: one file and the standard streams.
 use host_port::{Failed, Host};
-use std::fs::{OpenFile, OpenOptions};
+use std::fs::{File, OpenOptions, TryLockError};
 use std::io;
-use std::io::{Read, Seek, SeekFrom, Write};
+use std::io::{ErrorKind, Read, Write};
+use std::os::unix::fs::FileExt;
 use std::rt::Files;
 
 const JOURNAL: &str = "emfstore.journal";
+const FOLDER: &str = ".";
+
+/// The open file, which no other program that asks for the lock writes to meanwhile.
+#[derive(Drop)]
+struct Store {
+    file: File,
+    /// The file's length in bytes, where it is known: as the system told it once, and then by what was written since.
+    len: Option<u64>,
+}
+
+/// Takes the lock of the file; none where another program has it. A file system that knows no locks gives none, and is used without.
+fn locked(file: &File) -> Option<()> {
+    match file.try_lock() {
+        Ok(()) => Some(()),
+        Err(TryLockError::WouldBlock) => None,
+        Err(TryLockError::Error(error)) => unless_lacking(&error),
+    }
+}
+
+/// Nothing is wrong where the system only says that it has no such call.
+fn unless_lacking(error: &io::Error) -> Option<()> {
+    match error.kind() {
+        ErrorKind::Unsupported | ErrorKind::InvalidInput => Some(()),
+        _ => None,
+    }
+}
+
+/// Makes sure that the folder keeps the name of a new file. A folder that can't be opened to be read, or be synced, is left as it is.
+fn sync_folder<R: Files<File = File>>(rt: &R) -> Option<()> {
+    let mut how = OpenOptions::new();
+    how.read(true);
+    let Ok(folder) = how.open(rt, FOLDER) else {
+        return Some(());
+    };
+    match folder.sync_all() {
+        Ok(()) => Some(()),
+        Err(error) => unless_lacking(&error),
+    }
+}
+
+fn opened<R: Files<File = File>>(rt: &R) -> Option<Store> {
+    let mut how = OpenOptions::new();
+    how.read(true);
+    how.write(true);
+    how.create(true);
+    let file = how.open(rt, JOURNAL).ok()?;
+    locked(&file)?;
+    let len = file.metadata().ok()?.len();
+    if len == 0 {
+        sync_folder(rt)?;
+    }
+    Some(Store {
+        file,
+        len: Some(len),
+    })
+}
+
+impl Store {
+    fn len(&mut self) -> Option<u64> {
+        if self.len.is_none() {
+            self.len = Some(self.file.metadata().ok()?.len());
+        }
+        self.len
+    }
+
+    fn write(&mut self, at: u64, bytes: &[u8]) -> Option<()> {
+        let len = self.len()?;
+        self.len = None;
+        self.file.write_all_at(bytes, at).ok()?;
+        self.len = Some(len.max(at.saturating_add(bytes.len() as u64)));
+        Some(())
+    }
+}
 
 /// The file `emfstore.journal` in the working folder, and the standard streams. The first call that needs the file opens it,
-/// and makes it where it is missing; a call that finds it can't be opened fails. It tells nothing.
+/// makes it where it is missing, and takes its lock for as long as the host lives. A call fails where the file can't be opened,
+/// or another program has the lock. It tells nothing.
 #[derive(Drop)]
-pub struct FileHost<'a, R: Files + Input + Print> {
+pub struct FileHost<'a, R: Files<File = File> + Input + Print> {
     rt: &'a R,
-    file: Option<R::File>,
+    store: Option<Store>,
     reader: R::Reader,
     take_faults: u64,
     say_faults: u64,
     disk_faults: u64,
 }
 
-fn opened<R: Files>(rt: &R) -> Option<R::File> {
-    let mut how = OpenOptions::new();
-    how.read(true);
-    how.write(true);
-    how.create(true);
-    how.open(rt, JOURNAL).ok()
-}
-
-/// The file, which is opened where it isn't yet.
-fn at_hand<'h, R: Files>(rt: &R, file: &'h mut Option<R::File>) -> Option<&'h mut R::File> {
-    if file.is_none() {
-        *file = opened(rt);
+/// The store, which is opened where it isn't yet.
+fn at_hand<'h, R: Files<File = File>>(
+    rt: &R,
+    store: &'h mut Option<Store>,
+) -> Option<&'h mut Store> {
+    if store.is_none() {
+        *store = opened(rt);
     }
-    file.as_mut()
+    store.as_mut()
 }
 
-fn length_of<F: OpenFile>(file: &F) -> Option<u64> {
-    Some(file.metadata().ok()?.len())
+fn length<R: Files<File = File>>(rt: &R, store: &mut Option<Store>) -> Option<u64> {
+    at_hand(rt, store)?.len()
 }
 
-fn read_all<F: Read + Seek>(file: &mut F, at: u64, into: &mut [u8]) -> Option<()> {
-    file.seek(SeekFrom::Start(at)).ok()?;
-    file.read_exact(into).ok()
+fn read<R: Files<File = File>>(
+    rt: &R,
+    store: &mut Option<Store>,
+    at: u64,
+    into: &mut [u8],
+) -> Option<()> {
+    at_hand(rt, store)?.file.read_exact_at(into, at).ok()
 }
 
-fn write_all<F: Write + Seek>(file: &mut F, at: u64, bytes: &[u8]) -> Option<()> {
-    file.seek(SeekFrom::Start(at)).ok()?;
-    file.write_all(bytes).ok()
+fn write<R: Files<File = File>>(
+    rt: &R,
+    store: &mut Option<Store>,
+    at: u64,
+    bytes: &[u8],
+) -> Option<()> {
+    at_hand(rt, store)?.write(at, bytes)
 }
 
-fn length<R: Files>(rt: &R, file: &mut Option<R::File>) -> Option<u64> {
-    length_of(at_hand(rt, file)?)
+fn sync<R: Files<File = File>>(rt: &R, store: &mut Option<Store>) -> Option<()> {
+    at_hand(rt, store)?.file.sync_data().ok()
 }
 
-fn read<R: Files>(rt: &R, file: &mut Option<R::File>, at: u64, into: &mut [u8]) -> Option<()> {
-    read_all(at_hand(rt, file)?, at, into)
-}
-
-fn write<R: Files>(rt: &R, file: &mut Option<R::File>, at: u64, bytes: &[u8]) -> Option<()> {
-    write_all(at_hand(rt, file)?, at, bytes)
-}
-
-fn sync<R: Files>(rt: &R, file: &mut Option<R::File>) -> Option<()> {
-    at_hand(rt, file)?.sync_all().ok()
-}
-
-impl<'a, R: Files + Input + Print> FileHost<'a, R> {
+impl<'a, R: Files<File = File> + Input + Print> FileHost<'a, R> {
     /// A host that has opened nothing yet.
     pub(crate) fn new(rt: &'a R) -> FileHost<'a, R> {
         FileHost {
             rt,
-            file: None,
+            store: None,
             reader: rt.reader(),
             take_faults: 0,
             say_faults: 0,
@@ -79,7 +145,7 @@ impl<'a, R: Files + Input + Print> FileHost<'a, R> {
     }
 }
 
-impl<R: Files + Input + Print> Host for FileHost<'_, R> {
+impl<R: Files<File = File> + Input + Print> Host for FileHost<'_, R> {
     ghost use Rattle.host_port.specs.Talk.{nothing_told};
     ghost use Rattle.host_port.specs.Host.{disk_now, said_now, GoesOn, Throughout, KeepsDisk, KeepsSaid, KeepsInput, Moves, AddsPart, MayLeave, RaisesTakesAlone, RaisesSaysAlone, RaisesDiskAlone, WrittenPart, written, synced};
     ghost use Rattle.host_port.specs.Laws.{untold};
@@ -109,7 +175,7 @@ impl<R: Files + Input + Print> Host for FileHost<'_, R> {
     }
 
     fn len(&mut self) -> Result<u64, Failed> {
-        match length(self.rt, &mut self.file) {
+        match length(self.rt, &mut self.store) {
             Some(len) => Ok(len),
             None => {
                 self.disk_faults = self.disk_faults.saturating_add(1);
@@ -119,7 +185,7 @@ impl<R: Files + Input + Print> Host for FileHost<'_, R> {
     }
 
     fn read_at(&mut self, at: u64, into: &mut [u8]) -> Result<(), Failed> {
-        match read(self.rt, &mut self.file, at, into) {
+        match read(self.rt, &mut self.store, at, into) {
             Some(()) => Ok(()),
             None => {
                 self.disk_faults = self.disk_faults.saturating_add(1);
@@ -129,7 +195,7 @@ impl<R: Files + Input + Print> Host for FileHost<'_, R> {
     }
 
     fn write_at(&mut self, at: u64, bytes: &[u8]) -> Result<(), Failed> {
-        match write(self.rt, &mut self.file, at, bytes) {
+        match write(self.rt, &mut self.store, at, bytes) {
             Some(()) => Ok(()),
             None => {
                 self.disk_faults = self.disk_faults.saturating_add(1);
@@ -139,7 +205,7 @@ impl<R: Files + Input + Print> Host for FileHost<'_, R> {
     }
 
     fn sync(&mut self) -> Result<(), Failed> {
-        match sync(self.rt, &mut self.file) {
+        match sync(self.rt, &mut self.store) {
             Some(()) => Ok(()),
             None => {
                 self.disk_faults = self.disk_faults.saturating_add(1);

@@ -6,6 +6,7 @@ ghost use Rattle.host_port.specs.Cut.{cut_block, script_from, is_lf, next_line_o
 ghost use Rattle.host_port.specs.Reads.{GotBlock, GotLine, PastLine};
 
 mod block;
+mod pending;
 mod unread;
 
 use crate::Host;
@@ -75,7 +76,7 @@ impl Model for Lines {
 
     ghost Value = { Reader };
 
-    ghost view = { λ l. record { pending = l.unread.pending.items; place = l.unread.place; text = string_bytes l.text; failed = l.failed } };
+    ghost view = { λ l. record { pending = l.unread.pending; place = l.unread.place; text = string_bytes l.text; failed = l.failed } };
 }
 
 impl Lines {

@@ -90,12 +90,12 @@ impl Block {
         len: usize,
         stop: Stop,
     ) -> Result<bool, LineFault>
-        requires len { len ≤ length unread.old.pending.items }
-        requires feed { stop ≡ Stop.Feed → len < length unread.old.pending.items }
+        requires len { len ≤ length unread.old.pending }
+        requires feed { stop ≡ Stop.Feed → len < length unread.old.pending }
         requires near { stop ≢ Stop.Far → unread.old.place + len < 2 ^ 40 }
         requires start { start ≤ unread.old.place }
-        ensures line { BlockLine stop start unread.old.place (read_so_far self.old) (read_so_far self.new) (take len unread.old.pending.items) result }
-        ensures pending { OnOk result (unread.new.pending.items ≡ drop (if is_feed stop then len + 1 else len) unread.old.pending.items) }
+        ensures line { BlockLine stop start unread.old.place (read_so_far self.old) (read_so_far self.new) (take len unread.old.pending) result }
+        ensures pending { OnOk result (unread.new.pending ≡ drop (if is_feed stop then len + 1 else len) unread.old.pending) }
         ensures place { OnOk result (unread.new.place ≡ unread.old.place + (if is_feed stop then len + 1 else len)) }
         ensures short { OnOk result (length (string_bytes self.old.text) + start ≤ unread.old.place → length (string_bytes self.new.text) + start ≤ unread.new.place) }
         ensures near { IfOk result (λ end. end ≡ false → unread.new.place ≤ start + BLOCK_LIMIT) }
@@ -108,7 +108,7 @@ impl Block {
         }
         let ended = is_feed(stop);
         let past = if ended { len + 1 } else { len };
-        let line = line_bytes(&unread.pending[..len], ended);
+        let line = line_bytes(&unread.pending.as_slice()[..len], ended);
         if line.len() == 1 && line[0] == b'.' {
             unread.go_past(past);
             return Ok(true);
@@ -136,9 +136,9 @@ impl Block {
     ) -> Result<bool, LineFault>
         requires { start ≤ unread.old.place }
         ensures step { IsTrue (H.told host.old).tells → (takes : List ℕ → Bool) (line : List ℕ) → GotBlockLine result
-            (cut_block takes line start unread.old.place (read_so_far self.old) (slice_split is_lf (unread.old.pending.items ++ (H.told host.old).left)))
-            (cut_block takes line start unread.new.place (read_so_far self.new) (slice_split is_lf (unread.new.pending.items ++ (H.told host.new).left)))
-            (after_block line (read_so_far self.new) (script_from takes unread.new.place (unread.new.pending.items ++ (H.told host.new).left))) }
+            (cut_block takes line start unread.old.place (read_so_far self.old) (slice_split is_lf (unread.old.pending ++ (H.told host.old).left)))
+            (cut_block takes line start unread.new.place (read_so_far self.new) (slice_split is_lf (unread.new.pending ++ (H.told host.new).left)))
+            (after_block line (read_so_far self.new) (script_from takes unread.new.place (unread.new.pending ++ (H.told host.new).left))) }
         ensures short { OnOk result (length (string_bytes self.old.text) + start ≤ unread.old.place → length (string_bytes self.new.text) + start ≤ unread.new.place) }
         ensures near { IfOk result (λ end. end ≡ false → unread.new.place ≤ start + BLOCK_LIMIT) }
         ensures same { IfOk result (λ end. IsTrue end → string_bytes self.new.text ≡ string_bytes self.old.text) }
@@ -163,8 +163,8 @@ impl Block {
     /// All lines up to one that is just `.`.
     pub fn read<H: Host>(&mut self, unread: &mut Unread, host: &mut H) -> Result<(), LineFault>
         ensures block { IsTrue (H.told host.old).tells → (takes : List ℕ → Bool) (line : List ℕ) → GotBlock result (string_bytes self.new.text) line
-            (cut_block takes line unread.old.place unread.old.place (Ok []) (slice_split is_lf (unread.old.pending.items ++ (H.told host.old).left)))
-            (script_from takes unread.new.place (unread.new.pending.items ++ (H.told host.new).left)) }
+            (cut_block takes line unread.old.place unread.old.place (Ok []) (slice_split is_lf (unread.old.pending ++ (H.told host.old).left)))
+            (script_from takes unread.new.place (unread.new.pending ++ (H.told host.new).left)) }
         ensures short { OnOk result (length (string_bytes self.new.text) ≤ BLOCK_LIMIT) }
         ensures later { unread.old.place ≤ unread.new.place }
         ensures course { GoesOn (H.told host.old) (H.told host.new) }

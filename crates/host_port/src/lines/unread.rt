@@ -1,11 +1,13 @@
 //! The bytes that a host handed over and that are not read yet.
-ghost use Rattle.std.specs.Prelude.{◌≡◌, ◌⊎◌, ◌≢◌, false, ◌+◌, ◌<◌, ◌≤◌, ◌^◌, ℕ, [], ◌++◌, length, drop, take, slice_index, IsTrue, IfOk, OnOk, IfErr, IfSome, IfNone, IsErrOf, if◌then◌else◌, vec_len, string_bytes, Ok};
+ghost use Rattle.std.specs.Prelude.{◌≡◌, ◌⊎◌, ◌≢◌, false, ◌+◌, ◌<◌, ◌≤◌, ◌^◌, ℕ, [], ◌++◌, length, drop, take, slice_index, IsTrue, IfOk, OnOk, IfErr, IfSome, IfNone, IsErrOf, if◌then◌else◌, string_bytes, Ok};
 ghost use Rattle.host_port.specs.Host.{GoesOn, KeepsDisk, KeepsSaid, RaisesTakesAlone, Rose};
 ghost use Rattle.host_port.specs.Cut.{next_line_of, line_bytes, line_or_end, text_at, without_cr};
 ghost use Rattle.host_port.specs.Reads.{IsLineFault, IsTextFault, GotLine, PastLine};
 
+use super::pending::Pending;
 use super::{Got, INPUT_LIMIT, LINE_LIMIT, LineFault};
 use crate::Host;
+use memchr::memchr;
 use std::alloc::Global;
 
 const PIECE: usize = 4096;
@@ -24,9 +26,9 @@ pub enum Stop {
 /// The bytes at hand from a place in the input on.
 #[derive(Drop)]
 pub struct Unread {
-    pub pending: Vec<u8>,
+    pub pending: Pending,
     pub place: u64,
-    ghost within: { place + length pending.items ≤ 2 ^ 40 },
+    ghost within: { place + length pending ≤ 2 ^ 40 },
 }
 
 /// The first line feed, where none stands before a place.
@@ -36,34 +38,32 @@ fn line_feed(bytes: &[u8], from: usize) -> Option<usize>
     ensures found { IfSome result (λ i. (i < length bytes.now) × (slice_index bytes.now i ≡ 10) × ((k : ℕ) → k < i → slice_index bytes.now k ≢ 10)) }
     ensures none { IfNone result ((k : ℕ) → k < length bytes.now → slice_index bytes.now k ≢ 10) }
 {
-    for i in from..bytes.len() {
-        if bytes[i] == b'\n' {
-            return Some(i);
-        }
+    match memchr(b'\n', &bytes[from..]) {
+        Some(at) => Some(from + at),
+        None => None,
     }
-    None
 }
 
 impl Unread {
     /// Nothing is at hand, and the input is at its start.
     pub fn new(alloc: Global) -> Unread
-        ensures pending { result.pending.items ≡ [] }
+        ensures pending { result.pending ≡ [] }
         ensures place { result.place ≡ 0 }
     {
         Unread {
-            pending: Vec::new(alloc),
+            pending: Pending::new(alloc),
             place: 0,
         }
     }
 
     /// Takes a piece more; false at the end of the input.
     fn fill<H: Host>(&mut self, host: &mut H) -> Result<bool, LineFault>
-        requires room { self.old.place + length self.old.pending.items < 2 ^ 40 }
-        ensures unread { IsTrue (H.told host.old).tells → OnOk result (self.new.pending.items ++ (H.told host.new).left ≡ self.old.pending.items ++ (H.told host.old).left) }
-        ensures more { IfOk result (λ more. IsTrue more → vec_len self.old.pending < vec_len self.new.pending) }
+        requires room { self.old.place + length self.old.pending < 2 ^ 40 }
+        ensures unread { IsTrue (H.told host.old).tells → OnOk result (self.new.pending ++ (H.told host.new).left ≡ self.old.pending ++ (H.told host.old).left) }
+        ensures more { IfOk result (λ more. IsTrue more → length self.old.pending < length self.new.pending) }
         ensures end { IsTrue (H.told host.old).tells → IfOk result (λ more. more ≡ false → (H.told host.new).left ≡ []) }
-        ensures same { IfOk result (λ more. more ≡ false → self.new.pending.items ≡ self.old.pending.items) }
-        ensures front { OnOk result (take (length self.old.pending.items) self.new.pending.items ≡ self.old.pending.items) }
+        ensures same { IfOk result (λ more. more ≡ false → self.new.pending ≡ self.old.pending) }
+        ensures front { OnOk result (take (length self.old.pending) self.new.pending ≡ self.old.pending) }
         ensures place { self.new.place ≡ self.old.place }
         ensures err { IfErr result (λ e. (e ≡ LineFault.Failed) ⊎ (e ≡ LineFault.Memory)) }
         ensures course { GoesOn (H.told host.old) (H.told host.new) }
@@ -78,7 +78,7 @@ impl Unread {
         let Ok(count) = host.take(&mut piece[..size]) else {
             return Err(LineFault::Failed);
         };
-        if self.pending.extend_from_slice(&piece[..count]).is_err() {
+        if self.pending.extend(&piece[..count]).is_err() {
             return Err(LineFault::Memory);
         }
         Ok(count > 0)
@@ -90,10 +90,10 @@ impl Unread {
         host: &mut H,
         longest: usize,
     ) -> Result<(usize, Stop), LineFault>
-        ensures unread { IsTrue (H.told host.old).tells → OnOk result (self.new.pending.items ++ (H.told host.new).left ≡ self.old.pending.items ++ (H.told host.old).left) }
-        ensures clear { IfOk result (λ r. (k : ℕ) → k < r.0 → slice_index self.new.pending.items k ≢ 10) }
-        ensures feed { IfOk result (λ r. r.1 ≡ Stop.Feed → (r.0 < length self.new.pending.items) × (slice_index self.new.pending.items r.0 ≡ 10)) }
-        ensures all { IfOk result (λ r. r.1 ≢ Stop.Feed → r.0 ≡ length self.new.pending.items) }
+        ensures unread { IsTrue (H.told host.old).tells → OnOk result (self.new.pending ++ (H.told host.new).left ≡ self.old.pending ++ (H.told host.old).left) }
+        ensures clear { IfOk result (λ r. (k : ℕ) → k < r.0 → slice_index self.new.pending k ≢ 10) }
+        ensures feed { IfOk result (λ r. r.1 ≡ Stop.Feed → (r.0 < length self.new.pending) × (slice_index self.new.pending r.0 ≡ 10)) }
+        ensures all { IfOk result (λ r. r.1 ≢ Stop.Feed → r.0 ≡ length self.new.pending) }
         ensures end { IsTrue (H.told host.old).tells → IfOk result (λ r. r.1 ≡ Stop.Close → (H.told host.new).left ≡ []) }
         ensures far { IfOk result (λ r. r.1 ≡ Stop.Far → (longest < r.0) ⊎ (self.new.place + r.0 ≡ 2 ^ 40)) }
         ensures near { IfOk result (λ r. r.1 ≡ Stop.Close → self.new.place + r.0 < 2 ^ 40) }
@@ -108,7 +108,7 @@ impl Unread {
     {
         let mut clear = 0;
         'pieces: loop {
-            if let Some(at) = line_feed(&self.pending, clear) {
+            if let Some(at) = line_feed(self.pending.as_slice(), clear) {
                 return Ok((at, Stop::Feed));
             }
             clear = self.pending.len();
@@ -124,9 +124,9 @@ impl Unread {
     /// Makes the next line the text.
     pub fn read_line<H: Host>(&mut self, text: &mut String, host: &mut H) -> Result<Got, LineFault>
         ensures line { IsTrue (H.told host.old).tells →
-            GotLine result (string_bytes text.new) (next_line_of self.old.place (self.old.pending.items ++ (H.told host.old).left)) }
+            GotLine result (string_bytes text.new) (next_line_of self.old.place (self.old.pending ++ (H.told host.old).left)) }
         ensures past { IsTrue (H.told host.old).tells → OnOk result (PastLine
-            (self.old.pending.items ++ (H.told host.old).left) (self.new.pending.items ++ (H.told host.new).left) self.old.place self.new.place) }
+            (self.old.pending ++ (H.told host.old).left) (self.new.pending ++ (H.told host.new).left) self.old.place self.new.place) }
         ensures end { IsTrue (H.told host.old).tells → IfOk result (λ got. got ≡ Got.End → (H.told host.new).left ≡ []) }
         ensures short { IfOk result (λ got. got ≡ Got.Line → length (string_bytes text.new) ≤ LINE_LIMIT) }
         ensures advances { IfOk result (λ got. got ≡ Got.Line → self.old.place < self.new.place) }
@@ -142,16 +142,16 @@ impl Unread {
 
     /// How many bytes the next line has, and whether a line feed follows them.
     pub fn line_end<H: Host>(&mut self, host: &mut H) -> Result<(usize, bool), LineFault>
-        ensures unread { IsTrue (H.told host.old).tells → OnOk result (self.new.pending.items ++ (H.told host.new).left ≡ self.old.pending.items ++ (H.told host.old).left) }
-        ensures found { IfOk result (λ r. IsTrue r.1 → (r.0 < length self.new.pending.items)
-            × (slice_index self.new.pending.items r.0 ≡ 10)
-            × ((k : ℕ) → k < r.0 → slice_index self.new.pending.items k ≢ 10)) }
-        ensures none { IfOk result (λ r. r.1 ≡ false → (r.0 ≡ length self.new.pending.items)
-            × ((k : ℕ) → k < r.0 → slice_index self.new.pending.items k ≢ 10)) }
+        ensures unread { IsTrue (H.told host.old).tells → OnOk result (self.new.pending ++ (H.told host.new).left ≡ self.old.pending ++ (H.told host.old).left) }
+        ensures found { IfOk result (λ r. IsTrue r.1 → (r.0 < length self.new.pending)
+            × (slice_index self.new.pending r.0 ≡ 10)
+            × ((k : ℕ) → k < r.0 → slice_index self.new.pending k ≢ 10)) }
+        ensures none { IfOk result (λ r. r.1 ≡ false → (r.0 ≡ length self.new.pending)
+            × ((k : ℕ) → k < r.0 → slice_index self.new.pending k ≢ 10)) }
         ensures end { IsTrue (H.told host.old).tells → IfOk result (λ r. r.1 ≡ false → (H.told host.new).left ≡ []) }
         ensures limit { IfOk result (λ r. r.0 ≤ LINE_LIMIT) }
         ensures within { IfOk result (λ r. self.new.place + r.0 < 2 ^ 40) }
-        ensures fault { IsTrue (H.told host.old).tells → IfErr result (λ e. IsLineFault e (next_line_of self.old.place (self.old.pending.items ++ (H.told host.old).left))) }
+        ensures fault { IsTrue (H.told host.old).tells → IfErr result (λ e. IsLineFault e (next_line_of self.old.place (self.old.pending ++ (H.told host.old).left))) }
         ensures place { self.new.place ≡ self.old.place }
         ensures course { GoesOn (H.told host.old) (H.told host.new) }
         ensures disk { KeepsDisk (H.told host.old) (H.told host.new) }
@@ -186,12 +186,12 @@ impl Unread {
 
     /// Makes the line at hand the text, and goes past it.
     pub fn line_at(&mut self, text: &mut String, len: usize, ended: bool) -> Result<Got, LineFault>
-        requires len { len ≤ length self.old.pending.items }
-        requires ended { IsTrue ended → len < length self.old.pending.items }
-        requires whole { ended ≡ false → len ≡ length self.old.pending.items }
-        ensures line { GotLine result (string_bytes text.new) (line_or_end self.old.place (take len self.old.pending.items) ended) }
+        requires len { len ≤ length self.old.pending }
+        requires ended { IsTrue ended → len < length self.old.pending }
+        requires whole { ended ≡ false → len ≡ length self.old.pending }
+        ensures line { GotLine result (string_bytes text.new) (line_or_end self.old.place (take len self.old.pending) ended) }
         ensures short { IfOk result (λ got. got ≡ Got.Line → length (string_bytes text.new) ≤ len) }
-        ensures pending { OnOk result (self.new.pending.items ≡ drop (if ended then len + 1 else len) self.old.pending.items) }
+        ensures pending { OnOk result (self.new.pending ≡ drop (if ended then len + 1 else len) self.old.pending) }
         ensures place { OnOk result (self.new.place ≡ self.old.place + (if ended then len + 1 else len)) }
         ensures advances { IfOk result (λ got. got ≡ Got.Line → self.old.place < self.new.place) }
         ensures end { IfOk result (λ got. got ≡ Got.End → ended ≡ false) }
@@ -207,27 +207,31 @@ impl Unread {
     /// Makes the line of the first bytes the text, and goes past it and its line feed.
     #[tactic(auto, using(crate::proofs::ScriptCuts::text_lemmas))]
     fn take_text(&mut self, text: &mut String, len: usize, ended: bool) -> Result<(), LineFault>
-        requires len { len ≤ length self.old.pending.items }
-        requires ended { IsTrue ended → len < length self.old.pending.items }
-        ensures text { OnOk result (text_at self.old.place (line_bytes ended (take len self.old.pending.items)) ≡ Ok (string_bytes text.new)) }
+        requires len { len ≤ length self.old.pending }
+        requires ended { IsTrue ended → len < length self.old.pending }
+        ensures text { OnOk result (text_at self.old.place (line_bytes ended (take len self.old.pending)) ≡ Ok (string_bytes text.new)) }
         ensures short { OnOk result (length (string_bytes text.new) ≤ len) }
-        ensures pending { OnOk result (self.new.pending.items ≡ drop (if ended then len + 1 else len) self.old.pending.items) }
+        ensures pending { OnOk result (self.new.pending ≡ drop (if ended then len + 1 else len) self.old.pending) }
         ensures place { OnOk result (self.new.place ≡ self.old.place + (if ended then len + 1 else len)) }
-        ensures fault { IfErr result (λ e. IsTextFault e (text_at self.old.place (line_bytes ended (take len self.old.pending.items)))) }
+        ensures fault { IfErr result (λ e. IsTextFault e (text_at self.old.place (line_bytes ended (take len self.old.pending)))) }
         ensures not_failed { IfErr result (λ e. e ≢ LineFault.Failed) }
     {
-        set_text(text, self.place, line_bytes(&self.pending[..len], ended))?;
+        set_text(
+            text,
+            self.place,
+            line_bytes(&self.pending.as_slice()[..len], ended),
+        )?;
         self.go_past(if ended { len + 1 } else { len });
         Ok(())
     }
 
     /// Goes past the first bytes.
     pub fn go_past(&mut self, count: usize)
-        requires count { count ≤ length self.old.pending.items }
-        ensures pending { self.new.pending.items ≡ drop count self.old.pending.items }
+        requires count { count ≤ length self.old.pending }
+        ensures pending { self.new.pending ≡ drop count self.old.pending }
         ensures place { self.new.place ≡ self.old.place + count }
     {
-        remove_front(&mut self.pending, count);
+        self.pending.go_past(count);
         self.place += count as u64;
     }
 }
@@ -270,13 +274,4 @@ fn set_text(text: &mut String, place: u64, bytes: &[u8]) -> Result<(), LineFault
             Err(_) => Err(LineFault::Memory),
         },
     }
-}
-
-fn remove_front(bytes: &mut Vec<u8>, count: usize)
-    requires { count ≤ length bytes.old.items }
-    ensures { bytes.new.items ≡ drop count bytes.old.items }
-{
-    bytes.copy_within(count.., 0);
-    let len = bytes.len();
-    bytes.truncate(len - count);
 }

@@ -13,8 +13,8 @@ invariant-lines g l = record {
   near : l.unread.place ≤ l.start + BLOCK_LIMIT;
   short : length (string_bytes l.self.text) + l.start ≤ l.unread.place;
   goes : IsTrue (g.H.Host.told l.fn.host).tells → (takes : List ℕ → Bool) (line : List ℕ) →
-      cut_block takes line l.start l.start (Ok []) (slice_split is_lf (l.fn.unread.pending.items ++ (g.H.Host.told l.fn.host).left))
-      ≡ cut_block takes line l.start l.unread.place (read_so_far l.self) (slice_split is_lf (l.unread.pending.items ++ (g.H.Host.told l.host).left));
+      cut_block takes line l.start l.start (Ok []) (slice_split is_lf (l.fn.unread.pending ++ (g.H.Host.told l.fn.host).left))
+      ≡ cut_block takes line l.start l.unread.place (read_so_far l.self) (slice_split is_lf (l.unread.pending ++ (g.H.Host.told l.host).left));
   course : GoesOn (g.H.Host.told l.fn.host) (g.H.Host.told l.host);
   disk : KeepsDisk (g.H.Host.told l.fn.host) (g.H.Host.told l.host);
   said : KeepsSaid (g.H.Host.told l.fn.host) (g.H.Host.told l.host);

@@ -5,10 +5,10 @@ use Rattle.host_port.proofs.lines.unread.Unread.piece_end.Given as goal
 
 abbrev pub invariant-pieces : goal.invariant-pieces
 invariant-pieces g l = record {
-  clear : l.clear ≤ length l.self.pending.items;
-  none : (k : ℕ) → k < l.clear → get_or l.self.pending.items k 0 ≡ 10 → ⊥;
+  clear : l.clear ≤ length l.self.pending;
+  none : (k : ℕ) → k < l.clear → get_or l.self.pending k 0 ≡ 10 → ⊥;
   place : l.self.place ≡ l.initial.self.place;
-  unread : IsTrue (g.H.Host.told l.initial.host).tells → l.self.pending.items ++ (g.H.Host.told l.host).left ≡ l.initial.self.pending.items ++ (g.H.Host.told l.initial.host).left;
+  unread : IsTrue (g.H.Host.told l.initial.host).tells → l.self.pending ++ (g.H.Host.told l.host).left ≡ l.initial.self.pending ++ (g.H.Host.told l.initial.host).left;
   course : GoesOn (g.H.Host.told l.initial.host) (g.H.Host.told l.host);
   disk : KeepsDisk (g.H.Host.told l.initial.host) (g.H.Host.told l.host);
   said : KeepsSaid (g.H.Host.told l.initial.host) (g.H.Host.told l.host);
@@ -16,4 +16,4 @@ invariant-pieces g l = record {
 }
 
 abbrev pub decreases-pieces : goal.decreases-pieces
-decreases-pieces g l = 2 ^ 40 - (l.self.place + length l.self.pending.items)
+decreases-pieces g l = 2 ^ 40 - (l.self.place + length l.self.pending)

@@ -1,0 +1,72 @@
+//! The bytes of an input that are at hand and not read yet.
+ghost use Rattle.std.specs.Prelude.{◌≡◌, ◌≤◌, ◌++◌, [], length, drop, OnOk, OnErr};
+
+use std::alloc::{AllocError, Global};
+use std::marker::Model;
+
+/// Bytes that come at the end, and go from the front when they are read.
+#[derive(Drop)]
+pub struct Pending {
+    bytes: Vec<u8>,
+    /// How many of the bytes are read.
+    read: usize,
+}
+
+impl Model for Pending {
+    ghost use Rattle.std.specs.Prelude.{◌≤◌, List, ℕ, drop, length};
+
+    ghost Value = { List ℕ };
+
+    ghost view = { λ p. drop p.read p.bytes.items };
+
+    ghost invariant = { λ p. p.read ≤ length p.bytes.items };
+}
+
+impl Pending {
+    /// No bytes.
+    pub fn new(alloc: Global) -> Pending
+        ensures { result ≡ [] }
+    {
+        Pending {
+            bytes: Vec::new(alloc),
+            read: 0,
+        }
+    }
+
+    /// The bytes that are not read.
+    pub fn as_slice(&self) -> &[u8]
+        ensures { result.now ≡ self.now }
+    {
+        &self.bytes[self.read..]
+    }
+
+    /// How many bytes are not read.
+    pub fn len(&self) -> usize
+        ensures { result ≡ length self.now }
+    {
+        self.bytes.len() - self.read
+    }
+
+    /// Adds bytes at the end.
+    pub fn extend(&mut self, more: &[u8]) -> Result<(), AllocError>
+        ensures added { OnOk result (self.new ≡ self.old ++ more.now) }
+        ensures same { OnErr result (self.new ≡ self.old) }
+    {
+        self.bytes.extend_from_slice(more)?;
+        Ok(())
+    }
+
+    /// Reads the first bytes. Once half of all bytes are read the others are moved to the front, so a byte is moved once at most.
+    pub fn go_past(&mut self, count: usize)
+        requires { count ≤ length self.old }
+        ensures past { self.new ≡ drop count self.old }
+    {
+        self.read += count;
+        let left = self.bytes.len() - self.read;
+        if self.read >= left {
+            self.bytes.copy_within(self.read.., 0);
+            self.bytes.truncate(left);
+            self.read = 0;
+        }
+    }
+}
