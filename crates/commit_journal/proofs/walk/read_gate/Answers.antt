@@ -1,10 +1,8 @@
-use Rattle.std.proofs.Common.{◌≡◌, ◌+◌, ℕ, List, length, take, drop, sym, ◌∙◌, ap, subst, arith}
+use Rattle.std.proofs.Common.{◌≡◌, ℕ, take, drop, sym, ◌∙◌, ap, subst, arith}
 use Rattle.host_port.specs.Host.{Disk, disk_now}
 use Rattle.commit_journal.specs.Journal.{IsOpen, four_bytes}
 use Rattle.host_port.proofs.Course.{told_next, kept_now}
 use Rattle.commit_journal.proofs.Walking.{gate_is, length_is, too_short, no_room}
-use Rattle.commit_journal.specs.declared.walk.Gate.{Gate}
-use Rattle.commit_journal.specs.declared.walk.Gate.TheVariants.{Open}
 use Rattle.commit_journal.proofs.walk.read_gate.Goals as goal
 
 pub returns-then-mark-clause-broken : goal.returns-then-mark-clause-broken
