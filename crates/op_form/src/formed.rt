@@ -250,5 +250,9 @@ fn is_event(event: &Event) -> bool
         Event::End { ws } => is_u32(*ws),
         Event::Undo { ws } => is_u32(*ws),
         Event::Discard { ws } => is_u32(*ws),
+        Event::Commit { ws, message } => is_u32(*ws) && is_short_text(message),
+        Event::Branch { ws, name } => is_u32(*ws) && is_short_text(name),
+        Event::Tag { name, version } => is_short_text(name) && is_u32(*version),
+        Event::Drop { ws } => is_u32(*ws),
     }
 }

@@ -1,0 +1,4 @@
+pub mod Growing
+pub mod Heads
+pub mod Paths
+pub mod Steady

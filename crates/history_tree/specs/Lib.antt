@@ -1,0 +1,7 @@
+pub mod Found
+pub mod History
+pub mod Laws
+pub mod MergeBase
+pub mod Room
+pub mod States
+pub mod Whole

@@ -1,0 +1,9 @@
+-- By cases on the event.
+use Rattle.plain_repository.proofs.Apart.{workspaces_stay_apart, models_stay_apart}
+use Rattle.plain_repository.proofs.laws.law_of_workspaces_apart.Goals as goal
+
+pub returns-clause-workspaces : goal.returns-clause-workspaces
+returns-clause-workspaces c = workspaces_stay_apart
+
+pub returns-clause-models : goal.returns-clause-models
+returns-clause-models c = models_stay_apart
