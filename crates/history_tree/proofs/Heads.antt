@@ -1,10 +1,8 @@
 -- The last version on a branch.
-use Rattle.std.proofs.Common.{◌≡◌, ◌≢◌, rules, ℕ, zero, suc, ◌+◌, ◌<◌, ◌≤◌, nat_eq, Bool, true, false, cond, List, [], ◌∷◌, ◌++◌, length, refl, sym, ◌∙◌, ap, arith, take}
-use Rattle.std.specs.Prelude.{All, Some, slice_get}
+use Rattle.std.proofs.Common.{◌≡◌, ◌≢◌, rules, ℕ, zero, suc, ◌+◌, ◌<◌, ◌≤◌, nat_eq, Bool, true, false, cond, List, [], ◌∷◌, ◌++◌, length, refl, ◌∙◌, ap, arith}
+use Rattle.std.specs.Prelude.{All, slice_get}
 use Rattle.std.specs.Option.{option_map_or}
 use Rattle.std.proofs.lemmas.Bool.{eqb-true}
-use Rattle.std.proofs.lemmas.List.{take_more, length-take-le}
-use Rattle.std.proofs.lemmas.Option.{slice_get_within, get_or_from_slice_get}
 use Rattle.std.proofs.lemmas.List.Elements.{All-head, All-tail}
 use Rattle.history_tree.specs.declared.version.Version.{Version}
 use Rattle.history_tree.specs.declared.version.Branch.{Branch}
@@ -60,19 +58,3 @@ pub head_other : (h : History) (v : Version) (branch : ℕ) → v.branch ≢ bra
 head_other h v branch apart =
     last_on_more branch h.versions v 0 (start_of h branch)
     ∙ ap (λ b. cond b (0 + length h.versions) (head h branch)) (other_number v.branch branch apart)
-
--- the last of the first versions and the next one
-pub last_on_next : (branch : ℕ) (vs : List Version) (v : Version) (n found : ℕ) → slice_get vs n ≡ Some v → last_on branch (take (n + 1) vs) 0 found ≡ cond (nat_eq v.branch branch) n (last_on branch (take n vs) 0 found)
-last_on_next branch vs v n found there =
-    let within = slice_get_within vs n v there in
-    ap (λ l. last_on branch l 0 found) (take_more vs n v within ∙ ap (λ w. take n vs ++ w ∷ []) (get_or_from_slice_get vs n v v there))
-    ∙ last_on_more branch (take n vs) v 0 found
-    ∙ ap (λ k. cond (nat_eq v.branch branch) k (last_on branch (take n vs) 0 found)) (omega (arith, length-take-le n vs (omega (arith, within))))
-
-pub last_on_here : (branch : ℕ) (vs : List Version) (v : Version) (n found : ℕ) → slice_get vs n ≡ Some v → v.branch ≡ branch → n ≡ last_on branch (take (n + 1) vs) 0 found
-last_on_here branch vs v n found there on =
-    sym (last_on_next branch vs v n found there ∙ ap (λ b. cond b n (last_on branch (take n vs) 0 found)) (ap (λ k. nat_eq k branch) on ∙ same_number branch))
-
-pub last_on_other : (branch : ℕ) (vs : List Version) (v : Version) (n found : ℕ) → slice_get vs n ≡ Some v → v.branch ≢ branch → last_on branch (take n vs) 0 found ≡ last_on branch (take (n + 1) vs) 0 found
-last_on_other branch vs v n found there off =
-    sym (last_on_next branch vs v n found there ∙ ap (λ b. cond b n (last_on branch (take n vs) 0 found)) (other_number v.branch branch off))

@@ -1,4 +1,5 @@
 pub mod Found
+pub mod Heads
 pub mod History
 pub mod Laws
 pub mod MergeBase

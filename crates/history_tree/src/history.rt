@@ -2,7 +2,7 @@
 ghost use Rattle.std.specs.Prelude.{◌≡◌, ◌+◌, ◌≤◌, ◌<◌, ◌∷◌, [], length, None, IfOk, IfSome, OnOk, OnErr, slice_get, Some, is_some, ◌||◌, true, false, All};
 ghost use Rattle.std.specs.Option.{option_copied, option_map};
 ghost use Rattle.history_tree.specs.Found.{branch_named, branch_name, tag_named, has_tag, tags_of, found_by_number, found_by_branch, found_by_tag, found_by};
-ghost use Rattle.history_tree.specs.History.{first_history, with_version, with_branch, with_tag, path, start_of, head};
+ghost use Rattle.history_tree.specs.History.{first_history, with_version, with_branch, with_tag, path, head};
 ghost use Rattle.history_tree.specs.Whole.{ComesBefore, IsWhole};
 
 use crate::found::{FindFault, Found};
@@ -11,28 +11,31 @@ use ecore_meta::{List, Text};
 use std::alloc::{AllocError, Global};
 use std::marker::Model;
 
-/// Versions, branches and tags. Contracts see its lists, and the room for further ones as a number.
+/// Versions, branches and tags, at most 4,294,967,295 of each. Contracts see its lists, and the room for further ones as a number.
 #[derive(Drop)]
 pub struct History {
     versions: Vec<Version>,
     branches: Vec<Branch>,
     tags: Vec<Tag>,
+    /// The head of each branch, so that no call searches the versions for it.
+    heads: Vec<u32>,
 }
 
 impl Model for History {
     ghost use Rattle.std.specs.Prelude.{◌-◌, ◌≤◌, min, vec_len, vec_capacity};
+    ghost use Rattle.history_tree.specs.Heads.{AreHeads};
     ghost use Rattle.history_tree.specs.Room.{Held};
     ghost use Rattle.history_tree.specs.Whole.{IsWhole};
 
     ghost Value = { Held };
 
-    ghost view = { λ h. record { history = record { versions = h.versions.items; branches = h.branches.items; tags = h.tags.items }; spare = min (vec_capacity h.versions - vec_len h.versions) (min (vec_capacity h.branches - vec_len h.branches) (vec_capacity h.tags - vec_len h.tags)) } };
+    ghost view = { λ h. record { history = record { versions = h.versions.items; branches = h.branches.items; tags = h.tags.items }; spare = min (vec_capacity h.versions - vec_len h.versions) (min (vec_capacity h.branches - vec_len h.branches) (min (vec_capacity h.tags - vec_len h.tags) (vec_capacity h.heads - vec_len h.heads))) } };
 
-    ghost invariant = { λ h. IsWhole (record { versions = h.versions.items; branches = h.branches.items; tags = h.tags.items }) × (vec_len h.versions ≤ 4294967295) × (vec_len h.branches ≤ 4294967295) × (vec_len h.tags ≤ 4294967295) };
+    ghost invariant = { λ h. IsWhole (record { versions = h.versions.items; branches = h.branches.items; tags = h.tags.items }) × (vec_len h.versions ≤ 4294967295) × (vec_len h.branches ≤ 4294967295) × (vec_len h.tags ≤ 4294967295) × AreHeads (record { versions = h.versions.items; branches = h.branches.items; tags = h.tags.items }) h.heads.items };
 }
 
 impl History {
-    /// Version 0, the empty project, on the branch `trunk`.
+    /// A history with version 0 alone, the empty project, on the branch `trunk`.
     pub fn new(alloc: Global) -> Result<History, AllocError>
         ensures { IfOk result (λ h. h.history ≡ first_history) }
     {
@@ -49,14 +52,17 @@ impl History {
             name: Text::new(alloc, "trunk")?,
             start: 0,
         })?;
+        let mut heads = Vec::new(alloc);
+        heads.push(0)?;
         Ok(History {
             versions,
             branches,
             tags: Vec::new(alloc),
+            heads,
         })
     }
 
-    /// Each number that stands in a history names something. A holder of any history has it by this call, which does nothing.
+    /// Each number that stands in a history names something. This call does nothing: its contract tells a holder of any history so.
     pub fn whole(&self)
         ensures { IsWhole self.now.history }
     {
@@ -150,21 +156,15 @@ impl History {
         ensures head { result ≡ head self.now.history branch }
         ensures version { result < length self.now.history.versions }
     {
-        let mut found = self.start_of(branch);
-        for n in 0..self.version_count() {
-            if self.version(n).branch == branch {
-                found = n;
-            }
-        }
-        found
+        self.whole();
+        self.kept_head(branch)
     }
 
-    fn start_of(&self, branch: u32) -> u32
-        requires there { branch < length self.now.history.branches }
-        ensures start { result ≡ start_of self.now.history branch }
-        ensures version { result < length self.now.history.versions }
+    fn kept_head(&self, branch: u32) -> u32
+        requires { branch < length self.now.history.branches }
+        ensures { result ≡ head self.now.history branch }
     {
-        self.branches[branch as usize].start
+        self.heads[branch as usize]
     }
 
     /// Whether there is a tag of that name.
@@ -261,7 +261,7 @@ impl History {
         self.tags.iter().find(|tag| tag.name.as_str() == name)
     }
 
-    /// Makes room for a version, a branch and a tag.
+    /// Makes room for a version, a branch and a tag, so that one of the three calls below takes no memory.
     pub fn reserve(&mut self) -> Result<(), AllocError>
         ensures same { self.new.history ≡ self.old.history }
         ensures room { OnOk result (0 < self.new.spare) }
@@ -270,10 +270,11 @@ impl History {
         self.versions.reserve(1)?;
         self.branches.reserve(1)?;
         self.tags.reserve(1)?;
+        self.heads.reserve(1)?;
         Ok(())
     }
 
-    /// A further version, the head of its branch from now on. It takes no memory.
+    /// Adds a version after the head of its branch, whose head it is from now on. It takes no memory.
     pub fn append(&mut self, version: Version)
         requires room { 0 < self.old.spare }
         requires count { length self.old.history.versions < 4294967295 }
@@ -283,10 +284,12 @@ impl History {
         ensures added { self.new.history ≡ with_version self.old.history version }
         ensures room { self.old.spare ≤ self.new.spare + 1 }
     {
+        let number = self.versions.len() as u32;
+        self.heads[version.branch as usize] = number;
         self.versions.push_reserved(version);
     }
 
-    /// A further branch. It takes no memory.
+    /// Adds a branch of a new name that starts at a version. It takes no memory.
     pub fn add_branch(&mut self, name: Text, start: u32)
         requires room { 0 < self.old.spare }
         requires count { length self.old.history.branches < 4294967295 }
@@ -295,10 +298,11 @@ impl History {
         ensures added { self.new.history ≡ with_branch self.old.history name start }
         ensures room { self.old.spare ≤ self.new.spare + 1 }
     {
+        self.heads.push_reserved(start);
         self.branches.push_reserved(Branch { name, start });
     }
 
-    /// A further tag. It takes no memory.
+    /// Adds a tag of a new name to a version. It takes no memory.
     pub fn add_tag(&mut self, name: Text, version: u32)
         requires room { 0 < self.old.spare }
         requires count { length self.old.history.tags < 4294967295 }

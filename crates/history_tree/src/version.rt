@@ -1,15 +1,20 @@
+//! Versions, branches and tags, one by one.
+
 use ecore_meta::{List, Text};
 use model_state::Package;
 
-/// What was recorded in one commit, behind its parent. Versions and branches are numbered in the order in which they are made, from 0.
+/// What one commit recorded after its parent. Versions and branches are numbered in the order in which they are made, from 0.
 #[derive(Debug, Drop)]
 pub struct Version {
+    /// The number of its branch.
     pub branch: u32,
     /// The version that it was made of; version 0 alone has none.
     pub parent: Option<u32>,
     /// The versions of other branches that were merged into it.
     pub merged: List<u32>,
+    /// What the user says of it.
     pub message: Text,
+    /// The operations that lead from the parent's state to its own.
     pub package: Package,
 }
 
