@@ -4,6 +4,7 @@ pub mod Forms
 pub mod Growth
 pub mod Kept
 pub mod Named
+pub mod Numbers
 pub mod Places
 pub mod Reached
 pub mod Recorded

@@ -1,7 +1,6 @@
 -- What holds in every repository that events make.
-use Rattle.std.specs.Prelude.{◌≡◌, ◌≢◌, ◌↔◌, ℕ, ◌<◌, ◌==◌, List, [], ◌∷◌, ◌++◌, Bool, true, false, Option, Some, None, Ok, IsTrue, length}
+use Rattle.std.specs.Prelude.{◌≡◌, ◌≢◌, ◌↔◌, ℕ, ◌<◌, ◌≤◌, ◌==◌, List, [], ◌∷◌, ◌++◌, Bool, true, false, Option, Some, None, IsTrue, length, slice_get}
 use Rattle.command_runs.specs.Runs.{played}
-use Rattle.ecore_json.specs.Metamodel.{metamodel_of}
 use Rattle.ecore_meta.specs.Meta.{Meta}
 use Rattle.ecore_meta.specs.Sound.{Sound}
 use Rattle.model_state.specs.Good.{Good}
@@ -78,13 +77,9 @@ ModelsAreDefined = (s : State) (meta : Meta) (workspace : Workspace) → IsThere
 abbrev pub VersionsAreDefined : Type 0
 VersionsAreDefined = (s : State) (meta : Meta) → HasMetamodel s meta → (v : ℕ) → v < length s.history.versions → state_folded meta s.history v ≡ Some (state_of meta s.history v)
 
--- each metamodel that a text reads as is sound
-abbrev pub ReadMetamodelsAreSound : Type 0
-ReadMetamodelsAreSound = (text : List ℕ) (meta : Meta) → metamodel_of text ≡ Ok meta → Sound meta
-
--- and then the repository's is
+-- the metamodel is sound after any events that could be made, as each that a text reads as is
 abbrev pub MetamodelsAreSound : Type 0
-MetamodelsAreSound = ReadMetamodelsAreSound → (s : State) → IsReached s → (meta : Meta) → s.meta ≡ Some meta → Sound meta
+MetamodelsAreSound = (s : State) → IsReached s → (meta : Meta) → s.meta ≡ Some meta → Sound meta
 
 -- ---- the history
 -- each number that stands in the history names something
@@ -131,6 +126,14 @@ WorkspacesStayApart = (s : State) (ws : ℕ) (workspace : Workspace) → workspa
 -- and no event changes the model of a workspace that stays as it is
 abbrev pub ModelsStayApart : Type 0
 ModelsStayApart = (s : State) (meta : Meta) (workspace : Workspace) → IsThere s meta workspace → (event : Event) → IsTrue (playable s event) → model_of meta (play s event).history workspace ≡ model_of meta s.history workspace
+
+-- no event takes a place of the list of workspaces away, so each checkout makes a new number
+abbrev pub NumbersOnlyGrow : Type 0
+NumbersOnlyGrow = (s : State) (event : Event) → length s.workspaces ≤ length (play s event).workspaces
+
+-- and the place of a workspace that was dropped stays empty
+abbrev pub DroppedStayDropped : Type 0
+DroppedStayDropped = (s : State) (place : ℕ) → slice_get s.workspaces place ≡ Some None → (event : Event) → slice_get (play s event).workspaces place ≡ Some None
 
 -- ---- commands
 -- there is a metamodel and the workspace, and its base, the first number, is not its branch's head, the second

@@ -1,4 +1,5 @@
-ghost use Rattle.plain_repository.specs.Laws.{StartsInOrder, StaysInOrder, AllIsInOrder, OfModels, OfVersions, IsGood, HasIds, ModelsAreDefined, VersionsAreDefined, MetamodelsAreSound, HistoriesAreWhole, WorkspacesStand, HistoryOnlyGrows, WorkspacesStayApart, ModelsStayApart, CommitsAreStale, UndoGivesBack, CommitsKeepModels};
+//! The laws of the plain repository: each is a function without a body, whose contract is the law.
+ghost use Rattle.plain_repository.specs.Laws.{StartsInOrder, StaysInOrder, AllIsInOrder, OfModels, OfVersions, IsGood, HasIds, ModelsAreDefined, VersionsAreDefined, MetamodelsAreSound, HistoriesAreWhole, WorkspacesStand, HistoryOnlyGrows, WorkspacesStayApart, ModelsStayApart, NumbersOnlyGrow, DroppedStayDropped, CommitsAreStale, UndoGivesBack, CommitsKeepModels};
 
 /// The law of order: all is in order in the empty repository, and each event that could be made keeps it so. The other laws speak of such a state, so a
 /// holder of one that keeps order has them all.
@@ -33,10 +34,13 @@ pub fn law_of_growth()
     ensures stand { WorkspacesStand }
 {}
 
-/// The law of workspaces apart: an event of another workspace leaves what is recorded in this one, and its model.
+/// The law of workspaces apart: an event of another workspace leaves what is recorded in this one, and its model. No number of a workspace is used
+/// again.
 pub fn law_of_workspaces_apart()
     ensures workspaces { WorkspacesStayApart }
     ensures models { ModelsStayApart }
+    ensures numbers { NumbersOnlyGrow }
+    ensures dropped { DroppedStayDropped }
 {}
 
 /// The law of commits: one is refused as stale just where the base is not the head and no earlier refusal applies, and one that is made leaves the
