@@ -1,4 +1,5 @@
 pub mod Lines
 pub mod Typed
 pub mod Validation
+pub mod Versions
 pub mod Laws

@@ -4,3 +4,4 @@ pub mod Walking
 pub mod Sizes
 pub mod Counts
 pub mod Gives
+pub mod ReadSound

@@ -4,3 +4,4 @@ pub mod References
 pub mod Walk
 pub mod Rows
 pub mod Metamodel
+pub mod Laws

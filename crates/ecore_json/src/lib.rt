@@ -2,6 +2,7 @@
 #![tactic(auto)]
 
 mod ecore;
+mod laws;
 mod fault;
 mod read;
 mod reference;
@@ -10,4 +11,5 @@ mod table;
 mod walk;
 
 pub use fault::EcoreFault;
+pub use laws::law_of_read_metamodels;
 pub use read::read_metamodel;

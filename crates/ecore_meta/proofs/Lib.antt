@@ -6,5 +6,5 @@ mod RisingLaws
 mod TableLaws
 mod BuildLaws
 mod OwnerLaws
-mod SoundLaws
+pub mod SoundLaws
 mod NumberedLaws

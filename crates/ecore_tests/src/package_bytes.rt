@@ -27,7 +27,13 @@ const EVENTS: &str = r#"01 000000027b7d = Init { text: Text { text: "{}" } }
 05 ffffffff = End { ws: 4294967295 }
 06 00000000 = Undo { ws: 0 }
 06 00000002 = Undo { ws: 2 }
-07 00000002 = Discard { ws: 2 }"#;
+07 00000002 = Discard { ws: 2 }
+09 00000001 00000000 = Commit { ws: 1, message: Text { text: "" } }
+09 00000002 0000000461202062 = Commit { ws: 2, message: Text { text: "a  b" } }
+0a 00000001 00000003646576 = Branch { ws: 1, name: Text { text: "dev" } }
+0b 0000000161 00000000 = Tag { name: Text { text: "a" }, version: 0 }
+0b 000000027631 ffffffff = Tag { name: Text { text: "v1" }, version: 4294967295 }
+0e 00000002 = Drop { ws: 2 }"#;
 
 fn read(alloc: Global, text: &str) -> Result<Vec<u8>, Fail> {
     let digits = text.replace(alloc, " ", "")?;
@@ -76,10 +82,12 @@ fn events_are_spelled_and_every_front_is_no_form(rt: HostRuntime) -> Result<(), 
 }
 
 // Bytes of no event, and the place: of the first field that can't be read, or of the first byte left over.
-const NO_EVENTS: &str = "0b 0000000161 00000000 = 0
+const NO_EVENTS: &str = "0f 00000001 = 0
 00 = 0
 01 00000001ff = 1
 05 00000002 00 = 5
+0b 00000000 0000000161 = 9
+0e 00000002 00 = 5
 03 00000001 00 = 5
 03 00000001 ffffffff = 9
 03 00000001 00000000 00 = 9

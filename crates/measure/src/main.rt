@@ -1,8 +1,10 @@
-//! Measures calls of the libraries on inputs that it makes: a metamodel built of its rows, and a package spelled and read again.
+//! Measures calls of the libraries on inputs that it makes: a metamodel built of its rows, a package spelled and read again, and a history of
+//! many versions.
 #![tactic(auto)]
 
 mod fault;
 mod forms;
+mod histories;
 mod plan;
 mod rows;
 
@@ -10,6 +12,7 @@ use anyhow::Result;
 use ecore_meta::build;
 use fault::MeasureFault;
 use forms::{package_of, read_again};
+use histories::{CALLS, history_of, make};
 use op_form::encode;
 use plan::{Task, read_plan};
 use rows::rows_of;
@@ -61,6 +64,31 @@ fn measure_forms(rt: &HostRuntime, is_timed: bool, steps: u32) -> Result<()> {
     print_time(rt, is_timed, "decode", decoding)
 }
 
+fn measure_history(
+    rt: &HostRuntime,
+    is_timed: bool,
+    versions: u32,
+    branches: u32,
+    tags: u32,
+) -> Result<()> {
+    let alloc = rt.alloc();
+    let mut history = history_of(alloc, versions, branches, tags)?;
+    println!(rt;
+        "history {versions} {branches} {tags}: {} versions, {} branches, {} tags",
+        history.version_count(),
+        history.branch_count(),
+        history.tag_count()
+    )?;
+    for (call, word) in CALLS {
+        let start = Instant::now(rt)?;
+        let sum = make(alloc, &mut history, call)?;
+        let taken = start.elapsed(rt)?;
+        println!(rt; "{word}: {sum}")?;
+        print_time(rt, is_timed, word, taken)?;
+    }
+    Ok(())
+}
+
 fn main(rt: HostRuntime) -> Result<()> {
     let alloc = rt.alloc();
     let words: Vec<String> = env::args(&rt)?.skip(1).collect(alloc)?;
@@ -74,6 +102,11 @@ fn main(rt: HostRuntime) -> Result<()> {
                 features,
             )?,
             Task::Forms { steps } => measure_forms(&rt, plan.is_timed, steps)?,
+            Task::History {
+                versions,
+                branches,
+                tags,
+            } => measure_history(&rt, plan.is_timed, versions, branches, tags)?,
         }
     }
     Ok(())

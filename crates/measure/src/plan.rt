@@ -8,9 +8,20 @@ use std::alloc::Global;
 #[derive(Clone, Copy, Debug, PartialEq, Drop)]
 pub enum Task {
     /// A metamodel of so many classes, each with so many features.
-    Metamodel { classes: u32, features: u32 },
+    Metamodel {
+        classes: u32,
+        features: u32,
+    },
     /// A package of so many steps.
-    Forms { steps: u32 },
+    Forms {
+        steps: u32,
+    },
+    /// A history of so many versions over so many branches, with so many tags.
+    History {
+        versions: u32,
+        branches: u32,
+        tags: u32,
+    },
 }
 
 /// What the words ask for, in their order, and whether times are printed.
@@ -44,6 +55,17 @@ pub(crate) fn read_plan(alloc: Global, words: &[String]) -> Result<Plan, Measure
             ("forms", [steps, more @ ..]) => {
                 let steps = number(steps)?;
                 tasks.push(Task::Forms { steps })?;
+                rest = more;
+            }
+            ("history", [versions, branches, tags, more @ ..]) => {
+                let versions = number(versions)?;
+                let branches = number(branches)?;
+                let tags = number(tags)?;
+                tasks.push(Task::History {
+                    versions,
+                    branches,
+                    tags,
+                })?;
                 rest = more;
             }
             _ => return Err(MeasureFault::Usage),

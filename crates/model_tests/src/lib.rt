@@ -6,6 +6,8 @@ mod answers;
 #[cfg(test)]
 mod deep;
 #[cfg(test)]
+mod histories;
+#[cfg(test)]
 mod limits;
 #[cfg(test)]
 mod lines;

@@ -20,7 +20,7 @@ use Rattle.model_state.specs.declared.step.Step.TheVariants.{Put, Ins, Del, Shif
 use Rattle.model_state.specs.declared.operation.Operation.{Operation}
 use Rattle.model_state.specs.declared.operation.Operation.TheVariants.{Simple, Composite}
 use Rattle.op_form.specs.declared.event.Event.{Event}
-use Rattle.op_form.specs.declared.event.Event.TheVariants.{Init, Checkout, Edit, Begin, End, Undo, Discard}
+use Rattle.op_form.specs.declared.event.Event.TheVariants.{Init, Checkout, Edit, Begin, End, Undo, Discard, Commit, Branch, Tag, Drop}
 use Rattle.op_form.specs.Laws.{EventsAreTested, IsU32, IsU64, IsIdText, IsNameText, IsGiven, IsList, IsSomeList, IsValue, IsPlace, IsStep, IsOperation, IsPackage, IsEvent}
 use Rattle.op_form.specs.Sizes.{FitsValue, FitsIfAny, FitsStep, FitsSteps, FitsOperation, FitsPackage, FitsEvent}
 use Rattle.op_form.specs.Formed.{is_u32, is_u64, is_i64, is_short_text, is_given, is_list, is_some_list, is_value, is_place, is_step, is_operation, is_package, is_event}
@@ -147,6 +147,10 @@ event_told (Begin ws name) = two (u32_told ws) (text_told name)
 event_told (End ws) = u32_told ws
 event_told (Undo ws) = u32_told ws
 event_told (Discard ws) = u32_told ws
+event_told (Commit ws message) = two (u32_told ws) (text_told message)
+event_told (Branch ws name) = two (u32_told ws) (text_told name)
+event_told (Tag name version) = two (text_told name) (u32_told version)
+event_told (Drop ws) = u32_told ws
 
 -- what passes the test has a spelling, and what has one passes it
 pub is_event_is : (e : Event) → is_event e ≡ true → IsEvent e
@@ -183,11 +187,18 @@ operation_fits (Composite name steps) is = (is.0, (name_short name is.0).0, step
 package_fits : (operations : List Operation) → IsPackage operations → FitsPackage operations
 package_fits operations is = (is.0, All-weaker IsOperation FitsOperation operation_fits operations is.1)
 
--- an event that has a spelling is of the sizes that writing asks
+-- a package that has a spelling is of the sizes that writing asks
+pub is_package_fits : (operations : List Operation) → is_package operations ≡ true → FitsPackage operations
+is_package_fits operations h = package_fits operations ((package_told operations).is h)
+
+-- so is an event that has one
 pub event_fits : (e : Event) → IsEvent e → FitsEvent e
 event_fits (Init text) is = is.0
 event_fits (Edit ws operations) is = package_fits operations is.1
 event_fits (Begin ws name) is = is.1.0
+event_fits (Commit ws message) is = is.1.0
+event_fits (Branch ws name) is = is.1.0
+event_fits (Tag name version) is = is.0.0
 event_fits e is = tt
 
 pub is_event_fits : (e : Event) → is_event e ≡ true → FitsEvent e

@@ -8,7 +8,7 @@ use Rattle.model_state.specs.declared.step.Step.TheVariants.{Put, Ins, Del, Shif
 use Rattle.model_state.specs.declared.operation.Operation.{Operation}
 use Rattle.model_state.specs.declared.operation.Operation.TheVariants.{Simple, Composite}
 use Rattle.op_form.specs.declared.event.Event.{Event}
-use Rattle.op_form.specs.declared.event.Event.TheVariants.{Init, Checkout, Edit, Begin, End, Undo, Discard}
+use Rattle.op_form.specs.declared.event.Event.TheVariants.{Init, Checkout, Edit, Begin, End, Undo, Discard, Commit, Branch, Tag, Drop}
 
 -- a text or a list of fewer than 2 ^ 32 items
 abbrev pub IsShort : {X : Type 0} → List X → Type 0
@@ -62,3 +62,7 @@ FitsEvent (Begin ws name) = IsShort name
 FitsEvent (End ws) = Unit {0}
 FitsEvent (Undo ws) = Unit {0}
 FitsEvent (Discard ws) = Unit {0}
+FitsEvent (Commit ws message) = IsShort message
+FitsEvent (Branch ws name) = IsShort name
+FitsEvent (Tag name version) = IsShort name
+FitsEvent (Drop ws) = Unit {0}

@@ -2,7 +2,7 @@
 ghost use Rattle.op_form.specs.Reading.{list_at, some_at, items_at};
 ghost use Rattle.op_form.specs.Steps.{step_at};
 ghost use Rattle.op_form.specs.Packages.{kind_at, name_at, simple_at, composite_at, operation_at, package_at};
-ghost use Rattle.op_form.specs.Events.{init_at, checkout_at, edit_at, begin_at, event_at, whole_of};
+ghost use Rattle.op_form.specs.Events.{init_at, checkout_at, edit_at, begin_at, commit_at, branch_at, tag_at, event_at, whole_of};
 ghost use Rattle.op_form.specs.Given.{Gives, GivesWhole};
 
 use crate::read_step::take_step;
@@ -164,6 +164,12 @@ fn take_event(alloc: Global, reader: &mut Reader<'_>) -> Result<Event, FormFault
         7 => Ok(Event::Discard {
             ws: reader.take_u32()?,
         }),
+        9 => take_commit(alloc, reader),
+        10 => take_branch(alloc, reader),
+        11 => take_tag(alloc, reader),
+        14 => Ok(Event::Drop {
+            ws: reader.take_u32()?,
+        }),
         _ => Err(FormFault::NotForm { at }),
     }
 }
@@ -201,4 +207,31 @@ fn take_begin(alloc: Global, reader: &mut Reader<'_>) -> Result<Event, FormFault
     let ws = reader.take_u32()?;
     let name = take_text(alloc, reader)?;
     Ok(Event::Begin { ws, name })
+}
+
+#[tactic(auto, unfolding(crate::specs::Events::commit_at))]
+fn take_commit(alloc: Global, reader: &mut Reader<'_>) -> Result<Event, FormFault>
+    ensures { Gives reader.new result (commit_at reader.old) }
+{
+    let ws = reader.take_u32()?;
+    let message = take_text(alloc, reader)?;
+    Ok(Event::Commit { ws, message })
+}
+
+#[tactic(auto, unfolding(crate::specs::Events::branch_at))]
+fn take_branch(alloc: Global, reader: &mut Reader<'_>) -> Result<Event, FormFault>
+    ensures { Gives reader.new result (branch_at reader.old) }
+{
+    let ws = reader.take_u32()?;
+    let name = take_text(alloc, reader)?;
+    Ok(Event::Branch { ws, name })
+}
+
+#[tactic(auto, unfolding(crate::specs::Events::tag_at))]
+fn take_tag(alloc: Global, reader: &mut Reader<'_>) -> Result<Event, FormFault>
+    ensures { Gives reader.new result (tag_at reader.old) }
+{
+    let name = take_text(alloc, reader)?;
+    let version = reader.take_u32()?;
+    Ok(Event::Tag { name, version })
 }

@@ -131,6 +131,22 @@ fn put_event(form: &mut Form, event: &Event) -> Result<(), AllocError>
         Event::End { ws } => put_of_workspace(form, 5, *ws),
         Event::Undo { ws } => put_of_workspace(form, 6, *ws),
         Event::Discard { ws } => put_of_workspace(form, 7, *ws),
+        Event::Commit { ws, message } => {
+            form.put_u8(9)?;
+            form.put_u32(*ws)?;
+            form.put_text(message.as_str())
+        }
+        Event::Branch { ws, name } => {
+            form.put_u8(10)?;
+            form.put_u32(*ws)?;
+            form.put_text(name.as_str())
+        }
+        Event::Tag { name, version } => {
+            form.put_u8(11)?;
+            form.put_text(name.as_str())?;
+            form.put_u32(*version)
+        }
+        Event::Drop { ws } => put_of_workspace(form, 14, *ws),
     }
 }
 

@@ -11,7 +11,9 @@ use Rattle.op_form.specs.Laws.{IsEvent}
 use Rattle.op_form.specs.Formed.{is_event}
 use Rattle.op_form.proofs.FormedLaws.{is_event_is}
 use Rattle.op_form.proofs.EventCodes.{event_codes}
-use Rattle.plain_repository.specs.Repository.{State, play, playable, playable_with, are_playable, fits_record, most_bytes, most_events}
+use Rattle.plain_repository.specs.State.{State}
+use Rattle.plain_repository.specs.Answers.{fits_record, most_bytes, most_events}
+use Rattle.plain_repository.specs.Events.{play, playable, playable_with, are_playable}
 
 pub and_left : (a b : Bool) → IsTrue (a && b) → IsTrue a
 and_left true b both = refl

@@ -1,5 +1,14 @@
+pub mod Apart
+pub mod Commits
 pub mod Forms
+pub mod Growth
+pub mod Kept
 pub mod Named
+pub mod Numbers
+pub mod Places
+pub mod Reached
 pub mod Recorded
+pub mod Rows
+pub mod Runs
 pub mod Stores
-pub mod Working
+pub mod Undoing

@@ -7,7 +7,9 @@ use Rattle.model_state.specs.Packages.{steps_of, steps_all}
 use Rattle.model_state.specs.declared.step.Step.{Step}
 use Rattle.model_state.specs.declared.operation.Operation.{Operation}
 use Rattle.model_laws.proofs.Runs.{fold_first, fold_more}
-use Rattle.plain_repository.specs.Repository.{Composite, recorded_steps, open_steps, added, composed, operation_of_open}
+use Rattle.plain_repository.specs.State.{Composite, Workspace, recorded_steps, open_steps}
+use Rattle.plain_repository.specs.Edits.{added}
+use Rattle.plain_repository.specs.Composites.{composed, operation_of_open}
 
 -- where steps lead by way of what the first of them lead to
 pub record ByWay (meta : Meta) (m n : State) (ss ts : List Step) : Type 0 where
@@ -27,9 +29,12 @@ steps_append [] qs = refl
 steps_append (p ∷ ps) qs = ap (λ l. steps_of p ++ l) (steps_append ps qs) ∙ sym (append_assoc (steps_of p) (steps_all ps) (steps_all qs))
 
 -- the steps of operations that come behind those that are there, or join the composite that is open
-pub more_steps : (more os : List Operation) (c : Option Composite) → recorded_steps (added more os c) ≡ (steps_all os ++ open_steps c) ++ steps_all more
-more_steps more os None = append-nil (steps_all (os ++ more)) ∙ steps_append os more ∙ ap (λ (l : List Step). l ++ steps_all more) (sym (append-nil (steps_all os)))
-more_steps more os (Some c) = sym (append_assoc (steps_all os) c.steps (steps_all more))
+pub more_steps : (more : List Operation) (c : Option Composite) (w : Workspace) → w.composite ≡ c → recorded_steps (added more c w) ≡ recorded_steps w ++ steps_all more
+more_steps more None w is =
+    append-nil (steps_all (w.operations ++ more)) ∙ steps_append w.operations more ∙ ap (λ (l : List Step). l ++ steps_all more) (sym (append-nil (steps_all w.operations)))
+    ∙ ap (λ (c : Option Composite). (steps_all w.operations ++ open_steps c) ++ steps_all more) (sym is)
+more_steps more (Some c) w is =
+    sym (append_assoc (steps_all w.operations) c.steps (steps_all more)) ∙ ap (λ (c : Option Composite). (steps_all w.operations ++ open_steps c) ++ steps_all more) (sym is)
 
 -- a composite that is opened where none is has no step
 pub opened_steps : (os : List Operation) (c : Option Composite) → is_some c ≡ false → steps_all os ++ [] ≡ steps_all os ++ open_steps c

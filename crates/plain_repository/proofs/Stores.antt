@@ -8,7 +8,8 @@ use Rattle.commit_journal.proofs.Mounting.{length-new_file}
 use Rattle.command_runs.specs.Runs.{played}
 use Rattle.op_form.specs.declared.event.Event.{Event}
 use Rattle.op_form.specs.Events.{event_form}
-use Rattle.plain_repository.specs.Repository.{State, empty, play, playable, are_playable}
+use Rattle.plain_repository.specs.State.{State, empty}
+use Rattle.plain_repository.specs.Events.{play, playable, are_playable}
 use Rattle.plain_repository.specs.Store.{Stands}
 use Rattle.plain_repository.proofs.Forms.{forms_are, and_left, and_right}
 

@@ -1,36 +1,162 @@
--- What holds of the working model of each workspace.
-use Rattle.std.specs.Prelude.{◌≡◌, ℕ, List, Some, Ok, IsTrue, true}
+-- What holds in every repository that events make.
+use Rattle.std.specs.Prelude.{◌≡◌, ◌≢◌, ◌↔◌, ℕ, ◌<◌, ◌≤◌, ◌==◌, List, [], ◌∷◌, ◌++◌, Bool, true, false, Option, Some, None, IsTrue, length, slice_get}
 use Rattle.command_runs.specs.Runs.{played}
-use Rattle.ecore_json.specs.Metamodel.{metamodel_of}
 use Rattle.ecore_meta.specs.Meta.{Meta}
 use Rattle.ecore_meta.specs.Sound.{Sound}
 use Rattle.model_state.specs.Good.{Good}
 use Rattle.model_state.specs.Ident.{is_id}
 use Rattle.model_state.specs.Keys.{Name}
+use Rattle.model_state.specs.State as models
 use Rattle.model_state.specs.State.{is_live}
+use Rattle.model_state.specs.declared.operation.Operation.{Operation}
+use Rattle.history_tree.specs.History.{History, head}
+use Rattle.history_tree.specs.States.{state_folded, state_of}
+use Rattle.history_tree.specs.Whole.{IsWhole}
 use Rattle.op_form.specs.declared.event.Event.{Event}
-use Rattle.plain_repository.specs.Repository.{Workspace, empty, play, are_playable, workspace_of, folded, model_of}
+use Rattle.op_form.specs.declared.event.Event.TheVariants.{Init, Checkout, Edit, Begin, End, Undo, Discard, Commit, Branch, Tag, Drop}
+use Rattle.script_lang.specs.declared.command.Command.TheVariants as commands
+use Rattle.script_lang.specs.declared.reply.Refusal.TheVariants as refusals
+use Rattle.script_lang.specs.declared.reply.Last.TheVariants as last
+use Rattle.plain_repository.specs.State.{State, Workspace, empty, workspace_of, folded, model_of}
+use Rattle.plain_repository.specs.Orderly.{IsOrderly, Stands}
+use Rattle.plain_repository.specs.Events.{play, playable, are_playable}
+use Rattle.plain_repository.specs.Repository.{decide_command}
 
--- the metamodel, and the workspace of some number, after events that could be made
-pub record IsThere (meta : Meta) (workspace : Workspace) : Type 0 where
+-- events that could be made lead to the state
+pub record IsReached (s : State) : Type 0 where
   pub events : List Event
-  pub ws : ℕ
   pub could : IsTrue (are_playable empty events)
-  pub begun : (played play empty events).meta ≡ Some meta
-  pub there : workspace_of (played play empty events) ws ≡ Some workspace
+  pub reached : played play empty events ≡ s
 
--- the recorded steps can be taken one by one, and lead to the working model
+-- ---- order
+-- all is in order in the empty repository
+abbrev pub StartsInOrder : Type 0
+StartsInOrder = IsOrderly empty
+
+-- each event that could be made keeps all in order
+abbrev pub StaysInOrder : Type 0
+StaysInOrder = (s : State) → IsOrderly s → (event : Event) → IsTrue (playable s event) → IsOrderly (play s event)
+
+-- so all is in order after any events that could be made
+abbrev pub AllIsInOrder : Type 0
+AllIsInOrder = (s : State) → IsReached s → IsOrderly s
+
+-- all is in order, and there is that metamodel
+pub record HasMetamodel (s : State) (meta : Meta) : Type 0 where
+  pub orderly : IsOrderly s
+  pub begun : s.meta ≡ Some meta
+
+-- and that workspace, of some number
+pub record IsThere (s : State) (meta : Meta) (workspace : Workspace) : Type 0 where
+  pub in_state : HasMetamodel s meta
+  pub ws : ℕ
+  pub there : workspace_of s ws ≡ Some workspace
+
+-- ---- models
+-- what holds of each working model
+abbrev pub OfModels : (Meta → models.State → Type 0) → Type 0
+OfModels Holds = (s : State) (meta : Meta) (workspace : Workspace) → IsThere s meta workspace → Holds meta (model_of meta s.history workspace)
+
+-- what holds of the state of each version
+abbrev pub OfVersions : (Meta → models.State → Type 0) → Type 0
+OfVersions Holds = (s : State) (meta : Meta) → HasMetamodel s meta → (v : ℕ) → v < length s.history.versions → Holds meta (state_of meta s.history v)
+
+-- the model is good, where the metamodel is sound, as each that is built is
+abbrev pub IsGood : Meta → models.State → Type 0
+IsGood meta m = Sound meta → Good meta m
+
+-- the id of each element has the form of an id
+abbrev pub HasIds : Meta → models.State → Type 0
+HasIds meta m = (e : Name) → is_live m e ≡ true → is_id e ≡ true
+
+-- the steps recorded in a workspace can be taken one by one from the state of its base, and lead to the working model
 abbrev pub ModelsAreDefined : Type 0
-ModelsAreDefined = (meta : Meta) (workspace : Workspace) → IsThere meta workspace → folded meta workspace ≡ Some (model_of meta workspace)
+ModelsAreDefined = (s : State) (meta : Meta) (workspace : Workspace) → IsThere s meta workspace → folded meta s.history workspace ≡ Some (model_of meta s.history workspace)
 
--- the working model is good, where the metamodel is sound, as each that is built is
-abbrev pub ModelsAreGood : Type 0
-ModelsAreGood = (meta : Meta) → Sound meta → (workspace : Workspace) → IsThere meta workspace → Good meta (model_of meta workspace)
+-- the operations on the path of a version can be taken one by one from the empty project, and lead to its state
+abbrev pub VersionsAreDefined : Type 0
+VersionsAreDefined = (s : State) (meta : Meta) → HasMetamodel s meta → (v : ℕ) → v < length s.history.versions → state_folded meta s.history v ≡ Some (state_of meta s.history v)
 
--- the id of each element of the working model has the form of an id
-abbrev pub ModelsHaveIds : Type 0
-ModelsHaveIds = (meta : Meta) (workspace : Workspace) → IsThere meta workspace → (e : Name) → is_live (model_of meta workspace) e ≡ true → is_id e ≡ true
+-- the metamodel is sound after any events that could be made, as each that a text reads as is
+abbrev pub MetamodelsAreSound : Type 0
+MetamodelsAreSound = (s : State) → IsReached s → (meta : Meta) → s.meta ≡ Some meta → Sound meta
 
--- the metamodel is one that a text reads as
-abbrev pub MetamodelsAreRead : Type 0
-MetamodelsAreRead = (meta : Meta) (workspace : Workspace) → IsThere meta workspace → (text : List ℕ) × (metamodel_of text ≡ Ok meta)
+-- ---- the history
+-- each number that stands in the history names something
+abbrev pub HistoriesAreWhole : Type 0
+HistoriesAreWhole = (s : State) (meta : Meta) → HasMetamodel s meta → IsWhole s.history
+
+-- each workspace stands in the history
+abbrev pub WorkspacesStand : Type 0
+WorkspacesStand = (s : State) (meta : Meta) (workspace : Workspace) → IsThere s meta workspace → Stands s.history workspace
+
+-- the list with some more behind it
+abbrev pub Extends : {X : Type 0} → List X → List X → Type 0
+Extends before after = (more : List _) × (after ≡ before ++ more)
+
+-- versions, branches and tags stay as they are, and may get more of them behind
+pub record Grows (before after : History) : Type 0 where
+  pub versions : Extends before.versions after.versions
+  pub branches : Extends before.branches after.branches
+  pub tags : Extends before.tags after.tags
+
+-- no event that could be made changes a version, a branch's name and start, or a tag
+abbrev pub HistoryOnlyGrows : Type 0
+HistoryOnlyGrows = (s : State) → IsOrderly s → (event : Event) → IsTrue (playable s event) → Grows s.history (play s event).history
+
+-- ---- workspaces apart
+-- is the event one of that workspace
+abbrev pub is_of : ℕ → Event → Bool
+is_of ws (Init text) = false
+is_of ws (Checkout version branch) = false
+is_of ws (Edit k operations) = k == ws
+is_of ws (Begin k name) = k == ws
+is_of ws (End k) = k == ws
+is_of ws (Undo k) = k == ws
+is_of ws (Discard k) = k == ws
+is_of ws (Commit k message) = k == ws
+is_of ws (Branch k name) = k == ws
+is_of ws (Tag name version) = false
+is_of ws (Drop k) = k == ws
+
+-- an event that is not of a workspace leaves its branch, base, operations, open composite and pending list
+abbrev pub WorkspacesStayApart : Type 0
+WorkspacesStayApart = (s : State) (ws : ℕ) (workspace : Workspace) → workspace_of s ws ≡ Some workspace → (event : Event) → is_of ws event ≡ false → workspace_of (play s event) ws ≡ Some workspace
+
+-- and no event changes the model of a workspace that stays as it is
+abbrev pub ModelsStayApart : Type 0
+ModelsStayApart = (s : State) (meta : Meta) (workspace : Workspace) → IsThere s meta workspace → (event : Event) → IsTrue (playable s event) → model_of meta (play s event).history workspace ≡ model_of meta s.history workspace
+
+-- no event takes a place of the list of workspaces away, so each checkout makes a new number
+abbrev pub NumbersOnlyGrow : Type 0
+NumbersOnlyGrow = (s : State) (event : Event) → length s.workspaces ≤ length (play s event).workspaces
+
+-- and the place of a workspace that was dropped stays empty
+abbrev pub DroppedStayDropped : Type 0
+DroppedStayDropped = (s : State) (place : ℕ) → slice_get s.workspaces place ≡ Some None → (event : Event) → slice_get (play s event).workspaces place ≡ Some None
+
+-- ---- commands
+-- there is a metamodel and the workspace, and its base, the first number, is not its branch's head, the second
+pub record IsStale (s : State) (ws base head_of_branch : ℕ) : Type 0 where
+  pub meta : Meta
+  pub begun : s.meta ≡ Some meta
+  pub workspace : Workspace
+  pub there : workspace_of s ws ≡ Some workspace
+  pub base_is : workspace.base ≡ base
+  pub head_is : head s.history workspace.branch ≡ head_of_branch
+  pub apart : base ≢ head_of_branch
+
+-- `commit` is answered Stale just where no earlier refusal applies and the base is not the head
+abbrev pub CommitsAreStale : Type 0
+CommitsAreStale = (s : State) (block : Option (List ℕ)) (ws : ℕ) (message : Option (List ℕ)) (base head_of_branch : ℕ)
+    → ((decide_command s block (commands.Commit ws message)).reply.last ≡ last.No (refusals.Stale base head_of_branch)) ↔ IsStale s ws base head_of_branch
+
+-- an operation that is recorded where no composite is open, and undone, leaves the workspace as it was
+abbrev pub UndoGivesBack : Type 0
+UndoGivesBack = (s : State) (ws : ℕ) (workspace : Workspace) → workspace_of s ws ≡ Some workspace → workspace.composite ≡ None → (operation : Operation)
+    → workspace_of (play (play s (Edit ws (operation ∷ []))) (Undo ws)) ws ≡ Some workspace
+
+-- a commit that could be made leaves the working model
+abbrev pub CommitsKeepModels : Type 0
+CommitsKeepModels = (s : State) (meta : Meta) → HasMetamodel s meta → (ws : ℕ) (before after : Workspace) (message : List ℕ) → IsTrue (playable s (Commit ws message))
+    → workspace_of s ws ≡ Some before → workspace_of (play s (Commit ws message)) ws ≡ Some after → model_of meta (play s (Commit ws message)).history after ≡ model_of meta s.history before

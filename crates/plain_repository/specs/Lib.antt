@@ -1,4 +1,16 @@
+pub mod Answers
+pub mod Checkouts
+pub mod Commits
+pub mod Composites
+pub mod Edits
+pub mod Events
 pub mod Laws
 pub mod Lines
+pub mod Local
+pub mod Metamodels
+pub mod Orderly
 pub mod Repository
+pub mod Specs
+pub mod State
 pub mod Store
+pub mod Views

@@ -4,7 +4,8 @@ use Rattle.host_port.specs.Host.{Disk}
 use Rattle.commit_journal.specs.Journal.{StandsFor, ReadsTo, IsStuck, IsNoHeader, IsAtRest}
 use Rattle.op_form.specs.declared.event.Event.{Event}
 use Rattle.op_form.specs.Events.{event_form}
-use Rattle.plain_repository.specs.Repository.{empty, are_playable}
+use Rattle.plain_repository.specs.State.{empty}
+use Rattle.plain_repository.specs.Events.{are_playable}
 
 -- the events whose records the file has, each one that a command could make after those before it
 pub record Stands (file : List ℕ) (events : List Event) : Type 0 where

@@ -1,10 +1,56 @@
-ghost use Rattle.plain_repository.specs.Laws.{ModelsAreDefined, ModelsAreGood, ModelsHaveIds, MetamodelsAreRead};
+//! The laws of the plain repository: each is a function without a body, whose contract is the law.
+ghost use Rattle.plain_repository.specs.Laws.{StartsInOrder, StaysInOrder, AllIsInOrder, OfModels, OfVersions, IsGood, HasIds, ModelsAreDefined, VersionsAreDefined, MetamodelsAreSound, HistoriesAreWhole, WorkspacesStand, HistoryOnlyGrows, WorkspacesStayApart, ModelsStayApart, NumbersOnlyGrow, DroppedStayDropped, CommitsAreStale, UndoGivesBack, CommitsKeepModels};
 
-/// The law of working models: after any events that could be made, the steps recorded in each workspace lead one by one to its
-/// working model; it is good, and its elements have ids of the form of ids; and the metamodel is one that a text reads as.
+/// The law of order: all is in order in the empty repository, and each event that could be made keeps it so. The other laws speak of such a state, so a
+/// holder of one that keeps order has them all.
+pub fn law_of_order()
+    ensures start { StartsInOrder }
+    ensures stays { StaysInOrder }
+    ensures all { AllIsInOrder }
+{}
+
+/// The law of working models: the steps recorded in each workspace lead one by one from the state of its base to its
+/// working model; it is good, and its elements have ids of the form of ids; and after any events that could be
+/// made the metamodel is sound, as each that is read is.
 pub fn law_of_working_models()
     ensures defined { ModelsAreDefined }
-    ensures good { ModelsAreGood }
-    ensures ids { ModelsHaveIds }
-    ensures read { MetamodelsAreRead }
+    ensures good { OfModels IsGood }
+    ensures ids { OfModels HasIds }
+    ensures sound { MetamodelsAreSound }
+{}
+
+/// The law of versions: the operations on the path of each version lead one by one from the empty project to its
+/// state; it is good, and its elements have ids of the form of ids; and each number in the history names something.
+pub fn law_of_versions()
+    ensures defined { VersionsAreDefined }
+    ensures good { OfVersions IsGood }
+    ensures ids { OfVersions HasIds }
+    ensures whole { HistoriesAreWhole }
+{}
+
+/// The law of growth: no event changes a version, a tag, or a branch's name and start; and the base of each workspace is on the path of its branch's head.
+pub fn law_of_growth()
+    ensures grows { HistoryOnlyGrows }
+    ensures stand { WorkspacesStand }
+{}
+
+/// The law of workspaces apart: an event of another workspace leaves what is recorded in this one, and its model. No number of a workspace is used
+/// again.
+pub fn law_of_workspaces_apart()
+    ensures workspaces { WorkspacesStayApart }
+    ensures models { ModelsStayApart }
+    ensures numbers { NumbersOnlyGrow }
+    ensures dropped { DroppedStayDropped }
+{}
+
+/// The law of commits: one is refused as stale just where the base is not the head and no earlier refusal applies, and one that is made leaves the
+/// working model.
+pub fn law_of_commits()
+    ensures stale { CommitsAreStale }
+    ensures models { CommitsKeepModels }
+{}
+
+/// The law of undoing: an operation that is recorded and undone leaves the workspace as it was.
+pub fn law_of_undoing()
+    ensures back { UndoGivesBack }
 {}

@@ -1,8 +1,8 @@
--- Packages taken one operation after another.
+-- Packages taken one operation after another, and versions one after another.
 use Rattle.std.proofs.Math.ListN.{get_or}
-use Rattle.std.proofs.Math.Seq.{drop-cons, take-suc}
-use Rattle.std.proofs.Common.{◌≡◌, ◌≢◌, ℕ, suc, ◌+◌, ◌<◌, List, [], ◌∷◌, ◌++◌, true, length, drop, take, Option, Some, None, is_some, Result, Ok, Err, ⊎_elim, refl, ◌∙◌, ap, subst, append-nil, arith}
-use Rattle.std.specs.Prelude.{IfErr}
+use Rattle.std.proofs.Math.Seq.{drop-cons}
+use Rattle.std.proofs.Common.{◌≡◌, ◌≢◌, ℕ, suc, ◌+◌, ◌<◌, List, [], ◌∷◌, ◌++◌, length, drop, true, Option, Some, None, is_some, Result, Ok, Err, ⊎_elim, refl, ◌∙◌, ap, subst, append-nil, arith}
+use Rattle.std.specs.Prelude.{IfErr, OnOk}
 use Rattle.std.specs.Result.{IsErr, IsErrAnd}
 use Rattle.model_state.specs.declared.step.StepFault.TheVariants.{Memory}
 use Rattle.model_state.specs.Faults.{IsFault}
@@ -18,6 +18,7 @@ use Rattle.model_state.specs.Good.{Good, Sound}
 use Rattle.edits.specs.declared.edit.Edit.{Edit}
 use Rattle.edits.specs.declared.edit.Recorded.{Recorded}
 use Rattle.edits.specs.Edits.{after}
+use Rattle.edits.specs.Answers.{steps_in}
 use Rattle.recorder.specs.Recording.{recorded}
 use Rattle.recorder.proofs.Recordings.{recording_leads}
 use Rattle.emfjson_model.specs.declared.doc.DocRow.{DocRow}
@@ -26,7 +27,8 @@ use Rattle.emfjson_model.proofs.Fitting.{documents_fit}
 use Rattle.model_import.specs.After.{import_after}
 use Rattle.model_import.specs.Import.{Imports}
 use Rattle.model_import.proofs.ImportLead.{imports_lead}
-use Rattle.edits.specs.Answers.{steps_in}
+use Rattle.history_tree.specs.declared.version.Version.{Version}
+use Rattle.history_tree.specs.States.{package_at, operations_of}
 use Rattle.plain_repository.proofs.Recorded.{steps_append}
 
 -- steps with one that can't be taken lead nowhere
@@ -56,22 +58,6 @@ package_on meta m n o os is = fold_append meta m n (steps_of o) (steps_all os) i
 pub package_none : (meta : Meta) (m : State) (o : Operation) (os : List Operation) → fold meta m (steps_of o) ≡ None → fold_package meta m (o ∷ os) ≡ None
 package_none meta m o os is = fold_append_none meta m (steps_of o) (steps_all os) is
 
--- the steps of one operation more lead to where the operation leads
-pub steps_of_one : (o : Operation) → steps_all (o ∷ []) ≡ steps_of o
-steps_of_one o = append-nil (steps_of o)
-
--- the steps of the operations up to a place and of the one that stands there
-pub steps_on : (os : List Operation) (i : ℕ) (d : Operation) → i < length os → steps_all (take (i + 1) os) ≡ steps_all (take i os) ++ steps_of (get_or os i d)
-steps_on os i d below =
-    ap (λ (k : ℕ). steps_all (take k os)) next ∙ ap steps_all (take-suc os i d below) ∙ steps_append (take i os) (get_or os i d ∷ []) ∙ ap (λ l. steps_all (take i os) ++ l) (steps_of_one (get_or os i d))
-  where
-    next : i + 1 ≡ suc i
-    next = omega arith
-
--- the operations of one step behind another
-pub one_follows : (meta : Meta) (m n : State) (o : Operation) → fold meta m (steps_of o) ≡ Some n → is_some (fold_package meta m (o ∷ [])) ≡ true
-one_follows meta m n o is = ap is_some (package_on meta m n o [] is)
-
 -- the place in a package moves on by an operation that is taken, or stands at one that can't be
 pub operation_on : (meta : Meta) (m n : State) (os : List Operation) (i : ℕ) (d : Operation) → i < length os → fold meta m (steps_of (get_or os i d)) ≡ Some n → fold_package meta m (drop i os) ≡ fold_package meta n (drop (i + 1) os)
 operation_on meta m n os i d below is = ap (λ l. fold_package meta m l) (drop-cons os i d below) ∙ package_on meta m n (get_or os i d) (drop (suc i) os) is ∙ ap (λ (k : ℕ). fold_package meta n (drop k os)) next
@@ -89,6 +75,49 @@ cannot_fold meta start m os i d e (Ok x) is_err is below same cannot = absurd cc
 cannot_fold meta start m os i d e (Err f) is_err is below same cannot = λ not_memory. ⊎_elim
     (λ memory. absurd (not_memory (is ∙ memory)))
     (λ at. same ∙ operation_none meta m os i d below (fold_none meta m (steps_of (get_or os i d)) e at)) cannot
+
+-- ---- versions
+-- the place on a path moves on by a version whose package is taken
+pub version_on : (meta : Meta) (m n : State) (vs : List Version) (us : List ℕ) (i d : ℕ) → i < length us → fold_package meta m (package_at vs (get_or us i d)) ≡ Some n
+    → fold_package meta m (operations_of vs (drop i us)) ≡ fold_package meta n (operations_of vs (drop (i + 1) us))
+version_on meta m n vs us i d below is =
+    ap (λ l. fold_package meta m (operations_of vs l)) (drop-cons us i d below)
+    ∙ ap (fold meta m) (steps_append (package_at vs (get_or us i d)) (operations_of vs (drop (suc i) us)))
+    ∙ fold_append meta m n (steps_all (package_at vs (get_or us i d))) (steps_all (operations_of vs (drop (suc i) us))) is
+    ∙ ap (λ (k : ℕ). fold_package meta n (operations_of vs (drop k us))) next
+  where
+    next : suc i ≡ i + 1
+    next = omega arith
+
+-- one whose package can't be taken leads nowhere
+pub version_none : (meta : Meta) (m : State) (vs : List Version) (us : List ℕ) (i d : ℕ) → i < length us → fold_package meta m (package_at vs (get_or us i d)) ≡ None → fold_package meta m (operations_of vs (drop i us)) ≡ None
+version_none meta m vs us i d below is =
+    ap (λ l. fold_package meta m (operations_of vs l)) (drop-cons us i d below)
+    ∙ ap (fold meta m) (steps_append (package_at vs (get_or us i d)) (operations_of vs (drop (suc i) us)))
+    ∙ fold_append_none meta m (steps_all (package_at vs (get_or us i d))) (steps_all (operations_of vs (drop (suc i) us))) is
+
+-- ---- workspaces
+-- operations that can't all be taken lead nowhere, with steps behind them too
+pub first_none : (meta : Meta) (m : State) (os : List Operation) (ss : List Step) (e : StepFault) (r : Result (Unit {0}) StepFault) → IsErr r → IsErrAnd r (λ f. f ≡ e) → (e ≢ Memory → fold_package meta m os ≡ None)
+    → IfErr r (λ f. f ≢ Memory → fold meta m (steps_all os ++ ss) ≡ None)
+first_none meta m os ss e (Ok x) is_err is cannot = absurd cc
+first_none meta m os ss e (Err f) is_err is cannot = λ not_memory. fold_append_none meta m (steps_all os) ss (cannot (λ memory. not_memory (is ∙ memory)))
+
+-- steps behind operations that were taken
+pub both_done : (meta : Meta) (m n k : State) (os : List Operation) (ss ts : List Step) (r : Result (Unit {0}) StepFault) → ss ≡ ts → fold_package meta m os ≡ Some n → OnOk r (fold meta n ts ≡ Some k) → OnOk r (fold meta m (steps_all os ++ ss) ≡ Some k)
+both_done meta m n k os ss ts (Ok x) same first done = ap (λ (l : List Step). fold meta m (steps_all os ++ l)) same ∙ fold_append meta m n (steps_all os) ts first ∙ done
+both_done meta m n k os ss ts (Err f) same first done = tt
+
+pub second_none : (meta : Meta) (m n : State) (os : List Operation) (ss ts : List Step) (r : Result (Unit {0}) StepFault) → ss ≡ ts → fold_package meta m os ≡ Some n → IfErr r (λ e. IsFault (fault_along meta n ts) e)
+    → IfErr r (λ e. e ≢ Memory → fold meta m (steps_all os ++ ss) ≡ None)
+second_none meta m n os ss ts (Ok x) same first cannot = tt
+second_none meta m n os ss ts (Err f) same first cannot = λ not_memory. ⊎_elim
+    (λ memory. absurd (not_memory memory))
+    (λ at. ap (λ (l : List Step). fold meta m (steps_all os ++ l)) same ∙ fold_append meta m n (steps_all os) ts first ∙ fold_none meta n ts f at) cannot
+
+-- ---- recordings
+pub one_follows : (meta : Meta) (m n : State) (o : Operation) → fold meta m (steps_of o) ≡ Some n → is_some (fold_package meta m (o ∷ [])) ≡ true
+one_follows meta m n o is = ap is_some (package_on meta m n o [] is)
 
 -- what is recorded of an edit can be taken
 pub recorded_follows : (meta : Meta) → Sound meta → (m : State) → Good meta m → (ws : ℕ) (edit : Edit) (r : Recorded) (o : Operation) → recorded meta m ws edit ≡ Ok r → r.operation ≡ Some o → is_some (fold_package meta m (o ∷ [])) ≡ true

@@ -1,5 +1,5 @@
 pub mod Changing
+pub mod Effects
 pub mod Folding
-pub mod Keeping
+pub mod Ordered
 pub mod Playable
-pub mod Replaying

@@ -2,8 +2,9 @@
 use Rattle.std.specs.Prelude.{◌≡◌, ℕ, ◌+◌, ◌≤◌, ◌<◌, ◌-◌, ◌^◌, List, length, Option, Some, None, IsTrue}
 use Rattle.op_form.specs.declared.event.Event.{Event}
 use Rattle.op_form.specs.Events.{event_form}
-use Rattle.plain_repository.specs.Repository.{State, playable}
-use Rattle.plain_repository.specs.Repository as plain
+use Rattle.plain_repository.specs.State.{State}
+use Rattle.plain_repository.specs.Events.{playable}
+use Rattle.plain_repository.specs.Answers as plain
 use Rattle.repo_core.specs.declared.deciding.Decision.{Decision}
 use Rattle.repo_core.specs.declared.deciding.Made.{Made}
 

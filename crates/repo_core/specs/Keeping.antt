@@ -1,14 +1,14 @@
--- A workspace in memory: what is recorded in it, and beside it the model that this leads to.
-use Rattle.std.specs.Prelude.{◌≡◌, List, [], All, Option, Some, None}
-use Rattle.std.specs.Option.{option_map}
+-- A workspace in memory, and the model that it may keep beside what is recorded in it.
+use Rattle.std.specs.Prelude.{◌≡◌, List, All, Option, Some, None}
+use Rattle.std.specs.Option.{option_map, option_map_or}
 use Rattle.ecore_meta.specs.Meta.{Meta}
-use Rattle.model_state.specs.State.{State, nothing}
 use Rattle.model_state.specs.Good.{Good}
-use Rattle.model_state.specs.Steps.{fold}
-use Rattle.model_state.specs.declared.step.Step.{Step}
+use Rattle.step_apply.specs.declared.plain.Plain.{Plain}
 use Rattle.step_apply.specs.View.{plain_state}
-use Rattle.plain_repository.specs.Repository.{recorded_steps}
-use Rattle.plain_repository.specs.Repository as plain
+use Rattle.history_tree.specs.History.{History, no_history}
+use Rattle.plain_repository.specs.State.{folded}
+use Rattle.plain_repository.specs.State as plain
+use Rattle.repo_core.specs.declared.repo.Begun.{Begun}
 use Rattle.repo_core.specs.declared.workspace.Composite.{Composite}
 use Rattle.repo_core.specs.declared.workspace.Workspace.{Workspace}
 
@@ -16,20 +16,34 @@ use Rattle.repo_core.specs.declared.workspace.Workspace.{Workspace}
 abbrev pub plain_composite : Composite → plain.Composite
 plain_composite c = record { name = c.name; steps = c.steps }
 
--- a workspace as the plain repository has it
+-- a workspace as the plain repository has it, without its model
 abbrev pub plain_of : Workspace → plain.Workspace
-plain_of w = record { operations = w.operations; composite = option_map plain_composite w.composite }
+plain_of w = record { branch = w.branch; base = w.base; operations = w.operations; composite = option_map plain_composite w.composite; pending = w.pending }
 
--- steps can be taken one by one from the empty project and lead to a model, which is good
-pub record Lead (meta : Meta) (steps : List Step) (model : State) : Type 0 where
-  pub run : fold meta nothing steps ≡ Some model
-  pub good : Good meta model
+-- the same, where the workspace is there
+abbrev pub plain_any : Option Workspace → Option plain.Workspace
+plain_any w = option_map plain_of w
 
--- the steps recorded in a workspace lead to the model that it keeps
-abbrev pub Keeps : Meta → Workspace → Type 0
-Keeps meta w = Lead meta (recorded_steps (plain_of w)) (plain_state w.model)
+-- the model that is kept, where one is, is the working model, and good
+abbrev pub Fits : Meta → History → Workspace → Type 0
+Fits meta h w = (m : Plain) → w.model ≡ Some m → (folded meta h (plain_of w) ≡ Some (plain_state m)) × Good meta (plain_state m)
 
--- each workspace keeps its working model; before there is a metamodel there is no workspace
-abbrev pub AreKept : Option Meta → List Workspace → Type 0
-AreKept None workspaces = workspaces ≡ []
-AreKept (Some meta) workspaces = All (Keeps meta) workspaces
+-- so it is, where the workspace is there
+abbrev pub FitsAny : Meta → History → Option Workspace → Type 0
+FitsAny meta h None = Unit {0}
+FitsAny meta h (Some w) = Fits meta h w
+
+-- the metamodel, where there is one
+abbrev pub meta_of : Option Begun → Option Meta
+meta_of None = None
+meta_of (Some begun) = Some begun.meta
+
+-- the history, which has no version before there is a metamodel
+abbrev pub history_of : Option Begun → History
+history_of None = no_history
+history_of (Some begun) = begun.history.history
+
+-- each model that is kept is its workspace's
+abbrev pub AllFit : Option Begun → List (Option Workspace) → Type 0
+AllFit None workspaces = Unit {0}
+AllFit (Some begun) workspaces = All (FitsAny begun.meta begun.history.history) workspaces

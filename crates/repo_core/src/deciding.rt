@@ -1,17 +1,34 @@
 //! What a command is answered, and the event that it makes.
-ghost use Rattle.std.specs.Prelude.{◌≡◌, ◌≢◌, ◌+◌, ◌-◌, ◌<◌, ◌^◌, List, [], ◌∷◌, IfOk, IfNone, IfSome, OnOk, ◌++◌, None, length, true, Some, Option, Ok, Err};
+ghost use Rattle.std.specs.Prelude.{◌≡◌, ◌≢◌, ◌+◌, ◌-◌, ◌<◌, ◌^◌, List, [], ◌∷◌, IfOk, IfErr, IfNone, IfSome, OnOk, ◌++◌, None, is_some, length, true, Some, Option, Ok, Err};
 ghost use Rattle.std.specs.Fmt.{decimal};
 ghost use Rattle.std.specs.Option.{option_copied, option_map};
 ghost use Rattle.op_form.specs.declared.event.Event.TheVariants.{Init, Checkout, Begin, End, Undo, Discard};
-ghost use Rattle.plain_repository.specs.Repository.{State, playable_with, refused, told, first_text, with_operation, with_room, decide_init, unknown, decide_checkout, decide_edit, decide_import, decide_begin, decide_end, decide_undo, decide_discard, lines_of_open, decide_changes, decide_show, decide_cat, decide_validate, refusal_of, id_words, decide_command, decide_line, block_text};
+ghost use Rattle.emfjson_text.specs.Tree.{text};
+ghost use Rattle.history_tree.specs.States.{state_of};
+ghost use Rattle.plain_repository.specs.State.{State, model_of, workspace_of};
+ghost use Rattle.plain_repository.specs.Answers.{refused, told, with_room};
+ghost use Rattle.plain_repository.specs.Checkouts.{decide_checkout, decide_drop};
+ghost use Rattle.plain_repository.specs.Commits.{decide_commit, decide_branch, decide_tag};
+ghost use Rattle.plain_repository.specs.Composites.{decide_begin, decide_end};
+ghost use Rattle.plain_repository.specs.Edits.{with_operation, refusal_of, id_words, decide_edit, decide_import};
+ghost use Rattle.plain_repository.specs.Events.{playable_with};
+ghost use Rattle.plain_repository.specs.Local.{decide_undo, decide_discard};
+ghost use Rattle.plain_repository.specs.Metamodels.{decide_init};
+ghost use Rattle.plain_repository.specs.Repository.{decide_command, decide_line, decide_with, block_text};
+ghost use Rattle.plain_repository.specs.Specs.{named, unknown};
+ghost use Rattle.plain_repository.specs.Views.{lines_of_open, decide_changes, decide_show, decide_cat, decide_validate, decide_log, decide_package};
 ghost use Rattle.data_lines.specs.Typed.{AreTyped};
+ghost use Rattle.model_state.specs.Good.{Good};
+ghost use Rattle.step_apply.specs.View.{plain_state};
 ghost use Rattle.model_state.specs.Names.{is_name};
 ghost use Rattle.script_lang.specs.Spelling.{IsCommand};
-ghost use Rattle.repo_core.specs.Keeping.{plain_composite};
+ghost use Rattle.repo_core.specs.Keeping.{plain_composite, plain_of};
+ghost use Rattle.repo_core.specs.Working.{IsWorkingModel, IsModelFor, NeedsNone, model_for};
 ghost use Rattle.repo_core.specs.Decisions.{seen, CanMakeIt, IsShortBlock};
 
-use crate::repo::{MOST_BYTES, Repo};
-use crate::workspace::Composite;
+use crate::repo::{Begun, MOST_BYTES, Repo};
+use crate::states::state_at;
+use crate::workspace::{Composite, Workspace};
 use data_lines::{open_lines, operation_lines, validate_lines};
 use ecore_json::{EcoreFault, read_metamodel};
 use ecore_meta::{List, Metamodel, Text};
@@ -19,6 +36,7 @@ use edit_laws::EditFault;
 use edits::{Edit, Recorded};
 use emfjson_model::{ModelFault, read_model};
 use emfjson_text::write_model;
+use history_tree::{FindFault, Found, History};
 use model_import::import_doc;
 use model_state::{Id, Operation};
 use op_form::{Event, encode_event, has_form};
@@ -69,26 +87,26 @@ fn block_text(block: &Option<Text>) -> &str
     }
 }
 
-/// Why a word names no version, where it names none.
-fn unknown(spec: &Spec) -> Option<Refusal>
-    ensures { result ≡ unknown spec.now }
+/// The version that a word names, and its branch.
+fn find(history: &History, spec: &Spec) -> Result<Found, FindFault>
+    ensures found { result ≡ named history.now.history spec.now }
+    ensures version { IfOk result (λ found. found.version < length history.now.history.versions) }
+    ensures branch { IfOk result (λ found. found.branch < length history.now.history.branches) }
 {
     match spec {
-        Spec::Number(n) => {
-            if *n == 0 {
-                None
-            } else {
-                Some(Refusal::NoVersion)
-            }
-        }
-        Spec::Branch(name) => {
-            if name.as_str() == "trunk" {
-                None
-            } else {
-                Some(Refusal::NoBranch)
-            }
-        }
-        Spec::Tag(_) => Some(Refusal::NoVersion),
+        Spec::Number(n) => history.resolve(Some(*n), None, None),
+        Spec::Branch(name) => history.resolve(None, Some(name.as_str()), None),
+        Spec::Tag(name) => history.resolve(None, None, Some(name.as_str())),
+    }
+}
+
+/// The refusal where a word names no version.
+fn unknown(fault: FindFault) -> Refusal
+    ensures { result ≡ unknown fault }
+{
+    match fault {
+        FindFault::NoVersion => Refusal::NoVersion,
+        FindFault::NoBranch => Refusal::NoBranch,
     }
 }
 
@@ -147,15 +165,6 @@ fn number_words(alloc: Global, n: u64) -> Result<Text, AllocError>
     Text::new(alloc, text.as_str())
 }
 
-/// The text of version 0.
-fn first_text(alloc: Global, meta: &Metamodel) -> Result<List<Text>, AllocError>
-    ensures { IfOk result (λ lines. lines ≡ first_text meta.now ∷ []) }
-{
-    let mut lines = List::new(alloc);
-    lines.push(write_model(alloc, &Plain::new(alloc), meta)?)?;
-    Ok(lines)
-}
-
 fn push_lines(alloc: Global, lines: &mut List<Text>, more: &List<Text>) -> Result<(), AllocError>
     ensures { OnOk result (lines.new ≡ lines.old ++ more.now) }
 {
@@ -182,19 +191,59 @@ fn push_open_lines(
     push_lines(alloc, lines, &open)
 }
 
+/// The workspace whose working model a command needs.
+fn model_for(command: &Command) -> Option<u32>
+    ensures { result ≡ model_for command.now }
+{
+    match command {
+        Command::Edit { ws, .. } => Some(*ws),
+        Command::Import { ws } => Some(*ws),
+        Command::Show { ws } => Some(*ws),
+        Command::Validate { ws } => Some(*ws),
+        _ => None,
+    }
+}
+
 impl Repo {
-    /// The answer to a line that gets one, and to the block behind it. It takes nothing of the repository.
+    /// What is known of a working model, said of the workspace that it is of. It does nothing.
+    fn settle(&self, _begun: &Begun, _ws: u32, _workspace: &Workspace, _model: &Plain)
+        requires meta { self.now.meta ≡ Some _begun.now.meta }
+        requires there { workspace_of self.now _ws ≡ Some (plain_of _workspace.now) }
+        requires model { IsWorkingModel self.now _ws _model.now }
+        ensures model { plain_state _model.now ≡ model_of _begun.now.meta self.now.history (plain_of _workspace.now) }
+        ensures good { Good _begun.now.meta (plain_state _model.now) }
+    {
+        // The contract alone speaks of it.
+    }
+
+    /// The text of a version, as the only data line.
+    fn text_of(&self, alloc: Global, begun: &Begun, v: u32) -> Result<List<Text>, AllocError>
+        requires meta { self.now.meta ≡ Some begun.now.meta }
+        requires history { self.now.history ≡ begun.now.history.history }
+        requires there { v < length begun.now.history.history.versions }
+        ensures { IfOk result (λ lines. lines ≡ text begun.now.meta (state_of begun.now.meta self.now.history v) ∷ []) }
+    {
+        self.orderly();
+        begun.meta.sound();
+        let model = state_at(alloc, &begun.meta, &begun.history, v)?;
+        let mut lines = List::new(alloc);
+        lines.push(write_model(alloc, &model, &begun.meta)?)?;
+        Ok(lines)
+    }
+
+    /// The answer to a line that gets one, and to the block behind it. Contracts see no change of the repository.
     #[tactic(auto, unfolding(plain_repository::specs::Repository::decide_line))]
     pub fn decide(
-        &self,
+        &mut self,
         alloc: Global,
         line: &str,
         block: &Option<Text>,
     ) -> Result<Decision, AllocError>
         requires line { length line.now < 2 ^ 32 - 1 }
         requires block { IsShortBlock block.now }
-        ensures decision { IfOk result (λ d. seen d ≡ decide_line self.now line.now block.now) }
-        ensures made { IfOk result (λ d. CanMakeIt self.now d.made) }
+        ensures same { self.new ≡ self.old }
+        ensures decision { IfOk result (λ d. seen d ≡ decide_line self.old line.now block.now) }
+        ensures made { IfOk result (λ d. CanMakeIt self.old d.made) }
     {
         match parse_line(alloc, line) {
             Ok(command) => self.decide_command(alloc, &command, block),
@@ -203,19 +252,48 @@ impl Repo {
         }
     }
 
-    #[tactic(auto, unfolding(plain_repository::specs::Repository::decide_command, plain_repository::specs::Repository::decide_init))]
+    /// The answer to a command, which may need the working model of a workspace.
     fn decide_command(
-        &self,
+        &mut self,
         alloc: Global,
         command: &Command,
         block: &Option<Text>,
     ) -> Result<Decision, AllocError>
         requires command { IsCommand command.now }
         requires block { IsShortBlock block.now }
+        ensures same { self.new ≡ self.old }
+        ensures decision { IfOk result (λ d. seen d ≡ decide_command self.old block.now command.now) }
+        ensures made { IfOk result (λ d. CanMakeIt self.old d.made) }
+    {
+        let Some(ws) = model_for(command) else {
+            return self.decide_on(alloc, command, block, None);
+        };
+        if self.workspace(ws).is_none() {
+            return self.decide_on(alloc, command, block, None);
+        }
+        let model = self.take_model(alloc, ws)?;
+        let decision = self.decide_on(alloc, command, block, Some(&model));
+        self.keep_model(ws, model);
+        decision
+    }
+
+    /// The same, with the model of the workspace that needs it, where that is there.
+    #[tactic(auto, unfolding(plain_repository::specs::Repository::decide_command, plain_repository::specs::Metamodels::decide_init))]
+    fn decide_on(
+        &self,
+        alloc: Global,
+        command: &Command,
+        block: &Option<Text>,
+        model: Option<&Plain>,
+    ) -> Result<Decision, AllocError>
+        requires command { IsCommand command.now }
+        requires block { IsShortBlock block.now }
+        requires model { IfSome model (λ m. IsModelFor self.now command.now m.now) }
+        requires none { IfNone model (NeedsNone self.now command.now) }
         ensures decision { IfOk result (λ d. seen d ≡ decide_command self.now block.now command.now) }
         ensures made { IfOk result (λ d. CanMakeIt self.now d.made) }
     {
-        let Some(meta) = &self.meta else {
+        let Some(begun) = &self.begun else {
             return match command {
                 Command::Init => self.decide_init(alloc, block_text(block)),
                 _ => Ok(refuse(alloc, Refusal::NotInit)),
@@ -223,27 +301,56 @@ impl Repo {
         };
         match command {
             Command::Init => Ok(refuse(alloc, Refusal::AlreadyInit)),
-            Command::Checkout { spec } => self.decide_checkout(alloc, meta, spec),
-            Command::Edit { ws, edit } => self.decide_edit(alloc, meta, *ws, edit),
-            Command::Import { ws } => self.decide_import(alloc, meta, *ws, block_text(block)),
+            Command::Checkout { spec } => self.decide_checkout(alloc, begun, spec),
+            Command::Edit { ws, edit } => self.decide_edit(alloc, begun, *ws, edit, model),
+            Command::Import { ws } => {
+                self.decide_import(alloc, begun, *ws, block_text(block), model)
+            }
             Command::Begin { ws, name } => self.decide_begin(alloc, *ws, name),
             Command::End { ws } => self.decide_end(alloc, *ws),
             Command::Undo { ws } => self.decide_undo(alloc, *ws),
             Command::Discard { ws } => self.decide_discard(alloc, *ws),
-            Command::Changes { ws } => self.decide_changes(alloc, meta, *ws),
-            Command::Show { ws } => self.decide_show(alloc, meta, *ws),
-            Command::Cat { spec } => self.decide_cat(alloc, meta, spec),
-            Command::Validate { ws } => self.decide_validate(alloc, meta, *ws),
+            Command::Changes { ws } => self.decide_changes(alloc, begun, *ws),
+            Command::Show { ws } => self.decide_show(alloc, begun, *ws, model),
+            Command::Cat { spec } => self.decide_cat(alloc, begun, spec),
+            Command::Validate { ws } => self.decide_validate(alloc, begun, *ws, model),
+            Command::Commit { ws, message } => self.decide_commit(alloc, begun, *ws, message),
+            Command::Branch { ws, name } => self.decide_branch(alloc, begun, *ws, name),
+            Command::Tag { name, spec } => self.decide_tag(alloc, begun, name, spec),
+            Command::Log => self.decide_log(alloc, begun),
+            Command::Package { spec } => self.decide_package(alloc, begun, spec),
+            Command::Drop { ws } => self.decide_drop(alloc, *ws),
         }
     }
 
-    #[tactic(auto, unfolding(plain_repository::specs::Repository::decide_init))]
+    fn decide_log(&self, _alloc: Global, _begun: &Begun) -> Result<Decision, AllocError>
+        ensures decision { IfOk result (λ d. seen d ≡ decide_log self.now) }
+        ensures made { IfOk result (λ d. CanMakeIt self.now d.made) }
+    {
+        // A stand-in until data_lines has `log_lines`.
+        Err(AllocError)
+    }
+
+    fn decide_package(
+        &self,
+        _alloc: Global,
+        _begun: &Begun,
+        _spec: &Spec,
+    ) -> Result<Decision, AllocError>
+        ensures decision { IfOk result (λ d. seen d ≡ decide_package self.now _begun.now.meta _spec.now) }
+        ensures made { IfOk result (λ d. CanMakeIt self.now d.made) }
+    {
+        // A stand-in until data_lines has `package_lines`.
+        Err(AllocError)
+    }
+
+    #[tactic(auto, unfolding(plain_repository::specs::Metamodels::decide_init))]
     fn decide_init(&self, alloc: Global, text: &str) -> Result<Decision, AllocError>
         requires short { length text.now < 2 ^ 32 - 1 }
         ensures decision { IfOk result (λ d. seen d ≡ decide_init self.now self.now.meta text.now) }
         ensures made { IfOk result (λ d. CanMakeIt self.now d.made) }
     {
-        if self.meta.is_some() {
+        if self.begun.is_some() {
             return Ok(refuse(alloc, Refusal::AlreadyInit));
         }
         match read_metamodel(alloc, text) {
@@ -258,93 +365,167 @@ impl Repo {
         }
     }
 
-    #[tactic(auto, unfolding(plain_repository::specs::Repository::decide_checkout))]
+    #[tactic(auto, unfolding(plain_repository::specs::Checkouts::decide_checkout))]
     fn decide_checkout(
         &self,
         alloc: Global,
-        meta: &Metamodel,
+        begun: &Begun,
         spec: &Spec,
     ) -> Result<Decision, AllocError>
-        requires begun { self.now.meta ≡ Some meta.now }
-        ensures decision { IfOk result (λ d. seen d ≡ decide_checkout self.now meta.now spec.now) }
+        requires meta { self.now.meta ≡ Some begun.now.meta }
+        requires history { self.now.history ≡ begun.now.history.history }
+        ensures decision { IfOk result (λ d. seen d ≡ decide_checkout self.now begun.now.meta spec.now) }
         ensures made { IfOk result (λ d. CanMakeIt self.now d.made) }
     {
-        if let Some(refusal) = unknown(spec) {
-            return Ok(refuse(alloc, refusal));
-        }
-        let lines = first_text(alloc, meta)?;
+        let found = match find(&begun.history, spec) {
+            Ok(found) => found,
+            Err(fault) => return Ok(refuse(alloc, unknown(fault))),
+        };
+        let lines = self.text_of(alloc, begun, found.version)?;
+        let number = self.workspaces.len() as u64 + 1;
+        let branch = begun.history.branch_name(found.branch);
         let mut words = String::new(alloc);
-        write!(words, "{} 0 trunk", self.workspaces.len() as u64 + 1)?;
+        write!(words, "{} {} {}", number, found.version, branch)?;
         let event = Event::Checkout {
-            version: 0,
-            branch: 0,
+            version: found.version,
+            branch: found.branch,
         };
         self.with_room(alloc, lines, Text::new(alloc, words.as_str())?, event)
     }
 
-    #[tactic(auto, unfolding(plain_repository::specs::Repository::decide_edit))]
-    fn decide_edit(
+    #[tactic(auto, unfolding(plain_repository::specs::Views::decide_cat))]
+    fn decide_cat(&self, alloc: Global, begun: &Begun, spec: &Spec) -> Result<Decision, AllocError>
+        requires meta { self.now.meta ≡ Some begun.now.meta }
+        requires history { self.now.history ≡ begun.now.history.history }
+        ensures decision { IfOk result (λ d. seen d ≡ decide_cat self.now begun.now.meta spec.now) }
+        ensures made { IfOk result (λ d. CanMakeIt self.now d.made) }
+    {
+        let found = match find(&begun.history, spec) {
+            Ok(found) => found,
+            Err(fault) => return Ok(refuse(alloc, unknown(fault))),
+        };
+        let lines = self.text_of(alloc, begun, found.version)?;
+        Ok(tell(lines, Text::new(alloc, "")?))
+    }
+
+    #[tactic(auto, unfolding(plain_repository::specs::Checkouts::decide_drop))]
+    fn decide_drop(&self, alloc: Global, ws: u32) -> Result<Decision, AllocError>
+        requires begun { self.now.meta ≢ None }
+        ensures decision { IfOk result (λ d. seen d ≡ decide_drop self.now ws) }
+        ensures made { IfOk result (λ d. CanMakeIt self.now d.made) }
+    {
+        if self.workspace(ws).is_none() {
+            return Ok(refuse(alloc, Refusal::NoWorkspace));
+        }
+        self.with_room(
+            alloc,
+            List::new(alloc),
+            Text::new(alloc, "")?,
+            Event::Drop { ws },
+        )
+    }
+
+    #[tactic(auto, unfolding(plain_repository::specs::Commits::decide_commit))]
+    fn decide_commit(
         &self,
         alloc: Global,
-        meta: &Metamodel,
+        begun: &Begun,
         ws: u32,
-        edit: &Edit,
+        message: &Option<Text>,
     ) -> Result<Decision, AllocError>
-        requires begun { self.now.meta ≡ Some meta.now }
-        ensures decision { IfOk result (λ d. seen d ≡ decide_edit self.now meta.now ws edit.now) }
+        requires meta { self.now.meta ≡ Some begun.now.meta }
+        requires history { self.now.history ≡ begun.now.history.history }
+        ensures decision { IfOk result (λ d. seen d ≡ decide_commit self.now ws message.now) }
         ensures made { IfOk result (λ d. CanMakeIt self.now d.made) }
     {
         let Some(workspace) = self.workspace(ws) else {
             return Ok(refuse(alloc, Refusal::NoWorkspace));
         };
-        meta.sound();
-        let model = workspace.model(meta);
-        let Recorded { operation, id } = match take_edit(alloc, model, meta, ws, edit) {
-            Ok(recorded) => recorded,
-            Err(fault) => match refusal_of(fault) {
-                Some(refusal) => return Ok(refuse(alloc, refusal)),
-                None => return Err(AllocError),
-            },
+        self.orderly();
+        let head = begun.history.head(workspace.branch);
+        if workspace.base != head {
+            return Ok(refuse(
+                alloc,
+                Refusal::Stale {
+                    base: workspace.base,
+                    head,
+                },
+            ));
+        }
+        if workspace.is_open() {
+            return Ok(refuse(alloc, Refusal::CompositeOpen));
+        }
+        if !workspace.has_local() {
+            return Ok(refuse(alloc, Refusal::NothingLocal));
+        }
+        let words = number_words(alloc, begun.history.version_count() as u64)?;
+        let message = match message {
+            None => Text::new(alloc, "")?,
+            Some(message) => message.copy(alloc)?,
         };
-        let words = id_words(alloc, &id)?;
-        self.with_operation(alloc, ws, words, operation)
+        let event = Event::Commit { ws, message };
+        self.with_room(alloc, List::new(alloc), words, event)
     }
 
-    #[tactic(auto, unfolding(plain_repository::specs::Repository::decide_import))]
-    fn decide_import(
+    #[tactic(auto, unfolding(plain_repository::specs::Commits::decide_branch))]
+    fn decide_branch(
         &self,
         alloc: Global,
-        meta: &Metamodel,
+        begun: &Begun,
         ws: u32,
-        text: &str,
+        name: &Text,
     ) -> Result<Decision, AllocError>
-        requires begun { self.now.meta ≡ Some meta.now }
-        requires short { length text.now < 2 ^ 32 - 1 }
-        ensures decision { IfOk result (λ d. seen d ≡ decide_import self.now meta.now ws text.now) }
+        requires meta { self.now.meta ≡ Some begun.now.meta }
+        requires history { self.now.history ≡ begun.now.history.history }
+        requires name { is_name name.now ≡ true }
+        ensures decision { IfOk result (λ d. seen d ≡ decide_branch self.now ws name.now) }
         ensures made { IfOk result (λ d. CanMakeIt self.now d.made) }
     {
         let Some(workspace) = self.workspace(ws) else {
             return Ok(refuse(alloc, Refusal::NoWorkspace));
         };
-        let doc = match read_model(alloc, text, meta) {
-            Ok(doc) => doc,
-            Err(ModelFault::Memory) => return Err(AllocError),
-            Err(fault) => return Ok(refuse(alloc, Refusal::BadModel { n: fault.number() })),
+        if workspace.is_open() {
+            return Ok(refuse(alloc, Refusal::CompositeOpen));
+        }
+        if begun.history.branch_named(name.as_str()).is_some() {
+            return Ok(refuse(alloc, Refusal::BranchExists));
+        }
+        let event = Event::Branch {
+            ws,
+            name: name.copy(alloc)?,
         };
-        meta.sound();
-        let model = workspace.model(meta);
-        let operation = match import_doc(alloc, model, meta, ws, &doc) {
-            Ok(operation) => operation,
-            Err(fault) => match refusal_of(fault) {
-                Some(refusal) => return Ok(refuse(alloc, refusal)),
-                None => return Err(AllocError),
-            },
-        };
-        let words = number_words(alloc, doc.rows.len() as u64)?;
-        self.with_operation(alloc, ws, words, operation)
+        self.with_room(alloc, List::new(alloc), Text::new(alloc, "")?, event)
     }
 
-    #[tactic(auto, unfolding(plain_repository::specs::Repository::decide_begin))]
+    #[tactic(auto, unfolding(plain_repository::specs::Commits::decide_tag))]
+    fn decide_tag(
+        &self,
+        alloc: Global,
+        begun: &Begun,
+        name: &Text,
+        spec: &Spec,
+    ) -> Result<Decision, AllocError>
+        requires meta { self.now.meta ≡ Some begun.now.meta }
+        requires history { self.now.history ≡ begun.now.history.history }
+        requires name { is_name name.now ≡ true }
+        ensures decision { IfOk result (λ d. seen d ≡ decide_tag self.now name.now spec.now) }
+        ensures made { IfOk result (λ d. CanMakeIt self.now d.made) }
+    {
+        if begun.history.has_tag(name.as_str()) {
+            return Ok(refuse(alloc, Refusal::TagExists));
+        }
+        let found = match find(&begun.history, spec) {
+            Ok(found) => found,
+            Err(fault) => return Ok(refuse(alloc, unknown(fault))),
+        };
+        let event = Event::Tag {
+            name: name.copy(alloc)?,
+            version: found.version,
+        };
+        self.with_room(alloc, List::new(alloc), Text::new(alloc, "")?, event)
+    }
+
+    #[tactic(auto, unfolding(plain_repository::specs::Composites::decide_begin))]
     fn decide_begin(&self, alloc: Global, ws: u32, name: &Text) -> Result<Decision, AllocError>
         requires begun { self.now.meta ≢ None }
         requires name { is_name name.now ≡ true }
@@ -364,7 +545,7 @@ impl Repo {
         self.with_room(alloc, List::new(alloc), Text::new(alloc, "")?, event)
     }
 
-    #[tactic(auto, unfolding(plain_repository::specs::Repository::decide_end))]
+    #[tactic(auto, unfolding(plain_repository::specs::Composites::decide_end))]
     fn decide_end(&self, alloc: Global, ws: u32) -> Result<Decision, AllocError>
         requires begun { self.now.meta ≢ None }
         ensures decision { IfOk result (λ d. seen d ≡ decide_end self.now ws) }
@@ -384,7 +565,7 @@ impl Repo {
         )
     }
 
-    #[tactic(auto, unfolding(plain_repository::specs::Repository::decide_undo))]
+    #[tactic(auto, unfolding(plain_repository::specs::Local::decide_undo))]
     fn decide_undo(&self, alloc: Global, ws: u32) -> Result<Decision, AllocError>
         requires begun { self.now.meta ≢ None }
         ensures decision { IfOk result (λ d. seen d ≡ decide_undo self.now ws) }
@@ -407,7 +588,7 @@ impl Repo {
         )
     }
 
-    #[tactic(auto, unfolding(plain_repository::specs::Repository::decide_discard))]
+    #[tactic(auto, unfolding(plain_repository::specs::Local::decide_discard))]
     fn decide_discard(&self, alloc: Global, ws: u32) -> Result<Decision, AllocError>
         requires begun { self.now.meta ≢ None }
         ensures decision { IfOk result (λ d. seen d ≡ decide_discard self.now ws) }
@@ -423,75 +604,150 @@ impl Repo {
         self.with_room(alloc, List::new(alloc), words, Event::Discard { ws })
     }
 
-    #[tactic(auto, unfolding(plain_repository::specs::Repository::decide_changes))]
-    fn decide_changes(
+    #[tactic(auto, unfolding(plain_repository::specs::Views::decide_changes))]
+    fn decide_changes(&self, alloc: Global, begun: &Begun, ws: u32) -> Result<Decision, AllocError>
+        requires meta { self.now.meta ≡ Some begun.now.meta }
+        requires history { self.now.history ≡ begun.now.history.history }
+        ensures decision { IfOk result (λ d. seen d ≡ decide_changes self.now begun.now.meta ws) }
+        ensures made { IfOk result (λ d. CanMakeIt self.now d.made) }
+    {
+        let Some(workspace) = self.workspace(ws) else {
+            return Ok(refuse(alloc, Refusal::NoWorkspace));
+        };
+        self.orderly();
+        begun.meta.sound();
+        let mut lines = operation_lines(alloc, workspace.operations(), &begun.meta)?;
+        push_open_lines(alloc, &mut lines, workspace.composite(), &begun.meta)?;
+        Ok(tell(lines, Text::new(alloc, "")?))
+    }
+
+    #[tactic(auto, unfolding(plain_repository::specs::Views::decide_show))]
+    fn decide_show(
         &self,
         alloc: Global,
-        meta: &Metamodel,
+        begun: &Begun,
         ws: u32,
+        model: Option<&Plain>,
     ) -> Result<Decision, AllocError>
-        requires begun { self.now.meta ≡ Some meta.now }
-        ensures decision { IfOk result (λ d. seen d ≡ decide_changes self.now meta.now ws) }
+        requires meta { self.now.meta ≡ Some begun.now.meta }
+        requires history { self.now.history ≡ begun.now.history.history }
+        requires model { IfSome model (λ m. IsWorkingModel self.now ws m.now) }
+        requires none { IfNone model (workspace_of self.now ws ≡ None) }
+        ensures decision { IfOk result (λ d. seen d ≡ decide_show self.now begun.now.meta ws) }
         ensures made { IfOk result (λ d. CanMakeIt self.now d.made) }
     {
         let Some(workspace) = self.workspace(ws) else {
             return Ok(refuse(alloc, Refusal::NoWorkspace));
         };
-        meta.sound();
-        let mut lines = operation_lines(alloc, workspace.operations(), meta)?;
-        push_open_lines(alloc, &mut lines, workspace.composite(), meta)?;
-        Ok(tell(lines, Text::new(alloc, "")?))
-    }
-
-    #[tactic(auto, unfolding(plain_repository::specs::Repository::decide_show))]
-    fn decide_show(&self, alloc: Global, meta: &Metamodel, ws: u32) -> Result<Decision, AllocError>
-        requires begun { self.now.meta ≡ Some meta.now }
-        ensures decision { IfOk result (λ d. seen d ≡ decide_show self.now meta.now ws) }
-        ensures made { IfOk result (λ d. CanMakeIt self.now d.made) }
-    {
-        let Some(workspace) = self.workspace(ws) else {
+        let Some(model) = model else {
             return Ok(refuse(alloc, Refusal::NoWorkspace));
         };
+        self.settle(begun, ws, workspace, model);
         let mut lines = List::new(alloc);
-        lines.push(write_model(alloc, workspace.model(meta), meta)?)?;
+        lines.push(write_model(alloc, model, &begun.meta)?)?;
         Ok(tell(lines, Text::new(alloc, "")?))
     }
 
-    #[tactic(auto, unfolding(plain_repository::specs::Repository::decide_cat))]
-    fn decide_cat(
-        &self,
-        alloc: Global,
-        meta: &Metamodel,
-        spec: &Spec,
-    ) -> Result<Decision, AllocError>
-        ensures decision { IfOk result (λ d. seen d ≡ decide_cat meta.now spec.now) }
-        ensures made { IfOk result (λ d. CanMakeIt self.now d.made) }
-    {
-        match unknown(spec) {
-            Some(refusal) => Ok(refuse(alloc, refusal)),
-            None => {
-                let lines = first_text(alloc, meta)?;
-                Ok(tell(lines, Text::new(alloc, "")?))
-            }
-        }
-    }
-
-    #[tactic(auto, unfolding(plain_repository::specs::Repository::decide_validate))]
+    #[tactic(auto, unfolding(plain_repository::specs::Views::decide_validate))]
     fn decide_validate(
         &self,
         alloc: Global,
-        meta: &Metamodel,
+        begun: &Begun,
         ws: u32,
+        model: Option<&Plain>,
     ) -> Result<Decision, AllocError>
-        requires begun { self.now.meta ≡ Some meta.now }
-        ensures decision { IfOk result (λ d. seen d ≡ decide_validate self.now meta.now ws) }
+        requires meta { self.now.meta ≡ Some begun.now.meta }
+        requires history { self.now.history ≡ begun.now.history.history }
+        requires model { IfSome model (λ m. IsWorkingModel self.now ws m.now) }
+        requires none { IfNone model (workspace_of self.now ws ≡ None) }
+        ensures decision { IfOk result (λ d. seen d ≡ decide_validate self.now begun.now.meta ws) }
         ensures made { IfOk result (λ d. CanMakeIt self.now d.made) }
     {
         let Some(workspace) = self.workspace(ws) else {
             return Ok(refuse(alloc, Refusal::NoWorkspace));
         };
-        let lines = validate_lines(alloc, workspace.model(meta), meta)?;
+        let Some(model) = model else {
+            return Ok(refuse(alloc, Refusal::NoWorkspace));
+        };
+        self.settle(begun, ws, workspace, model);
+        let lines = validate_lines(alloc, model, &begun.meta)?;
         Ok(tell(lines, Text::new(alloc, "")?))
+    }
+
+    #[tactic(auto, unfolding(plain_repository::specs::Edits::decide_edit))]
+    fn decide_edit(
+        &self,
+        alloc: Global,
+        begun: &Begun,
+        ws: u32,
+        edit: &Edit,
+        model: Option<&Plain>,
+    ) -> Result<Decision, AllocError>
+        requires meta { self.now.meta ≡ Some begun.now.meta }
+        requires history { self.now.history ≡ begun.now.history.history }
+        requires model { IfSome model (λ m. IsWorkingModel self.now ws m.now) }
+        requires none { IfNone model (workspace_of self.now ws ≡ None) }
+        ensures decision { IfOk result (λ d. seen d ≡ decide_edit self.now begun.now.meta ws edit.now) }
+        ensures made { IfOk result (λ d. CanMakeIt self.now d.made) }
+    {
+        let Some(workspace) = self.workspace(ws) else {
+            return Ok(refuse(alloc, Refusal::NoWorkspace));
+        };
+        let Some(model) = model else {
+            return Ok(refuse(alloc, Refusal::NoWorkspace));
+        };
+        self.settle(begun, ws, workspace, model);
+        begun.meta.sound();
+        let Recorded { operation, id } = match take_edit(alloc, model, &begun.meta, ws, edit) {
+            Ok(recorded) => recorded,
+            Err(fault) => match refusal_of(fault) {
+                Some(refusal) => return Ok(refuse(alloc, refusal)),
+                None => return Err(AllocError),
+            },
+        };
+        let words = id_words(alloc, &id)?;
+        self.with_operation(alloc, ws, words, operation)
+    }
+
+    #[tactic(auto, unfolding(plain_repository::specs::Edits::decide_import))]
+    fn decide_import(
+        &self,
+        alloc: Global,
+        begun: &Begun,
+        ws: u32,
+        text: &str,
+        model: Option<&Plain>,
+    ) -> Result<Decision, AllocError>
+        requires meta { self.now.meta ≡ Some begun.now.meta }
+        requires history { self.now.history ≡ begun.now.history.history }
+        requires short { length text.now < 2 ^ 32 - 1 }
+        requires model { IfSome model (λ m. IsWorkingModel self.now ws m.now) }
+        requires none { IfNone model (workspace_of self.now ws ≡ None) }
+        ensures decision { IfOk result (λ d. seen d ≡ decide_import self.now begun.now.meta ws text.now) }
+        ensures made { IfOk result (λ d. CanMakeIt self.now d.made) }
+    {
+        let Some(workspace) = self.workspace(ws) else {
+            return Ok(refuse(alloc, Refusal::NoWorkspace));
+        };
+        let Some(model) = model else {
+            return Ok(refuse(alloc, Refusal::NoWorkspace));
+        };
+        self.settle(begun, ws, workspace, model);
+        let doc = match read_model(alloc, text, &begun.meta) {
+            Ok(doc) => doc,
+            Err(ModelFault::Memory) => return Err(AllocError),
+            Err(fault) => return Ok(refuse(alloc, Refusal::BadModel { n: fault.number() })),
+        };
+        begun.meta.sound();
+        let operation = match import_doc(alloc, model, &begun.meta, ws, &doc) {
+            Ok(operation) => operation,
+            Err(fault) => match refusal_of(fault) {
+                Some(refusal) => return Ok(refuse(alloc, refusal)),
+                None => return Err(AllocError),
+            },
+        };
+        let words = number_words(alloc, doc.rows.len() as u64)?;
+        self.with_operation(alloc, ws, words, operation)
     }
 
     /// Makes an event of what is recorded; where there is no operation, nothing changes.
@@ -515,7 +771,7 @@ impl Repo {
     }
 
     /// Makes an event, where the history and the journal have room.
-    #[tactic(auto, unfolding(plain_repository::specs::Repository::with_room, plain_repository::specs::Repository::playable))]
+    #[tactic(auto, unfolding(plain_repository::specs::Answers::with_room, plain_repository::specs::Events::playable))]
     fn with_room(
         &self,
         alloc: Global,

@@ -3,7 +3,9 @@
 
 mod deciding;
 mod fault;
+mod playing;
 mod repo;
+mod states;
 mod workspace;
 
 pub use deciding::{Decision, Made};

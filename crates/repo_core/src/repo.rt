@@ -1,48 +1,52 @@
-//! The repository in memory, and what an event makes of it.
-ghost use Rattle.std.specs.Prelude.{◌≡◌, ◌≢◌, ◌+◌, ◌-◌, ◌≤◌, ◌<◌, ◌^◌, suc, None, OnOk, IfNone, IfSome, IsErrOf, IsTrue, length, true, false, Some};
+//! The repository in memory.
+ghost use Rattle.std.specs.Prelude.{◌≡◌, ◌+◌, ◌≤◌, ◌<◌, ◌^◌, suc, None, IfNone, IfOk, IfSome, length, is_some, true, false, Some};
 ghost use Rattle.std.specs.Bool.{OnTrue, OnFalse};
 ghost use Rattle.std.specs.Option.{option_copied, option_map};
-ghost use Rattle.ecore_meta.specs.Meta.{Meta};
-ghost use Rattle.op_form.specs.declared.event.Event.{Event};
-ghost use Rattle.op_form.specs.declared.event.Event.TheVariants.{Init, Checkout, Edit, Begin, End, Undo, Discard};
-ghost use Rattle.op_form.specs.Events.{event_form};
-ghost use Rattle.op_form.specs.Formed.{is_event};
-ghost use Rattle.plain_repository.specs.Repository.{empty, workspace_of, effect, play, playable, playable_with, most_bytes};
-ghost use Rattle.repo_core.specs.Keeping.{Keeps, plain_of};
+ghost use Rattle.plain_repository.specs.State.{empty, workspace_of};
+ghost use Rattle.plain_repository.specs.Orderly.{IsOrderly};
+ghost use Rattle.repo_core.specs.Keeping.{plain_of};
+ghost use Rattle.repo_core.specs.Working.{IsWorkingModel};
 
-use crate::fault::ReplayFault;
 use crate::workspace::Workspace;
-use ecore_json::{EcoreFault, read_metamodel};
-use ecore_meta::{Metamodel, Text};
-use model_state::{Package, is_name};
-use op_form::{Event, FormFault, decode_event};
+use ecore_meta::Metamodel;
+use history_tree::History;
 use std::alloc::{AllocError, Global};
 use std::marker::Model;
+use step_apply::Plain;
 
 const MOST_EVENTS: u32 = u32::MAX;
 
 /// The most bytes of an event.
 pub const MOST_BYTES: usize = 16_777_211;
 
-/// The metamodel once there is one, the workspaces, and how much of the history and of the file is used.
+/// What `init` makes: the metamodel, and the history.
+#[derive(Drop)]
+pub(crate) struct Begun {
+    pub(crate) meta: Metamodel,
+    pub(crate) history: History,
+}
+
+/// The metamodel and the history once there are such, the workspaces, and how much of the journal is used. Contracts see all but the models that
+/// workspaces keep.
 #[derive(Drop)]
 pub struct Repo {
-    pub(crate) meta: Option<Metamodel>,
-    pub(crate) workspaces: Vec<Workspace>,
+    pub(crate) begun: Option<Begun>,
+    pub(crate) workspaces: Vec<Option<Workspace>>,
     events: u32,
     pub(crate) end: u64,
 }
 
 impl Model for Repo {
     ghost use Rattle.std.specs.Prelude.{◌^◌, ◌≤◌, map};
-    ghost use Rattle.plain_repository.specs.Repository.{State};
-    ghost use Rattle.repo_core.specs.Keeping.{AreKept, plain_of};
+    ghost use Rattle.plain_repository.specs.State.{State};
+    ghost use Rattle.plain_repository.specs.Orderly.{IsOrderly};
+    ghost use Rattle.repo_core.specs.Keeping.{AllFit, meta_of, history_of, plain_any};
 
     ghost Value = { State };
 
-    ghost view = { λ r. record { meta = r.meta; workspaces = map plain_of r.workspaces.items; events = r.events; end = r.end } };
+    ghost view = { λ r. record { meta = meta_of r.begun; history = history_of r.begun; workspaces = map plain_any r.workspaces.items; events = r.events; end = r.end } };
 
-    ghost invariant = { λ r. (r.end ≤ 2 ^ 40) × AreKept r.meta r.workspaces.items };
+    ghost invariant = { λ r. (r.end ≤ 2 ^ 40) × AllFit r.begun r.workspaces.items × IsOrderly (record { meta = meta_of r.begun; history = history_of r.begun; workspaces = map plain_any r.workspaces.items; events = r.events; end = r.end }) };
 }
 
 impl Repo {
@@ -51,11 +55,19 @@ impl Repo {
         ensures { result ≡ empty }
     {
         Repo {
-            meta: None,
+            begun: None,
             workspaces: Vec::new(alloc),
             events: 0,
             end: 16,
         }
+    }
+
+    /// All is in order. A holder of any repository has it by this call, which does nothing.
+    pub fn orderly(&self)
+        ensures { IsOrderly self.now }
+    {
+        // For what the type's invariant says.
+        let _workspaces = &self.workspaces;
     }
 
     /// Whether the history has no room for an event.
@@ -69,16 +81,18 @@ impl Repo {
     /// The workspace of that number.
     pub(crate) fn workspace(&self, ws: u32) -> Option<&Workspace>
         ensures found { option_map plain_of (option_copied result) ≡ workspace_of self.now ws }
-        ensures keeps { IfSome result (λ w. (meta : Meta) → self.now.meta ≡ Some meta → Keeps meta w.now) }
     {
         if ws == 0 {
             return None;
         }
-        self.workspaces.get(ws as usize - 1)
+        match self.workspaces.get(ws as usize - 1) {
+            None => None,
+            Some(workspace) => workspace.as_ref(),
+        }
     }
 
     /// The place of the workspace of that number.
-    fn place_of(&self, ws: u32) -> Option<usize>
+    pub(crate) fn place_of(&self, ws: u32) -> Option<usize>
         ensures there { IfSome result (λ i. (ws ≡ suc i) × (i < length self.now.workspaces)) }
         ensures none { IfNone result (workspace_of self.now ws ≡ None) }
     {
@@ -88,196 +102,41 @@ impl Repo {
         Some(ws as usize - 1)
     }
 
-    /// Takes the metamodel of a text, where there is none yet.
-    fn begin(&mut self, alloc: Global, text: &Text) -> Result<(), ReplayFault>
-        requires short { length text.now < 2 ^ 32 - 1 }
-        ensures could { OnOk result (playable_with self.old self.old.meta (Init text.now) ≡ true) }
-        ensures done { OnOk result (self.new ≡ effect self.old (Init text.now)) }
-        ensures cannot { IsErrOf result ReplayFault.NotPlayable → playable_with self.old self.old.meta (Init text.now) ≡ false }
-    {
-        if self.meta.is_some() {
-            return Err(ReplayFault::NotPlayable);
-        }
-        match read_metamodel(alloc, text.as_str()) {
-            Ok(meta) => {
-                self.meta = Some(meta);
-                Ok(())
-            }
-            Err(EcoreFault::Memory) => Err(ReplayFault::Memory),
-            Err(_) => Err(ReplayFault::NotPlayable),
-        }
-    }
-
-    /// Makes a workspace at a version on a branch, where they are there.
-    fn check_out(&mut self, alloc: Global, version: u32, branch: u32) -> Result<(), ReplayFault>
-        ensures could { OnOk result (playable_with self.old self.old.meta (Checkout version branch) ≡ true) }
-        ensures done { OnOk result (self.new ≡ effect self.old (Checkout version branch)) }
-        ensures cannot { IsErrOf result ReplayFault.NotPlayable → playable_with self.old self.old.meta (Checkout version branch) ≡ false }
-    {
-        if !self.meta.is_some() || version != 0 || branch != 0 {
-            return Err(ReplayFault::NotPlayable);
-        }
-        match self.workspaces.push(Workspace::new(alloc)) {
-            Ok(()) => Ok(()),
-            Err(_) => Err(ReplayFault::Memory),
-        }
-    }
-
-    /// Takes a package on the model of a workspace and records it there, where each of its steps can be taken.
-    fn record(&mut self, alloc: Global, ws: u32, package: &Package) -> Result<(), ReplayFault>
-        ensures could { OnOk result (playable_with self.old self.old.meta (Edit ws «package».now) ≡ true) }
-        ensures done { OnOk result (self.new ≡ effect self.old (Edit ws «package».now)) }
-        ensures cannot { IsErrOf result ReplayFault.NotPlayable → playable_with self.old self.old.meta (Edit ws «package».now) ≡ false }
+    /// The working model of a workspace, which doesn't keep it meanwhile.
+    pub(crate) fn take_model(&mut self, alloc: Global, ws: u32) -> Result<Plain, AllocError>
+        requires there { is_some (workspace_of self.old ws) ≡ true }
+        ensures same { self.new ≡ self.old }
+        ensures model { IfOk result (λ m. IsWorkingModel self.old ws m) }
     {
         let Some(at) = self.place_of(ws) else {
-            return Err(ReplayFault::NotPlayable);
+            unreachable!()
         };
-        if !self.workspaces[at].takes(package) {
-            return Err(ReplayFault::NotPlayable);
-        }
-        let Some(meta) = &self.meta else {
-            return Err(ReplayFault::NotPlayable);
+        let Some(begun) = &self.begun else {
+            unreachable!()
         };
-        meta.sound();
-        self.workspaces[at].record(alloc, meta, package)
+        let Some(workspace) = &mut self.workspaces[at] else {
+            unreachable!()
+        };
+        begun.meta.sound();
+        workspace.take_model(alloc, &begun.meta, &begun.history)
     }
 
-    /// Opens a composite of that name in a workspace, where none is open.
-    fn open_composite(&mut self, alloc: Global, ws: u32, name: &Text) -> Result<(), ReplayFault>
-        ensures could { OnOk result (playable_with self.old self.old.meta (Begin ws name.now) ≡ true) }
-        ensures done { OnOk result (self.new ≡ effect self.old (Begin ws name.now)) }
-        ensures cannot { IsErrOf result ReplayFault.NotPlayable → playable_with self.old self.old.meta (Begin ws name.now) ≡ false }
-    {
-        if !self.meta.is_some() || !is_name(name.as_str()) {
-            return Err(ReplayFault::NotPlayable);
-        }
-        let Some(at) = self.place_of(ws) else {
-            return Err(ReplayFault::NotPlayable);
-        };
-        if self.workspaces[at].is_open() {
-            return Err(ReplayFault::NotPlayable);
-        }
-        self.workspaces[at].open_composite(alloc, name)
-    }
-
-    /// Closes the composite that is open in a workspace.
-    fn close_composite(&mut self, alloc: Global, ws: u32) -> Result<(), ReplayFault>
-        ensures could { OnOk result (playable_with self.old self.old.meta (End ws) ≡ true) }
-        ensures done { OnOk result (self.new ≡ effect self.old (End ws)) }
-        ensures cannot { IsErrOf result ReplayFault.NotPlayable → playable_with self.old self.old.meta (End ws) ≡ false }
+    /// The workspace keeps its working model.
+    pub(crate) fn keep_model(&mut self, ws: u32, model: Plain)
+        requires there { is_some (workspace_of self.old ws) ≡ true }
+        requires model { IsWorkingModel self.old ws model }
+        ensures same { self.new ≡ self.old }
     {
         let Some(at) = self.place_of(ws) else {
-            return Err(ReplayFault::NotPlayable);
+            unreachable!()
         };
-        if !self.workspaces[at].is_open() {
-            return Err(ReplayFault::NotPlayable);
-        }
-        let Some(meta) = &self.meta else {
-            return Err(ReplayFault::NotPlayable);
+        let Some(begun) = &self.begun else {
+            unreachable!()
         };
-        self.workspaces[at].close_composite(alloc, meta)
-    }
-
-    /// Takes the last operation of a workspace back and lets it go, where there is one and no composite is open.
-    fn undo(&mut self, alloc: Global, ws: u32) -> Result<(), ReplayFault>
-        ensures could { OnOk result (playable_with self.old self.old.meta (Undo ws) ≡ true) }
-        ensures done { OnOk result (self.new ≡ effect self.old (Undo ws)) }
-        ensures cannot { IsErrOf result ReplayFault.NotPlayable → playable_with self.old self.old.meta (Undo ws) ≡ false }
-    {
-        let Some(at) = self.place_of(ws) else {
-            return Err(ReplayFault::NotPlayable);
+        begun.meta.sound();
+        let Some(workspace) = &mut self.workspaces[at] else {
+            unreachable!()
         };
-        if !self.workspaces[at].can_undo() {
-            return Err(ReplayFault::NotPlayable);
-        }
-        let Some(meta) = &self.meta else {
-            return Err(ReplayFault::NotPlayable);
-        };
-        meta.sound();
-        self.workspaces[at].undo(alloc, meta)
-    }
-
-    /// Lets all operations of a workspace and its open composite go, where there are some.
-    fn discard(&mut self, alloc: Global, ws: u32) -> Result<(), ReplayFault>
-        ensures could { OnOk result (playable_with self.old self.old.meta (Discard ws) ≡ true) }
-        ensures done { OnOk result (self.new ≡ effect self.old (Discard ws)) }
-        ensures cannot { IsErrOf result ReplayFault.NotPlayable → playable_with self.old self.old.meta (Discard ws) ≡ false }
-    {
-        if !self.meta.is_some() {
-            return Err(ReplayFault::NotPlayable);
-        }
-        let Some(at) = self.place_of(ws) else {
-            return Err(ReplayFault::NotPlayable);
-        };
-        if !self.workspaces[at].is_touched() {
-            return Err(ReplayFault::NotPlayable);
-        }
-        self.workspaces[at].clear(alloc);
-        Ok(())
-    }
-
-    /// What an event changes beside the numbers that every event raises, where a command could make it.
-    fn carry_out(&mut self, alloc: Global, event: &Event) -> Result<(), ReplayFault>
-        requires short { length (event_form event.now) ≤ most_bytes }
-        ensures could { OnOk result (playable_with self.old self.old.meta event.now ≡ true) }
-        ensures done { OnOk result (self.new ≡ effect self.old event.now) }
-        ensures cannot { IsErrOf result ReplayFault.NotPlayable → playable_with self.old self.old.meta event.now ≡ false }
-    {
-        match event {
-            Event::Init { text } => self.begin(alloc, text),
-            Event::Checkout { version, branch } => self.check_out(alloc, *version, *branch),
-            Event::Edit { ws, package } => self.record(alloc, *ws, package),
-            Event::Begin { ws, name } => self.open_composite(alloc, *ws, name),
-            Event::End { ws } => self.close_composite(alloc, *ws),
-            Event::Undo { ws } => self.undo(alloc, *ws),
-            Event::Discard { ws } => self.discard(alloc, *ws),
-        }
-    }
-
-    /// Makes an event whose bytes are so many, where a command could make it.
-    #[tactic(auto, unfolding(plain_repository::specs::Repository::play, plain_repository::specs::Repository::playable))]
-    fn make(&mut self, alloc: Global, event: &Event, size: usize) -> Result<(), ReplayFault>
-        requires event { is_event event.now ≡ true }
-        requires size { size ≡ length (event_form event.now) }
-        requires room { self.old.end + 5 + size < 2 ^ 40 }
-        ensures could { OnOk result (IsTrue (playable self.old event.now)) }
-        ensures made { OnOk result (self.new ≡ play self.old event.now) }
-        ensures cannot { IsErrOf result ReplayFault.NotPlayable → playable self.old event.now ≡ false }
-    {
-        if self.is_full() || size > MOST_BYTES {
-            return Err(ReplayFault::NotPlayable);
-        }
-        self.carry_out(alloc, event)?;
-        self.events += 1;
-        self.end += 5 + size as u64;
-        Ok(())
-    }
-
-    /// Makes an event whose bytes are so many. After an error the repository is of no use.
-    pub fn play(&mut self, alloc: Global, event: &Event, size: usize) -> Result<(), AllocError>
-        requires can { IsTrue (playable self.old event.now) }
-        requires size { size ≡ length (event_form event.now) }
-        requires room { self.old.end + 5 + size < 2 ^ 40 }
-        ensures played { OnOk result (self.new ≡ play self.old event.now) }
-    {
-        match self.make(alloc, event, size) {
-            Ok(()) => Ok(()),
-            Err(ReplayFault::Memory) => Err(AllocError),
-            Err(ReplayFault::NotPlayable) => unreachable!(),
-        }
-    }
-
-    /// Plays the event that the bytes of a record are. After an error the repository is of no use.
-    pub fn replay(&mut self, alloc: Global, bytes: &[u8]) -> Result<(), ReplayFault>
-        requires room { self.old.end + 5 + length bytes.now < 2 ^ 40 }
-        ensures played { OnOk result ((event : Event) × IsTrue (playable self.old event) × (bytes.now ≡ event_form event) × (self.new ≡ play self.old event)) }
-        ensures refused { IsErrOf result ReplayFault.NotPlayable → (event : Event) → IsTrue (playable self.old event) → bytes.now ≢ event_form event }
-    {
-        let event = match decode_event(alloc, bytes) {
-            Ok(event) => event,
-            Err(FormFault::NotForm { .. }) => return Err(ReplayFault::NotPlayable),
-            Err(FormFault::Memory) => return Err(ReplayFault::Memory),
-        };
-        self.make(alloc, &event, bytes.len())
+        workspace.keep_model(model);
     }
 }

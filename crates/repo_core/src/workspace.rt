@@ -1,21 +1,21 @@
-//! A workspace in memory, which keeps its working model.
-ghost use Rattle.std.specs.Prelude.{◌≡◌, ◌≢◌, ◌++◌, ◌&&◌, ◌||◌, ◌<◌, is_some, length, true, false, OnOk, IfErr, IsErrOf, None, Some};
-ghost use Rattle.std.specs.Bool.{OnTrue, OnFalse};
+//! A workspace in memory, which may keep its working model.
+ghost use Rattle.std.specs.Prelude.{◌≡◌, ◌≢◌, ◌<◌, ◌&&◌, ◌||◌, length, is_some, true, None, IfOk, OnOk, IfErr, Some};
 ghost use Rattle.std.specs.Option.{option_copied};
-ghost use Rattle.ecore_meta.specs.Meta.{Meta};
 ghost use Rattle.ecore_meta.specs.Sound.{Sound};
 ghost use Rattle.model_state.specs.Good.{Good};
-ghost use Rattle.model_state.specs.State.{nothing};
-ghost use Rattle.model_state.specs.Packages.{steps_all, steps_of, fold_package};
+ghost use Rattle.model_state.specs.Steps.{fold};
 ghost use Rattle.step_apply.specs.View.{plain_state};
-ghost use Rattle.plain_repository.specs.Repository.{model_of, untouched, with_more, with_open, with_closed, without_last, can_follow, takes, has_operations, is_open, is_closed};
-ghost use Rattle.repo_core.specs.Keeping.{plain_of, Lead, Keeps};
+ghost use Rattle.history_tree.specs.States.{state_folded};
+ghost use Rattle.plain_repository.specs.State.{model_of, folded, recorded_steps, untouched, has_operations, has_local, is_open};
+ghost use Rattle.plain_repository.specs.Composites.{with_open};
+ghost use Rattle.plain_repository.specs.Local.{can_discard, without_any, without_last};
+ghost use Rattle.repo_core.specs.Keeping.{plain_of, Fits};
 
-use crate::fault::{ReplayFault, package_fault};
+use crate::states::{follow, state_at};
 use ecore_meta::{List, Metamodel, Text};
+use history_tree::History;
 use model_laws::replay;
 use model_state::{Operation, Package, Step, StepFault};
-use op_form::reverse_op;
 use std::alloc::{AllocError, Global};
 use step_apply::Plain;
 
@@ -26,78 +26,30 @@ pub(crate) struct Composite {
     pub(crate) steps: List<Step>,
 }
 
-/// The operations recorded in a workspace, in their order, the composite that is open, where one is, and the working model that all their steps lead to.
+/// What is recorded in a workspace, and its working model, where it is kept. Contracts of the repository don't see the model.
 #[derive(Drop)]
 pub(crate) struct Workspace {
+    pub(crate) branch: u32,
+    pub(crate) base: u32,
     pub(crate) operations: List<Operation>,
     pub(crate) composite: Option<Composite>,
-    pub(crate) model: Plain,
-}
-
-fn steps_in(operation: &Operation) -> &[Step]
-    ensures { result.now ≡ steps_of operation.now }
-{
-    match operation {
-        Operation::Simple { steps, .. } => steps.as_slice(),
-        Operation::Composite { steps, .. } => steps.as_slice(),
-    }
-}
-
-/// Takes the steps of a package one by one, up to the first that can't be taken. After an error the model is of no use.
-fn follow(model: &mut Plain, meta: &Metamodel, package: &Package) -> Result<(), StepFault>
-    requires sound { Sound meta.now }
-    requires good { Good meta.now (plain_state model.old) }
-    ensures done { OnOk result (fold_package meta.now (plain_state model.old) «package».now ≡ Some (plain_state model.new)) }
-    ensures cannot { IfErr result (λ e. e ≢ StepFault.Memory → fold_package meta.now (plain_state model.old) «package».now ≡ None) }
-    ensures good { Good meta.now (plain_state model.new) }
-{
-    for operation in package.as_slice() {
-        replay(model, meta, steps_in(operation))?;
-    }
-    Ok(())
-}
-
-fn push_operations(
-    alloc: Global,
-    operations: &mut List<Operation>,
-    package: &Package,
-) -> Result<(), AllocError>
-    ensures { OnOk result (operations.new ≡ operations.old ++ «package».now) }
-{
-    for operation in package.as_slice() {
-        operations.push(operation.copy(alloc)?)?;
-    }
-    Ok(())
-}
-
-fn push_steps(alloc: Global, steps: &mut List<Step>, package: &Package) -> Result<(), AllocError>
-    ensures { OnOk result (steps.new ≡ steps.old ++ steps_all «package».now) }
-{
-    for operation in package.as_slice() {
-        push_copies(alloc, steps, steps_in(operation))?;
-    }
-    Ok(())
-}
-
-fn push_copies(alloc: Global, steps: &mut List<Step>, more: &[Step]) -> Result<(), AllocError>
-    ensures { OnOk result (steps.new ≡ steps.old ++ more.now) }
-{
-    for step in more {
-        steps.push(step.copy(alloc)?)?;
-    }
-    Ok(())
+    pub(crate) pending: List<u32>,
+    pub(crate) model: Option<Plain>,
 }
 
 impl Workspace {
-    /// A workspace at the empty project.
-    pub(crate) fn new(alloc: Global) -> Workspace
-        ensures untouched { plain_of result ≡ untouched }
-        ensures model { plain_state result.model ≡ nothing }
+    /// A workspace on a branch, at a version, with nothing local.
+    pub(crate) fn new(alloc: Global, branch: u32, base: u32) -> Workspace
+        ensures untouched { plain_of result ≡ untouched branch base }
+        ensures model { result.model ≡ None }
     {
         Workspace {
+            branch,
+            base,
             operations: List::new(alloc),
             composite: None,
-            model: Plain::new(alloc),
+            pending: List::new(alloc),
+            model: None,
         }
     }
 
@@ -122,6 +74,13 @@ impl Workspace {
         self.operations.len() > 0
     }
 
+    /// Whether there is something for a version.
+    pub(crate) fn has_local(&self) -> bool
+        ensures { result ≡ has_local (Some (plain_of self.now)) }
+    {
+        self.has_operations() || self.pending.len() > 0
+    }
+
     /// Whether a composite is open.
     pub(crate) fn is_open(&self) -> bool
         ensures open { result ≡ is_open (Some (plain_of self.now)) }
@@ -131,185 +90,114 @@ impl Workspace {
 
     /// Whether there is something to discard.
     pub(crate) fn is_touched(&self) -> bool
-        ensures { result ≡ (is_open (Some (plain_of self.now)) || has_operations (Some (plain_of self.now))) }
+        ensures { result ≡ can_discard (Some (plain_of self.now)) }
     {
-        self.is_open() || self.has_operations()
+        self.is_open() || self.has_local()
     }
 
-    /// Whether there is an operation to undo, with no composite open behind it.
-    pub(crate) fn can_undo(&self) -> bool
-        ensures { result ≡ (is_closed (Some (plain_of self.now)) && has_operations (Some (plain_of self.now))) }
-    {
-        !self.is_open() && self.has_operations()
-    }
-
-    /// Whether a package has operations, and one alone while a composite is open.
-    pub(crate) fn takes(&self, package: &Package) -> bool
-        ensures some { OnTrue result (0 < length «package».now) }
-        ensures takes { OnTrue result (takes (plain_of self.now).composite «package».now ≡ true) }
-        ensures not { OnFalse result ((meta : Meta) → can_follow meta (Some (plain_of self.now)) «package».now ≡ false) }
-    {
-        package.len() == 1 || (package.len() > 1 && !self.is_open())
-    }
-
-    /// The working model, over the metamodel.
-    pub(crate) fn model(&self, _meta: &Metamodel) -> &Plain
-        requires keeps { Keeps _meta.now self.now }
-        ensures model { plain_state result.now ≡ model_of _meta.now (plain_of self.now) }
-        ensures good { Good _meta.now (plain_state result.now) }
-    {
-        &self.model
-    }
-
-    /// Takes the steps of a package on the model and records its operations, or their steps in the composite that is open. After an error the workspace
-    /// is at the empty project.
-    pub(crate) fn record(
+    /// The working model, taken out of the workspace, or made anew where it is not kept.
+    pub(crate) fn take_model(
         &mut self,
         alloc: Global,
         meta: &Metamodel,
-        package: &Package,
-    ) -> Result<(), ReplayFault>
+        history: &History,
+    ) -> Result<Plain, AllocError>
         requires sound { Sound meta.now }
-        requires keeps { Keeps meta.now self.old }
-        ensures could { OnOk result (is_some (fold_package meta.now (plain_state self.old.model) «package».now) ≡ true) }
-        ensures recorded { OnOk result (plain_of self.new ≡ with_more «package».now (plain_of self.old)) }
-        ensures cannot { IsErrOf result ReplayFault.NotPlayable → fold_package meta.now (plain_state self.old.model) «package».now ≡ None }
-        ensures keeps { Keeps meta.now self.new }
+        requires there { self.old.base < length history.now.history.versions }
+        requires base { is_some (state_folded meta.now history.now.history self.old.base) ≡ true }
+        requires leads { is_some (folded meta.now history.now.history (plain_of self.old)) ≡ true }
+        requires fits { Fits meta.now history.now.history self.old }
+        ensures same { plain_of self.new ≡ plain_of self.old }
+        ensures taken { self.new.model ≡ None }
+        ensures model { IfOk result (λ m. plain_state m ≡ model_of meta.now history.now.history (plain_of self.old)) }
+        ensures good { IfOk result (λ m. Good meta.now (plain_state m)) }
     {
-        match self.take(alloc, meta, package) {
-            Ok(()) => Ok(()),
-            Err(fault) => {
-                self.clear(alloc);
-                Err(package_fault(fault))
-            }
+        match self.model.take() {
+            Some(model) => Ok(model),
+            None => self.fold_model(alloc, meta, history),
         }
     }
 
-    fn take(&mut self, alloc: Global, meta: &Metamodel, package: &Package) -> Result<(), StepFault>
-        requires sound { Sound meta.now }
-        requires good { Good meta.now (plain_state self.old.model) }
-        ensures taken { OnOk result (fold_package meta.now (plain_state self.old.model) «package».now ≡ Some (plain_state self.new.model)) }
-        ensures recorded { OnOk result (plain_of self.new ≡ with_more «package».now (plain_of self.old)) }
-        ensures cannot { IfErr result (λ e. e ≢ StepFault.Memory → fold_package meta.now (plain_state self.old.model) «package».now ≡ None) }
-        ensures good { Good meta.now (plain_state self.new.model) }
+    /// Opens a composite of that name, with no step yet. The model is not kept.
+    pub(crate) fn open_composite(&mut self, alloc: Global, name: Text)
+        ensures opened { plain_of self.new ≡ with_open name (plain_of self.old) }
+        ensures gone { self.new.model ≡ None }
     {
-        follow(&mut self.model, meta, package)?;
-        match self.push_all(alloc, package) {
-            Ok(()) => Ok(()),
-            Err(_) => Err(StepFault::Memory),
-        }
-    }
-
-    fn push_all(&mut self, alloc: Global, package: &Package) -> Result<(), AllocError>
-        ensures more { OnOk result (plain_of self.new ≡ with_more «package».now (plain_of self.old)) }
-        ensures model { self.new.model ≡ self.old.model }
-    {
-        match &mut self.composite {
-            Some(composite) => push_steps(alloc, &mut composite.steps, package),
-            None => push_operations(alloc, &mut self.operations, package),
-        }
-    }
-
-    /// Opens a composite of that name, with no step yet. It fails for want of memory alone.
-    pub(crate) fn open_composite(&mut self, alloc: Global, name: &Text) -> Result<(), ReplayFault>
-        requires closed { is_open (Some (plain_of self.old)) ≡ false }
-        ensures opened { OnOk result (plain_of self.new ≡ with_open name.now (plain_of self.old)) }
-        ensures memory { IfErr result (λ e. e ≡ ReplayFault.Memory) }
-        ensures keeps { (meta : Meta) → Keeps meta self.old → Keeps meta self.new }
-    {
-        let Ok(name) = name.copy(alloc) else {
-            return Err(ReplayFault::Memory);
-        };
         self.composite = Some(Composite {
             name,
             steps: List::new(alloc),
         });
-        Ok(())
+        self.model = None;
     }
 
-    /// Closes the composite that is open: it is the last operation, where it has steps. It fails for want of memory alone, and then the workspace
-    /// is at the empty project.
-    pub(crate) fn close_composite(
-        &mut self,
-        alloc: Global,
-        meta: &Metamodel,
-    ) -> Result<(), ReplayFault>
-        requires keeps { Keeps meta.now self.old }
-        ensures closed { OnOk result (plain_of self.new ≡ with_closed (plain_of self.old)) }
-        ensures memory { IfErr result (λ e. e ≡ ReplayFault.Memory) }
-        ensures keeps { Keeps meta.now self.new }
+    /// Lets the last operation go. The model is not kept.
+    pub(crate) fn undo(&mut self)
+        ensures undone { plain_of self.new ≡ without_last (plain_of self.old) }
+        ensures gone { self.new.model ≡ None }
     {
-        match self.push_composite() {
-            Ok(()) => Ok(()),
-            Err(_) => {
-                self.clear(alloc);
-                Err(ReplayFault::Memory)
-            }
-        }
+        let _last = self.operations.pop();
+        self.model = None;
     }
 
-    fn push_composite(&mut self) -> Result<(), AllocError>
-        ensures closed { OnOk result (plain_of self.new ≡ with_closed (plain_of self.old)) }
-        ensures model { self.new.model ≡ self.old.model }
-    {
-        let Some(Composite { name, steps }) = self.composite.take() else {
-            return Ok(());
-        };
-        if steps.len() == 0 {
-            return Ok(());
-        }
-        self.operations.push(Operation::Composite { name, steps })
-    }
-
-    /// Takes the reversal of the last operation on the model and lets the operation go. It fails for want of memory alone, and then the workspace
-    /// is at the empty project.
-    pub(crate) fn undo(&mut self, alloc: Global, meta: &Metamodel) -> Result<(), ReplayFault>
-        requires sound { Sound meta.now }
-        requires keeps { Keeps meta.now self.old }
-        requires can { (is_closed (Some (plain_of self.old)) && has_operations (Some (plain_of self.old))) ≡ true }
-        ensures undone { OnOk result (plain_of self.new ≡ without_last (plain_of self.old)) }
-        ensures memory { IfErr result (λ e. e ≡ ReplayFault.Memory) }
-        ensures keeps { Keeps meta.now self.new }
-    {
-        let Some(operation) = self.operations.pop() else {
-            unreachable!()
-        };
-        match self.take_back(alloc, meta, &operation) {
-            Ok(()) => Ok(()),
-            Err(_) => {
-                self.clear(alloc);
-                Err(ReplayFault::Memory)
-            }
-        }
-    }
-
-    /// Takes the reversal of an operation that came behind the others. It fails for want of memory alone.
-    fn take_back(
-        &mut self,
-        alloc: Global,
-        meta: &Metamodel,
-        operation: &Operation,
-    ) -> Result<(), StepFault>
-        requires sound { Sound meta.now }
-        requires keeps { Lead meta.now (steps_all self.old.operations ++ steps_of operation.now) (plain_state self.old.model) }
-        ensures same { plain_of self.new ≡ plain_of self.old }
-        ensures keeps { OnOk result (Lead meta.now (steps_all self.new.operations) (plain_state self.new.model)) }
-        ensures memory { IfErr result (λ e. e ≡ StepFault.Memory) }
-    {
-        let reversal = match reverse_op(alloc, operation) {
-            Ok(reversal) => reversal,
-            Err(_) => return Err(StepFault::Memory),
-        };
-        replay(&mut self.model, meta, steps_in(&reversal))
-    }
-
-    /// Lets all operations and the composite that is open go.
-    pub(crate) fn clear(&mut self, alloc: Global)
-        ensures untouched { plain_of self.new ≡ untouched }
-        ensures model { plain_state self.new.model ≡ nothing }
+    /// Lets all that is local go. The model is not kept.
+    pub(crate) fn discard(&mut self, alloc: Global)
+        ensures discarded { plain_of self.new ≡ without_any (plain_of self.old) }
+        ensures gone { self.new.model ≡ None }
     {
         self.operations = List::new(alloc);
         self.composite = None;
-        self.model = Plain::new(alloc);
+        self.pending = List::new(alloc);
+        self.model = None;
+    }
+
+    /// The workspace keeps a model.
+    pub(crate) fn keep_model(&mut self, model: Plain)
+        ensures same { plain_of self.new ≡ plain_of self.old }
+        ensures kept { self.new.model ≡ Some model }
+    {
+        self.model = Some(model);
+    }
+
+    /// The working model, made anew.
+    fn fold_model(
+        &self,
+        alloc: Global,
+        meta: &Metamodel,
+        history: &History,
+    ) -> Result<Plain, AllocError>
+        requires sound { Sound meta.now }
+        requires there { self.now.base < length history.now.history.versions }
+        requires base { is_some (state_folded meta.now history.now.history self.now.base) ≡ true }
+        requires leads { is_some (folded meta.now history.now.history (plain_of self.now)) ≡ true }
+        ensures model { IfOk result (λ m. plain_state m ≡ model_of meta.now history.now.history (plain_of self.now)) }
+        ensures good { IfOk result (λ m. Good meta.now (plain_state m)) }
+    {
+        let mut model = state_at(alloc, meta, history, self.base)?;
+        match self.retake(&mut model, meta) {
+            Ok(()) => Ok(model),
+            Err(fault) => match fault {
+                StepFault::Memory => Err(AllocError),
+                _ => unreachable!(),
+            },
+        }
+    }
+
+    /// Takes all that is recorded on the state of the base. After an error the model is of no use.
+    fn retake(&self, model: &mut Plain, meta: &Metamodel) -> Result<(), StepFault>
+        requires sound { Sound meta.now }
+        requires good { Good meta.now (plain_state model.old) }
+        ensures done { OnOk result (fold meta.now (plain_state model.old) (recorded_steps (plain_of self.now)) ≡ Some (plain_state model.new)) }
+        ensures cannot { IfErr result (λ e. e ≢ StepFault.Memory → fold meta.now (plain_state model.old) (recorded_steps (plain_of self.now)) ≡ None) }
+        ensures good { OnOk result (Good meta.now (plain_state model.new)) }
+    {
+        let operations = self.operations.as_slice();
+        follow(model, meta, operations)?;
+        match &self.composite {
+            None => Ok(()),
+            Some(composite) => {
+                let steps = composite.steps.as_slice();
+                replay(model, meta, steps)
+            }
+        }
     }
 }

@@ -4,8 +4,8 @@ use Rattle.std.specs.Fmt.{decimal}
 use Rattle.std.proofs.lemmas.Bool.{leb-true, le-leb, eqb-true}
 use Rattle.std.proofs.lemmas.List.{append-nil}
 use Rattle.script_lang.specs.Left.{Left}
-use Rattle.script_lang.specs.Words.{◌>>=◌, is_word, word_at, number_of, number_at, not_below, optional_at, optional_number_at, rest_at, rest_from, index_or_end, index_from, index_or_end_at, end_at}
-use Rattle.script_lang.specs.Spelling.{IsWord, IsNumber, IsText, IsOptionalNumber, IsOptionalWord, optional_word, index_word, index_if_any}
+use Rattle.script_lang.specs.Words.{◌>>=◌, is_word, word_at, number_of, number_at, not_below, optional_at, optional_number_at, rest_at, rest_from, optional_rest_at, optional_rest_from, index_or_end, index_from, index_or_end_at, end_at}
+use Rattle.script_lang.specs.Spelling.{IsWord, IsNumber, IsText, IsOptionalText, IsOptionalNumber, IsOptionalWord, optional_word, index_word, index_if_any}
 use Rattle.script_lang.proofs.Numbers.{both, number_decimal, number_back, decimal_word}
 use Rattle.script_lang.proofs.WordLemmas.{behind, word_last, word_back}
 use Rattle.script_lang.proofs.Readings.{Kind, named_kind, joined, ok_is, some_is, reached}
@@ -111,6 +111,33 @@ pub text_tells : {B G : Type 0} (left : Left) (f : List ℕ → Result B ℕ) (y
 text_tells left f y e on =
     let k = reached (rest_at left) f y e in
     let t = text_out left k.0 k.1 in
+    on k.0 t.0 t.1 k.2
+
+-- a text up to the end of the line, where there is one
+pub optional_text_in : (text : Option (List ℕ)) → IsOptionalText text → (column : ℕ) → optional_rest_at (record { rest = joined (optional_word text); column = column }) ≡ Ok text
+unfolding optional_rest_at
+optional_text_in None is column = refl
+optional_text_in (Some text) is column = rw (text_in text is column) refl
+
+optional_text_out : (left : Left) (text : Option (List ℕ)) → optional_rest_at left ≡ Ok text → IsOptionalText text × (left.rest ≡ joined (optional_word text))
+unfolding optional_rest_at
+optional_text_out left text e = by left.rest refl e
+  where
+    by : (rest : Option (List ℕ)) → left.rest ≡ rest → optional_rest_from rest left ≡ Ok text → IsOptionalText text × (left.rest ≡ joined (optional_word text))
+    by None is e =
+        let none = ok_is None text e in
+        (subst IsOptionalText none tt, is ∙ ap (λ o. joined (optional_word o)) none)
+    by (Some rest) is e =
+        let k = reached (rest_at left) (λ text. Ok (Some text)) text e in
+        let t = text_out left k.0 k.1 in
+        let same = ok_is (Some k.0) text k.2 in
+        (subst IsOptionalText same t.0, t.1 ∙ ap (λ o. joined (optional_word o)) same)
+
+pub optional_text_tells : {B G : Type 0} (left : Left) (f : Option (List ℕ) → Result B ℕ) (y : B) → (optional_rest_at left >>= f) ≡ Ok y
+    → ((text : Option (List ℕ)) → IsOptionalText text → left.rest ≡ joined (optional_word text) → f text ≡ Ok y → G) → G
+optional_text_tells left f y e on =
+    let k = reached (optional_rest_at left) f y e in
+    let t = optional_text_out left k.0 k.1 in
     on k.0 t.0 t.1 k.2
 
 -- a last word, where there is one

@@ -1,5 +1,6 @@
 pub mod Numbers
 pub mod Tags
+pub mod VersionLines
 pub mod WordLemmas
 pub mod Readings
 pub mod ReferenceLines

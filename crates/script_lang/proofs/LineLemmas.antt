@@ -7,8 +7,8 @@ use Rattle.edits.specs.declared.edit.Edit.{Edit}
 use Rattle.edits.specs.declared.edit.Edit.TheVariants.{Create, Delete, Set, Unset, Add, Remove, Shift, Link, Unlink, Reorder, Move}
 use Rattle.script_lang.specs.Left.{Left}
 use Rattle.script_lang.specs.Words.{is_word, word_at}
-use Rattle.script_lang.specs.Command.{init_at, import_at, checkout_at, create_at, delete_at, move_at, set_at, unset_at, add_at, remove_at, shift_at, link_at, unlink_at, reorder_at, begin_at, end_line_at, undo_at, discard_at, changes_at, show_at, cat_at, validate_at, command_of}
-use Rattle.script_lang.specs.Spelling.{IsCommand, edit_word, edit_fields, spec_word, words_of, spaced, Spells}
+use Rattle.script_lang.specs.Command.{init_at, import_at, checkout_at, create_at, delete_at, move_at, set_at, unset_at, add_at, remove_at, shift_at, link_at, unlink_at, reorder_at, begin_at, end_line_at, undo_at, discard_at, changes_at, show_at, cat_at, validate_at, commit_at, branch_at, tag_at, log_at, package_at, drop_at, command_of}
+use Rattle.script_lang.specs.Spelling.{IsCommand, edit_word, edit_fields, spec_word, optional_word, words_of, spaced, Spells}
 use Rattle.script_lang.proofs.WordLemmas.{word_back}
 use Rattle.script_lang.proofs.Readings.{reads, reached, word_kind, joined, spaced_joined, some_is, Tells}
 use Rattle.script_lang.proofs.FieldLemmas.{same_word}
@@ -16,6 +16,7 @@ use Rattle.script_lang.proofs.ElementLines.{create_read, create_spelled, delete_
 use Rattle.script_lang.proofs.EditLines.{set_read, set_spelled, unset_read, unset_spelled, add_read, add_spelled, remove_read, remove_spelled, shift_read, shift_spelled}
 use Rattle.script_lang.proofs.ReferenceLines.{link_read, link_spelled, unlink_read, unlink_spelled, reorder_read, reorder_spelled}
 use Rattle.script_lang.proofs.WorkspaceLines.{init_read, init_spelled, import_read, import_spelled, checkout_read, checkout_spelled, begin_read, begin_spelled, end_read, end_spelled, undo_read, undo_spelled, discard_read, discard_spelled, changes_read, changes_spelled, show_read, show_spelled, cat_read, cat_spelled, validate_read, validate_spelled}
+use Rattle.script_lang.proofs.VersionLines.{commit_read, commit_spelled, branch_read, branch_spelled, tag_read, tag_spelled, log_read, log_spelled, package_read, package_spelled, drop_read, drop_spelled}
 
 -- a line is what is left of it in front of its first word
 pub line_joined : (line first : List ℕ) (words : List (List ℕ)) → line ≡ spaced (first ∷ words) → Some line ≡ joined (first ∷ words)
@@ -75,6 +76,21 @@ line_read line (commands.Cat spec) spells =
     (reads word_kind (codes "cat") (omega arith, refl) (spec_word spec ∷ []) 1 _ _ (cat_read spec spells.form))
 line_read line (commands.Validate ws) spells =
     rw (line_joined line (codes "validate") (decimal ws ∷ []) spells.words) (reads word_kind (codes "validate") (omega arith, refl) (decimal ws ∷ []) 1 _ _ (validate_read ws spells.form))
+line_read line (commands.Commit ws message) spells =
+    rw (line_joined line (codes "commit") (decimal ws ∷ optional_word message) spells.words)
+    (reads word_kind (codes "commit") (omega arith, refl) (decimal ws ∷ optional_word message) 1 _ _ (commit_read ws message spells.form))
+line_read line (commands.Branch ws name) spells =
+    rw (line_joined line (codes "branch") (decimal ws ∷ name ∷ []) spells.words)
+    (reads word_kind (codes "branch") (omega arith, refl) (decimal ws ∷ name ∷ []) 1 _ _ (branch_read ws name spells.form))
+line_read line (commands.Tag name spec) spells =
+    rw (line_joined line (codes "tag") (name ∷ spec_word spec ∷ []) spells.words)
+    (reads word_kind (codes "tag") (omega arith, refl) (name ∷ spec_word spec ∷ []) 1 _ _ (tag_read name spec spells.form))
+line_read line commands.Log spells = rw (line_joined line (codes "log") [] spells.words) (reads word_kind (codes "log") (omega arith, refl) [] 1 _ _ log_read)
+line_read line (commands.Package spec) spells =
+    rw (line_joined line (codes "package") (spec_word spec ∷ []) spells.words)
+    (reads word_kind (codes "package") (omega arith, refl) (spec_word spec ∷ []) 1 _ _ (package_read spec spells.form))
+line_read line (commands.Drop ws) spells =
+    rw (line_joined line (codes "drop") (decimal ws ∷ []) spells.words) (reads word_kind (codes "drop") (omega arith, refl) (decimal ws ∷ []) 1 _ _ (drop_read ws spells.form))
 
 -- a first word is the one that was looked for, or reading went on to the next
 chosen_or : (first word : List ℕ) (left : Left) (command : Command) (read next : Result Command ℕ) (b : Bool) → is_word first word ≡ b
@@ -87,7 +103,7 @@ no_command first left command e = cc
 
 -- what the first word chooses is spelled behind it
 first_spelled : (first : List ℕ) (left : Left) (command : Command)
-    → cond (is_word first (codes "init")) (init_at left) (cond (is_word first (codes "import")) (import_at left) (cond (is_word first (codes "checkout")) (checkout_at left) (cond (is_word first (codes "create")) (create_at left) (cond (is_word first (codes "delete")) (delete_at left) (cond (is_word first (codes "move")) (move_at left) (cond (is_word first (codes "set")) (set_at left) (cond (is_word first (codes "unset")) (unset_at left) (cond (is_word first (codes "add")) (add_at left) (cond (is_word first (codes "remove")) (remove_at left) (cond (is_word first (codes "shift")) (shift_at left) (cond (is_word first (codes "link")) (link_at left) (cond (is_word first (codes "unlink")) (unlink_at left) (cond (is_word first (codes "reorder")) (reorder_at left) (cond (is_word first (codes "begin")) (begin_at left) (cond (is_word first (codes "end")) (end_line_at left) (cond (is_word first (codes "undo")) (undo_at left) (cond (is_word first (codes "discard")) (discard_at left) (cond (is_word first (codes "changes")) (changes_at left) (cond (is_word first (codes "show")) (show_at left) (cond (is_word first (codes "cat")) (cat_at left) (cond (is_word first (codes "validate")) (validate_at left) (Err 1)))))))))))))))))))))) ≡ Ok command
+    → cond (is_word first (codes "init")) (init_at left) (cond (is_word first (codes "import")) (import_at left) (cond (is_word first (codes "checkout")) (checkout_at left) (cond (is_word first (codes "create")) (create_at left) (cond (is_word first (codes "delete")) (delete_at left) (cond (is_word first (codes "move")) (move_at left) (cond (is_word first (codes "set")) (set_at left) (cond (is_word first (codes "unset")) (unset_at left) (cond (is_word first (codes "add")) (add_at left) (cond (is_word first (codes "remove")) (remove_at left) (cond (is_word first (codes "shift")) (shift_at left) (cond (is_word first (codes "link")) (link_at left) (cond (is_word first (codes "unlink")) (unlink_at left) (cond (is_word first (codes "reorder")) (reorder_at left) (cond (is_word first (codes "begin")) (begin_at left) (cond (is_word first (codes "end")) (end_line_at left) (cond (is_word first (codes "undo")) (undo_at left) (cond (is_word first (codes "discard")) (discard_at left) (cond (is_word first (codes "changes")) (changes_at left) (cond (is_word first (codes "show")) (show_at left) (cond (is_word first (codes "cat")) (cat_at left) (cond (is_word first (codes "validate")) (validate_at left) (cond (is_word first (codes "commit")) (commit_at left) (cond (is_word first (codes "branch")) (branch_at left) (cond (is_word first (codes "tag")) (tag_at left) (cond (is_word first (codes "log")) (log_at left) (cond (is_word first (codes "package")) (package_at left) (cond (is_word first (codes "drop")) (drop_at left) (Err 1)))))))))))))))))))))))))))) ≡ Ok command
     → Tells first left command
 first_spelled first left command =
     chosen_or first (codes "init") left command _ _ _ refl (init_spelled left command) (
@@ -112,7 +128,13 @@ first_spelled first left command =
     chosen_or first (codes "show") left command _ _ _ refl (show_spelled left command) (
     chosen_or first (codes "cat") left command _ _ _ refl (cat_spelled left command) (
     chosen_or first (codes "validate") left command _ _ _ refl (validate_spelled left command) (
-    no_command first left command))))))))))))))))))))))
+    chosen_or first (codes "commit") left command _ _ _ refl (commit_spelled left command) (
+    chosen_or first (codes "branch") left command _ _ _ refl (branch_spelled left command) (
+    chosen_or first (codes "tag") left command _ _ _ refl (tag_spelled left command) (
+    chosen_or first (codes "log") left command _ _ _ refl (log_spelled left command) (
+    chosen_or first (codes "package") left command _ _ _ refl (package_spelled left command) (
+    chosen_or first (codes "drop") left command _ _ _ refl (drop_spelled left command) (
+    no_command first left command))))))))))))))))))))))))))))
 
 joined_line : (command : Command) → joined (words_of command) ≡ Some (spaced (words_of command))
 joined_line commands.Init = sym (spaced_joined (codes "init") [])
@@ -127,6 +149,12 @@ joined_line (commands.Changes ws) = sym (spaced_joined (codes "changes") (decima
 joined_line (commands.Show ws) = sym (spaced_joined (codes "show") (decimal ws ∷ []))
 joined_line (commands.Cat spec) = sym (spaced_joined (codes "cat") (spec_word spec ∷ []))
 joined_line (commands.Validate ws) = sym (spaced_joined (codes "validate") (decimal ws ∷ []))
+joined_line (commands.Commit ws message) = sym (spaced_joined (codes "commit") (decimal ws ∷ optional_word message))
+joined_line (commands.Branch ws name) = sym (spaced_joined (codes "branch") (decimal ws ∷ name ∷ []))
+joined_line (commands.Tag name spec) = sym (spaced_joined (codes "tag") (name ∷ spec_word spec ∷ []))
+joined_line commands.Log = sym (spaced_joined (codes "log") [])
+joined_line (commands.Package spec) = sym (spaced_joined (codes "package") (spec_word spec ∷ []))
+joined_line (commands.Drop ws) = sym (spaced_joined (codes "drop") (decimal ws ∷ []))
 
 pub line_spelled : (line : List ℕ) (command : Command) → command_of line ≡ Ok command → Spells line command
 unfolding command_of

@@ -10,7 +10,7 @@ use Rattle.edits.specs.declared.edit.Destination.TheVariants.{Root, Inside}
 use Rattle.edits.specs.declared.edit.Edit.TheVariants.{Create, Delete, Set, Unset, Add, Remove, Shift, Link, Unlink, Reorder, Move}
 use Rattle.script_lang.specs.Left.{Left}
 use Rattle.model_state.specs.Names.{is_name}
-use Rattle.script_lang.specs.Words.{◌>>=◌, word_at, number_of, number_at, found_at, end_at, name_at, optional_at, optional_number_at, rest_at, index_or_end_at, is_word, IsBad}
+use Rattle.script_lang.specs.Words.{◌>>=◌, word_at, number_of, number_at, found_at, end_at, name_at, optional_at, optional_number_at, rest_at, optional_rest_at, index_or_end_at, is_word, IsBad}
 
 -- `@` and a name is a tag's
 abbrev pub tag_of : List ℕ → Option Spec
@@ -232,6 +232,49 @@ validate_at left = do
   end ← end_at ws.1
   Ok (commands.Validate ws.0)
 
+-- behind `commit`: WS [MESSAGE]
+unfoldable pub commit_at : Left → Result Command ℕ
+commit_at left = do
+  ws ← number_at 1 left
+  message ← optional_rest_at ws.1
+  Ok (commands.Commit ws.0 message)
+
+-- behind `branch`: WS NAME
+unfoldable pub branch_at : Left → Result Command ℕ
+branch_at left = do
+  ws ← number_at 1 left
+  name ← name_at ws.1
+  end ← end_at name.1
+  Ok (commands.Branch ws.0 name.0)
+
+-- behind `tag`: NAME SPEC
+unfoldable pub tag_at : Left → Result Command ℕ
+tag_at left = do
+  name ← name_at left
+  spec ← spec_at name.1
+  end ← end_at spec.1
+  Ok (commands.Tag name.0 spec.0)
+
+-- behind `log`: nothing
+unfoldable pub log_at : Left → Result Command ℕ
+log_at left = do
+  end ← end_at left
+  Ok commands.Log
+
+-- behind `package`: SPEC
+unfoldable pub package_at : Left → Result Command ℕ
+package_at left = do
+  spec ← spec_at left
+  end ← end_at spec.1
+  Ok (commands.Package spec.0)
+
+-- behind `drop`: WS
+unfoldable pub drop_at : Left → Result Command ℕ
+drop_at left = do
+  ws ← number_at 1 left
+  end ← end_at ws.1
+  Ok (commands.Drop ws.0)
+
 -- a whole line: the first word names the command
 unfoldable pub command_of : List ℕ → Result Command ℕ
 command_of line = do
@@ -258,6 +301,12 @@ command_of line = do
       else if is_word first.0 (codes "show") then show_at first.1
       else if is_word first.0 (codes "cat") then cat_at first.1
       else if is_word first.0 (codes "validate") then validate_at first.1
+      else if is_word first.0 (codes "commit") then commit_at first.1
+      else if is_word first.0 (codes "branch") then branch_at first.1
+      else if is_word first.0 (codes "tag") then tag_at first.1
+      else if is_word first.0 (codes "log") then log_at first.1
+      else if is_word first.0 (codes "package") then package_at first.1
+      else if is_word first.0 (codes "drop") then drop_at first.1
       else Err 1
 
 -- a call gave the command that reading gives, or its column

@@ -2,7 +2,7 @@
 use Rattle.std.specs.Prelude.{ℕ, List, [], ◌∷◌, ◌++◌, codes}
 use Rattle.std.specs.Fmt.{decimal}
 use Rattle.script_lang.specs.declared.reply.Refusal.{Refusal}
-use Rattle.script_lang.specs.declared.reply.Refusal.TheVariants.{BadLine, NotInit, AlreadyInit, BadMetamodel, NoWorkspace, NoVersion, NoBranch, NoElement, IdInUse, BadId, NoClass, Abstract, NoFeature, WrongKind, BadValue, WrongType, Bound, AlreadyThere, NoEntry, WouldCycle, NothingLocal, CompositeOpen, NoComposite, BadModel, HistoryFull, TooLarge, JournalFull}
+use Rattle.script_lang.specs.declared.reply.Refusal.TheVariants.{BadLine, NotInit, AlreadyInit, BadMetamodel, NoWorkspace, NoVersion, NoBranch, BranchExists, TagExists, NoElement, IdInUse, BadId, NoClass, Abstract, NoFeature, WrongKind, BadValue, WrongType, Bound, AlreadyThere, NoEntry, WouldCycle, NothingLocal, Stale, CompositeOpen, NoComposite, BadModel, HistoryFull, TooLarge, JournalFull}
 use Rattle.script_lang.specs.declared.reply.Last.{Last}
 use Rattle.script_lang.specs.declared.reply.Last.TheVariants as last
 use Rattle.script_lang.specs.declared.reply.Reply.{Reply}
@@ -16,6 +16,8 @@ refusal_text (BadMetamodel n) = codes "4 BadMetamodel " ++ decimal n
 refusal_text NoWorkspace = codes "5 NoWorkspace"
 refusal_text NoVersion = codes "6 NoVersion"
 refusal_text NoBranch = codes "7 NoBranch"
+refusal_text BranchExists = codes "8 BranchExists"
+refusal_text TagExists = codes "9 TagExists"
 refusal_text NoElement = codes "10 NoElement"
 refusal_text IdInUse = codes "11 IdInUse"
 refusal_text BadId = codes "12 BadId"
@@ -30,6 +32,7 @@ refusal_text AlreadyThere = codes "20 AlreadyThere"
 refusal_text NoEntry = codes "21 NoEntry"
 refusal_text WouldCycle = codes "22 WouldCycle"
 refusal_text NothingLocal = codes "23 NothingLocal"
+refusal_text (Stale base head) = codes "24 Stale " ++ (decimal base ++ (codes " " ++ decimal head))
 refusal_text CompositeOpen = codes "27 CompositeOpen"
 refusal_text NoComposite = codes "28 NoComposite"
 refusal_text (BadModel n) = codes "29 BadModel " ++ decimal n

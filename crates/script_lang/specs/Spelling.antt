@@ -37,6 +37,11 @@ IsOptionalWord (Some word) = IsWord word
 abbrev pub IsText : List ℕ → Type 0
 IsText text = 0 < length text
 
+-- such a text, or none
+abbrev pub IsOptionalText : Option (List ℕ) → Type 0
+IsOptionalText None = Unit {0}
+IsOptionalText (Some text) = IsText text
+
 -- a number, or none
 abbrev pub IsOptionalNumber : Option ℕ → Type 0
 IsOptionalNumber None = Unit {0}
@@ -79,6 +84,12 @@ IsCommand (commands.Changes ws) = IsWorkspace ws
 IsCommand (commands.Show ws) = IsWorkspace ws
 IsCommand (commands.Cat spec) = IsSpec spec
 IsCommand (commands.Validate ws) = IsWorkspace ws
+IsCommand (commands.Commit ws message) = IsWorkspace ws × IsOptionalText message
+IsCommand (commands.Branch ws name) = IsWorkspace ws × (is_name name ≡ true)
+IsCommand (commands.Tag name spec) = (is_name name ≡ true) × IsSpec spec
+IsCommand commands.Log = Unit {0}
+IsCommand (commands.Package spec) = IsSpec spec
+IsCommand (commands.Drop ws) = IsWorkspace ws
 
 -- the word that names a version
 abbrev pub spec_word : Spec → List ℕ
@@ -148,6 +159,12 @@ words_of (commands.Changes ws) = codes "changes" ∷ decimal ws ∷ []
 words_of (commands.Show ws) = codes "show" ∷ decimal ws ∷ []
 words_of (commands.Cat spec) = codes "cat" ∷ spec_word spec ∷ []
 words_of (commands.Validate ws) = codes "validate" ∷ decimal ws ∷ []
+words_of (commands.Commit ws message) = codes "commit" ∷ decimal ws ∷ optional_word message
+words_of (commands.Branch ws name) = codes "branch" ∷ decimal ws ∷ name ∷ []
+words_of (commands.Tag name spec) = codes "tag" ∷ name ∷ spec_word spec ∷ []
+words_of commands.Log = codes "log" ∷ []
+words_of (commands.Package spec) = codes "package" ∷ spec_word spec ∷ []
+words_of (commands.Drop ws) = codes "drop" ∷ decimal ws ∷ []
 
 -- words with single spaces between them
 abbrev pub spaced : List (List ℕ) → List ℕ

@@ -113,6 +113,15 @@ rest_from (Some (b ∷ bs)) column = Ok (b ∷ bs)
 unfoldable pub rest_at : Left → Result (List ℕ) ℕ
 rest_at left = rest_from left.rest left.column
 
+-- the rest of the line, not empty, where something is left, else none
+abbrev pub optional_rest_from : Option (List ℕ) → Left → Result (Option (List ℕ)) ℕ
+optional_rest_from None left = Ok None
+optional_rest_from (Some rest) left = rest_at left >>= λ text. Ok (Some text)
+
+-- the rest of the line, where there is one
+unfoldable pub optional_rest_at : Left → Result (Option (List ℕ)) ℕ
+optional_rest_at left = optional_rest_from left.rest left
+
 -- the index, or none where the word is `end`
 abbrev pub index_from : Option ℕ → List ℕ → Option (Option ℕ)
 index_from (Some index) word = Some (Some index)
@@ -157,3 +166,8 @@ GivesOptional new (Err e) read = IsBad e read
 abbrev pub GivesRest : Result (Bor (List ℕ)) ParseFault → Result (List ℕ) ℕ → Type 0
 GivesRest (Ok x) read = read ≡ Ok x.now
 GivesRest (Err e) read = IsBad e read
+
+-- the same of a call that may give the rest of the line
+abbrev pub GivesOptionalRest : Result (Option (Bor (List ℕ))) ParseFault → Result (Option (List ℕ)) ℕ → Type 0
+GivesOptionalRest (Ok o) read = read ≡ Ok (left_of o)
+GivesOptionalRest (Err e) read = IsBad e read

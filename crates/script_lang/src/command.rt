@@ -42,4 +42,16 @@ pub enum Command {
     Cat { spec: Spec },
     /// `validate WS`: the features of the workspace's model that are below their lower bounds.
     Validate { ws: u32 },
+    /// `commit WS [MESSAGE]`: what is local is a new version.
+    Commit { ws: u32, message: Option<Text> },
+    /// `branch WS NAME`: a branch that starts at the workspace's base.
+    Branch { ws: u32, name: Text },
+    /// `tag NAME SPEC`: a tag of that version.
+    Tag { name: Text, spec: Spec },
+    /// `log`: the versions.
+    Log,
+    /// `package SPEC`: the operations of that version.
+    Package { spec: Spec },
+    /// `drop WS`: the workspace goes.
+    Drop { ws: u32 },
 }

@@ -1,7 +1,7 @@
 //! A line as a command: one private function a command.
 ghost use Rattle.std.specs.Prelude.{◌≡◌, ◌-◌, ◌<◌, ◌^◌, length, IfOk, IfNone, IfSome, None, Some};
 ghost use Rattle.script_lang.specs.Words.{Gives};
-ghost use Rattle.script_lang.specs.Command.{GivesCommand, GivesSpec, command_of, init_at, import_at, checkout_at, create_at, delete_at, move_at, destination_at, set_at, unset_at, add_at, remove_at, shift_at, link_at, unlink_at, reorder_at, begin_at, end_line_at, undo_at, discard_at, changes_at, show_at, cat_at, validate_at, spec_of, spec_at, tag_of};
+ghost use Rattle.script_lang.specs.Command.{GivesCommand, GivesSpec, command_of, init_at, import_at, checkout_at, create_at, delete_at, move_at, destination_at, set_at, unset_at, add_at, remove_at, shift_at, link_at, unlink_at, reorder_at, begin_at, end_line_at, undo_at, discard_at, changes_at, show_at, cat_at, validate_at, commit_at, branch_at, tag_at, log_at, package_at, drop_at, spec_of, spec_at, tag_of};
 ghost use Rattle.script_lang.specs.declared.command.Spec.TheVariants.{Tag};
 
 use crate::words::{Words, bad_line, number_of};
@@ -46,6 +46,12 @@ pub fn parse_line(alloc: Global, line: &str) -> Result<Command, ParseFault>
         "show" => show(&mut words),
         "cat" => cat(alloc, &mut words),
         "validate" => validate(&mut words),
+        "commit" => commit(alloc, &mut words),
+        "branch" => branch(alloc, &mut words),
+        "tag" => tag(alloc, &mut words),
+        "log" => log(&words),
+        "package" => package_of(alloc, &mut words),
+        "drop" => drop_workspace(&mut words),
         _ => Err(ParseFault::BadLine { column: 1 }),
     }
 }
@@ -378,6 +384,73 @@ fn validate(words: &mut Words<'_>) -> Result<Command, ParseFault>
     let ws = words.workspace()?;
     words.end()?;
     Ok(Command::Validate { ws })
+}
+
+#[tactic(auto, unfolding(crate::specs::Command::commit_at))]
+fn commit(alloc: Global, words: &mut Words<'_>) -> Result<Command, ParseFault>
+    ensures { GivesCommand result (commit_at words.old) }
+{
+    let ws = words.workspace()?;
+    let message = words.optional_rest()?;
+    Ok(Command::Commit {
+        ws,
+        message: match message {
+            None => None,
+            Some(message) => Some(Text::new(alloc, message)?),
+        },
+    })
+}
+
+#[tactic(auto, unfolding(crate::specs::Command::branch_at))]
+fn branch(alloc: Global, words: &mut Words<'_>) -> Result<Command, ParseFault>
+    ensures { GivesCommand result (branch_at words.old) }
+{
+    let ws = words.workspace()?;
+    let name = words.name()?;
+    words.end()?;
+    Ok(Command::Branch {
+        ws,
+        name: Text::new(alloc, name)?,
+    })
+}
+
+#[tactic(auto, unfolding(crate::specs::Command::tag_at))]
+fn tag(alloc: Global, words: &mut Words<'_>) -> Result<Command, ParseFault>
+    ensures { GivesCommand result (tag_at words.old) }
+{
+    let name = words.name()?;
+    let spec = spec(alloc, words)?;
+    words.end()?;
+    Ok(Command::Tag {
+        name: Text::new(alloc, name)?,
+        spec,
+    })
+}
+
+#[tactic(auto, unfolding(crate::specs::Command::log_at))]
+fn log(words: &Words<'_>) -> Result<Command, ParseFault>
+    ensures { GivesCommand result (log_at words.now) }
+{
+    words.end()?;
+    Ok(Command::Log)
+}
+
+#[tactic(auto, unfolding(crate::specs::Command::package_at))]
+fn package_of(alloc: Global, words: &mut Words<'_>) -> Result<Command, ParseFault>
+    ensures { GivesCommand result (package_at words.old) }
+{
+    let spec = spec(alloc, words)?;
+    words.end()?;
+    Ok(Command::Package { spec })
+}
+
+#[tactic(auto, unfolding(crate::specs::Command::drop_at))]
+fn drop_workspace(words: &mut Words<'_>) -> Result<Command, ParseFault>
+    ensures { GivesCommand result (drop_at words.old) }
+{
+    let ws = words.workspace()?;
+    words.end()?;
+    Ok(Command::Drop { ws })
 }
 
 /// The next word, which names a version.

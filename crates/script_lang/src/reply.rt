@@ -23,6 +23,10 @@ pub enum Refusal {
     NoVersion,
     /// 7: no branch has that name.
     NoBranch,
+    /// 8: a branch has that name.
+    BranchExists,
+    /// 9: a tag has that name.
+    TagExists,
     /// 10: no live element has that id.
     NoElement,
     /// 11: an element with that id is live.
@@ -51,6 +55,8 @@ pub enum Refusal {
     WouldCycle,
     /// 23: the workspace has no local operation.
     NothingLocal,
+    /// 24: the workspace's base is not its branch's head.
+    Stale { base: u32, head: u32 },
     /// 27: a composite is open in the workspace.
     CompositeOpen,
     /// 28: no composite is open in the workspace.
@@ -81,6 +87,8 @@ impl fmt::Display for Refusal {
             Refusal::NoWorkspace => f.write_str("5 NoWorkspace"),
             Refusal::NoVersion => f.write_str("6 NoVersion"),
             Refusal::NoBranch => f.write_str("7 NoBranch"),
+            Refusal::BranchExists => f.write_str("8 BranchExists"),
+            Refusal::TagExists => f.write_str("9 TagExists"),
             Refusal::NoElement => f.write_str("10 NoElement"),
             Refusal::IdInUse => f.write_str("11 IdInUse"),
             Refusal::BadId => f.write_str("12 BadId"),
@@ -95,6 +103,7 @@ impl fmt::Display for Refusal {
             Refusal::NoEntry => f.write_str("21 NoEntry"),
             Refusal::WouldCycle => f.write_str("22 WouldCycle"),
             Refusal::NothingLocal => f.write_str("23 NothingLocal"),
+            Refusal::Stale { base, head } => write!(f, "24 Stale {base} {head}"),
             Refusal::CompositeOpen => f.write_str("27 CompositeOpen"),
             Refusal::NoComposite => f.write_str("28 NoComposite"),
             Refusal::BadModel { n } => write!(f, "29 BadModel {n}"),

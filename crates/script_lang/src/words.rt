@@ -1,7 +1,7 @@
 //! The words of a line, one after another.
 ghost use Rattle.std.specs.Prelude.{◌≡◌, ◌-◌, ◌<◌, ◌^◌, length, OnOk, Some};
 ghost use Rattle.std.specs.List.{list_all};
-ghost use Rattle.script_lang.specs.Words.{Gives, GivesText, GivesEnd, GivesOptional, GivesRest, name_at, optional_at, optional_number_at, rest_at, index_or_end_at, word_at, number_at, number_of, is_numeral, end_at};
+ghost use Rattle.script_lang.specs.Words.{Gives, GivesText, GivesEnd, GivesOptional, GivesRest, GivesOptionalRest, name_at, optional_at, optional_number_at, rest_at, optional_rest_at, index_or_end_at, word_at, number_at, number_of, is_numeral, end_at};
 ghost use Rattle.std.specs.Char.{is_ascii_digit};
 
 use crate::ParseFault;
@@ -140,6 +140,18 @@ impl<'a> Words<'a> {
             return Err(bad_line(self.column));
         }
         Ok(rest)
+    }
+
+    /// All that is left of the line, where something is.
+    #[tactic(auto, unfolding(crate::specs::Words::optional_rest_at))]
+    pub(crate) fn optional_rest(&self) -> Result<Option<&'a str>, ParseFault>
+        ensures { GivesOptionalRest result (optional_rest_at self.now) }
+    {
+        if self.rest.is_none() {
+            return Ok(None);
+        }
+        let rest = self.rest()?;
+        Ok(Some(rest))
     }
 
     /// The next word: an index, or None for `end`.

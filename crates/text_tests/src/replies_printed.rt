@@ -4,7 +4,7 @@ use script_lang::{Last, Refusal, Reply, print_reply};
 use std::alloc::Global;
 use std::test::Fail;
 
-const REFUSALS: [Refusal; 27] = [
+const REFUSALS: [Refusal; 30] = [
     Refusal::BadLine { column: 10 },
     Refusal::NotInit,
     Refusal::AlreadyInit,
@@ -12,6 +12,8 @@ const REFUSALS: [Refusal; 27] = [
     Refusal::NoWorkspace,
     Refusal::NoVersion,
     Refusal::NoBranch,
+    Refusal::BranchExists,
+    Refusal::TagExists,
     Refusal::NoElement,
     Refusal::IdInUse,
     Refusal::BadId,
@@ -26,6 +28,7 @@ const REFUSALS: [Refusal; 27] = [
     Refusal::NoEntry,
     Refusal::WouldCycle,
     Refusal::NothingLocal,
+    Refusal::Stale { base: 1, head: 12 },
     Refusal::CompositeOpen,
     Refusal::NoComposite,
     Refusal::BadModel { n: 10 },
@@ -42,6 +45,8 @@ no 4 BadMetamodel 18
 no 5 NoWorkspace
 no 6 NoVersion
 no 7 NoBranch
+no 8 BranchExists
+no 9 TagExists
 no 10 NoElement
 no 11 IdInUse
 no 12 BadId
@@ -56,6 +61,7 @@ no 20 AlreadyThere
 no 21 NoEntry
 no 22 WouldCycle
 no 23 NothingLocal
+no 24 Stale 1 12
 no 27 CompositeOpen
 no 28 NoComposite
 no 29 BadModel 10

@@ -236,6 +236,44 @@ Changes { ws: 4294967295 } |changes 4294967295|
 9 |changes 4294967296|
 11 |changes 1 1|"#;
 
+const VERSION_LINES: &str = r#"Commit { ws: 1, message: None } |commit 1|
+Commit { ws: 1, message: Some("first") } |commit 1 first|
+Commit { ws: 1, message: Some("a  b c ") } |commit 1 a  b c |
+Commit { ws: 1, message: Some(" x") } |commit 1  x|
+7 |commit|
+8 |commit 0 first|
+10 |commit 1 |
+Branch { ws: 1, name: "dev" } |branch 1 dev|
+7 |branch|
+8 |branch dev 1|
+9 |branch 1|
+10 |branch 1 |
+10 |branch 1 1.0|
+14 |branch 1 dev 1|
+Tag { name: "v1", spec: Number(1) } |tag v1 1|
+Tag { name: "v1", spec: Branch("trunk") } |tag v1 trunk|
+Tag { name: "v1", spec: Tag("v0") } |tag v1 @v0|
+4 |tag|
+5 |tag 1 v1|
+5 |tag @v1 1|
+7 |tag v1|
+8 |tag v1 |
+8 |tag v1 01|
+10 |tag v1 1 1|
+Log |log|
+5 |log |
+5 |log 1|
+Package { spec: Number(1) } |package 1|
+Package { spec: Branch("dev") } |package dev|
+Package { spec: Tag("v1") } |package @v1|
+8 |package|
+9 |package @|
+11 |package 1 1|
+Drop { ws: 1 } |drop 1|
+5 |drop|
+6 |drop 0|
+8 |drop 1 1|"#;
+
 // What reading a line gives: the command, or the column alone.
 fn read_of(alloc: Global, line: &str) -> Result<String, Fail> {
     if line.len() > 100 {
@@ -272,6 +310,7 @@ fn lines_are_read(rt: HostRuntime) -> Result<(), Fail> {
         PLACE_LINES,
         REFERENCE_LINES,
         WORKSPACE_LINES,
+        VERSION_LINES,
     ] {
         are_read(&rt, alloc, rows)?;
     }

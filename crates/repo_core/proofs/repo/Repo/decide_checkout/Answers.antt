@@ -1,5 +1,14 @@
-use Rattle.repo_core.proofs.Playable.{begun_of, checkout_could}
+use Rattle.std.proofs.Common.{◌≡◌, ◌<◌, Ok, length, sym, subst}
+use Rattle.history_tree.specs.History.{History}
+use Rattle.plain_repository.specs.Specs.{named}
+use Rattle.repo_core.proofs.Playable.{checkout_could}
 use Rattle.repo_core.proofs.repo.Repo.decide_checkout.Goals as goal
 
 pub with_room-requires : goal.with_room-requires
-with_room-requires c = record { could = checkout_could c.args.self.now c.args.self.now.meta (begun_of c.args.self.now.meta c.args.meta.now c.requires.begun) }
+with_room-requires c =
+    let found = c.in-Ok.found in
+    let back = sym c.requires.history in
+    record {
+      could = checkout_could c.args.self.now c.args.begun.now.meta c.args.spec.now found c.requires.meta (subst (λ (h : History). named h c.args.spec.now ≡ Ok found) back (sym c.in-Ok.ensures.found))
+          (subst (λ (h : History). found.version < length h.versions) back c.in-Ok.ensures.version) (subst (λ (h : History). found.branch < length h.branches) back c.in-Ok.ensures.branch);
+    }

@@ -1,22 +1,32 @@
-use Rattle.std.proofs.Common.{◌≡◌, subst, sym, Ok, Option}
+use Rattle.std.proofs.Common.{◌≡◌, subst, sym, true, is_some, List, [], ◌∷◌, Option, Ok}
+use Rattle.std.specs.Prelude.{IfSome}
 use Rattle.model_state.specs.State as models
-use Rattle.model_state.specs.Good.{Good}
+use Rattle.model_state.specs.Packages.{fold_package}
 use Rattle.model_state.specs.declared.operation.Operation.{Operation}
 use Rattle.model_import.specs.Import.{Imports}
-use Rattle.plain_repository.specs.Repository.{model_of}
+use Rattle.step_apply.specs.View.{plain_state}
 use Rattle.repo_core.specs.Keeping.{plain_of}
+use Rattle.repo_core.specs.Working.{IsWorkingModel}
 use Rattle.repo_core.proofs.Playable.{each_could, edit_could}
 use Rattle.repo_core.proofs.Folding.{imported_follows}
 use Rattle.repo_core.proofs.repo.Repo.decide_import.Goals as goal
 
-pub model-model-requires : goal.model-model-requires
-model-model-requires c = record { keeps = c.in-Some.ensures.keeps c.args.meta.now c.requires.begun }
+pub settle-requires : goal.settle-requires
+settle-requires c = record {
+  meta = c.requires.meta;
+  there = sym c.in-Some.ensures.found;
+  model = subst (λ r. IfSome r (λ m. IsWorkingModel c.args.self.now c.args.ws m.now)) c.in-Some-model.is c.requires.model;
+}
 
 pub with_operation-requires : goal.with_operation-requires
-with_operation-requires c = record {
-  could = each_could c.in-Ok-import_doc.operation _ (λ o is.
-      edit_could c.args.self.now c.args.self.now.meta c.args.meta.now c.args.ws (plain_of c.in-Some.workspace.now) o c.requires.begun (sym c.in-Some.ensures.found)
-      (imported_follows c.args.meta.now c.sound.ensures (model_of c.args.meta.now (plain_of c.in-Some.workspace.now)) (subst (Good c.args.meta.now) c.model-model.ensures.model c.model-model.ensures.good) c.args.ws c.args.text.now c.in-Ok.doc.rows o c.in-Ok.ensures.read
-      (subst (λ (p : Option Operation). Imports c.args.meta.now (model_of c.args.meta.now (plain_of c.in-Some.workspace.now)) c.args.ws c.in-Ok.doc.rows (Ok p)) is
-      (subst (λ (m : models.State). Imports c.args.meta.now m c.args.ws c.in-Ok.doc.rows (Ok c.in-Ok-import_doc.operation)) c.model-model.ensures.model c.in-Ok-import_doc.ensures.made))));
-}
+with_operation-requires c =
+    let s = c.args.self.now in
+    let meta = c.args.begun.now.meta in
+    let w = plain_of c.in-Some.workspace.now in
+    record {
+      could = each_could c.in-Ok-import_doc.operation _ (λ o is.
+          edit_could s s.meta meta c.args.ws w o c.requires.meta (sym c.in-Some.ensures.found)
+          (subst (λ (n : models.State). is_some (fold_package meta n (o ∷ [])) ≡ true) c.settle.ensures.model
+          (imported_follows meta c.sound.ensures (plain_state c.in-Some-model.model.now) c.settle.ensures.good c.args.ws c.args.text.now c.in-Ok.doc.rows o c.in-Ok.ensures.read
+          (subst (λ (p : Option Operation). Imports meta (plain_state c.in-Some-model.model.now) c.args.ws c.in-Ok.doc.rows (Ok p)) is c.in-Ok-import_doc.ensures.made))));
+    }

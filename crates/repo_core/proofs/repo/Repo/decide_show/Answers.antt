@@ -1,4 +1,10 @@
+use Rattle.std.proofs.Common.{IfSome, subst, sym}
+use Rattle.repo_core.specs.Working.{IsWorkingModel}
 use Rattle.repo_core.proofs.repo.Repo.decide_show.Goals as goal
 
-pub model-requires : goal.model-requires
-model-requires c = record { keeps = c.in-Some.ensures.keeps c.args.meta.now c.requires.begun }
+pub settle-requires : goal.settle-requires
+settle-requires c = record {
+  meta = c.requires.meta;
+  there = sym c.in-Some.ensures.found;
+  model = subst (λ r. IfSome r (λ m. IsWorkingModel c.args.self.now c.args.ws m.now)) c.in-Some-model.is c.requires.model;
+}

@@ -1,28 +1,31 @@
-use Rattle.std.proofs.Common.{◌∙◌, Option, sym, ap}
+use Rattle.std.proofs.Common.{◌≡◌, ◌∙◌, Option, Some, sym, ap, subst}
 use Rattle.ecore_meta.specs.Meta.{Meta}
-use Rattle.model_state.specs.Names.{is_name}
 use Rattle.op_form.specs.declared.event.Event.TheVariants.{Begin}
-use Rattle.plain_repository.specs.Repository.{State, playable_with, with_open}
-use Rattle.repo_core.proofs.Changing.{on_ok, on_ok_always, kept_still, set_at}
-use Rattle.repo_core.proofs.Playable.{begin_at, named_closed}
+use Rattle.plain_repository.specs.State.{State}
+use Rattle.plain_repository.specs.Orderly.{IsOrderly}
+use Rattle.plain_repository.specs.Composites.{with_open}
+use Rattle.repo_core.specs.Keeping.{meta_of}
+use Rattle.repo_core.proofs.Changing.{fit_set, none_fits}
+use Rattle.repo_core.proofs.Effects.{changed_view, effect_orderly}
 use Rattle.repo_core.proofs.repo.Repo.open_composite.Goals as goal
 
 abbrev meta_in : State → Option Meta
 meta_in s = s.meta
 
 pub invariant_of-self : goal.invariant_of-self
-invariant_of-self c = (
-  c.self.invariant.0,
-  kept_still c.args.self.now c.self.inside.meta c.self.inside.workspaces.items c.in-Some.at c.index_mut.result.now c.open_composite.new.self _ (sym c.is_some.ensures ∙ c.if-not-is_some.false)
-      (ap (λ (s : State). s.workspaces) c.self.view_is) c.in-Some.ensures.there.1 c.index_mut.ensures.value c.open_composite.ensures.keeps c.self.invariant.1,
-)
+invariant_of-self c =
+    let s = c.args.self.now in
+    let begun = c.in-Some-begun._begun in
+    let is_begun : s.meta ≡ Some begun.meta = sym (ap meta_in c.self.view_is) ∙ ap meta_of c.in-Some-begun.is in (
+      c.self.invariant.0,
+      fit_set c.self.inside.begun begun c.self.inside.workspaces.items c.in-Some.at (Some c.open_composite.new.self) c.in-Some-begun.is (none_fits begun.meta begun.history.history c.open_composite.new.self c.open_composite.ensures.gone) c.self.invariant.1,
+      effect_orderly s _ begun.meta (Begin c.args.ws c.args.name) is_begun c.requires.could c.requires.spelled (subst IsOrderly c.self.view_is c.self.invariant.2)
+          (changed_view c.self.inside.begun c.self.inside.workspaces.items c.self.inside.events c.self.inside.end c.args.self.now (with_open c.args.name) c.args.ws c.in-Some.at c.index_mut.result.now _ c.in-Some-index_mut.workspace c.open_composite.new.self
+          c.self.view_is c.in-Some.ensures.there.0 c.in-Some.ensures.there.1 c.index_mut.ensures.value c.in-Some-index_mut.is c.open_composite.ensures.opened),
+    )
 
-pub returns-clause-could : goal.returns-clause-could
-returns-clause-could c =
-    on_ok_always c.open_composite.result _ (ap (λ (m : Option Meta). playable_with c.args.self.now m (Begin c.args.ws c.args.name.now)) (sym (ap meta_in c.self.view_is))
-    ∙ begin_at c.args.self.now c.self.inside.meta c.self.inside.workspaces.items c.args.ws c.in-Some.at c.index.result.now _ (sym c.is_some.ensures ∙ c.if-not-is_some.false) (ap (λ (s : State). s.workspaces) c.self.view_is) c.in-Some.ensures.there.0 c.in-Some.ensures.there.1 c.index.ensures c.args.name.now
-    ∙ named_closed _ _ (ap is_name (sym c.as_str.ensures) ∙ sym c.is_name.ensures.form ∙ c.if-not-is_name.false) (sym c.is_open.ensures.open ∙ c.if-is_open.false))
-
-pub returns-clause-done : goal.returns-clause-done
-returns-clause-done c =
-    on_ok c.open_composite.result _ _ (λ done. set_at c.self.inside.meta c.self.inside.workspaces.items c.self.inside.events c.self.inside.end c.args.self.now (with_open c.args.name.now) c.args.ws c.in-Some.at c.index_mut.result.now c.open_composite.new.self _ c.self.view_is c.in-Some.ensures.there.0 c.in-Some.ensures.there.1 c.index_mut.ensures.value done) c.open_composite.ensures.opened
+pub returns : goal.returns
+returns c = record {
+  done = changed_view c.self.inside.begun c.self.inside.workspaces.items c.self.inside.events c.self.inside.end c.args.self.now (with_open c.args.name) c.args.ws c.in-Some.at c.index_mut.result.now _ c.in-Some-index_mut.workspace c.open_composite.new.self
+      c.self.view_is c.in-Some.ensures.there.0 c.in-Some.ensures.there.1 c.index_mut.ensures.value c.in-Some-index_mut.is c.open_composite.ensures.opened;
+}

@@ -2,7 +2,7 @@ use Rattle.std.proofs.Common.{◌≡◌, ap, subst, sym, ◌∙◌, true, Option
 use Rattle.std.specs.Prelude.{IfSome}
 use Rattle.op_form.specs.declared.event.Event.TheVariants.{Edit}
 use Rattle.model_state.specs.declared.operation.Operation.{Operation}
-use Rattle.plain_repository.specs.Repository.{playable_with}
+use Rattle.plain_repository.specs.Events.{playable_with}
 use Rattle.repo_core.proofs.repo.Repo.with_operation.Goals as goal
 
 pub with_room-requires : goal.with_room-requires

@@ -1,10 +1,10 @@
-use Rattle.step_apply.specs.View.{plain_state}
+use Rattle.std.proofs.Common.{◌≡◌, ap}
+use Rattle.model_state.specs.declared.operation.Operation.{Operation}
+use Rattle.std.proofs.Common.{List}
+use Rattle.plain_repository.specs.State.{Workspace}
 use Rattle.repo_core.specs.Keeping.{plain_of}
-use Rattle.repo_core.proofs.Keeping.{untouched_lead, last_lead}
+use Rattle.repo_core.proofs.Effects.{popped_is}
 use Rattle.repo_core.proofs.workspace.Workspace.undo.Goals as goal
 
-pub take_back-requires-clause-keeps : goal.take_back-requires-clause-keeps
-take_back-requires-clause-keeps c = last_lead c.args.meta.now (plain_of c.args.self.now) c.pop.new.self c.in-Some.operation (plain_state c.args.self.now.model) c.requires.can c.in-Some.ensures.items c.requires.keeps
-
-pub returns-clause-keeps : goal.returns-clause-keeps
-returns-clause-keeps c = untouched_lead c.args.meta.now (plain_of c.clear.new.self) (plain_state c.clear.new.self.model) c.clear.ensures.untouched c.clear.ensures.model
+pub returns-clause-undone : goal.returns-clause-undone
+returns-clause-undone c = ap (λ (l : List Operation). record (plain_of c.args.self.now) { operations = l }) (popped_is c.args.self.now.operations c.pop-last.new.self c.pop-last.result c.pop-last.ensures.items c.pop-last.ensures.none)

@@ -1,0 +1,5 @@
+pub mod Growing
+pub mod Heads
+pub mod HeadsBeside
+pub mod Paths
+pub mod Steady

@@ -1,0 +1,26 @@
+-- What holds of paths and heads.
+use Rattle.std.specs.Prelude.{◌≡◌, ◌≢◌, ℕ, ◌<◌, List, [], ◌∷◌, ◌++◌, Option, None, Some, length, slice_get}
+use Rattle.history_tree.specs.declared.version.Version.{Version}
+use Rattle.history_tree.specs.History.{History, with_version, path, head}
+use Rattle.history_tree.specs.Whole.{IsWhole}
+
+-- the path of a parent, where there is one
+abbrev pub path_of_parent : History → Option ℕ → List ℕ
+path_of_parent h None = []
+path_of_parent h (Some parent) = path h parent
+
+-- the path of a version is that of its parent, and then the version itself
+abbrev pub PathsGoByParents : Type 0
+PathsGoByParents = (h : History) → IsWhole h → (v : ℕ) (version : Version) → slice_get h.versions v ≡ Some version → path h v ≡ path_of_parent h version.parent ++ v ∷ []
+
+-- a further version leaves the path of each version that is there
+abbrev pub PathsStay : Type 0
+PathsStay = (h : History) (version : Version) (v : ℕ) → v < length h.versions → path (with_version h version) v ≡ path h v
+
+-- a further version is the head of its branch
+abbrev pub LastIsHead : Type 0
+LastIsHead = (h : History) (version : Version) → head (with_version h version) version.branch ≡ length h.versions
+
+-- and leaves the head of each other branch
+abbrev pub OtherHeadsStay : Type 0
+OtherHeadsStay = (h : History) (version : Version) (branch : ℕ) → version.branch ≢ branch → head (with_version h version) branch ≡ head h branch

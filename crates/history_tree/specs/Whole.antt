@@ -1,0 +1,24 @@
+-- What holds of every history that the calls make: each number that stands in it names something.
+use Rattle.std.specs.Prelude.{ℕ, suc, ◌<◌, List, [], ◌∷◌, Option, None, Some, length, All}
+use Rattle.history_tree.specs.declared.version.Version.{Version}
+use Rattle.history_tree.specs.History.{History}
+
+-- the parent, where there is one, comes before the version of that number
+abbrev pub ComesBefore : Option ℕ → ℕ → Type 0
+ComesBefore None v = Unit {0}
+ComesBefore (Some parent) v = parent < v
+
+-- so for each version, numbered from n on
+abbrev pub ParentsComeBefore : ℕ → List Version → Type 0
+ParentsComeBefore n [] = Unit {0}
+ParentsComeBefore n (version ∷ versions) = ComesBefore version.parent n × ParentsComeBefore (suc n) versions
+
+-- there are versions and branches, and each number that stands in the history names one
+pub record IsWhole (h : History) : Type 0 where
+  pub some_version : 0 < length h.versions
+  pub some_branch : 0 < length h.branches
+  pub parents : ParentsComeBefore 0 h.versions
+  pub branches : All (λ version. version.branch < length h.branches) h.versions
+  pub merged : All (λ version. All (λ v. v < length h.versions) version.merged) h.versions
+  pub starts : All (λ branch. branch.start < length h.versions) h.branches
+  pub tags : All (λ tag. tag.version < length h.versions) h.tags

@@ -1,0 +1,33 @@
+//! Versions, branches and tags, one by one.
+
+use ecore_meta::{List, Text};
+use model_state::Package;
+
+/// What one commit recorded after its parent. Versions and branches are numbered in the order in which they are made, from 0.
+#[derive(Debug, Drop)]
+pub struct Version {
+    /// The number of its branch.
+    pub branch: u32,
+    /// The version that it was made of; version 0 alone has none.
+    pub parent: Option<u32>,
+    /// The versions of other branches that were merged into it.
+    pub merged: List<u32>,
+    /// What the user says of it.
+    pub message: Text,
+    /// The operations that lead from the parent's state to its own.
+    pub package: Package,
+}
+
+/// A line of versions under a name, and the version where it starts.
+#[derive(Debug, Drop)]
+pub struct Branch {
+    pub name: Text,
+    pub start: u32,
+}
+
+/// A further name of a version.
+#[derive(Debug, Drop)]
+pub struct Tag {
+    pub name: Text,
+    pub version: u32,
+}

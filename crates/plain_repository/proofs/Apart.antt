@@ -1,0 +1,90 @@
+-- An event of another workspace leaves this one, and its model.
+use Rattle.std.proofs.Common.{◌≡◌, ◌≢◌, ℕ, ◌<◌, List, nat_eq, false, length, Option, None, Some, refl, sym, ◌∙◌, ap, subst, true≢false}
+use Rattle.std.specs.Prelude.{IsTrue, unwrap_or, option_map}
+use Rattle.ecore_meta.specs.Meta.{Meta}
+use Rattle.model_state.specs.State.{nothing}
+use Rattle.model_state.specs.Steps.{fold}
+use Rattle.model_state.specs.Packages.{fold_package}
+use Rattle.model_state.specs.declared.operation.Operation.{Operation}
+use Rattle.history_tree.specs.History.{History}
+use Rattle.history_tree.specs.States.{operations_to}
+use Rattle.history_tree.proofs.Heads as heads
+use Rattle.history_tree.proofs.Steady.{operations_kept}
+use Rattle.op_form.specs.declared.event.Event.{Event}
+use Rattle.op_form.specs.declared.event.Event.TheVariants.{Init, Checkout, Edit, Begin, End, Undo, Discard, Commit, Branch, Tag, Drop}
+use Rattle.plain_repository.specs.State.{State, Workspace, untouched, workspace_of, recorded_steps, model_of, changed_by_number}
+use Rattle.plain_repository.specs.Commits.{version_of, committed, with_commit, moved_onto, with_new_branch}
+use Rattle.plain_repository.specs.Edits.{with_more}
+use Rattle.plain_repository.specs.Composites.{with_open, with_closed}
+use Rattle.plain_repository.specs.Local.{without_last, without_any}
+use Rattle.plain_repository.specs.Events.{effect, play, playable, playable_with}
+use Rattle.plain_repository.specs.Laws.{is_of, WorkspacesStayApart, ModelsStayApart}
+use Rattle.plain_repository.proofs.Forms.{and_right}
+use Rattle.plain_repository.proofs.Places.{of_number, is_of_number, other_number, more_number}
+use Rattle.plain_repository.proofs.Reached.{in_order}
+
+-- numbers that a test tells apart differ
+pub differ : (k n : ℕ) → nat_eq k n ≡ false → k ≢ n
+differ k n is e = true≢false (sym (heads.same_number k) ∙ ap (λ m. nat_eq k m) e ∙ is)
+
+module _ (s : State) (ws : ℕ) (w : Workspace) (there : of_number s.workspaces ws ≡ Some w) where
+  left : (change : Option Workspace → Option Workspace) (k : ℕ) → nat_eq k ws ≡ false → of_number (changed_by_number change s.workspaces k) ws ≡ Some w
+  left change k apart = other_number change s.workspaces k ws (differ k ws apart) ∙ there
+
+  effect_apart : (e : Event) → is_of ws e ≡ false → of_number (effect s e).workspaces ws ≡ Some w
+  effect_apart (Init text) apart = there
+  effect_apart (Checkout version branch) apart = more_number s.workspaces (Some (untouched branch version)) ws w there
+  effect_apart (Edit k operations) apart = left (option_map (with_more operations)) k apart
+  effect_apart (Begin k name) apart = left (option_map (with_open name)) k apart
+  effect_apart (End k) apart = left (option_map with_closed) k apart
+  effect_apart (Undo k) apart = left (option_map without_last) k apart
+  effect_apart (Discard k) apart = left (option_map without_any) k apart
+  effect_apart (Commit k message) apart = by (workspace_of s k)
+    where
+      by : (o : Option Workspace) → of_number (with_commit k message o s).workspaces ws ≡ Some w
+      by None = there
+      by (Some v) = left (option_map (committed (length s.history.versions))) k apart
+  effect_apart (Branch k name) apart = by (workspace_of s k)
+    where
+      by : (o : Option Workspace) → of_number (with_new_branch k name o s).workspaces ws ≡ Some w
+      by None = there
+      by (Some v) = left (option_map (moved_onto (length s.history.branches))) k apart
+  effect_apart (Tag name version) apart = there
+  effect_apart (Drop k) apart = left (λ o. None) k apart
+
+pub workspaces_stay_apart : WorkspacesStayApart
+unfolding play
+workspaces_stay_apart s ws w there e apart =
+    is_of_number (play s e) ws ∙ effect_apart s ws w (sym (is_of_number s ws) ∙ there) e apart
+
+-- ---- models
+-- a history in which the operations up to a base are the same leads to the same model
+pub same_model : (meta : Meta) (g h : History) (w : Workspace) → operations_to g w.base ≡ operations_to h w.base → model_of meta g w ≡ model_of meta h w
+same_model meta g h w same = ap (λ (os : List Operation). unwrap_or (fold meta (unwrap_or (fold_package meta nothing os) nothing) (recorded_steps w)) nothing) same
+
+effect_leaves : (meta : Meta) (s : State) (w : Workspace) → w.base < length s.history.versions → (e : Event) → IsTrue (playable_with s (Some meta) e) → operations_to (effect s e).history w.base ≡ operations_to s.history w.base
+effect_leaves meta s w within (Init text) could = absurd cc
+effect_leaves meta s w within (Checkout version branch) could = refl
+effect_leaves meta s w within (Edit k operations) could = refl
+effect_leaves meta s w within (Begin k name) could = refl
+effect_leaves meta s w within (End k) could = refl
+effect_leaves meta s w within (Undo k) could = refl
+effect_leaves meta s w within (Discard k) could = refl
+effect_leaves meta s w within (Commit k message) could = by (workspace_of s k)
+  where
+    by : (o : Option Workspace) → operations_to (with_commit k message o s).history w.base ≡ operations_to s.history w.base
+    by None = refl
+    by (Some v) = operations_kept s.history (version_of v message) w.base within
+effect_leaves meta s w within (Branch k name) could = by (workspace_of s k)
+  where
+    by : (o : Option Workspace) → operations_to (with_new_branch k name o s).history w.base ≡ operations_to s.history w.base
+    by None = refl
+    by (Some v) = refl
+effect_leaves meta s w within (Tag name version) could = refl
+effect_leaves meta s w within (Drop k) could = refl
+
+pub models_stay_apart : ModelsStayApart
+unfolding play playable
+models_stay_apart s meta w t e could =
+    same_model meta (effect s e).history s.history w
+    (effect_leaves meta s w (in_order s meta w t).stands.base e (subst (λ (m : Option Meta). IsTrue (playable_with s m e)) t.in_state.begun (and_right _ (playable_with s s.meta e) could)))

@@ -1,0 +1,58 @@
+-- No event changes what stands in the history.
+use Rattle.std.proofs.Common.{◌≡◌, List, [], ◌∷◌, ◌++◌, Option, None, Some, refl, sym, subst, append-nil}
+use Rattle.std.specs.Prelude.{IsTrue}
+use Rattle.ecore_meta.specs.Meta.{Meta}
+use Rattle.history_tree.specs.History.{History, first_history}
+use Rattle.op_form.specs.declared.event.Event.{Event}
+use Rattle.op_form.specs.declared.event.Event.TheVariants.{Init, Checkout, Edit, Begin, End, Undo, Discard, Commit, Branch, Tag, Drop}
+use Rattle.plain_repository.specs.State.{State, Workspace, workspace_of}
+use Rattle.plain_repository.specs.Commits.{version_of, with_commit, with_new_branch}
+use Rattle.plain_repository.specs.Events.{effect, play, playable, playable_with}
+use Rattle.plain_repository.specs.Laws.{Extends, Grows, HistoryOnlyGrows}
+use Rattle.plain_repository.specs.Orderly.{AllOrderly}
+use Rattle.plain_repository.proofs.Forms.{and_right}
+
+same_list : {X : Type 0} (xs : List X) → Extends xs xs
+same_list xs = ([], sym (append-nil xs))
+
+one_more : {X : Type 0} (xs : List X) (x : X) → Extends xs (xs ++ x ∷ [])
+one_more xs x = (x ∷ [], refl)
+
+same_history : (h : History) → Grows h h
+same_history h = record { versions = same_list h.versions; branches = same_list h.branches; tags = same_list h.tags }
+
+effect_grows : (s : State) (m : Option Meta) (e : Event) → s.meta ≡ m → AllOrderly m s → IsTrue (playable_with s m e) → Grows s.history (effect s e).history
+effect_grows s None (Init text) is kept could = subst (λ (h : History). Grows h first_history) (sym kept.1) (record { versions = (first_history.versions, refl); branches = (first_history.branches, refl); tags = ([], refl) })
+effect_grows s None (Checkout version branch) is kept could = absurd cc
+effect_grows s None (Edit k operations) is kept could = absurd cc
+effect_grows s None (Begin k name) is kept could = absurd cc
+effect_grows s None (End k) is kept could = absurd cc
+effect_grows s None (Undo k) is kept could = absurd cc
+effect_grows s None (Discard k) is kept could = absurd cc
+effect_grows s None (Commit k message) is kept could = absurd cc
+effect_grows s None (Branch k name) is kept could = absurd cc
+effect_grows s None (Tag name version) is kept could = absurd cc
+effect_grows s None (Drop k) is kept could = absurd cc
+effect_grows s (Some meta) (Init text) is kept could = absurd cc
+effect_grows s (Some meta) (Checkout version branch) is kept could = same_history s.history
+effect_grows s (Some meta) (Edit k operations) is kept could = same_history s.history
+effect_grows s (Some meta) (Begin k name) is kept could = same_history s.history
+effect_grows s (Some meta) (End k) is kept could = same_history s.history
+effect_grows s (Some meta) (Undo k) is kept could = same_history s.history
+effect_grows s (Some meta) (Discard k) is kept could = same_history s.history
+effect_grows s (Some meta) (Commit k message) is kept could = by (workspace_of s k)
+  where
+    by : (o : Option Workspace) → Grows s.history (with_commit k message o s).history
+    by None = same_history s.history
+    by (Some w) = record { versions = one_more s.history.versions (version_of w message); branches = same_list s.history.branches; tags = same_list s.history.tags }
+effect_grows s (Some meta) (Branch k name) is kept could = by (workspace_of s k)
+  where
+    by : (o : Option Workspace) → Grows s.history (with_new_branch k name o s).history
+    by None = same_history s.history
+    by (Some w) = record { versions = same_list s.history.versions; branches = one_more s.history.branches (record { name = name; start = w.base }); tags = same_list s.history.tags }
+effect_grows s (Some meta) (Tag name version) is kept could = record { versions = same_list s.history.versions; branches = same_list s.history.branches; tags = one_more s.history.tags (record { name = name; version = version }) }
+effect_grows s (Some meta) (Drop k) is kept could = same_history s.history
+
+pub history_only_grows : HistoryOnlyGrows
+unfolding play playable
+history_only_grows s orderly e could = effect_grows s s.meta e refl orderly (and_right _ (playable_with s s.meta e) could)

@@ -1,0 +1,122 @@
+-- What holds in every state that events lead to.
+use Rattle.std.proofs.Common.{◌≡◌, ℕ, List, ◌++◌, true, Option, Some, is_some, sym, ◌∙◌, ap, subst, None, [], ◌∷◌, refl}
+use Rattle.std.specs.Prelude.{IsTrue, Result, Ok, Err}
+use Rattle.std.specs.FinMap.{get-empty}
+use Rattle.command_runs.specs.Runs.{played}
+use Rattle.ecore_meta.specs.Meta.{Meta}
+use Rattle.ecore_meta.specs.Sound.{Sound}
+use Rattle.model_state.specs.Good.{Good}
+use Rattle.model_state.specs.Ident.{is_id}
+use Rattle.model_state.specs.Keys.{id_cmp}
+use Rattle.model_state.specs.State.{nothing}
+use Rattle.model_laws.proofs.Start.{starts_good}
+use Rattle.model_laws.proofs.Runs.{steps_keep_good}
+use Rattle.ecore_json.specs.Metamodel.{metamodel_of}
+use Rattle.ecore_json.proofs.ReadSound.{read_sound}
+use Rattle.ecore_json.specs.declared.fault.EcoreFault.{EcoreFault}
+use Rattle.op_form.specs.declared.event.Event.{Event}
+use Rattle.op_form.specs.declared.event.Event.TheVariants.{Init, Checkout, Edit, Begin, End, Undo, Discard, Commit, Branch, Tag, Drop}
+use Rattle.plain_repository.specs.Events.{effect, play, playable, playable_with, are_playable}
+use Rattle.plain_repository.specs.Metamodels.{meta_of_read}
+use Rattle.plain_repository.specs.State.{State, Workspace, empty, recorded_steps}
+use Rattle.plain_repository.specs.Laws.{StaysInOrder, AllIsInOrder, HasMetamodel, IsThere, OfModels, OfVersions, IsGood, HasIds as HaveIds, ModelsAreDefined, VersionsAreDefined, MetamodelsAreSound, HistoriesAreWhole, WorkspacesStand}
+use Rattle.plain_repository.specs.Orderly.{IsRun, RunsTo, Runs, steps_to, InOrder, Orderly, AllOrderly, IsOrderly}
+use Rattle.plain_repository.proofs.Named.{HasIds, steps_named}
+use Rattle.plain_repository.proofs.Places.{at_number}
+use Rattle.plain_repository.proofs.Runs.{version_folded, version_model, workspace_folded, workspace_model}
+use Rattle.plain_repository.proofs.Kept.{played_keeps, play_keeps, empty_kept, same_meta}
+use Rattle.plain_repository.proofs.Forms.{and_left, and_right}
+
+pub all_is_in_order : AllIsInOrder
+all_is_in_order s r = subst IsOrderly r.reached (played_keeps empty r.events r.could empty_kept)
+
+pub stays_in_order : StaysInOrder
+stays_in_order s orderly e could = play_keeps s e could orderly
+
+pub kept : (s : State) (meta : Meta) → HasMetamodel s meta → Orderly meta s
+kept s meta has = subst (λ (m : Option Meta). AllOrderly m s) has.begun has.orderly
+
+pub in_order : (s : State) (meta : Meta) (w : Workspace) → IsThere s meta w → InOrder meta s.history w
+in_order s meta w t = at_number (InOrder meta s.history) s t.ws w t.there (kept s meta t.in_state).workspaces
+
+-- ---- runs lead to good models of elements with ids
+run_good : (meta : Meta) → Sound meta → (steps : List _) (r : IsRun meta steps) → Good meta r.model
+run_good meta sound steps r = steps_keep_good meta sound nothing r.model (starts_good meta) steps r.run
+
+none_named : HasIds nothing
+none_named e = subst (λ (o : Option ℕ). is_some o ≡ true → is_id e ≡ true) (sym (get-empty id_cmp e)) (λ live. absurd cc)
+
+run_named : (meta : Meta) (steps : List _) (r : IsRun meta steps) → HasIds r.model
+run_named meta steps r = steps_named meta nothing r.model steps r.spelled none_named r.run
+
+-- ---- the laws
+pub models_are_defined : ModelsAreDefined
+models_are_defined s meta w t =
+    let r : Runs meta s.history w = (in_order s meta w t).runs in
+    workspace_folded meta s.history w r ∙ ap Some (sym (workspace_model meta s.history w r))
+
+pub models_are_good : OfModels IsGood
+models_are_good s meta w t sound =
+    let r : Runs meta s.history w = (in_order s meta w t).runs in
+    subst (Good meta) (sym (workspace_model meta s.history w r)) (run_good meta sound (steps_to s.history w.base ++ recorded_steps w) r)
+
+pub models_have_ids : OfModels HaveIds
+models_have_ids s meta w t =
+    let r : Runs meta s.history w = (in_order s meta w t).runs in
+    subst HasIds (sym (workspace_model meta s.history w r)) (run_named meta (steps_to s.history w.base ++ recorded_steps w) r)
+
+pub versions_are_defined : VersionsAreDefined
+versions_are_defined s meta has v within =
+    let r : RunsTo meta s.history v = (kept s meta has).versions v within in
+    version_folded meta s.history v r ∙ ap Some (sym (version_model meta s.history v r))
+
+pub versions_are_good : OfVersions IsGood
+versions_are_good s meta has v within sound =
+    let r : RunsTo meta s.history v = (kept s meta has).versions v within in
+    subst (Good meta) (sym (version_model meta s.history v r)) (run_good meta sound (steps_to s.history v) r)
+
+pub versions_have_ids : OfVersions HaveIds
+versions_have_ids s meta has v within =
+    let r : RunsTo meta s.history v = (kept s meta has).versions v within in
+    subst HasIds (sym (version_model meta s.history v r)) (run_named meta (steps_to s.history v) r)
+
+-- the metamodel, once there is one, is sound
+abbrev IsSound : Option Meta → Type 0
+IsSound None = Unit {0}
+IsSound (Some meta) = Sound meta
+
+text_sound : (text : List ℕ) (r : Result Meta EcoreFault) → metamodel_of text ≡ r → IsSound (meta_of_read r)
+text_sound text (Ok meta) is = read_sound text meta is
+text_sound text (Err e) is = tt
+
+effect_sound : (s : State) (m : Option Meta) (e : Event) → s.meta ≡ m → IsTrue (playable_with s m e) → IsSound m → IsSound (effect s e).meta
+effect_sound s None (Init text) is could kept = text_sound text (metamodel_of text) refl
+effect_sound s None (Checkout version branch) is could kept = absurd cc
+effect_sound s None (Edit k operations) is could kept = absurd cc
+effect_sound s None (Begin k name) is could kept = absurd cc
+effect_sound s None (End k) is could kept = absurd cc
+effect_sound s None (Undo k) is could kept = absurd cc
+effect_sound s None (Discard k) is could kept = absurd cc
+effect_sound s None (Commit k message) is could kept = absurd cc
+effect_sound s None (Branch k name) is could kept = absurd cc
+effect_sound s None (Tag name version) is could kept = absurd cc
+effect_sound s None (Drop k) is could kept = absurd cc
+effect_sound s (Some meta) e is could kept = subst IsSound (sym (same_meta s meta e could ∙ is)) kept
+
+play_sound : (s : State) (e : Event) → IsTrue (playable s e) → IsSound s.meta → IsSound (play s e).meta
+unfolding play playable
+play_sound s e could kept = effect_sound s s.meta e refl (and_right _ (playable_with s s.meta e) could) kept
+
+played_sound : (s : State) (events : List Event) → IsTrue (are_playable s events) → IsSound s.meta → IsSound (played play s events).meta
+played_sound s [] could kept = kept
+played_sound s (e ∷ events) could kept = played_sound (play s e) events (and_right (playable s e) (are_playable (play s e) events) could) (play_sound s e (and_left (playable s e) (are_playable (play s e) events) could) kept)
+
+pub metamodels_are_sound : MetamodelsAreSound
+metamodels_are_sound s r meta begun =
+    subst IsSound begun (subst (λ (t : State). IsSound t.meta) r.reached (played_sound empty r.events r.could tt))
+
+pub histories_are_whole : HistoriesAreWhole
+histories_are_whole s meta has = (kept s meta has).whole
+
+pub workspaces_stand : WorkspacesStand
+workspaces_stand s meta w t = (in_order s meta w t).stands

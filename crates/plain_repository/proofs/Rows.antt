@@ -1,0 +1,98 @@
+-- Worked rows: what the definitions say of a few lines, computed.
+use Rattle.std.proofs.Common.{◌≡◌, [], ◌∷◌, None, Some, refl, codes}
+use Rattle.std.specs.Fmt.{digits}
+use Rattle.std.specs.Str.{is_utf8, chars}
+use lib.Utf8.{encode}
+use Rattle.byte_form.specs.Fields.{u32_form, u64_form, text_form}
+use Rattle.op_form.specs.Formed.{is_event}
+use Rattle.op_form.specs.Events.{event_form}
+use Rattle.op_form.specs.Packages.{package_form, operation_form}
+use Rattle.op_form.specs.Steps.{step_form}
+use Rattle.command_runs.specs.Runs.{played}
+use Rattle.ecore_meta.specs.Meta.{Meta}
+use Rattle.model_state.specs.declared.step.Step.TheVariants.{RerankPlace}
+use Rattle.model_state.specs.declared.operation.OpKind.TheVariants.{Move}
+use Rattle.model_state.specs.declared.operation.Operation.{Operation}
+use Rattle.model_state.specs.declared.operation.Operation.TheVariants.{Simple}
+use Rattle.history_tree.specs.History.{first_history, path, head}
+use Rattle.op_form.specs.declared.event.Event.TheVariants.{Checkout, Edit, Commit, Branch, Tag, Drop}
+use Rattle.script_lang.specs.declared.command.Spec.TheVariants as specs
+use Rattle.script_lang.specs.declared.command.Command.{Command}
+use Rattle.script_lang.specs.declared.command.Command.TheVariants as commands
+use Rattle.script_lang.specs.declared.reply.Refusal.TheVariants as refusals
+use Rattle.script_lang.specs.declared.reply.Last.{Last}
+use Rattle.script_lang.specs.declared.reply.Last.TheVariants as last
+use Rattle.plain_repository.specs.State.{State}
+use Rattle.plain_repository.specs.Answers.{with_room}
+use Rattle.plain_repository.specs.Checkouts.{decide_checkout}
+use Rattle.plain_repository.specs.Commits.{decide_commit, decide_branch, decide_tag}
+use Rattle.plain_repository.specs.Events.{play}
+use Rattle.plain_repository.specs.Repository.{decide_command}
+
+-- a repository with any metamodel, right after `init`
+abbrev begun : Meta → State
+begun meta = record { meta = Some meta; history = first_history; workspaces = []; events = 1; end = 100 }
+
+-- some operation
+abbrev some_operation : Operation
+some_operation = Simple Move (RerankPlace (codes "b") 1 2 ∷ [])
+
+-- version 1, made by workspace 1, and workspace 2 at it
+abbrev two : Meta → State
+two meta = played play (begun meta) (Checkout 0 0 ∷ Edit 1 (some_operation ∷ []) ∷ Commit 1 (codes "a") ∷ Checkout 1 0 ∷ [])
+
+-- the line that ends the answer
+abbrev said : State → Command → Last
+said s command = (decide_command s None command).reply.last
+
+nothing_local : (meta : Meta) → said (two meta) (commands.Commit 2 (Some (codes "n"))) ≡ last.No refusals.NothingLocal
+unfolding decide_command play decide_commit
+nothing_local meta = refl
+
+-- then workspace 1 makes version 2
+abbrev three : Meta → State
+three meta = played play (two meta) (Edit 1 (some_operation ∷ []) ∷ Commit 1 (codes "m") ∷ [])
+
+is_stale : (meta : Meta) → said (three meta) (commands.Commit 2 (Some (codes "n"))) ≡ last.No (refusals.Stale 1 2)
+unfolding decide_command play decide_commit
+is_stale meta = refl
+
+-- and workspace 2 makes version 3 on a branch of its own
+abbrev four : Meta → State
+four meta = played play (three meta) (Branch 2 (codes "dev") ∷ Edit 2 (some_operation ∷ []) ∷ [])
+
+third : (meta : Meta) → said (four meta) (commands.Commit 2 (Some (codes "k"))) ≡ last.Ok (codes "3")
+unfolding decide_command play decide_commit with_room is_event is_utf8 chars event_form u32_form u64_form text_form package_form operation_form step_form digits encode
+third meta = refl
+
+-- paths and heads
+abbrev five : Meta → State
+five meta = played play (four meta) (Commit 2 (codes "k") ∷ Tag (codes "t") 1 ∷ Tag (codes "u") 1 ∷ Drop 1 ∷ [])
+
+paths : (meta : Meta) → path (five meta).history 3 ≡ 0 ∷ 1 ∷ 3 ∷ []
+unfolding play
+paths meta = refl
+
+heads : (meta : Meta) → (head (five meta).history 0 ≡ 2) × (head (five meta).history 1 ≡ 3)
+unfolding play
+heads meta = (refl, refl)
+
+exists : (meta : Meta) → said (five meta) (commands.Branch 2 (codes "dev")) ≡ last.No refusals.BranchExists
+unfolding decide_command play decide_branch
+exists meta = refl
+
+tagged : (meta : Meta) → said (five meta) (commands.Tag (codes "t") (specs.Number 0)) ≡ last.No refusals.TagExists
+unfolding decide_command play decide_tag
+tagged meta = refl
+
+gone : (meta : Meta) → said (five meta) (commands.Commit 1 None) ≡ last.No refusals.NoWorkspace
+unfolding decide_command play decide_commit
+gone meta = refl
+
+checked_out : (meta : Meta) → said (five meta) (commands.Checkout (specs.Tag (codes "t"))) ≡ last.Ok (codes "3 1 trunk")
+unfolding decide_command play decide_checkout with_room is_event event_form u32_form u64_form text_form package_form operation_form step_form digits
+checked_out meta = refl
+
+on_dev : (meta : Meta) → said (five meta) (commands.Checkout (specs.Branch (codes "dev"))) ≡ last.Ok (codes "3 3 dev")
+unfolding decide_command play decide_checkout with_room is_event event_form u32_form u64_form text_form package_form operation_form step_form digits
+on_dev meta = refl

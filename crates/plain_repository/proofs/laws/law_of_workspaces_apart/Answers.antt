@@ -1,0 +1,16 @@
+-- By cases on the event.
+use Rattle.plain_repository.proofs.Apart.{workspaces_stay_apart, models_stay_apart}
+use Rattle.plain_repository.proofs.Numbers.{numbers_only_grow, dropped_stay_dropped}
+use Rattle.plain_repository.proofs.laws.law_of_workspaces_apart.Goals as goal
+
+pub returns-clause-workspaces : goal.returns-clause-workspaces
+returns-clause-workspaces c = workspaces_stay_apart
+
+pub returns-clause-models : goal.returns-clause-models
+returns-clause-models c = models_stay_apart
+
+pub returns-clause-numbers : goal.returns-clause-numbers
+returns-clause-numbers c = numbers_only_grow
+
+pub returns-clause-dropped : goal.returns-clause-dropped
+returns-clause-dropped c = dropped_stay_dropped

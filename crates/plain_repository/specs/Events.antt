@@ -1,0 +1,57 @@
+-- What an event makes of the repository, and which events a command could make: one line an event.
+use Rattle.std.specs.Prelude.{◌+◌, ◌&&◌, nat_lt, List, [], ◌∷◌, Bool, true, false, length, Option, Some, None, is_some}
+use Rattle.ecore_meta.specs.Meta.{Meta}
+use Rattle.model_state.specs.Names.{is_name}
+use Rattle.op_form.specs.declared.event.Event.{Event}
+use Rattle.op_form.specs.declared.event.Event.TheVariants.{Init, Checkout, Edit, Begin, End, Undo, Discard, Commit, Branch, Tag, Drop}
+use Rattle.op_form.specs.Events.{event_form}
+use Rattle.plain_repository.specs.State.{State, workspace_of, with_changed, is_open, is_closed}
+use Rattle.plain_repository.specs.Answers.{most_events, fits_record}
+use Rattle.plain_repository.specs.Metamodels.{initialized, is_metamodel}
+use Rattle.plain_repository.specs.Checkouts.{checked_out, can_check_out, dropped}
+use Rattle.plain_repository.specs.Commits.{with_commit, can_commit, with_new_branch, is_new_branch, with_new_tag, can_tag}
+use Rattle.plain_repository.specs.Edits.{with_more, can_follow}
+use Rattle.plain_repository.specs.Composites.{with_open, can_begin, with_closed}
+use Rattle.plain_repository.specs.Local.{without_last, can_undo, without_any, can_discard}
+
+-- what an event changes beside the numbers that every event raises
+abbrev pub effect : State → Event → State
+effect s (Init text) = initialized text s
+effect s (Checkout version branch) = checked_out version branch s
+effect s (Edit ws operations) = with_changed (with_more operations) ws s
+effect s (Begin ws name) = with_changed (with_open name) ws s
+effect s (End ws) = with_changed with_closed ws s
+effect s (Undo ws) = with_changed without_last ws s
+effect s (Discard ws) = with_changed without_any ws s
+effect s (Commit ws message) = with_commit ws message (workspace_of s ws) s
+effect s (Branch ws name) = with_new_branch ws name (workspace_of s ws) s
+effect s (Tag name version) = with_new_tag name version s
+effect s (Drop ws) = dropped ws s
+
+-- the state that an event makes
+unfoldable pub play : State → Event → State
+play s event = record (effect s event) { events = s.events + 1; end = s.end + 5 + length (event_form event) }
+
+-- what each event asks of the state, by the metamodel
+abbrev pub playable_with : State → Option Meta → Event → Bool
+playable_with s None (Init text) = is_metamodel text
+playable_with s (Some meta) (Checkout version branch) = can_check_out s.history version branch
+playable_with s (Some meta) (Edit ws operations) = can_follow meta s.history (workspace_of s ws) operations
+playable_with s (Some meta) (Begin ws name) = can_begin name (workspace_of s ws)
+playable_with s (Some meta) (End ws) = is_open (workspace_of s ws)
+playable_with s (Some meta) (Undo ws) = can_undo (workspace_of s ws)
+playable_with s (Some meta) (Discard ws) = can_discard (workspace_of s ws)
+playable_with s (Some meta) (Commit ws message) = can_commit s.history (workspace_of s ws)
+playable_with s (Some meta) (Branch ws name) = is_name name && is_new_branch s.history name && is_closed (workspace_of s ws)
+playable_with s (Some meta) (Tag name version) = can_tag s.history name version
+playable_with s (Some meta) (Drop ws) = is_some (workspace_of s ws)
+playable_with s meta event = false
+
+-- is the event one that a command could make on this state
+unfoldable pub playable : State → Event → Bool
+playable s event = nat_lt s.events most_events && fits_record event && playable_with s s.meta event
+
+-- is each event one that a command could make on the state that the events before it leave
+abbrev pub are_playable : State → List Event → Bool
+are_playable s [] = true
+are_playable s (event ∷ events) = playable s event && are_playable (play s event) events

@@ -1,0 +1,43 @@
+-- What is local goes: the commands `undo` and `discard`, and the events Undo and Discard.
+use Rattle.std.specs.Prelude.{ℕ, ◌-◌, ◌&&◌, ◌||◌, [], Bool, length, take, Option, Some, None, if◌then◌else◌}
+use Rattle.op_form.specs.declared.event.Event.TheVariants as events
+use Rattle.script_lang.specs.declared.reply.Refusal.TheVariants as refusals
+use Rattle.plain_repository.specs.State.{State, Workspace, untouched, workspace_of, is_open, is_closed, has_operations, has_local}
+use Rattle.plain_repository.specs.Answers.{Decision, refused, told, with_room}
+
+-- the last operation goes
+abbrev pub without_last : Workspace → Workspace
+without_last w = record w { operations = take (length w.operations - 1) w.operations }
+
+-- no composite is open, and there is an operation
+abbrev pub can_undo : Option Workspace → Bool
+can_undo workspace = is_closed workspace && has_operations workspace
+
+-- nothing is local any more
+abbrev pub without_any : Workspace → Workspace
+without_any w = untouched w.branch w.base
+
+-- a composite is open, or there is something for a version
+abbrev pub can_discard : Option Workspace → Bool
+can_discard workspace = is_open workspace || has_local workspace
+
+-- the last operation goes, where there is one and no composite is open
+abbrev pub undone : State → ℕ → Option Workspace → Decision
+undone s ws None = refused refusals.NoWorkspace
+undone s ws (Some w) =
+    if is_open (Some w) then refused refusals.CompositeOpen
+    else if has_operations (Some w) then with_room s [] [] (events.Undo ws)
+    else refused refusals.NothingLocal
+
+-- `undo WS`: the last operation goes
+unfoldable pub decide_undo : State → ℕ → Decision
+decide_undo s ws = undone s ws (workspace_of s ws)
+
+-- all that is local goes, and nothing changes where nothing is
+abbrev pub discarded : State → ℕ → Option Workspace → Decision
+discarded s ws None = refused refusals.NoWorkspace
+discarded s ws (Some w) = if can_discard (Some w) then with_room s [] [] (events.Discard ws) else told [] []
+
+-- `discard WS`: all operations, the open composite and the pending merges go
+unfoldable pub decide_discard : State → ℕ → Decision
+decide_discard s ws = discarded s ws (workspace_of s ws)

@@ -1,0 +1,74 @@
+-- What all in order gives: where a workspace stands, and that its steps and those of versions can be taken.
+use Rattle.std.proofs.Common.{◌≡◌, ℕ, ◌<◌, ◌∷◌, List, [], Bool, true, false, length, Option, Some, None, is_some, Result, Ok, Err, refl, sym, ◌∙◌, ap, subst}
+use Rattle.std.specs.Prelude.{slice_get, nat_lt, nat_eq, ◌&&◌, ◌||◌, not, IfSome}
+use Rattle.std.specs.Option.{option_copied, option_map, option_map_or}
+use Rattle.std.proofs.Common.{Bor}
+use Rattle.ecore_meta.specs.Meta.{Meta}
+use Rattle.ecore_meta.specs.Sound.{Sound}
+use Rattle.model_state.specs.State as models
+use Rattle.model_state.specs.State.{nothing}
+use Rattle.model_state.specs.Good.{Good}
+use Rattle.model_state.specs.Packages.{steps_all}
+use Rattle.model_laws.proofs.Start.{starts_good}
+use Rattle.model_laws.proofs.Runs.{steps_keep_good}
+use Rattle.history_tree.specs.History.{History, head}
+use Rattle.history_tree.specs.States.{state_folded}
+use Rattle.data_lines.specs.Typed.{AreTyped, IsTypedPackage}
+use Rattle.data_lines.proofs.Taken.{packages_typed, steps_typed}
+use Rattle.plain_repository.specs.State.{State, Workspace, open_steps, recorded_steps, workspace_of, folded}
+use Rattle.plain_repository.specs.Orderly.{IsOrderly, InOrder, Stands, steps_to}
+use Rattle.plain_repository.specs.Laws.{IsThere, HasMetamodel}
+use Rattle.plain_repository.proofs.Reached.{in_order, models_are_defined, versions_are_defined, workspaces_stand}
+use Rattle.plain_repository.proofs.Recorded.{ByWay, by_way}
+use Rattle.repo_core.specs.declared.workspace.Composite.{Composite as Open}
+use Rattle.repo_core.specs.declared.workspace.Workspace.{Workspace as Kept}
+use Rattle.repo_core.specs.Keeping.{plain_of, plain_composite}
+
+pub is_there : (s : State) (meta : Meta) (ws : ℕ) (w : Workspace) → IsOrderly s → s.meta ≡ Some meta → workspace_of s ws ≡ Some w → IsThere s meta w
+is_there s meta ws w orderly begun there = record { in_state = record { orderly = orderly; begun = begun }; ws = ws; there = there }
+
+-- the state of each version is defined
+pub version_leads : (s : State) (meta : Meta) → IsOrderly s → s.meta ≡ Some meta → (v : ℕ) → v < length s.history.versions → is_some (state_folded meta s.history v) ≡ true
+version_leads s meta orderly begun v below = ap is_some (versions_are_defined s meta (record { orderly = orderly; begun = begun }) v below)
+
+-- so is that of a base
+pub base_leads : (s : State) (meta : Meta) (w : Workspace) → IsThere s meta w → is_some (state_folded meta s.history w.base) ≡ true
+base_leads s meta w there = version_leads s meta there.in_state.orderly there.in_state.begun w.base (workspaces_stand s meta w there).base
+
+-- and each working model
+pub model_leads : (s : State) (meta : Meta) (w : Workspace) → IsThere s meta w → is_some (folded meta s.history w) ≡ true
+model_leads s meta w there = ap is_some (models_are_defined s meta w there)
+
+-- what is recorded, taken behind the base's state
+record Parts (meta : Meta) (w : Workspace) : Type 0 where
+  base : models.State
+  model : models.State
+  good : Good meta base
+  operations : ByWay meta base model (steps_all w.operations) (open_steps w.composite)
+
+parts : (s : State) (meta : Meta) (w : Workspace) → Sound meta → IsThere s meta w → Parts meta w
+parts s meta w sound there =
+    let runs = (in_order s meta w there).runs in
+    let at : ByWay meta nothing runs.model (steps_to s.history w.base) (recorded_steps w) = by_way meta nothing runs.model (steps_to s.history w.base) (recorded_steps w) runs.run in
+    record {
+      base = at.way;
+      model = runs.model;
+      good = steps_keep_good meta sound nothing at.way (starts_good meta) (steps_to s.history w.base) at.first;
+      operations = by_way meta at.way runs.model (steps_all w.operations) (open_steps w.composite) at.rest;
+    }
+
+-- the operations of a workspace are of the metamodel
+pub operations_typed : (s : State) (meta : Meta) (w : Workspace) → Sound meta → IsThere s meta w → IsTypedPackage meta w.operations
+operations_typed s meta w sound there =
+    let p = parts s meta w sound there in
+    packages_typed meta sound p.base p.operations.way p.good w.operations p.operations.first
+
+-- so are the steps of the composite that is open
+pub open_typed : (s : State) (meta : Meta) (w : Workspace) → Sound meta → IsThere s meta w → AreTyped meta (open_steps w.composite)
+open_typed s meta w sound there =
+    let p = parts s meta w sound there in
+    steps_typed meta sound p.operations.way p.model (steps_keep_good meta sound p.base p.operations.way p.good (steps_all w.operations) p.operations.first) (open_steps w.composite) p.operations.rest
+
+pub seen_typed : (meta : Meta) (w : Kept) (r : Option (Bor Open)) → AreTyped meta (open_steps (plain_of w).composite) → option_copied r ≡ w.composite → IfSome r (λ c. AreTyped meta c.now.steps)
+seen_typed meta w None typed is = tt
+seen_typed meta w (Some c) typed is = subst (λ (o : Option Open). AreTyped meta (open_steps (option_map plain_composite o))) (sym is) typed

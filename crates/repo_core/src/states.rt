@@ -1,0 +1,68 @@
+//! The state of a version, folded from the empty project.
+ghost use Rattle.std.specs.Prelude.{◌≡◌, ◌≢◌, ◌<◌, length, is_some, true, None, Some, IfOk, OnOk, IfErr};
+ghost use Rattle.ecore_meta.specs.Sound.{Sound};
+ghost use Rattle.model_state.specs.Good.{Good};
+ghost use Rattle.model_state.specs.Packages.{fold_package, steps_of};
+ghost use Rattle.step_apply.specs.View.{plain_state};
+ghost use Rattle.history_tree.specs.States.{state_folded, state_of};
+
+use ecore_meta::Metamodel;
+use history_tree::History;
+use model_laws::replay;
+use model_state::{Operation, Step, StepFault};
+use std::alloc::{AllocError, Global};
+use step_apply::Plain;
+
+fn steps_in(operation: &Operation) -> &[Step]
+    ensures { result.now ≡ steps_of operation.now }
+{
+    match operation {
+        Operation::Simple { steps, .. } => steps.as_slice(),
+        Operation::Composite { steps, .. } => steps.as_slice(),
+    }
+}
+
+/// Takes the steps of operations one by one, up to the first that can't be taken. After an error the model is of no use.
+pub(crate) fn follow(
+    model: &mut Plain,
+    meta: &Metamodel,
+    operations: &[Operation],
+) -> Result<(), StepFault>
+    requires sound { Sound meta.now }
+    requires good { Good meta.now (plain_state model.old) }
+    ensures done { OnOk result (fold_package meta.now (plain_state model.old) operations.now ≡ Some (plain_state model.new)) }
+    ensures cannot { IfErr result (λ e. e ≢ StepFault.Memory → fold_package meta.now (plain_state model.old) operations.now ≡ None) }
+    ensures good { Good meta.now (plain_state model.new) }
+{
+    for operation in operations {
+        replay(model, meta, steps_in(operation))?;
+    }
+    Ok(())
+}
+
+/// The state of a version whose operations can be taken.
+pub fn state_at(
+    alloc: Global,
+    meta: &Metamodel,
+    history: &History,
+    v: u32,
+) -> Result<Plain, AllocError>
+    requires sound { Sound meta.now }
+    requires there { v < length history.now.history.versions }
+    requires leads { is_some (state_folded meta.now history.now.history v) ≡ true }
+    ensures state { IfOk result (λ m. plain_state m ≡ state_of meta.now history.now.history v) }
+    ensures good { IfOk result (λ m. Good meta.now (plain_state m)) }
+{
+    let mut model = Plain::new(alloc);
+    let path = history.path(alloc, v)?;
+    for u in path.as_slice() {
+        match follow(&mut model, meta, history.version(*u).package.as_slice()) {
+            Ok(()) => {}
+            Err(fault) => match fault {
+                StepFault::Memory => return Err(AllocError),
+                _ => unreachable!(),
+            },
+        }
+    }
+    Ok(model)
+}
