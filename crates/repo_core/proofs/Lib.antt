@@ -1,5 +1,6 @@
 pub mod Changing
 pub mod Effects
 pub mod Folding
+pub mod Needed
 pub mod Ordered
 pub mod Playable
