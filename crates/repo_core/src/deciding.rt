@@ -187,7 +187,7 @@ fn push_open_lines(
     let Some(composite) = composite else {
         return Ok(());
     };
-    let open = open_lines(alloc, &composite.name, &composite.steps, meta)?;
+    let open = open_lines(alloc, &composite.name, composite.steps.as_slice(), meta)?;
     push_lines(alloc, lines, &open)
 }
 
