@@ -24,13 +24,13 @@ pub either : {T E : Type 0} {A B X : Type 0} (r : Result T E) → OnOk r A → O
 either (Ok x) a b f g = f a
 either (Err e) a b f g = g b
 
-pub both_ok : {T E : Type 0} {A B : Type 0} (r : Result T E) → OnOk r A → OnOk r B → OnOk r (A × B)
-both_ok (Ok x) a b = (a, b)
-both_ok (Err e) a b = tt
+pub both_ok : {T E : Type 0} (A B : Type 0) (r : Result T E) → OnOk r A → OnOk r B → OnOk r (A × B)
+both_ok A B (Ok x) a b = (a, b)
+both_ok A B (Err e) a b = tt
 
-pub both_err : {T E : Type 0} {A B : Type 0} (r : Result T E) → OnErr r A → OnErr r B → OnErr r (A × B)
-both_err (Ok x) a b = tt
-both_err (Err e) a b = (a, b)
+pub both_err : {T E : Type 0} (A B : Type 0) (r : Result T E) → OnErr r A → OnErr r B → OnErr r (A × B)
+both_err A B (Ok x) a b = tt
+both_err A B (Err e) a b = (a, b)
 
 pub on_ok : {T E : Type 0} {P Q : Type 0} (r : Result T E) → (P → Q) → OnOk r P → OnOk r Q
 on_ok (Ok x) f p = f p

@@ -1,6 +1,6 @@
 -- What becomes of the model that a workspace keeps, by each change of the workspace and of the history.
-use Rattle.std.proofs.Common.{◌≡◌, ◌-◌, ◌+◌, ◌<◌, arith, length-append, ℕ, List, [], ◌∷◌, ◌++◌, true, length, take, map, Option, Some, None, is_some, refl, sym, ◌∙◌, ap, subst, append-nil}
-use Rattle.std.specs.Prelude.{All, unwrap_or, option_to_list}
+use Rattle.std.proofs.Common.{◌≡◌, ◌<◌, ℕ, List, [], ◌∷◌, ◌++◌, true, length, map, Option, Some, None, is_some, refl, sym, ◌∙◌, ap, subst, append-nil}
+use Rattle.std.specs.Prelude.{All, IfSome, unwrap_or}
 use Rattle.std.specs.List.{AllByRecursion}
 use Rattle.std.proofs.lemmas.List.Elements.{All-from_recursion, recursion_from_All}
 use Rattle.std.proofs.lemmas.Option.{same_Some}
@@ -19,11 +19,12 @@ use Rattle.step_apply.specs.View.{plain_state}
 use Rattle.history_tree.specs.History.{History, with_version}
 use Rattle.history_tree.specs.States.{operations_to, state_of}
 use Rattle.op_form.proofs.Reversals.{packages_undone}
-use Rattle.plain_repository.specs.State.{State, Workspace, Composite, folded, model_of, recorded_steps, is_closed, workspace_of}
+use Rattle.plain_repository.specs.State.{State, Workspace, Composite, folded, model_of, recorded_steps, has_operations, is_closed, workspace_of}
 use Rattle.plain_repository.specs.Commits.{version_of, committed, can_commit}
 use Rattle.plain_repository.specs.Composites.{with_open, with_closed}
 use Rattle.plain_repository.specs.Edits.{added, with_more}
-use Rattle.plain_repository.specs.Local.{without_last}
+use Rattle.plain_repository.specs.Local.{can_undo}
+use Rattle.plain_repository.proofs.Forms.{and_left}
 use Rattle.plain_repository.specs.Orderly.{Orderly, InOrder, IfThere}
 use Rattle.plain_repository.proofs.Commits as commits
 use Rattle.plain_repository.proofs.Kept.{commit_itself}
@@ -58,33 +59,28 @@ pub closed_folded : (meta : Meta) (h : History) (w : Workspace) → folded meta 
 closed_folded meta h w = ap (λ (l : List Step). fold meta (state_of meta h w.base) l) (closed_steps w.operations w.composite)
 
 -- ---- Undo
--- what is left behind the operation taken out is all but the last
-front_is : (os front : List Operation) (o : Operation) → os ≡ front ++ o ∷ [] → take (length os - 1) os ≡ front
-front_is os front o is = ap (λ (l : List Operation). take (length l - 1) l) is ∙ taken front
-  where
-    long : (x : Operation) (front : List Operation) → length (front ++ o ∷ []) ≡ length front + 1
-    long x front = omega (arith, length-append front (o ∷ []))
-
-    whole : (front : List Operation) → take (length front) (front ++ o ∷ []) ≡ front
-    whole [] = refl
-    whole (x ∷ front) = ap (λ (l : List Operation). x ∷ l) (whole front)
-
-    taken : (front : List Operation) → take (length (front ++ o ∷ []) - 1) (front ++ o ∷ []) ≡ front
-    taken front = ap (λ (n : ℕ). take n (front ++ o ∷ [])) (omega (arith, long o front)) ∙ whole front
-
 steps_of_one : (o : Operation) → steps_all (o ∷ []) ≡ steps_of o
 steps_of_one o = append-nil (steps_of o)
 
 -- the reversal of the last operation leads back
 pub undone_leads : (meta : Meta) → Sound meta → (h : History) (w : Workspace) (front : List Operation) (o : Operation) (m n : models.State) → is_closed (Some w) ≡ true → w.operations ≡ front ++ o ∷ [] → Good meta (state_of meta h w.base)
-    → folded meta h w ≡ Some m → fold meta m (steps_of (rev_op o)) ≡ Some n → folded meta h (without_last w) ≡ Some n
+    → folded meta h w ≡ Some m → fold meta m (steps_of (rev_op o)) ≡ Some n → folded meta h (record w { operations = front }) ≡ Some n
 undone_leads meta sound h w front o m n closed is good folds back =
     let base = state_of meta h w.base in
     let steps : recorded_steps w ≡ steps_all front ++ steps_of o = closed_steps_are w w.composite refl closed ∙ ap steps_all is ∙ steps_append front (o ∷ []) ∙ ap (λ (l : List Step). steps_all front ++ l) (steps_of_one o) in
     let at : ByWay meta base m (steps_all front) (steps_of o) = by_way meta base m (steps_all front) (steps_of o) (ap (λ (l : List Step). fold meta base l) (sym steps) ∙ folds) in
     let undone = packages_undone meta sound at.way m (steps_keep_good meta sound base at.way good (steps_all front) at.first) (o ∷ []) (ap (λ (l : List Step). fold meta at.way l) (steps_of_one o) ∙ at.rest) in
     let same : n ≡ at.way = same_Some n at.way (sym back ∙ ap (λ (l : List Step). fold meta m l) (sym (steps_of_one (rev_op o))) ∙ undone) in
-    ap (λ (l : List Step). fold meta base l) (closed_steps_are (without_last w) w.composite refl closed ∙ ap steps_all (front_is w.operations front o is)) ∙ at.first ∙ ap Some (sym same)
+    ap (λ (l : List Step). fold meta base l) (closed_steps_are (record w { operations = front }) w.composite refl closed) ∙ at.first ∙ ap Some (sym same)
+
+-- what the workspace keeps then
+pub undone_fits : (meta : Meta) → Sound meta → (h : History) (w : Kept) (front : List Operation) (o : Operation) (m : Plain) (r : Option Plain) (n : Plain) → r ≡ Some n → IfSome r (λ n. fold meta (plain_state m) (steps_of (rev_op o)) ≡ Some (plain_state n))
+    → IfSome r (λ n. Good meta (plain_state n)) → can_undo (Some (plain_of w)) ≡ true → w.operations.items ≡ front ++ o ∷ [] → Good meta (state_of meta h w.base) → Fits meta h w → w.model ≡ Some m
+    → (folded meta h (record (plain_of w) { operations = front }) ≡ Some (plain_state n)) × Good meta (plain_state n)
+undone_fits meta sound h w front o m None n is back good can items base fits model = absurd cc
+undone_fits meta sound h w front o m (Some x) n is back good can items base fits model =
+    subst (λ (x : Plain). (folded meta h (record (plain_of w) { operations = front }) ≡ Some (plain_state x)) × Good meta (plain_state x)) (same_Some x n is)
+    (undone_leads meta sound h (plain_of w) front o (plain_state m) (plain_state x) (and_left (is_closed (Some (plain_of w))) (has_operations (Some (plain_of w))) can) items base (fits m model).0 back, good)
 
 -- ---- Commit
 -- a commit that could be made leaves what is folded

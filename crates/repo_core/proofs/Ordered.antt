@@ -69,6 +69,6 @@ open_typed s meta w sound there =
     let p = parts s meta w sound there in
     steps_typed meta sound p.operations.way p.model (steps_keep_good meta sound p.base p.operations.way p.good (steps_all w.operations) p.operations.first) (open_steps w.composite) p.operations.rest
 
-pub seen_typed : (meta : Meta) (w : Kept) (r : Option (Bor Open)) → AreTyped meta (open_steps (plain_of w).composite) → option_copied r ≡ w.composite → IfSome r (λ c. AreTyped meta c.now.steps)
+pub seen_typed : (meta : Meta) (w : Kept) (r : Option (Bor Open)) → AreTyped meta (open_steps (plain_of w).composite) → option_copied r ≡ w.composite → IfSome r (λ c. AreTyped meta c.now.steps.items)
 seen_typed meta w None typed is = tt
 seen_typed meta w (Some c) typed is = subst (λ (o : Option Open). AreTyped meta (open_steps (option_map plain_composite o))) (sym is) typed

@@ -231,7 +231,10 @@ impl Repo {
         ensures same { OnErr result (self.new ≡ self.old) }
         ensures cannot { IsErrOf result ReplayFault.NotPlayable → playable self.old event ≡ false }
     {
-        if self.is_full() || size > MOST_BYTES || !self.could(&event) {
+        if self.is_full() || size > MOST_BYTES {
+            return Err(ReplayFault::NotPlayable);
+        }
+        if !self.could(&event) {
             return Err(ReplayFault::NotPlayable);
         }
         let events = self.events + 1;

@@ -3,7 +3,7 @@ use Rattle.std.proofs.Common.{◌≡◌, ◌++◌, length, reverse}
 use Rattle.repo_core.proofs.lists.items_of.Given as goal
 
 abbrev pub invariant-loop-item : goal.invariant-loop-item
-invariant-loop-item l = l.rest ++ reverse l.items.items ≡ l.list
+invariant-loop-item g l = l.rest ++ reverse l.items.items ≡ l.fn.list
 
 abbrev pub decreases-loop-item : goal.decreases-loop-item
-decreases-loop-item l = length l.rest
+decreases-loop-item g l = length l.rest
