@@ -1,7 +1,6 @@
 -- The lines that show the versions of a history, and the package of one.
 use Rattle.std.specs.Prelude.{ℕ, suc, List, [], ◌∷◌, ◌++◌, codes, length, map}
 use Rattle.std.specs.Fmt.{decimal}
-use Rattle.std.specs.List.{join_with_byte}
 use Rattle.serde_json.specs.Data.{string}
 use Rattle.serde_json.specs.Written.{compact_text}
 use Rattle.hex.specs.Hex.{encode_lower}
@@ -11,23 +10,29 @@ use Rattle.op_form.specs.Packages.{package_form}
 use Rattle.history_tree.specs.declared.version.Version.{Version}
 use Rattle.history_tree.specs.History.{History}
 use Rattle.history_tree.specs.Found.{branch_name, tags_of}
-use Rattle.data_lines.specs.Lines.{optional, operation_lines}
+use Rattle.data_lines.specs.Lines.{optional, operation_lines, spaced}
+
+-- words, each after a comma
+abbrev pub after_commas : List (List ℕ) → List ℕ
+after_commas [] = []
+after_commas (word ∷ words) = 44 ∷ (word ++ after_commas words)
 
 -- words with commas between them, or `-` where there is none
 abbrev pub listed : List (List ℕ) → List ℕ
 listed [] = codes "-"
-listed (word ∷ words) = join_with_byte 44 (word ∷ words)
+listed (word ∷ words) = word ++ after_commas words
 
--- the words of the version of the number n: its number, its branch, its parent, what was merged into it, how many operations it has, its tags, and its message as JSON
-abbrev pub version_words : History → ℕ → Version → List (List ℕ)
-version_words h n v =
-    decimal n ∷ branch_name h v.branch ∷ optional decimal v.parent ∷ listed (map decimal v.merged) ∷ decimal (length v.«package»)
-    ∷ listed (tags_of h n) ∷ compact_text (string v.message) ∷ []
+-- the line of the version of the number n: its number, its branch, its parent, what was merged into it, how many operations it has, its tags, and its message as JSON
+abbrev pub version_line : History → ℕ → Version → List ℕ
+version_line h n v =
+    decimal n
+    ++ spaced (branch_name h v.branch ∷ optional decimal v.parent ∷ listed (map decimal v.merged) ∷ decimal (length v.«package»)
+    ∷ listed (tags_of h n) ∷ compact_text (string v.message) ∷ [])
 
 -- the lines of versions, the first of them with the number n
 abbrev pub version_lines : History → ℕ → List Version → List (List ℕ)
 version_lines h n [] = []
-version_lines h n (v ∷ vs) = join_with_byte 32 (version_words h n v) ∷ version_lines h (suc n) vs
+version_lines h n (v ∷ vs) = version_line h n v ∷ version_lines h (suc n) vs
 
 -- the lines of all versions
 unfoldable pub log_lines : History → List (List ℕ)

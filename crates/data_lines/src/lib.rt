@@ -1,4 +1,5 @@
-//! Data lines: what the replies to commands show besides their last line. So far the lines of operations and steps, and those of features below their lower bounds.
+//! Data lines: what the replies to commands show besides their last line. The lines of operations and steps, those of features below their lower
+//! bounds, and those of versions.
 #![tactic(auto)]
 
 mod laws;
@@ -7,9 +8,11 @@ mod operation;
 mod step;
 mod typed;
 mod validation;
+mod versions;
 mod words;
 
 pub use laws::law_of_taken_steps;
 pub use operation::{open_lines, operation_lines};
 pub use typed::{are_typed, is_typed, is_typed_package};
 pub use validation::validate_lines;
+pub use versions::{log_lines, package_lines};

@@ -52,6 +52,14 @@ impl Line {
         self.push(word)
     }
 
+    /// A number in decimal, as more of the word that stands last.
+    pub(crate) fn push_digits(&mut self, number: u64) -> Result<(), AllocError>
+        ensures { OnOk result (self.new ≡ self.old ++ decimal number) }
+    {
+        let digits = format!(in self.alloc; "{number}")?;
+        self.push(digits.as_str())
+    }
+
     /// A number in decimal as a further word.
     pub(crate) fn push_number(&mut self, number: u64) -> Result<(), AllocError>
         ensures { OnOk result (self.new ≡ self.old ++ 32 ∷ decimal number) }

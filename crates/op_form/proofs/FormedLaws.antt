@@ -187,7 +187,11 @@ operation_fits (Composite name steps) is = (is.0, (name_short name is.0).0, step
 package_fits : (operations : List Operation) → IsPackage operations → FitsPackage operations
 package_fits operations is = (is.0, All-weaker IsOperation FitsOperation operation_fits operations is.1)
 
--- an event that has a spelling is of the sizes that writing asks
+-- a package that has a spelling is of the sizes that writing asks
+pub is_package_fits : (operations : List Operation) → is_package operations ≡ true → FitsPackage operations
+is_package_fits operations h = package_fits operations ((package_told operations).is h)
+
+-- so is an event that has one
 pub event_fits : (e : Event) → IsEvent e → FitsEvent e
 event_fits (Init text) is = is.0
 event_fits (Edit ws operations) is = package_fits operations is.1

@@ -4,7 +4,7 @@ ghost use Rattle.std.specs.Prelude.{◌≡◌, ◌&&◌, IsTrue};
 ghost use Rattle.model_state.specs.Ident.{is_id};
 ghost use Rattle.std.specs.List.{list_all};
 ghost use Rattle.op_form.specs.Formed.{is_u32, is_u64, is_i64, is_short_text, is_given, is_list, is_some_list, is_value, is_place, is_step, is_operation, is_package, is_event};
-ghost use Rattle.op_form.specs.Sizes.{FitsEvent};
+ghost use Rattle.op_form.specs.Sizes.{FitsEvent, FitsPackage};
 
 use crate::Event;
 use ecore_meta::{List, Text, Value};
@@ -17,6 +17,15 @@ pub fn has_form(event: &Event) -> bool
     ensures fits { IsTrue result → FitsEvent event.now }
 {
     is_event(event)
+}
+
+/// Whether a package has an encoding, so that `encode` takes it: fewer than 2^32 operations, each with a step, each composite with a
+/// name of its form, and each text and list of fewer than 2^32 bytes or items.
+pub fn is_package(package: &Package) -> bool
+    ensures form { result ≡ is_package «package».now }
+    ensures fits { IsTrue result → FitsPackage «package».now }
+{
+    are_operations(package)
 }
 
 fn is_u32(number: u32) -> bool
@@ -226,7 +235,7 @@ fn is_operation(operation: &Operation) -> bool
 }
 
 #[tactic(auto, unfolding(crate::specs::Formed::is_package))]
-fn is_package(package: &Package) -> bool
+fn are_operations(package: &Package) -> bool
     ensures { result ≡ is_package «package».now }
 {
     is_short(package.len()) && all_operations(package.as_slice())
@@ -245,7 +254,7 @@ fn is_event(event: &Event) -> bool
     match event {
         Event::Init { text } => is_short_text(text),
         Event::Checkout { version, branch } => is_u32(*version) && is_u32(*branch),
-        Event::Edit { ws, package } => is_u32(*ws) && is_package(package),
+        Event::Edit { ws, package } => is_u32(*ws) && are_operations(package),
         Event::Begin { ws, name } => is_u32(*ws) && is_short_text(name),
         Event::End { ws } => is_u32(*ws),
         Event::Undo { ws } => is_u32(*ws),

@@ -14,7 +14,7 @@ mod write_step;
 
 pub use event::Event;
 pub use fault::FormFault;
-pub use formed::has_form;
+pub use formed::{has_form, is_package};
 pub use laws::{law_of_forms, law_of_reversals};
 pub use read_event::{decode, decode_event};
 pub use reversal::{reverse, reverse_op};

@@ -5,6 +5,7 @@ pub mod Folding
 pub mod Grown
 pub mod Initial
 pub mod Models
+pub mod Needed
 pub mod Ordered
 pub mod Playable
 pub mod Replaying

@@ -54,11 +54,7 @@ impl Begun {
     }
 
     /// A further branch starts at a workspace's base, and the workspace is on it. When out of memory nothing changes.
-    pub(crate) fn branch(
-        &mut self,
-        workspace: &mut Workspace,
-        name: Text,
-    ) -> Result<(), AllocError>
+    pub(crate) fn branch(&mut self, workspace: &mut Workspace, name: Text) -> Result<(), AllocError>
         requires base { workspace.old.base < length self.old.history.history.versions }
         requires new { branch_named self.old.history.history name ≡ None }
         ensures meta { self.new.meta ≡ self.old.meta }

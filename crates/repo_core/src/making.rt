@@ -227,12 +227,7 @@ impl Repo {
     }
 
     /// The local operations of a workspace are a further version, at which it stands.
-    pub(crate) fn commit(
-        &mut self,
-        alloc: Global,
-        ws: u32,
-        message: Text,
-    ) -> Result<(), AllocError>
+    pub(crate) fn commit(&mut self, alloc: Global, ws: u32, message: Text) -> Result<(), AllocError>
         requires there { is_some (workspace_of self.old ws) ≡ true }
         requires could { playable_with self.old self.old.meta (Commit ws message) ≡ true }
         requires spelled { IsEvent (Commit ws message) }

@@ -76,9 +76,7 @@ impl Repo {
         };
         match self.workspace(ws) {
             None => false,
-            Some(workspace) => {
-                package.len() == 1 || (package.len() > 1 && !workspace.is_open())
-            }
+            Some(workspace) => { package.len() == 1 || (package.len() > 1 && !workspace.is_open()) }
         }
     }
 

@@ -44,12 +44,7 @@ pub(crate) struct Workspace {
 }
 
 /// The model before an operation, whose steps were the last taken; none when out of memory.
-fn take_back(
-    alloc: Global,
-    meta: &Metamodel,
-    model: Plain,
-    operation: &Operation,
-) -> Option<Plain>
+fn take_back(alloc: Global, meta: &Metamodel, model: Plain, operation: &Operation) -> Option<Plain>
     requires sound { Sound meta.now }
     requires good { Good meta.now (plain_state model) }
     ensures back { IfSome result (λ m. fold meta.now (plain_state model) (steps_of (rev_op operation.now)) ≡ Some (plain_state m)) }

@@ -51,8 +51,7 @@ invariant_of-self c =
     let made = both_ok _ _ r c.commit.ensures.version c.commit.ensures.committed in
     let not_made = both_err _ _ r c.commit.ensures.same c.commit.ensures.same_workspace in
     let done = on_ok r (λ is. commit_done c.self.inside.begun begun new c.self.inside.workspaces.items c.self.inside.events c.self.inside.end s c.self.view_is c.in-Some-begun.is c.commit.ensures.meta orderly c.self.invariant.1 p w' c.commit.ensures.model c.args.message is.0 is.1) made in
-    let same = on_err r (λ is. grown_same c.self.inside.begun begun new c.self.inside.workspaces.items c.self.inside.events c.self.inside.end s c.self.view_is c.in-Some-begun.is c.commit.ensures.meta orderly c.self.invariant.1 p w' c.commit.ensures.model is.0 is.1) not_made in
-    (
+    let same = on_err r (λ is. grown_same c.self.inside.begun begun new c.self.inside.workspaces.items c.self.inside.events c.self.inside.end s c.self.view_is c.in-Some-begun.is c.commit.ensures.meta orderly c.self.invariant.1 p w' c.commit.ensures.model is.0 is.1) not_made in (
       c.self.invariant.0,
       either r made not_made (λ is. commit_fit c.self.inside.begun begun new c.self.inside.workspaces.items c.self.inside.events c.self.inside.end s c.self.view_is c.in-Some-begun.is c.commit.ensures.meta orderly c.self.invariant.1 p w' c.commit.ensures.model c.args.message c.requires.could is.0 is.1) (λ is. grown_same_fit c.self.inside.begun begun new c.self.inside.workspaces.items c.self.inside.events c.self.inside.end s c.self.view_is c.in-Some-begun.is c.commit.ensures.meta orderly c.self.invariant.1 p w' c.commit.ensures.model is.0 is.1),
       either_orderly r s _ begun.meta (Commit c.args.ws c.args.message) is_begun c.requires.could c.requires.spelled orderly done same,

@@ -25,9 +25,9 @@ invariant_of-self c =
     let p = placed c.self.inside.begun c.self.inside.workspaces.items c.self.inside.events c.self.inside.end c.args.self.now c.args.ws c.in-Some.at c.index_mut.result.now _ c.in-Some-index_mut.workspace c.self.view_is c.in-Some.ensures.there.0 c.in-Some.ensures.there.1 c.index_mut.ensures.value c.in-Some-index_mut.is in
     let is_begun = begun_is c.self.inside.begun begun _ c.self.inside.events c.self.inside.end s c.self.view_is c.in-Some-begun.is in
     let fits = either c.install.result (both_ok _ _ c.install.result c.install.ensures.more c.install.ensures.kept) c.install.ensures.gone
-        (λ is. installed_fits s begun.meta begun.history.history c.args.ws w new c.args.package c.args.model is_begun (history_is c.self.inside.begun begun _ c.self.inside.events c.self.inside.end s c.self.view_is c.in-Some-begun.is) (placed_there p)
-            (subst IsOrderly c.self.view_is c.self.invariant.2) c.requires.leads is.0 is.1)
-        (λ is. none_fits begun.meta begun.history.history new is) in (
+    (λ is. installed_fits s begun.meta begun.history.history c.args.ws w new c.args.package c.args.model is_begun (history_is c.self.inside.begun begun _ c.self.inside.events c.self.inside.end s c.self.view_is c.in-Some-begun.is) (placed_there p)
+    (subst IsOrderly c.self.view_is c.self.invariant.2) c.requires.leads is.0 is.1)
+    (λ is. none_fits begun.meta begun.history.history new is) in (
       c.self.invariant.0,
       fit_set c.self.inside.begun begun c.self.inside.workspaces.items c.in-Some.at (Some new) c.in-Some-begun.is fits c.self.invariant.1,
       either_orderly c.install.result s _ begun.meta (Edit c.args.ws c.args.package) is_begun c.requires.could c.requires.spelled (subst IsOrderly c.self.view_is c.self.invariant.2)

@@ -20,8 +20,8 @@ invariant_of-self c =
     let p = placed c.self.inside.begun c.self.inside.workspaces.items c.self.inside.events c.self.inside.end c.args.self.now c.args.ws c.in-Some.at c.index_mut.result.now _ c.in-Some-index_mut.workspace c.self.view_is c.in-Some.ensures.there.0 c.in-Some.ensures.there.1 c.index_mut.ensures.value c.in-Some-index_mut.is in
     let is_begun = begun_is c.self.inside.begun begun _ c.self.inside.events c.self.inside.end s c.self.view_is c.in-Some-begun.is in
     let fits = fits_same begun.meta begun.history.history begun.history.history w new
-        (ap (folded begun.meta begun.history.history) c.open_composite.ensures.opened ∙ open_folded begun.meta begun.history.history c.args.name (plain_of w) (begin_closed s begun.meta c.args.ws c.args.name (plain_of w) is_begun (placed_there p) c.requires.could))
-        c.open_composite.ensures.model (fit_before p begun c.in-Some-begun.is c.self.invariant.1) in (
+    (ap (folded begun.meta begun.history.history) c.open_composite.ensures.opened ∙ open_folded begun.meta begun.history.history c.args.name (plain_of w) (begin_closed s begun.meta c.args.ws c.args.name (plain_of w) is_begun (placed_there p) c.requires.could))
+    c.open_composite.ensures.model (fit_before p begun c.in-Some-begun.is c.self.invariant.1) in (
       c.self.invariant.0,
       fit_set c.self.inside.begun begun c.self.inside.workspaces.items c.in-Some.at (Some new) c.in-Some-begun.is fits c.self.invariant.1,
       effect_orderly s _ begun.meta (Begin c.args.ws c.args.name) is_begun c.requires.could c.requires.spelled (subst IsOrderly c.self.view_is c.self.invariant.2) (changed_view p (with_open c.args.name) new c.open_composite.ensures.opened),
