@@ -1,6 +1,6 @@
 -- What an event that could be made says of its workspace.
-use Rattle.std.proofs.Common.{◌≡◌, ◌∙◌, ◌<◌, refl, ℕ, Bool, true, false, List, [], ◌∷◌, Option, Some, None, is_some, sym, ap, subst, length}
-use Rattle.std.specs.Prelude.{◌&&◌, ◌||◌}
+use Rattle.std.proofs.Common.{◌≡◌, ◌∙◌, refl, ℕ, Bool, true, false, List, [], ◌∷◌, Option, Some, None, is_some, sym, ap, subst}
+use Rattle.std.specs.Prelude.{◌&&◌}
 use Rattle.ecore_meta.specs.Meta.{Meta}
 use Rattle.ecore_meta.specs.Sound.{Sound}
 use Rattle.model_state.specs.Good.{Good}

@@ -1,8 +1,8 @@
 -- What an event makes of one workspace, and that all stays in order.
 use Rattle.std.proofs.Common.{◌≡◌, ℕ, zero, suc, ◌<◌, List, [], ◌∷◌, ◌++◌, map, Bool, true, false, length, Option, None, Some, Result, Ok, Err, OnOk, OnErr, refl, sym, ◌∙◌, ap, subst, arith}
 use Rattle.std.specs.Prelude.{All, if◌then◌else◌}
-use Rattle.std.proofs.lemmas.List.Elements.{All-append, All-cons, All-nil, All-set}
-use Rattle.op_form.specs.declared.event.Event.TheVariants.{Branch, Checkout, Commit, Init}
+use Rattle.std.proofs.lemmas.List.Elements.{All-append, All-cons, All-nil}
+use Rattle.op_form.specs.declared.event.Event.TheVariants.{Checkout}
 use Rattle.plain_repository.specs.Checkouts.{checked_out}
 use Rattle.std.specs.Option.{option_map}
 use Rattle.std.proofs.Math.ListN.{set, get_or}

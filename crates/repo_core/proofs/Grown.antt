@@ -1,6 +1,6 @@
 -- What a version, a branch or a tag more makes of a repository, and of the models that its workspaces keep.
-use Rattle.std.proofs.Common.{◌≡◌, ◌∙◌, ◌<◌, ℕ, List, [], ◌∷◌, Bool, true, false, length, map, Option, Some, None, is_some, refl, sym, ap, subst}
-use Rattle.std.specs.Prelude.{All, ◌&&◌, ◌==◌, nat_lt, nat_eq, not}
+use Rattle.std.proofs.Common.{◌≡◌, ◌∙◌, ◌<◌, ℕ, List, Bool, true, false, length, map, Option, Some, None, is_some, refl, sym, ap, subst}
+use Rattle.std.specs.Prelude.{All, ◌&&◌, nat_lt, nat_eq, not}
 use Rattle.std.specs.List.{AllByRecursion}
 use Rattle.std.proofs.Math.ListN.{set}
 use Rattle.std.proofs.lemmas.Bool.{eqb-true, ltb-true}
@@ -14,7 +14,7 @@ use Rattle.op_form.specs.declared.event.Event.TheVariants.{Branch, Commit, Tag}
 use Rattle.plain_repository.specs.State.{State, Workspace, folded, is_closed, has_local, with_changed, workspace_of}
 use Rattle.plain_repository.specs.Commits.{can_commit, committed, is_new_branch, moved_onto, version_of, with_commit, with_new_branch}
 use Rattle.plain_repository.specs.Events.{effect, playable_with}
-use Rattle.plain_repository.specs.Orderly.{InOrder, IfThere, IsOrderly, Orderly, Stands}
+use Rattle.plain_repository.specs.Orderly.{InOrder, IfThere, IsOrderly, Stands}
 use Rattle.plain_repository.proofs.Forms.{and_left, and_right}
 use Rattle.plain_repository.proofs.Reached.{kept, workspaces_stand}
 use Rattle.repo_core.specs.declared.repo.Begun.{Begun}

@@ -1,6 +1,5 @@
 -- The first event.
-use Rattle.std.proofs.Common.{◌≡◌, ◌∙◌, ℕ, List, [], ◌∷◌, true, map, Option, Some, None, Result, Ok, Err, is_ok, refl, sym, ap, subst}
-use Rattle.std.specs.Prelude.{All}
+use Rattle.std.proofs.Common.{◌≡◌, ◌∙◌, ℕ, List, [], ◌∷◌, map, Option, Some, None, Result, Ok, is_ok, sym, ap, subst}
 use Rattle.std.proofs.lemmas.List.Elements.{All-nil}
 use Rattle.ecore_meta.specs.Meta.{Meta}
 use Rattle.ecore_json.specs.Metamodel.{metamodel_of}
@@ -8,8 +7,8 @@ use Rattle.ecore_json.specs.declared.fault.EcoreFault.{EcoreFault}
 use Rattle.history_tree.specs.History.{History, first_history}
 use Rattle.op_form.specs.declared.event.Event.TheVariants.{Init}
 use Rattle.op_form.specs.Laws.{IsEvent}
-use Rattle.plain_repository.specs.State.{State, Workspace}
-use Rattle.plain_repository.specs.Events.{effect, playable_with}
+use Rattle.plain_repository.specs.State.{State}
+use Rattle.plain_repository.specs.Events.{effect}
 use Rattle.plain_repository.specs.Metamodels.{meta_of_read}
 use Rattle.plain_repository.specs.Orderly.{AllOrderly, IsOrderly}
 use Rattle.plain_repository.proofs.Kept.{effect_keeps}
@@ -22,9 +21,6 @@ use Rattle.repo_core.proofs.Effects.{meta_in}
 module _ (b : Option Begun) (ws : List (Option Kept)) (events end : ℕ) (s : State) (text : List ℕ) (new : Begun) (view : held b (map plain_any ws) events end ≡ s) (none : b ≡ None) (orderly : IsOrderly s) (read : metamodel_of text ≡ Ok new.meta) (first : new.history.history ≡ first_history) where
   no_meta : s.meta ≡ None
   no_meta = sym (ap meta_in view) ∙ ap meta_of none
-
-  pub begin_could : playable_with s s.meta (Init text) ≡ true
-  begin_could = ap (λ (m : Option Meta). playable_with s m (Init text)) no_meta ∙ ap (λ (r : Result Meta EcoreFault). is_ok r) read
 
   pub begin_done : held (Some new) (map plain_any ws) events end ≡ effect s (Init text)
   begin_done =

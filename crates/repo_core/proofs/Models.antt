@@ -1,5 +1,5 @@
 -- What becomes of the model that a workspace keeps, by each change of the workspace and of the history.
-use Rattle.std.proofs.Common.{◌≡◌, ◌<◌, ℕ, List, [], ◌∷◌, ◌++◌, true, length, map, Option, Some, None, is_some, refl, sym, ◌∙◌, ap, subst, append-nil}
+use Rattle.std.proofs.Common.{◌≡◌, ◌<◌, ℕ, List, [], ◌∷◌, ◌++◌, true, length, map, Option, Some, None, refl, sym, ◌∙◌, ap, subst, append-nil}
 use Rattle.std.specs.Prelude.{All, IfSome, unwrap_or}
 use Rattle.std.specs.List.{AllByRecursion}
 use Rattle.std.proofs.lemmas.List.Elements.{All-from_recursion, recursion_from_All}
@@ -19,7 +19,7 @@ use Rattle.step_apply.specs.View.{plain_state}
 use Rattle.history_tree.specs.History.{History, with_version}
 use Rattle.history_tree.specs.States.{operations_to, state_of}
 use Rattle.op_form.proofs.Reversals.{packages_undone}
-use Rattle.plain_repository.specs.State.{State, Workspace, Composite, folded, model_of, recorded_steps, has_operations, is_closed, workspace_of}
+use Rattle.plain_repository.specs.State.{State, Workspace, Composite, folded, recorded_steps, has_operations, is_closed, workspace_of}
 use Rattle.plain_repository.specs.Commits.{version_of, committed, can_commit}
 use Rattle.plain_repository.specs.Composites.{with_open, with_closed}
 use Rattle.plain_repository.specs.Edits.{added, with_more}

@@ -1,6 +1,6 @@
 -- Operations that a workspace takes, and what they lead to.
-use Rattle.std.proofs.Common.{◌≡◌, ◌≢◌, ◌∙◌, ℕ, List, [], ◌∷◌, Bool, true, false, length, Option, Some, None, is_some, refl, sym, ap, subst}
-use Rattle.std.specs.Prelude.{◌&&◌, ◌||◌, nat_eq, nat_lt, not}
+use Rattle.std.proofs.Common.{◌≡◌, ◌∙◌, ℕ, List, [], ◌∷◌, Bool, true, false, Option, Some, None, is_some, refl, sym, ap, subst}
+use Rattle.std.specs.Prelude.{◌&&◌}
 use Rattle.std.proofs.lemmas.Option.{same_Some}
 use Rattle.ecore_meta.specs.Meta.{Meta}
 use Rattle.model_state.specs.State as models
@@ -10,8 +10,8 @@ use Rattle.model_state.specs.declared.operation.Operation.{Operation}
 use Rattle.step_apply.specs.declared.plain.Plain.{Plain}
 use Rattle.step_apply.specs.View.{plain_state}
 use Rattle.op_form.specs.declared.event.Event.TheVariants.{Edit}
-use Rattle.plain_repository.specs.State.{State, Workspace, Composite, model_of, workspace_of}
-use Rattle.plain_repository.specs.Edits.{can_follow, takes}
+use Rattle.plain_repository.specs.State.{State, Workspace, model_of, workspace_of}
+use Rattle.plain_repository.specs.Edits.{can_follow}
 use Rattle.plain_repository.specs.Events.{playable_with}
 use Rattle.repo_core.specs.Making.{LeadTo, can_take}
 use Rattle.repo_core.specs.Working.{IsWorkingModel}

@@ -1,6 +1,6 @@
 -- A workspace in memory, and the model that it may keep beside what is recorded in it.
 use Rattle.std.specs.Prelude.{◌≡◌, List, All, Option, Some, None}
-use Rattle.std.specs.Option.{option_map, option_map_or}
+use Rattle.std.specs.Option.{option_map}
 use Rattle.ecore_meta.specs.Meta.{Meta}
 use Rattle.model_state.specs.Good.{Good}
 use Rattle.step_apply.specs.declared.plain.Plain.{Plain}

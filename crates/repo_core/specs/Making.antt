@@ -1,5 +1,5 @@
 -- What is tested of an event before it is made, and what its making tests.
-use Rattle.std.specs.Prelude.{◌≡◌, ◌==◌, ℕ, Bool, List, [], ◌∷◌, Option, Some, None, true, false}
+use Rattle.std.specs.Prelude.{◌≡◌, ◌==◌, ℕ, Bool, List, ◌∷◌, Option, Some, None, true, false}
 use Rattle.ecore_meta.specs.Meta.{Meta}
 use Rattle.model_state.specs.Good.{Good}
 use Rattle.model_state.specs.Packages.{fold_package}

@@ -1,4 +1,4 @@
-use Rattle.std.proofs.Common.{◌≡◌, ◌∙◌, sym, subst}
+use Rattle.std.proofs.Common.{◌∙◌, sym, subst}
 use Rattle.plain_repository.specs.Orderly.{IsOrderly}
 use Rattle.repo_core.proofs.Initial.{begin_fit, begin_orderly}
 use Rattle.repo_core.proofs.Playable.{none_of}

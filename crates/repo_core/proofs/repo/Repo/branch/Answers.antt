@@ -1,4 +1,4 @@
-use Rattle.std.proofs.Common.{◌≡◌, sym, ap, subst}
+use Rattle.std.proofs.Common.{subst}
 use Rattle.op_form.specs.declared.event.Event.TheVariants.{Branch}
 use Rattle.plain_repository.specs.Orderly.{IsOrderly}
 use Rattle.repo_core.specs.Keeping.{plain_of}

@@ -1,4 +1,4 @@
-use Rattle.std.proofs.Common.{◌≡◌, ◌+◌, ap, arith, length, subst, true}
+use Rattle.std.proofs.Common.{◌≡◌, ap, arith, length, subst, true}
 use Rattle.std.specs.Prelude.{◌||◌}
 use Rattle.op_form.specs.Events.{event_form}
 use Rattle.op_form.specs.declared.event.Event.{Event}

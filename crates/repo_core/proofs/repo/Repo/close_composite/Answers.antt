@@ -1,5 +1,4 @@
-use Rattle.std.proofs.Common.{◌≡◌, ◌∙◌, Some, Option, sym, ap, subst}
-use Rattle.ecore_meta.specs.Meta.{Meta}
+use Rattle.std.proofs.Common.{◌∙◌, Some, ap, subst}
 use Rattle.plain_repository.specs.Orderly.{IsOrderly}
 use Rattle.op_form.specs.declared.event.Event.TheVariants.{End}
 use Rattle.plain_repository.specs.Composites.{with_closed}

@@ -1,6 +1,5 @@
-use Rattle.std.proofs.Common.{◌≡◌, List, Option, None, refl, sym, ap, subst}
+use Rattle.std.proofs.Common.{None, refl, subst}
 use Rattle.op_form.specs.declared.event.Event.TheVariants.{Drop}
-use Rattle.plain_repository.specs.State.{State, Workspace}
 use Rattle.plain_repository.specs.Orderly.{IsOrderly}
 use Rattle.repo_core.proofs.Changing.{fit_set}
 use Rattle.repo_core.proofs.Effects.{begun_is, effect_orderly, number_set}

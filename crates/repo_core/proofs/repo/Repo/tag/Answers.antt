@@ -1,4 +1,4 @@
-use Rattle.std.proofs.Common.{◌≡◌, sym, ap, subst}
+use Rattle.std.proofs.Common.{subst}
 use Rattle.op_form.specs.declared.event.Event.TheVariants.{Tag}
 use Rattle.plain_repository.specs.Orderly.{IsOrderly}
 use Rattle.repo_core.proofs.Effects.{begun_is, either, either_orderly, history_is, on_err, on_ok}

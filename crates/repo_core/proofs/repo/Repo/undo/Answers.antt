@@ -1,5 +1,4 @@
-use Rattle.std.proofs.Common.{◌≡◌, ◌∙◌, Some, Option, sym, ap, subst}
-use Rattle.ecore_meta.specs.Meta.{Meta}
+use Rattle.std.proofs.Common.{Some, subst}
 use Rattle.plain_repository.specs.Orderly.{IsOrderly}
 use Rattle.op_form.specs.declared.event.Event.TheVariants.{Undo}
 use Rattle.plain_repository.specs.Local.{without_last}

@@ -1,5 +1,4 @@
-use Rattle.std.proofs.Common.{◌≡◌, ◌∙◌, Option, None, Some, sym}
-use Rattle.std.proofs.lemmas.Option.{none-some}
+use Rattle.std.proofs.Common.{◌≡◌, ◌∙◌, Some, sym}
 use Rattle.repo_core.proofs.Models.{undone_fits}
 use Rattle.repo_core.proofs.workspace.Workspace.undo.Goals.{in-None, in-Some-take}
 use Rattle.repo_core.proofs.workspace.Workspace.undo.Goals as goal
