@@ -8,7 +8,9 @@ use Rattle.command_runs.specs.Runs.{Answer, listed, after}
 use Rattle.command_runs.specs.Stops.{IsStepping}
 use Rattle.op_form.specs.declared.event.Event.{Event}
 use Rattle.plain_repository.specs.Lines.{is_skipped}
-use Rattle.plain_repository.specs.Repository.{State, play, decide, decide_line, answer_of}
+use Rattle.plain_repository.specs.State.{State}
+use Rattle.plain_repository.specs.Events.{play}
+use Rattle.plain_repository.specs.Repository.{decide, decide_line, answer_of}
 use Rattle.plain_repository.specs.Store.{Stands}
 use Rattle.emf_top.specs.Session.{Holds, IsEntering}
 use Rattle.emf_top.proofs.Entering.{entering_step, say_step, say_part}

@@ -12,10 +12,11 @@ use Rattle.command_runs.specs.Stops.{IsStepping}
 use Rattle.command_runs.proofs.RunLaws.{played-append}
 use Rattle.op_form.specs.declared.event.Event.{Event}
 use Rattle.op_form.specs.Events.{event_form}
-use Rattle.plain_repository.specs.Repository.{State, empty, play, playable, are_playable}
+use Rattle.plain_repository.specs.State.{State, empty}
+use Rattle.plain_repository.specs.Events.{play, playable, are_playable}
 use Rattle.plain_repository.specs.Store.{Stands}
 use Rattle.plain_repository.proofs.Forms.{and_left, and_right}
-use Rattle.emf_top.specs.Session.{Holds, IsEntering}
+use Rattle.emf_top.specs.Session.{Holds, IsEntering, IsReady}
 
 pub map-more : (events : List Event) (event : Event) → map event_form (events ++ event ∷ []) ≡ map event_form events ++ event_form event ∷ []
 map-more [] event = refl
@@ -33,6 +34,24 @@ rest_leaves disk state end made holds x left = record {
 
 pub holds_stands : (disk : Disk) (state : State) (end : ℕ) (made : List Event) → Holds disk state end made → Stands disk.now made
 holds_stands disk state end made holds = record { forms = stands disk.now (map event_form made) end holds.rests.journal.ends; playable = holds.rests.playable }
+
+-- no record is ready where there is no event alone
+pub none_ready : (state : State) (event : Option Event) (ready : Option (List ℕ)) → ready ≡ None → IsReady state event ready → event ≡ None
+none_ready state None ready none is = refl
+none_ready state (Some event) ready none is = let form_is = is.0 in cc
+
+-- the event of a record that is ready
+pub record IsOf (state : State) (event : Option Event) (form : List ℕ) : Type 0 where
+  pub made : Event
+  pub event_is : event ≡ Some made
+  pub form_is : form ≡ event_form made
+  pub playable : IsTrue (playable state made)
+
+pub some_ready : (state : State) (event : Option Event) (ready : Option (List ℕ)) (form : List ℕ) → ready ≡ Some form → IsReady state event ready → IsOf state event form
+some_ready state None ready form some is = let none : ready ≡ None = is in absurd cc
+some_ready state (Some event) ready form some is =
+    let form_is = is.0 in
+    record { made = event; event_is = refl; form_is = cc; playable = is.1 }
 
 -- no event
 pub none_added : (disk : Disk) (state : State) (end : ℕ) (made : List Event) → Holds disk state end made → Holds disk state end (made ++ [])

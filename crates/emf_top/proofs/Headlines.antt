@@ -12,7 +12,9 @@ use Rattle.command_runs.proofs.Going.{among}
 use Rattle.op_form.specs.declared.event.Event.{Event}
 use Rattle.op_form.specs.Events.{event_form}
 use Rattle.plain_repository.specs.Lines.{takes_block}
-use Rattle.plain_repository.specs.Repository.{State, empty, play, decide}
+use Rattle.plain_repository.specs.State.{State, empty}
+use Rattle.plain_repository.specs.Events.{play}
+use Rattle.plain_repository.specs.Repository.{decide}
 use Rattle.plain_repository.specs.Store.{Stands, StandsForNoEvents, IsDamaged}
 use Rattle.plain_repository.proofs.Forms.{forms_are}
 use Rattle.emf_top.specs.declared.top.Status.{Status}

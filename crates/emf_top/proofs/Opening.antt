@@ -12,7 +12,8 @@ use Rattle.command_runs.specs.Runs.{played}
 use Rattle.command_runs.proofs.RunLaws.{played-append}
 use Rattle.op_form.specs.declared.event.Event.{Event}
 use Rattle.op_form.specs.Events.{event_form}
-use Rattle.plain_repository.specs.Repository.{State, empty, play, playable}
+use Rattle.plain_repository.specs.State.{State, empty}
+use Rattle.plain_repository.specs.Events.{play, playable}
 use Rattle.plain_repository.specs.Store.{Stands, StandsForNoEvents, IsDamaged}
 use Rattle.plain_repository.proofs.Stores.{from_mounted, reads_first, none_has}
 use Rattle.commit_journal.specs.declared.fault.JournalFault.{JournalFault}

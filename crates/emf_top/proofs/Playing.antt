@@ -2,7 +2,8 @@
 use Rattle.std.proofs.Common.{◌≡◌, ◌+◌, length, refl}
 use Rattle.op_form.specs.declared.event.Event.{Event}
 use Rattle.op_form.specs.Events.{event_form}
-use Rattle.plain_repository.specs.Repository.{State, play}
+use Rattle.plain_repository.specs.State.{State}
+use Rattle.plain_repository.specs.Events.{play}
 
 pub play_end : (s : State) (event : Event) → (play s event).end ≡ s.end + 5 + length (event_form event)
 unfolding play

@@ -12,7 +12,9 @@ use Rattle.command_runs.specs.Stops.{IsRunning, IsStepping}
 use Rattle.command_runs.proofs.Going.{Going, Steps, quietly, begins, one_more, stepped_part, stepped_moments, events_done, items_more}
 use Rattle.op_form.specs.declared.event.Event.{Event}
 use Rattle.plain_repository.specs.Lines.{takes_block}
-use Rattle.plain_repository.specs.Repository.{State, decide, play}
+use Rattle.plain_repository.specs.State.{State}
+use Rattle.plain_repository.specs.Events.{play}
+use Rattle.plain_repository.specs.Repository.{decide}
 use Rattle.plain_repository.specs.Store.{Stands}
 use Rattle.emf_top.specs.declared.session.SessionFault.{SessionFault}
 use Rattle.emf_top.specs.declared.session.SessionFault.TheVariants as session

@@ -8,7 +8,9 @@ use Rattle.command_runs.specs.Runs.{played, replies, events, refuses, answered}
 use Rattle.command_runs.specs.Stops.{IsAmong}
 use Rattle.op_form.specs.declared.event.Event.{Event}
 use Rattle.plain_repository.specs.Lines.{takes_block}
-use Rattle.plain_repository.specs.Repository.{State, decide, play}
+use Rattle.plain_repository.specs.State.{State}
+use Rattle.plain_repository.specs.Events.{play}
+use Rattle.plain_repository.specs.Repository.{decide}
 use Rattle.plain_repository.specs.Store.{Stands, StandsForNoEvents, IsDamaged}
 use Rattle.emf_top.specs.declared.top.Status.{Status}
 use Rattle.emf_top.specs.declared.top.Status.TheVariants.{Accepted, Refused, BadWords, ReadFault, WriteFault, DiskFault, Damaged, Memory, Input}

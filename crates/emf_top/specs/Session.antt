@@ -8,12 +8,13 @@ use Rattle.commit_journal.specs.declared.fault.JournalFault.TheVariants as journ
 use Rattle.command_runs.specs.Runs.{listed, played}
 use Rattle.op_form.specs.declared.event.Event.{Event}
 use Rattle.op_form.specs.Events.{event_form}
-use Rattle.plain_repository.specs.Repository.{State, empty, play, playable, are_playable, is_refusal}
-use Rattle.plain_repository.specs.Repository as plain
+use Rattle.plain_repository.specs.State.{State, empty}
+use Rattle.plain_repository.specs.Answers.{is_refusal}
+use Rattle.plain_repository.specs.Events.{play, playable, are_playable}
+use Rattle.plain_repository.specs.Answers as plain
 use Rattle.plain_repository.specs.Store.{Stands, Rests}
-use Rattle.repo_core.specs.Decisions.{CanMake, IsShortBlock}
+use Rattle.repo_core.specs.Decisions.{IsShortBlock}
 use Rattle.emf_top.specs.declared.session.Answered.{Answered}
-use Rattle.emf_top.specs.declared.session.Ready.{Ready}
 use Rattle.emf_top.specs.declared.session.Plan.{Plan}
 use Rattle.script_lang.specs.Reply.{printed}
 use Rattle.host_port.specs.Cut.{Item, Script, with_item, ends_by}
@@ -45,27 +46,22 @@ IfMade (Err DiskFault) P = Unit {0}
 IfMade (Err Memory) P = Unit {0}
 IfMade (Err (Damaged at)) P = Unit {0}
 
--- the event of a record that is ready
-abbrev pub event_of_ready : Option Ready → Option Event
-event_of_ready None = None
-event_of_ready (Some ready) = Some ready.made.event
+-- the record that is ready is that of an event that can be made; none is ready where there is no event
+abbrev pub IsReady : State → Option Event → Option (List ℕ) → Type 0
+IsReady state None ready = ready ≡ None
+IsReady state (Some event) ready = (ready ≡ Some (event_form event)) × IsTrue (playable state event)
 
--- a record that is ready is that of an event that can be made
-abbrev pub IsReady : State → Option Ready → Type 0
-IsReady state None = Unit {0}
-IsReady state (Some ready) = CanMake state ready.made × journal.Holds ready.prepared ready.made.form.items
-
--- the journal has room for a record that is ready, and the record is that of the event's bytes
-abbrev pub HasRoom : ℕ → Option Ready → Type 0
+-- the journal has room for a record that is ready
+abbrev pub HasRoom : ℕ → Option (List ℕ) → Type 0
 HasRoom end None = Unit {0}
-HasRoom end (Some ready) = journal.Holds ready.prepared ready.made.form.items × journal.Fits end (length ready.made.form.items)
+HasRoom end (Some form) = journal.Fits end (length form)
 
 -- all of a decision is prepared: its reply's bytes, and its event's record
 pub record IsPlan (state : State) (decision : plain.Decision) (plan : Plan) : Type 0 where
   pub reply : plan.reply.items ≡ printed decision.reply
   pub answered : plan.answered ≡ answered_as (is_refusal decision.reply)
-  pub event : event_of_ready plan.ready ≡ decision.event
-  pub ready : IsReady state plan.ready
+  pub ready : IsReady state decision.event plan.ready
+  pub room : HasRoom state.end plan.ready
 
 -- a store while it is read: its records up to a place are those of events, each one that a command could make, and the
 -- state is theirs

@@ -1,13 +1,16 @@
 //! One command after another: decided, written, made, and answered.
-ghost use Rattle.std.specs.Prelude.{◌≡◌, ◌≢◌, ◌⊎◌, ◌++◌, ℕ, List, None, IsTrue, IfOk, OnOk, IfErr, IsErrOf, false};
+ghost use Rattle.std.specs.Prelude.{◌≡◌, ◌≢◌, ◌⊎◌, ◌++◌, ℕ, List, Option, None, IsTrue, IfOk, OnOk, IfErr, OnErr, IsErrOf, false};
 ghost use Rattle.host_port.specs.Host.{disk_now, said_now, Rose, GoesOn, Throughout, KeepsDisk, KeepsSaid, KeepsInput, AddsPart, StopLeaves};
 ghost use Rattle.command_runs.specs.Runs.{listed, after};
 ghost use Rattle.command_runs.specs.Stops.{IsStepping};
 ghost use Rattle.op_form.specs.declared.event.Event.{Event};
-ghost use Rattle.plain_repository.specs.Repository.{State, decide, decide_line, play, is_refusal};
+ghost use Rattle.plain_repository.specs.State.{State};
+ghost use Rattle.plain_repository.specs.Answers.{is_refusal};
+ghost use Rattle.plain_repository.specs.Events.{play};
+ghost use Rattle.plain_repository.specs.Repository.{decide, decide_line};
 ghost use Rattle.plain_repository.specs.Store.{Stands, IsDamaged, StandsForNoEvents};
 ghost use Rattle.commit_journal.specs.Journal.{StandsForSame};
-ghost use Rattle.emf_top.specs.Session.{Holds, IsEntering, IsPlan, IsReady, HasRoom, IsShortItem, IfMade, IfDamaged, answered_as, event_of_ready, fault_of};
+ghost use Rattle.emf_top.specs.Session.{Holds, IsEntering, IsPlan, IsReady, HasRoom, IsShortItem, IfMade, IfDamaged, answered_as, fault_of};
 ghost use Rattle.emf_top.specs.declared.session.SessionFault.TheVariants.{DiskFault};
 
 use crate::item::Item;
@@ -46,19 +49,12 @@ pub struct Session {
     pub journal: Journal,
 }
 
-/// An event, and its record.
-#[derive(Drop)]
-pub struct Ready {
-    pub made: Made,
-    pub prepared: Prepared,
-}
-
-/// All that answering a command takes: no memory is wanted any more.
+/// All that answering a command takes: the bytes of the reply, and the record of the event. No memory is wanted any more.
 #[derive(Drop)]
 pub struct Plan {
     pub reply: Vec<u8>,
     pub answered: Answered,
-    pub ready: Option<Ready>,
+    pub ready: Option<Prepared>,
 }
 
 fn kind_of(reply: &Reply) -> Answered
@@ -84,24 +80,24 @@ fn session_fault(fault: JournalFault) -> SessionFault
 fn enter<H: Host>(
     journal: &mut Journal,
     host: &mut H,
-    ready: Option<Ready>,
+    ready: Option<Prepared>,
 ) -> Result<(), SessionFault>
     requires whole { journal.old.broken ≡ false }
     requires fits { HasRoom journal.old.end ready }
     requires holds { IsTrue (H.told host.old).tells → ((state : State) × (made : List Event) × Holds (disk_now (H.told host.old)) state journal.old.end made) }
     ensures whole { OnOk result (journal.new.broken ≡ false) }
-    ensures end { OnOk result ((state : State) → state.end ≡ journal.old.end → IsReady state ready → (after play state (event_of_ready ready)).end ≡ journal.new.end) }
-    ensures added { OnOk result (IsTrue (H.told host.old).tells → (state : State) → IsReady state ready → (made : List Event) → Holds (disk_now (H.told host.old)) state journal.old.end made
-        → Holds (disk_now (H.told host.new)) (after play state (event_of_ready ready)) journal.new.end (made ++ listed (event_of_ready ready))) }
-    ensures entering { (state : State) → IsReady state ready → (made : List Event) → Holds (disk_now (H.told host.old)) state journal.old.end made
-        → Throughout (H.told host.old) (H.told host.new) (λ disk _. IsEntering made (event_of_ready ready) disk) }
+    ensures end { OnOk result ((state : State) (event : Option Event) → state.end ≡ journal.old.end → IsReady state event ready → (after play state event).end ≡ journal.new.end) }
+    ensures added { OnOk result (IsTrue (H.told host.old).tells → (state : State) (event : Option Event) → IsReady state event ready → (made : List Event) → Holds (disk_now (H.told host.old)) state journal.old.end made
+        → Holds (disk_now (H.told host.new)) (after play state event) journal.new.end (made ++ listed event)) }
+    ensures entering { (state : State) (event : Option Event) → IsReady state event ready → (made : List Event) → Holds (disk_now (H.told host.old)) state journal.old.end made
+        → Throughout (H.told host.old) (H.told host.new) (λ disk _. IsEntering made event disk) }
     ensures fault { IfErr result (λ e. e ≡ DiskFault) }
     ensures cause { IsErrOf result SessionFault.DiskFault → Rose (H.told host.old).disk_faults (H.told host.new).disk_faults }
     ensures course { GoesOn (H.told host.old) (H.told host.new) }
     ensures said { KeepsSaid (H.told host.old) (H.told host.new) }
     ensures input { KeepsInput (H.told host.old) (H.told host.new) }
 {
-    let Some(Ready { prepared, .. }) = ready else {
+    let Some(prepared) = ready else {
         return Ok(());
     };
     match journal.append(host, prepared) {
@@ -154,26 +150,26 @@ impl Session {
         requires short { IsShortItem item.now }
         requires end { self.old.repo.end ≡ self.old.journal.end }
         ensures plan { IfOk result (IsPlan self.old.repo (decide_line self.old.repo item.now.line item.now.block)) }
-        ensures repo { IfOk result (λ plan. self.new.repo ≡ after play self.old.repo (event_of_ready plan.ready)) }
+        ensures repo { OnOk result (self.new.repo ≡ after play self.old.repo (decide_line self.old.repo item.now.line item.now.block).event) }
+        ensures same { OnErr result (self.new.repo ≡ self.old.repo) }
         ensures journal { self.new.journal ≡ self.old.journal }
     {
         let Decision { reply, made } = self.repo.decide(alloc, item.line(), item.block())?;
         let answered = kind_of(&reply);
         let reply = print_reply(alloc, &reply)?;
-        let Some(made) = made else {
+        let Some(Made { event, form }) = made else {
             return Ok(Plan {
                 reply,
                 answered,
                 ready: None,
             });
         };
-        let prepared = self.journal.prepare(alloc, &made.form)?;
-        self.repo.play(alloc, &made.event, made.form.len())?;
-        let ready = Some(Ready { made, prepared });
+        let prepared = self.journal.prepare(alloc, &form)?;
+        self.repo.play(alloc, event, form.len())?;
         Ok(Plan {
             reply,
             answered,
-            ready,
+            ready: Some(prepared),
         })
     }
 
@@ -204,7 +200,9 @@ impl Session {
         ensures input { KeepsInput (H.told host.old) (H.told host.new) }
         ensures disk_cause { IsErrOf result SessionFault.DiskFault → Rose (H.told host.old).disk_faults (H.told host.new).disk_faults }
         ensures say_cause { IsErrOf result SessionFault.SayFault → Rose (H.told host.old).say_faults (H.told host.new).say_faults }
+        // Out of memory: nothing changed.
         ensures memory { IsErrOf result SessionFault.Memory → KeepsDisk (H.told host.old) (H.told host.new) × KeepsSaid (H.told host.old) (H.told host.new) }
+        ensures same { IsErrOf result SessionFault.Memory → (self.new.repo ≡ self.old.repo) × (self.new.journal ≡ self.old.journal) }
         ensures never { IfErr result (λ e. (at : ℕ) → e ≡ SessionFault.Damaged at → ⊥) }
     {
         if item.is_skipped() {

@@ -5,8 +5,8 @@ use Rattle.op_form.specs.Events.{event_form}
 use Rattle.plain_repository.specs.State.{State}
 use Rattle.plain_repository.specs.Events.{playable}
 use Rattle.plain_repository.specs.Answers as plain
-use Rattle.repo_core.specs.declared.deciding.Decision.{Decision}
-use Rattle.repo_core.specs.declared.deciding.Made.{Made}
+use Rattle.repo_core.specs.declared.deciding.answers.Decision.{Decision}
+use Rattle.repo_core.specs.declared.deciding.answers.Made.{Made}
 
 -- the event of a decision
 abbrev pub event_of : Option Made → Option Event

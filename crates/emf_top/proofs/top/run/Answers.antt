@@ -1,6 +1,7 @@
 use Rattle.host_port.proofs.Course.{told_next}
 use Rattle.command_runs.specs.Runs.{played}
-use Rattle.plain_repository.specs.Repository.{play, empty}
+use Rattle.plain_repository.specs.State.{empty}
+use Rattle.plain_repository.specs.Events.{play}
 use Rattle.std.proofs.Common.{arith}
 use Rattle.emf_top.specs.Headline.{script}
 use Rattle.emf_top.proofs.Headlines.{complete, stopped}

@@ -1,7 +1,8 @@
 use Rattle.std.proofs.Common.{arith, inr, refl, sym, ◌∙◌}
 use Rattle.host_port.proofs.Course.{told_next, rose_second}
 use Rattle.command_runs.specs.Runs.{played}
-use Rattle.plain_repository.specs.Repository.{play, empty}
+use Rattle.plain_repository.specs.State.{empty}
+use Rattle.plain_repository.specs.Events.{play}
 use Rattle.emf_top.specs.Headline.{script}
 use Rattle.emf_top.proofs.Headlines.{unopened_halted, opening_part, opening_moments, whole_ends, whole_part, whole_moments, unopened_ends, unopened_damaged, unopened_damages, status_disk, status_say}
 use Rattle.emf_top.proofs.top.run_store.Goals as goal

@@ -1,0 +1,102 @@
+//! A decision: the reply to a command, and the event that it makes.
+ghost use Rattle.std.specs.Prelude.{◌≡◌, IfOk, true};
+ghost use Rattle.std.specs.Fmt.{decimal};
+ghost use Rattle.plain_repository.specs.State.{State};
+ghost use Rattle.plain_repository.specs.Answers.{refused, told, with_room};
+ghost use Rattle.plain_repository.specs.Events.{playable_with};
+ghost use Rattle.repo_core.specs.Decisions.{seen, CanMakeIt};
+
+use crate::repo::{MOST_BYTES, Repo};
+use ecore_meta::{List, Text};
+use op_form::{Event, encode_event, has_form};
+use script_lang::{Last, Refusal, Reply};
+use std::alloc::{AllocError, Global};
+
+const JOURNAL_LIMIT: u64 = 1 << 40;
+
+/// An event that is to be made, and its bytes.
+#[derive(Drop)]
+pub struct Made {
+    pub event: Event,
+    pub form: Vec<u8>,
+}
+
+/// A reply, and the event that goes with it.
+#[derive(Drop)]
+pub struct Decision {
+    pub reply: Reply,
+    pub made: Option<Made>,
+}
+
+/// A refusal, which makes no event.
+pub(crate) fn refuse(alloc: Global, refusal: Refusal) -> Decision
+    ensures decision { seen result ≡ refused refusal }
+    ensures made { (s : State) → CanMakeIt s result.made }
+{
+    Decision {
+        reply: Reply {
+            lines: List::new(alloc),
+            last: Last::No(refusal),
+        },
+        made: None,
+    }
+}
+
+/// An answer that changes nothing.
+pub(crate) fn tell(lines: List<Text>, words: Text) -> Decision
+    ensures decision { seen result ≡ told lines words }
+    ensures made { (s : State) → CanMakeIt s result.made }
+{
+    Decision {
+        reply: Reply {
+            lines,
+            last: Last::Ok(words),
+        },
+        made: None,
+    }
+}
+
+/// A number in decimal digits.
+pub(crate) fn number_words(alloc: Global, n: u64) -> Result<Text, AllocError>
+    ensures { IfOk result (λ words. words ≡ decimal n) }
+{
+    let text = format!(in alloc; "{n}")?;
+    Text::new(alloc, text.as_str())
+}
+
+impl Repo {
+    /// Makes an event, where the history and the journal have room.
+    #[tactic(auto, unfolding(plain_repository::specs::Answers::with_room, plain_repository::specs::Events::playable))]
+    pub(crate) fn with_room(
+        &self,
+        alloc: Global,
+        lines: List<Text>,
+        words: Text,
+        event: Event,
+    ) -> Result<Decision, AllocError>
+        requires could { playable_with self.now self.now.meta event ≡ true }
+        ensures decision { IfOk result (λ d. seen d ≡ with_room self.now lines words event) }
+        ensures made { IfOk result (λ d. CanMakeIt self.now d.made) }
+    {
+        if self.is_full() {
+            return Ok(refuse(alloc, Refusal::HistoryFull));
+        }
+        if !has_form(&event) {
+            return Ok(refuse(alloc, Refusal::TooLarge));
+        }
+        let form = encode_event(alloc, &event)?;
+        if form.len() > MOST_BYTES {
+            return Ok(refuse(alloc, Refusal::TooLarge));
+        }
+        if self.end + form.len() as u64 + 6 > JOURNAL_LIMIT {
+            return Ok(refuse(alloc, Refusal::JournalFull));
+        }
+        Ok(Decision {
+            reply: Reply {
+                lines,
+                last: Last::Ok(words),
+            },
+            made: Some(Made { event, form }),
+        })
+    }
+}

@@ -1,0 +1,62 @@
+//! The commands `checkout` and `drop`, and the text of a version.
+ghost use Rattle.std.specs.Prelude.{◌≡◌, ◌≢◌, IfOk, None, Some};
+ghost use Rattle.plain_repository.specs.Checkouts.{decide_checkout, decide_drop};
+ghost use Rattle.repo_core.specs.Decisions.{seen, CanMakeIt};
+
+use crate::deciding::answers::{Decision, refuse};
+use crate::deciding::naming::{find, unknown};
+use crate::repo::{Begun, Repo};
+use ecore_meta::{List, Text};
+use op_form::Event;
+use script_lang::{Refusal, Spec};
+use std::alloc::{AllocError, Global};
+use std::fmt::Write;
+
+impl Repo {
+    /// `checkout SPEC`: a workspace at the version, whose text is printed.
+    #[tactic(auto, unfolding(plain_repository::specs::Checkouts::decide_checkout))]
+    pub(crate) fn decide_checkout(
+        &self,
+        alloc: Global,
+        begun: &Begun,
+        spec: &Spec,
+    ) -> Result<Decision, AllocError>
+        requires meta { self.now.meta ≡ Some begun.now.meta }
+        requires history { self.now.history ≡ begun.now.history.history }
+        ensures decision { IfOk result (λ d. seen d ≡ decide_checkout self.now begun.now.meta spec.now) }
+        ensures made { IfOk result (λ d. CanMakeIt self.now d.made) }
+    {
+        let found = match find(&begun.history, spec) {
+            Ok(found) => found,
+            Err(fault) => return Ok(refuse(alloc, unknown(fault))),
+        };
+        let lines = self.text_of(alloc, begun, found.version)?;
+        let number = self.workspaces.len() as u64 + 1;
+        let branch = begun.history.branch_name(found.branch);
+        let mut words = String::new(alloc);
+        write!(words, "{} {} {}", number, found.version, branch)?;
+        let event = Event::Checkout {
+            version: found.version,
+            branch: found.branch,
+        };
+        self.with_room(alloc, lines, Text::new(alloc, words.as_str())?, event)
+    }
+
+    /// `drop WS`.
+    #[tactic(auto, unfolding(plain_repository::specs::Checkouts::decide_drop))]
+    pub(crate) fn decide_drop(&self, alloc: Global, ws: u32) -> Result<Decision, AllocError>
+        requires begun { self.now.meta ≢ None }
+        ensures decision { IfOk result (λ d. seen d ≡ decide_drop self.now ws) }
+        ensures made { IfOk result (λ d. CanMakeIt self.now d.made) }
+    {
+        if self.workspace(ws).is_none() {
+            return Ok(refuse(alloc, Refusal::NoWorkspace));
+        }
+        self.with_room(
+            alloc,
+            List::new(alloc),
+            Text::new(alloc, "")?,
+            Event::Drop { ws },
+        )
+    }
+}

@@ -1,0 +1,61 @@
+//! The commands `begin` and `end`.
+ghost use Rattle.std.specs.Prelude.{◌≡◌, ◌≢◌, IfOk, None, true};
+ghost use Rattle.plain_repository.specs.Composites.{decide_begin, decide_end};
+ghost use Rattle.model_state.specs.Names.{is_name};
+ghost use Rattle.repo_core.specs.Decisions.{seen, CanMakeIt};
+
+use crate::deciding::answers::{Decision, refuse};
+use crate::repo::Repo;
+use ecore_meta::{List, Text};
+use op_form::Event;
+use script_lang::Refusal;
+use std::alloc::{AllocError, Global};
+
+impl Repo {
+    /// `begin WS NAME`.
+    #[tactic(auto, unfolding(plain_repository::specs::Composites::decide_begin))]
+    pub(crate) fn decide_begin(
+        &self,
+        alloc: Global,
+        ws: u32,
+        name: &Text,
+    ) -> Result<Decision, AllocError>
+        requires begun { self.now.meta ≢ None }
+        requires name { is_name name.now ≡ true }
+        ensures decision { IfOk result (λ d. seen d ≡ decide_begin self.now ws name.now) }
+        ensures made { IfOk result (λ d. CanMakeIt self.now d.made) }
+    {
+        let Some(workspace) = self.workspace(ws) else {
+            return Ok(refuse(alloc, Refusal::NoWorkspace));
+        };
+        if workspace.is_open() {
+            return Ok(refuse(alloc, Refusal::CompositeOpen));
+        }
+        let event = Event::Begin {
+            ws,
+            name: name.copy(alloc)?,
+        };
+        self.with_room(alloc, List::new(alloc), Text::new(alloc, "")?, event)
+    }
+
+    /// `end WS`.
+    #[tactic(auto, unfolding(plain_repository::specs::Composites::decide_end))]
+    pub(crate) fn decide_end(&self, alloc: Global, ws: u32) -> Result<Decision, AllocError>
+        requires begun { self.now.meta ≢ None }
+        ensures decision { IfOk result (λ d. seen d ≡ decide_end self.now ws) }
+        ensures made { IfOk result (λ d. CanMakeIt self.now d.made) }
+    {
+        let Some(workspace) = self.workspace(ws) else {
+            return Ok(refuse(alloc, Refusal::NoWorkspace));
+        };
+        if !workspace.is_open() {
+            return Ok(refuse(alloc, Refusal::NoComposite));
+        }
+        self.with_room(
+            alloc,
+            List::new(alloc),
+            Text::new(alloc, "")?,
+            Event::End { ws },
+        )
+    }
+}

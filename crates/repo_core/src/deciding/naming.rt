@@ -1,0 +1,58 @@
+//! The version that a word of a line names, and its text.
+ghost use Rattle.std.specs.Prelude.{◌≡◌, ◌<◌, [], ◌∷◌, IfOk, Some, length};
+ghost use Rattle.emfjson_text.specs.Tree.{text};
+ghost use Rattle.history_tree.specs.States.{state_of};
+ghost use Rattle.plain_repository.specs.Specs.{named, unknown};
+
+use crate::repo::{Begun, Repo};
+use crate::states::state_at;
+use ecore_meta::{List, Text};
+use emfjson_text::write_model;
+use history_tree::{FindFault, Found, History};
+use script_lang::{Refusal, Spec};
+use std::alloc::{AllocError, Global};
+
+/// The version that a word names, and its branch.
+pub(crate) fn find(history: &History, spec: &Spec) -> Result<Found, FindFault>
+    ensures found { result ≡ named history.now.history spec.now }
+    ensures version { IfOk result (λ found. found.version < length history.now.history.versions) }
+    ensures branch { IfOk result (λ found. found.branch < length history.now.history.branches) }
+{
+    match spec {
+        Spec::Number(n) => history.resolve(Some(*n), None, None),
+        Spec::Branch(name) => history.resolve(None, Some(name.as_str()), None),
+        Spec::Tag(name) => history.resolve(None, None, Some(name.as_str())),
+    }
+}
+
+/// The refusal where a word names no version.
+pub(crate) fn unknown(fault: FindFault) -> Refusal
+    ensures { result ≡ unknown fault }
+{
+    match fault {
+        FindFault::NoVersion => Refusal::NoVersion,
+        FindFault::NoBranch => Refusal::NoBranch,
+    }
+}
+
+impl Repo {
+    /// The text of a version, as the only data line.
+    pub(crate) fn text_of(
+        &self,
+        alloc: Global,
+        begun: &Begun,
+        v: u32,
+    ) -> Result<List<Text>, AllocError>
+        requires meta { self.now.meta ≡ Some begun.now.meta }
+        requires history { self.now.history ≡ begun.now.history.history }
+        requires there { v < length begun.now.history.history.versions }
+        ensures { IfOk result (λ lines. lines ≡ text begun.now.meta (state_of begun.now.meta self.now.history v) ∷ []) }
+    {
+        self.orderly();
+        begun.meta.sound();
+        let model = state_at(alloc, &begun.meta, &begun.history, v)?;
+        let mut lines = List::new(alloc);
+        lines.push(write_model(alloc, &model, &begun.meta)?)?;
+        Ok(lines)
+    }
+}

@@ -1,0 +1,187 @@
+//! The commands that only show: `changes`, `show`, `validate`, `cat`, `package` and `log`.
+ghost use Rattle.std.specs.Prelude.{◌≡◌, IfOk, IfNone, IfSome, OnOk, ◌++◌, None, Some};
+ghost use Rattle.std.specs.Option.{option_copied, option_map};
+ghost use Rattle.plain_repository.specs.State.{workspace_of};
+ghost use Rattle.plain_repository.specs.Views.{lines_of_open, decide_changes, decide_show, decide_cat, decide_validate, decide_log, decide_package};
+ghost use Rattle.data_lines.specs.Typed.{AreTyped};
+ghost use Rattle.repo_core.specs.Keeping.{plain_composite};
+ghost use Rattle.repo_core.specs.Working.{IsWorkingModel};
+ghost use Rattle.repo_core.specs.Decisions.{seen, CanMakeIt};
+
+use crate::deciding::answers::{Decision, refuse, tell};
+use crate::deciding::naming::{find, unknown};
+use crate::repo::{Begun, Repo};
+use crate::workspace::Composite;
+use data_lines::{log_lines, open_lines, operation_lines, package_lines, validate_lines};
+use ecore_meta::{List, Metamodel, Text};
+use emfjson_text::write_model;
+use op_form::is_package;
+use script_lang::{Refusal, Spec};
+use std::alloc::{AllocError, Global};
+use step_apply::Plain;
+
+/// Lines come after others.
+fn push_lines(alloc: Global, lines: &mut List<Text>, more: &List<Text>) -> Result<(), AllocError>
+    ensures { OnOk result (lines.new ≡ lines.old ++ more.now) }
+{
+    for line in more.as_slice() {
+        lines.push(line.copy(alloc)?)?;
+    }
+    Ok(())
+}
+
+/// The lines of the composite that is open come after others.
+fn push_open_lines(
+    alloc: Global,
+    lines: &mut List<Text>,
+    composite: Option<&Composite>,
+    meta: &Metamodel,
+) -> Result<(), AllocError>
+    requires typed { IfSome composite (λ c. AreTyped meta.now c.now.steps.items) }
+    ensures lines { OnOk result (lines.new ≡ lines.old ++ lines_of_open meta.now (option_map plain_composite (option_copied composite.entry))) }
+{
+    let Some(composite) = composite else {
+        return Ok(());
+    };
+    let open = open_lines(alloc, &composite.name, composite.steps.as_slice(), meta)?;
+    push_lines(alloc, lines, &open)
+}
+
+impl Repo {
+    /// `changes WS`: the operations and the open composite, line by line.
+    #[tactic(auto, unfolding(plain_repository::specs::Views::decide_changes))]
+    pub(crate) fn decide_changes(
+        &self,
+        alloc: Global,
+        begun: &Begun,
+        ws: u32,
+    ) -> Result<Decision, AllocError>
+        requires meta { self.now.meta ≡ Some begun.now.meta }
+        requires history { self.now.history ≡ begun.now.history.history }
+        ensures decision { IfOk result (λ d. seen d ≡ decide_changes self.now begun.now.meta ws) }
+        ensures made { IfOk result (λ d. CanMakeIt self.now d.made) }
+    {
+        let Some(workspace) = self.workspace(ws) else {
+            return Ok(refuse(alloc, Refusal::NoWorkspace));
+        };
+        self.orderly();
+        begun.meta.sound();
+        let mut lines = operation_lines(alloc, workspace.operations(), &begun.meta)?;
+        push_open_lines(alloc, &mut lines, workspace.composite(), &begun.meta)?;
+        Ok(tell(lines, Text::new(alloc, "")?))
+    }
+
+    /// `show WS`: the text of the working model.
+    #[tactic(auto, unfolding(plain_repository::specs::Views::decide_show))]
+    pub(crate) fn decide_show(
+        &self,
+        alloc: Global,
+        begun: &Begun,
+        ws: u32,
+        model: Option<&Plain>,
+    ) -> Result<Decision, AllocError>
+        requires meta { self.now.meta ≡ Some begun.now.meta }
+        requires history { self.now.history ≡ begun.now.history.history }
+        requires model { IfSome model (λ m. IsWorkingModel self.now ws m.now) }
+        requires none { IfNone model (workspace_of self.now ws ≡ None) }
+        ensures decision { IfOk result (λ d. seen d ≡ decide_show self.now begun.now.meta ws) }
+        ensures made { IfOk result (λ d. CanMakeIt self.now d.made) }
+    {
+        let Some(workspace) = self.workspace(ws) else {
+            return Ok(refuse(alloc, Refusal::NoWorkspace));
+        };
+        let Some(model) = model else {
+            return Ok(refuse(alloc, Refusal::NoWorkspace));
+        };
+        self.settle(begun, ws, workspace, model);
+        let mut lines = List::new(alloc);
+        lines.push(write_model(alloc, model, &begun.meta)?)?;
+        Ok(tell(lines, Text::new(alloc, "")?))
+    }
+
+    /// `validate WS`: the features that are below their lower bounds.
+    #[tactic(auto, unfolding(plain_repository::specs::Views::decide_validate))]
+    pub(crate) fn decide_validate(
+        &self,
+        alloc: Global,
+        begun: &Begun,
+        ws: u32,
+        model: Option<&Plain>,
+    ) -> Result<Decision, AllocError>
+        requires meta { self.now.meta ≡ Some begun.now.meta }
+        requires history { self.now.history ≡ begun.now.history.history }
+        requires model { IfSome model (λ m. IsWorkingModel self.now ws m.now) }
+        requires none { IfNone model (workspace_of self.now ws ≡ None) }
+        ensures decision { IfOk result (λ d. seen d ≡ decide_validate self.now begun.now.meta ws) }
+        ensures made { IfOk result (λ d. CanMakeIt self.now d.made) }
+    {
+        let Some(workspace) = self.workspace(ws) else {
+            return Ok(refuse(alloc, Refusal::NoWorkspace));
+        };
+        let Some(model) = model else {
+            return Ok(refuse(alloc, Refusal::NoWorkspace));
+        };
+        self.settle(begun, ws, workspace, model);
+        let lines = validate_lines(alloc, model, &begun.meta)?;
+        Ok(tell(lines, Text::new(alloc, "")?))
+    }
+
+    /// `cat SPEC`: the text of the version.
+    #[tactic(auto, unfolding(plain_repository::specs::Views::decide_cat))]
+    pub(crate) fn decide_cat(
+        &self,
+        alloc: Global,
+        begun: &Begun,
+        spec: &Spec,
+    ) -> Result<Decision, AllocError>
+        requires meta { self.now.meta ≡ Some begun.now.meta }
+        requires history { self.now.history ≡ begun.now.history.history }
+        ensures decision { IfOk result (λ d. seen d ≡ decide_cat self.now begun.now.meta spec.now) }
+        ensures made { IfOk result (λ d. CanMakeIt self.now d.made) }
+    {
+        let found = match find(&begun.history, spec) {
+            Ok(found) => found,
+            Err(fault) => return Ok(refuse(alloc, unknown(fault))),
+        };
+        let lines = self.text_of(alloc, begun, found.version)?;
+        Ok(tell(lines, Text::new(alloc, "")?))
+    }
+
+    /// `package SPEC`: the operations of the version, and their bytes.
+    #[tactic(auto, unfolding(plain_repository::specs::Views::decide_package))]
+    pub(crate) fn decide_package(
+        &self,
+        alloc: Global,
+        begun: &Begun,
+        spec: &Spec,
+    ) -> Result<Decision, AllocError>
+        requires meta { self.now.meta ≡ Some begun.now.meta }
+        requires history { self.now.history ≡ begun.now.history.history }
+        ensures decision { IfOk result (λ d. seen d ≡ decide_package self.now begun.now.meta spec.now) }
+        ensures made { IfOk result (λ d. CanMakeIt self.now d.made) }
+    {
+        let found = match find(&begun.history, spec) {
+            Ok(found) => found,
+            Err(fault) => return Ok(refuse(alloc, unknown(fault))),
+        };
+        let version = begun.history.version(found.version);
+        if !is_package(&version.package) {
+            return Ok(refuse(alloc, Refusal::TooLarge));
+        }
+        self.orderly();
+        begun.meta.sound();
+        let lines = package_lines(alloc, &version.package, &begun.meta)?;
+        Ok(tell(lines, Text::new(alloc, "")?))
+    }
+
+    /// `log`: the versions.
+    #[tactic(auto, unfolding(plain_repository::specs::Views::decide_log))]
+    pub(crate) fn decide_log(&self, alloc: Global, begun: &Begun) -> Result<Decision, AllocError>
+        requires history { self.now.history ≡ begun.now.history.history }
+        ensures decision { IfOk result (λ d. seen d ≡ decide_log self.now) }
+        ensures made { IfOk result (λ d. CanMakeIt self.now d.made) }
+    {
+        let lines = log_lines(alloc, &begun.history)?;
+        Ok(tell(lines, Text::new(alloc, "")?))
+    }
+}
