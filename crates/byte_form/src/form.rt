@@ -1,3 +1,4 @@
+//! The encoder: fields are appended to a byte string, each by its encoding.
 ghost use Rattle.std.specs.Prelude.{◌≡◌, ◌<◌, ◌^◌, ◌++◌, [], ◌∷◌, length, OnOk, OnErr};
 ghost use Rattle.byte_form.specs.Fields.{u32_form, u64_form, text_form};
 

@@ -1,3 +1,4 @@
+//! The laws of the encoding: decoding inverts encoding, both ways, and no encoding is a prefix of another.
 ghost use Rattle.std.specs.Prelude.{◌^◌};
 ghost use Rattle.std.specs.Int.{w32, w64};
 ghost use Rattle.byte_form.specs.Fields.{byte_at, number_at, text_at, u32_form, u64_form, text_form};

@@ -1,3 +1,4 @@
+//! The faults of reading a journal: damage with its place, a failed disk call, out of memory.
 ghost use Rattle.std.specs.Prelude.{◌≡◌};
 ghost use Rattle.commit_journal.specs.declared.fault.JournalFault.TheVariants.{DiskFault, Memory};
 

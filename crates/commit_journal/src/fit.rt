@@ -1,3 +1,4 @@
+//! The size limits of a record and of a journal, and the test of both before an append.
 ghost use Rattle.std.specs.Prelude.{◌≡◌, ◌+◌, ◌^◌, ◌<◌, ◌≤◌, ◌↔◌};
 ghost use Rattle.commit_journal.specs.Journal.{Fits};
 

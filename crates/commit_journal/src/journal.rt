@@ -1,3 +1,5 @@
+//! The append of a record: its bytes are made ready first, then written behind a closed gate, and the gate is opened
+//! last.
 ghost use Rattle.std.specs.Prelude.{◌≡◌, ◌+◌, ◌-◌, ◌^◌, ◌<◌, ◌++◌, [], ◌∷◌, List, ℕ, length, take, drop, IsTrue, IfOk, OnOk, OnErr, true, false};
 ghost use Rattle.host_port.specs.Host.{disk_now, Rose, GoesOn, Throughout, KeepsSaid, KeepsInput, RaisesDiskAlone, StopLeaves};
 ghost use Rattle.commit_journal.specs.Journal.{JournalState, behind_gate, four_bytes, IsShort, Holds, IsReady, IsBeforeOrAfter, IsAtRest, IsGateLast};

@@ -1,3 +1,4 @@
+//! The creation of an element: its rank at the end of its place, and the steps that put it there.
 ghost use Rattle.std.specs.Prelude.{◌≡◌, IfOk, IfErr, OnOk, None, Some};
 ghost use Rattle.model_state.specs.Listing.{children};
 ghost use Rattle.edit_laws.specs.Spot.{end_spot};

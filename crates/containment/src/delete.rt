@@ -1,3 +1,4 @@
+//! The deletion of a subtree: its references are unlinked, its attributes emptied, and then its elements removed.
 ghost use Rattle.std.specs.Prelude.{◌≡◌, ◌++◌, IfOk, OnOk};
 ghost use Rattle.model_state.specs.Good.{Good};
 ghost use Rattle.containment.specs.Deletes.{delete_made, gone_made, gone_step, removal_made};

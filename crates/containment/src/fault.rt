@@ -1,3 +1,4 @@
+//! The refusals of a place: a containment cycle, an upper bound, a wrong type, an index that isn't there.
 ghost use Rattle.std.specs.Prelude.{◌≡◌};
 ghost use Rattle.containment.specs.EditFaults.{edit_fault};
 ghost use Rattle.containment.specs.declared.fault.MoveFault.TheVariants.{Memory};

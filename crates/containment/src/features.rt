@@ -1,3 +1,4 @@
+//! The features of a subtree's elements that a deletion empties, and the references that begin or end in them.
 ghost use Rattle.std.specs.Prelude.{◌≡◌, ◌++◌, IfOk, OnOk, map};
 ghost use Rattle.model_state.specs.Typing.{kind_of, opposite_of};
 ghost use Rattle.edit_laws.specs.Rows.{around};

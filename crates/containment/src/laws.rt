@@ -1,3 +1,5 @@
+//! The laws of containment: what creations, moves and deletions lead to, and what subtrees and chains of containers
+//! are.
 ghost use Rattle.containment.specs.Laws.{ContainersAreChain, CreateLeads, DeleteLeads, MoveLeads, SubtreeIsBelow, SubtreeIsInOrder, SubtreeIsLive};
 
 /// The steps of a creation that is not refused lead to a model in which the element is live, last in its place.

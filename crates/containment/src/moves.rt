@@ -1,3 +1,4 @@
+//! The move of an element, within its place by a rerank or into another place, which must not make a containment cycle.
 ghost use Rattle.std.specs.Prelude.{◌≡◌, IfOk, IfErr, OnOk, None, Some, true, length, unwrap_or};
 ghost use Rattle.model_state.specs.Good.{Good};
 ghost use Rattle.model_state.specs.Listing.{children, rank_at};

@@ -1,3 +1,4 @@
+//! The tests of a place: whether it is one, whether it takes a class, and whether its upper bound lets one more in.
 ghost use Rattle.std.specs.Prelude.{◌≡◌};
 ghost use Rattle.finite_maps.specs.Maps.{is_below};
 ghost use Rattle.model_state.specs.Listing.{children};

@@ -1,3 +1,4 @@
+//! The unlinks of a deletion: first of the references out of a subtree, then of those that are left into it.
 ghost use Rattle.std.specs.Prelude.{◌≡◌, ◌++◌, [], IfOk, OnOk, map, not};
 ghost use Rattle.std.specs.List.{filter};
 ghost use Rattle.containment.specs.Deletes.{incoming_made, incoming_unlink, is_touched, outgoing_made};

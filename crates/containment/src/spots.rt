@@ -1,3 +1,4 @@
+//! The rank of an element at an index of a place, with the reranks of the others where no rank is free.
 ghost use Rattle.std.specs.Prelude.{◌≡◌, ◌<◌, true, not, IfOk, IfErr, OnOk, None, Some, is_some, length, unwrap_or};
 ghost use Rattle.std.specs.Option.{option_copied};
 ghost use Rattle.edit_laws.specs.Spot.{evened, rank_for, ranks_of, spot};

@@ -1,3 +1,4 @@
+//! The steps after which the attributes of deleted elements hold no value.
 ghost use Rattle.std.specs.Prelude.{◌≡◌, ◌≤◌, ◌++◌, OnOk, None, length};
 ghost use Rattle.model_state.specs.Good.{Good};
 ghost use Rattle.edit_laws.specs.Attributes.{put_made};

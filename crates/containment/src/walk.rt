@@ -1,3 +1,4 @@
+//! The subtree of an element, found depth first by a stack, so that no call nests as deep as the model.
 ghost use Rattle.std.specs.Prelude.{◌≡◌, ◌++◌, IfOk, OnOk, reverse};
 ghost use Rattle.model_state.specs.Good.{Good};
 ghost use Rattle.model_state.specs.Listing.{children};

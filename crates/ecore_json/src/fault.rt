@@ -1,3 +1,4 @@
+//! The faults of an Ecore document in the order in which they are looked for, with the number of each in a reply.
 ghost use Rattle.std.specs.Prelude.{◌≡◌};
 ghost use Rattle.ecore_json.specs.Metamodel.{fault_number, of_meta};
 ghost use Rattle.ecore_json.specs.declared.fault.EcoreFault.TheVariants.{Memory};

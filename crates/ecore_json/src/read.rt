@@ -1,3 +1,4 @@
+//! The reading of an Ecore document: JSON, then the package, then its first fault, then its metamodel.
 ghost use Rattle.std.specs.Prelude.{◌≡◌, ◌<◌, ◌-◌, ◌^◌, Some, length, option_map};
 ghost use Rattle.serde_json.specs.View.{view};
 ghost use Rattle.serde_json.specs.Find.{as_array};

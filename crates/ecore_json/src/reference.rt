@@ -1,3 +1,4 @@
+//! The names of a document, and its references to classifiers, to types of Ecore and to features.
 ghost use Rattle.std.specs.Prelude.{◌≡◌, option_copied, option_map};
 ghost use Rattle.std.specs.List.{list_all};
 ghost use Rattle.ecore_json.specs.References.{is_name, is_name_byte, is_feature_name, is_type_reference, behind, name_behind, own_name, ecore_name, pair_behind, own_feature, two_names};

@@ -1,3 +1,5 @@
+//! The rows that a package without a fault says: classes, features, enums and literals, with names still to be
+//! resolved.
 ghost use Rattle.std.specs.Prelude.{◌≡◌, IfOk, map, option_copied, string_bytes};
 ghost use Rattle.serde_json.specs.View.{view};
 ghost use Rattle.serde_json.specs.Find.{get};

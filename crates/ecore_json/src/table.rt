@@ -1,3 +1,4 @@
+//! The keys that each class of Ecore's objects may have and must have, and what the value of each is to be.
 ghost use Rattle.std.specs.Prelude.{◌≡◌, map};
 ghost use Rattle.ecore_json.specs.Table.{table, required, wants, row_of};
 

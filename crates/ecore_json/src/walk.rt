@@ -1,3 +1,4 @@
+//! The search for a document's first fault: a walk over the JSON tree, each object's keys in the order of their bytes.
 ghost use Rattle.std.specs.Prelude.{◌≡◌, Some, codes, map, option_map};
 ghost use Rattle.serde_json.specs.View.{view, items_view, members_view};
 ghost use Rattle.serde_json.specs.Find.{get};

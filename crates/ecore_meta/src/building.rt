@@ -1,3 +1,4 @@
+//! The building of a metamodel: names are resolved, faults looked for in their order, and then the tables assembled.
 ghost use Rattle.std.specs.Prelude.{◌≡◌, IfOk, IfErr, None, map};
 ghost use Rattle.ecore_meta.specs.Build.{Numbered, meta_of};
 ghost use Rattle.ecore_meta.specs.Document.{supers_in};

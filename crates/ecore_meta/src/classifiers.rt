@@ -1,3 +1,4 @@
+//! The symbol table of a package: its classes, enums and data types by name, each kind numbered by itself.
 ghost use Rattle.std.specs.Prelude.{◌≡◌, ◌<◌, ◌+◌, IfOk, IfSome, Some, length, slice_get};
 ghost use Rattle.std.specs.Option.{option_copied};
 ghost use Rattle.ecore_meta.specs.Names.{number_of};

@@ -1,3 +1,4 @@
+//! The faults of a metamodel in the order in which they are looked for, and those of the text of a value.
 ghost use Rattle.std.specs.Prelude.{◌≡◌};
 ghost use Rattle.ecore_meta.specs.declared.fault.MetaFault.TheVariants.{Memory};
 ghost use Rattle.ecore_meta.specs.declared.fault.ValueFault.TheVariants.{Memory as MemoryFault};

@@ -1,3 +1,4 @@
+//! The tests for faults of names, supertypes, types, opposites and bounds, each over the whole document.
 ghost use Rattle.std.specs.Prelude.{◌≡◌, ◌<◌, IfOk, Some, None, length, map, not, slice_get, is_some};
 ghost use Rattle.std.specs.List.{list_any};
 ghost use Rattle.std.specs.Option.{option_copied};

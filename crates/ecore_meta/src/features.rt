@@ -1,3 +1,5 @@
+//! The features of each class with inherited ones, their clashes and bad defaults, and their final entries in a
+//! metamodel.
 ghost use Rattle.std.specs.Prelude.{◌≡◌, ◌<◌, ◌++◌, IfOk, OnOk, Some, map};
 ghost use Rattle.std.specs.List.{flat_map, list_any};
 ghost use Rattle.ecore_meta.specs.Build.{attribute, classes_from, container, end_number, feature_from, kind_in, lower_from, natural, reference, upper_from};

@@ -1,3 +1,4 @@
+//! The literals of enums, looked up by text and then by name.
 ghost use Rattle.std.specs.Prelude.{◌≡◌, ◌<◌, IfOk, IfSome, Some, None, length, map};
 ghost use Rattle.ecore_meta.specs.Names.{number_of};
 ghost use Rattle.ecore_meta.specs.Faults.{literal, literals_in};

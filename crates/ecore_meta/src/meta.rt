@@ -1,3 +1,4 @@
+//! The terms of a metamodel: values, types of attributes, kinds of features, features, classes and literals.
 ghost use Rattle.std.specs.Prelude.{◌≡◌, IfOk};
 
 use crate::{List, Text};

@@ -1,3 +1,5 @@
+//! A metamodel that was built, and its questions: classes and features by number and by name, subtyping, literals,
+//! defaults.
 ghost use Rattle.std.specs.Prelude.{◌≡◌, ◌<◌, ◌↔◌, IfErr, IfOk, IsTrue, IfSome, length, map, slice_get, Some, nat_eq};
 ghost use Rattle.std.specs.List.{list_any};
 ghost use Rattle.std.specs.Option.{option_copied, option_map_or};

@@ -1,3 +1,4 @@
+//! The rows of a document: classifiers, features and literals as they are written, with unresolved names.
 ghost use Rattle.std.specs.Prelude.{◌≡◌, ◌↔◌, IsTrue, length, nat_lt};
 ghost use Rattle.std.specs.List.{list_any};
 ghost use Rattle.ecore_meta.specs.Build.{Numbered, is_numbered};

@@ -1,3 +1,4 @@
+//! The direct supertypes of each class by number, and their closure: all classes above a class.
 ghost use Rattle.std.specs.Prelude.{◌≡◌, ◌<◌, ◌∷◌, [], ℕ, IfOk, OnOk, length, map};
 ghost use Rattle.std.specs.Ordering.{nat_cmp};
 ghost use Rattle.std.specs.List.{filter, filter_map, range_with_len};

@@ -1,3 +1,5 @@
+//! The tables of inheritance: all classes above each class, cycles among them, and the features that each class
+//! declares.
 ghost use Rattle.std.specs.Prelude.{◌≡◌, ◌<◌, ◌+◌, IfOk, false, length, map, slice_get};
 ghost use Rattle.std.specs.Ordering.{nat_cmp};
 ghost use Rattle.std.specs.List.{list_any, range_with_len};

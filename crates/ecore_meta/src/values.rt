@@ -1,3 +1,5 @@
+//! Default texts read as values of a type: flags, whole numbers of four widths, literals and texts; and the default of
+//! a type.
 ghost use Rattle.std.specs.Prelude.{◌≡◌, IfOk, IfSome, FitsSigned, Some, None, cond, nat_eq, map, slice_get, slice_index};
 ghost use Rattle.std.specs.Option.{option_copied};
 ghost use mir.Syntax.{w64};

@@ -1,4 +1,4 @@
-// Documents and their answers, as the format is written down for its users. `E#` stands for Ecore's own namespace.
+//! Ecore documents with the answer to each, by the format's rules. `E#` stands for Ecore's own namespace.
 use crate::metamodels::RULES;
 use ecore_json::{EcoreFault, read_metamodel};
 use ecore_meta::Metamodel;

@@ -1,4 +1,4 @@
-// Metamodels and what they say; and documents that are none, by the rules of metamodels. `E#` stands for Ecore's own namespace.
+//! Metamodels with all that their queries answer, and documents that break a rule of metamodels. `E#` stands for Ecore's own namespace.
 use crate::ecore_texts::{LIBRARY, PACKAGE, check_line, read, worded};
 use ecore_json::EcoreFault;
 use ecore_meta::{Metamodel, Scalar};

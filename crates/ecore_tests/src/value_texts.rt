@@ -1,4 +1,4 @@
-// Texts and the values that they are, as the format is written down for its users; the texts of JSON's grammar are RFC 8259's.
+//! Texts of attribute values with the value of each, by the format's rules; the texts of JSON's grammar are RFC 8259's.
 use crate::ecore_texts::worded;
 use crate::metamodels::{package, scalar};
 use ecore_meta::{Metamodel, ValueFault};

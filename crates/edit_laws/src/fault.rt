@@ -1,3 +1,4 @@
+//! The refusals of an edit, which is answered with the first that applies.
 ghost use Rattle.std.specs.Prelude.{◌≡◌};
 ghost use Rattle.edit_laws.specs.declared.fault.EditFault.TheVariants.{Memory};
 

@@ -1,3 +1,4 @@
+//! The laws of single edits: the steps of each lead to the model that its definition says.
 ghost use Rattle.edit_laws.specs.Laws.{ClearMeets, InsertMeets, RemoveMeets, ShiftMeets, SetRefIdle, CreateMeets, MoveWithinMeets, MoveToMeets, SetAttrMeets, UnsetAttrMeets, SetRefMeets, LinkMeets, UnlinkMeets, UnsetMeets, ReorderMeets};
 
 /// The steps of an edit of a plain reference lead to the rows that the edit is to leave, with the mirrors of

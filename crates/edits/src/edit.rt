@@ -1,3 +1,4 @@
+//! Edits as a user gives them, by ids, names and texts, and what is recorded of one.
 use ecore_meta::Text;
 use model_state::{Id, Operation};
 

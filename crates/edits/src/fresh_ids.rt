@@ -1,3 +1,4 @@
+//! The ids that a workspace gives to elements that come without one.
 ghost use Rattle.std.specs.Prelude.{◌≡◌, IfOk, OnOk, true};
 ghost use Rattle.model_state.specs.Ident.{is_id};
 ghost use Rattle.edits.specs.FreshIds.{numbered};

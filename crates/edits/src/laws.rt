@@ -1,3 +1,4 @@
+//! The laws of edits by name: their steps lead to the model after the edit, a good one; and which id is fresh.
 ghost use Rattle.edits.specs.Laws.{EditsIdle, EditsKeepGood, EditsMeet, FirstIsFresh, FreshIsFirst, FreshIsId};
 
 /// The steps that are recorded of an edit lead to the model that the edit is to leave, and there are none exactly where it

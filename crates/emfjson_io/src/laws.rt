@@ -1,3 +1,4 @@
+//! The law of values: a value that is written is read again as itself.
 ghost use Rattle.emfjson_io.specs.Laws.{BuiltTextsAreApart, ReadValuesFit, WrittenValuesAreRead};
 
 /// The law of values: what is read is of the type, and what is written for a value is read again as that value, where

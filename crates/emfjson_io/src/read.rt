@@ -1,3 +1,4 @@
+//! The reading of an attribute value from JSON, by the attribute's type.
 ghost use Rattle.std.specs.Prelude.{◌≡◌, IfOk, Some, None, cond, option_map, true};
 ghost use Rattle.serde_json.specs.View.{view};
 ghost use Rattle.serde_json.specs.Find.{as_str};

@@ -1,3 +1,4 @@
+//! The writing of an attribute value as JSON, by the attribute's type.
 ghost use Rattle.std.specs.Prelude.{◌≡◌, IfOk, true};
 ghost use Rattle.serde_json.specs.View.{view};
 ghost use Rattle.ecore_meta.specs.Typing.{fits};

@@ -1,3 +1,5 @@
+//! The reading of attributes: single values and lists, tested for type, duplicates and upper bound; a default counts as
+//! not set.
 ghost use Rattle.std.specs.Prelude.{◌≡◌, ◌∷◌, IfOk, [], map};
 ghost use Rattle.std.specs.List.{list_any};
 ghost use Rattle.serde_json.specs.View.{view};

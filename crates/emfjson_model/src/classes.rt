@@ -1,3 +1,4 @@
+//! The class of an object by its `eClass`, and the feature that a key of the object names.
 ghost use Rattle.std.specs.Prelude.{◌≡◌, option_copied, option_map};
 ghost use Rattle.serde_json.specs.View.{view};
 ghost use Rattle.ecore_meta.specs.Meta.{feature_named};

@@ -1,3 +1,4 @@
+//! The document that a model text says: a row for each element, with its place, attributes and references by number.
 use ecore_meta::{List, Value};
 use model_state::Id;
 

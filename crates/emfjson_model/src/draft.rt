@@ -1,3 +1,4 @@
+//! An element as the walk leaves it, with its references still as texts.
 use crate::doc::{DocAttr, DocParent};
 use ecore_meta::{List, Text};
 use model_state::Id;

@@ -1,3 +1,4 @@
+//! The drafts of a walk so far, with an index of their ids that finds a duplicate.
 ghost use Rattle.std.specs.Prelude.{◌≡◌, ◌∷◌, [], ◌++◌, ◌<◌, List, OnOk, Some, length};
 ghost use Rattle.std.specs.List.{list_any};
 ghost use Rattle.finite_maps.specs.Equal.{option_eq, text_eq};

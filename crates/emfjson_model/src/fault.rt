@@ -1,3 +1,4 @@
+//! The faults of a model text, with the number of each in a reply.
 ghost use Rattle.std.specs.Prelude.{◌≡◌};
 ghost use Rattle.emfjson_model.specs.Document.{fault_number};
 ghost use Rattle.emfjson_model.specs.declared.fault.ModelFault.TheVariants.{Memory};

@@ -1,3 +1,4 @@
+//! The indexes of a document's elements, by id and by place, in which references are looked up.
 ghost use Rattle.std.specs.Prelude.{◌≡◌, ◌++◌, ◌∷◌, [], IfOk, OnErr, OnOk, Some, None, cond, false};
 ghost use Rattle.std.specs.BTreeMap.{get_by_text};
 ghost use Rattle.finite_maps.specs.Equal.{option_eq, text_eq};

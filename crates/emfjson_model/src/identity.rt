@@ -1,3 +1,4 @@
+//! The `_id` of an object, tested for its form and for duplicates.
 ghost use Rattle.std.specs.Prelude.{option_map};
 ghost use Rattle.serde_json.specs.View.{view};
 ghost use Rattle.emfjson_model.specs.Answers.{Gives};

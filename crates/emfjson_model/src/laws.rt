@@ -1,3 +1,4 @@
+//! The law of documents that are read: their ids differ, parents precede children, and all fits the metamodel.
 ghost use Rattle.emfjson_model.specs.Fits.{DocumentsFit};
 ghost use Rattle.emfjson_model.specs.Laws.{IdsAreApart, ParentsComeFirst};
 

@@ -1,3 +1,4 @@
+//! The reading of a plain reference's value: the text at each `$ref`, not looked up yet.
 ghost use Rattle.std.specs.Prelude.{◌≡◌, IfOk, [], map, Ok};
 ghost use Rattle.serde_json.specs.View.{view};
 ghost use Rattle.emfjson_model.specs.Answers.{Holds};

@@ -1,3 +1,4 @@
+//! The lookup of a `$ref`: an id of the document, or a path along containments.
 ghost use Rattle.std.specs.Prelude.{◌≡◌, ◌==◌, IfOk, map, option_and_then, option_map};
 ghost use Rattle.std.specs.List.{list_all, slice_split};
 ghost use Rattle.std.specs.Char.{is_ascii_digit};

@@ -1,3 +1,4 @@
+//! The reading of a model text: JSON, then the walk that gives drafts, then references looked up and merged.
 ghost use Rattle.emfjson_model.specs.Answers.{Gives, GivesDoc};
 ghost use Rattle.emfjson_model.specs.Document.{doc_of, resolved};
 

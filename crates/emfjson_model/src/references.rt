@@ -1,3 +1,5 @@
+//! The targets that each element itself gives of its plain references, each looked up and tested for type and
+//! duplicates.
 ghost use Rattle.std.specs.Prelude.{◌≡◌, IfOk, [], nat_eq, option_and_then};
 ghost use Rattle.std.specs.List.{list_any};
 ghost use Rattle.model_state.specs.Typing.{kind_of, plain_to};

@@ -1,3 +1,4 @@
+//! The walk over the JSON tree that makes a draft of each element, a container before what it contains.
 ghost use Rattle.std.specs.Prelude.{◌≡◌, ◌∷◌, [], ◌++◌, ◌<◌, List, None, length};
 ghost use Rattle.serde_json.specs.View.{view, items_view, members_view};
 ghost use Rattle.emfjson_model.specs.Answers.{GivesDrafts, GivesPart, Holds, Walks};

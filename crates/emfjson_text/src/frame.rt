@@ -1,3 +1,4 @@
+//! The frames of the writer's stack: objects and arrays that are begun and not ended.
 use crate::key::Key;
 use ecore_meta::List;
 use model_state::{Entry, Id};

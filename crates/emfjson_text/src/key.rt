@@ -1,3 +1,4 @@
+//! The keys of an element's object, in the order of their names.
 ghost use Rattle.std.specs.Prelude.{◌≡◌, ◌++◌, IfOk, OnOk, map};
 ghost use Rattle.emfjson_text.specs.Keys.{key_cmp, key_name, key_number, keys_of};
 ghost use Rattle.emfjson_text.specs.declared.key.Key.TheVariants.{Feature as OfFeature};

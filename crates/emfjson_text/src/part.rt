@@ -1,3 +1,4 @@
+//! The value under a key of an object: absent, a text without elements, or the elements of a containment.
 ghost use Rattle.std.specs.Prelude.{◌≡◌, IfOk, Some, map};
 ghost use Rattle.serde_json.specs.Data.{string};
 ghost use Rattle.ecore_meta.specs.Typing.{is_one, kind_of};

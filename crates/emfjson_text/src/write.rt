@@ -1,3 +1,4 @@
+//! The writer of a model's text: what is begun stands on a stack, so that no call nests as deep as the model.
 ghost use Rattle.std.specs.Prelude.{◌≡◌, ◌++◌, [], IfOk, OnOk, map, false};
 ghost use Rattle.std.specs.String.{string_bytes};
 ghost use Rattle.serde_json.specs.Written.{compact_text};

@@ -1,4 +1,4 @@
-// Files that are no journal, and the limits of a record.
+//! Files that are no journal, and the limits of a record.
 use crate::spelling::bytes_of;
 use commit_journal::{Fit, JournalFault, Walk, fits, give_up};
 use host_port::{Host, MemoryHost};

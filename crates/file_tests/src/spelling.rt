@@ -1,4 +1,4 @@
-// Bytes as a table spells them: `\n`, `\r`, `\0`, and `\x` with two digits, as in Rust; all else stands for itself.
+//! Bytes as a table spells them: `\n`, `\r`, `\0`, and `\x` with two digits, as in Rust; all else stands for itself.
 ghost use Rattle.std.specs.Prelude.{◌<◌};
 
 use std::alloc::Global;

@@ -1,3 +1,4 @@
+//! How many rows of a document stand in each place so far, from which new elements get their ranks.
 ghost use Rattle.std.specs.Prelude.{◌≡◌, ◌<◌, OnOk};
 ghost use Rattle.model_import.specs.Counts.{CountsAlso, counted};
 

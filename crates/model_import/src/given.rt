@@ -1,3 +1,4 @@
+//! The ids that a document gives, as a set in which fresh ids are tested.
 ghost use Rattle.std.specs.Prelude.{◌≡◌, IfOk, OnOk};
 ghost use Rattle.std.specs.List.{list_any};
 ghost use Rattle.emfjson_model.specs.Laws.{gives_id};

@@ -1,3 +1,4 @@
+//! The links of an import: each reference with its opposite is one step, with the rank on either side.
 ghost use Rattle.std.specs.Prelude.{◌≡◌, ◌++◌, IfOk, OnOk, length, Some, option_copied, slice_get};
 ghost use Rattle.edit_laws.specs.Rows.{link_step};
 ghost use Rattle.emfjson_model.specs.Merged.{targets_at};

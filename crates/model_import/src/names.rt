@@ -1,3 +1,4 @@
+//! The ids of a document's elements: the given ones, and fresh ones that are neither live nor given.
 ghost use Rattle.std.specs.Prelude.{◌≡◌, ◌<◌, IfOk, None, length};
 ghost use Rattle.std.specs.List.{list_any};
 ghost use Rattle.emfjson_model.specs.Laws.{gives_id};

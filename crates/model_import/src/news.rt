@@ -1,3 +1,4 @@
+//! The creations of an import, a container before what it contains.
 ghost use Rattle.std.specs.Prelude.{◌≡◌, ◌<◌, ◌⊎◌, ◌++◌, ◌∷◌, [], false, true, IfErr, IfOk, OnOk, length};
 ghost use Rattle.edit_laws.specs.declared.fault.EditFault.TheVariants.{Bound, Memory};
 ghost use Rattle.model_state.specs.Listing.{children};

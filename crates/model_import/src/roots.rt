@@ -1,3 +1,4 @@
+//! The roots of an import, last at the root of the model, which is renumbered where no rank is left.
 ghost use Rattle.std.specs.Prelude.{◌≡◌, ◌<◌, ◌⊎◌, ◌++◌, ◌∷◌, ◌+◌, ◌*◌, [], false, true, nat_eq, IfErr, IfOk, OnOk, length};
 ghost use Rattle.edit_laws.specs.Places.{rerank_places};
 ghost use Rattle.edit_laws.specs.Spot.{evened, rank_for, ranks_of};

@@ -1,3 +1,4 @@
+//! The attribute values of an import, as steps.
 ghost use Rattle.std.specs.Prelude.{◌≡◌, ◌++◌, OnOk, length};
 ghost use Rattle.model_import.specs.Values.{attr_made, attrs_made, inserts_made, put_made, values_made};
 

@@ -1,3 +1,4 @@
+//! The laws of steps: reversal undoes, the invariant is kept, and steps of disjoint cells commute.
 ghost use Rattle.model_laws.specs.Laws.{ReversalUndoes, StepsKeepGood, StartsGood, ExchangeHolds, SideBySide};
 
 /// What steps did, their reversals in reversed order undo, and each step keeps the invariant.

@@ -1,3 +1,4 @@
+//! The replay of a list of steps, up to the first that can't be taken.
 ghost use Rattle.std.specs.Prelude.{◌≡◌, Some, OnOk, IfErr};
 ghost use Rattle.model_state.specs.Steps.{fold, fault_along};
 ghost use Rattle.model_state.specs.Faults.{IsFault};

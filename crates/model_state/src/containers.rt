@@ -1,3 +1,4 @@
+//! The chain of containers of a place, up to the root.
 ghost use Rattle.std.specs.Prelude.{IfOk, List, Some};
 ghost use Rattle.model_state.specs.Keys.{Name};
 ghost use Rattle.model_state.specs.Chains.{IsChain};

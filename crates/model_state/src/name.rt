@@ -1,3 +1,4 @@
+//! The syntax of names of branches, tags and composites.
 ghost use Rattle.std.specs.Prelude.{◌≡◌};
 ghost use Rattle.std.specs.List.{list_all};
 ghost use Rattle.model_state.specs.Names.{is_name, is_name_byte};

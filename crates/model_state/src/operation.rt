@@ -1,3 +1,4 @@
+//! Recorded operations, simple or composite, and the packages that they make up.
 ghost use Rattle.std.specs.Prelude.{◌≡◌, IfOk};
 
 use crate::Step;

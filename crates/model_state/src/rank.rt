@@ -1,3 +1,4 @@
+//! The ranks by which lists are ordered: a rank between two neighbours, or after the last.
 ghost use Rattle.std.specs.Prelude.{◌≡◌, ◌≤◌, IfSome};
 ghost use Rattle.model_state.specs.Ranks.{rank_between};
 

@@ -1,3 +1,4 @@
+//! The steps of a model: each kind with its fields, the places in which elements stand, and the faults of a step.
 ghost use Rattle.std.specs.Prelude.{◌≡◌, IfOk};
 ghost use Rattle.std.specs.Option.{option_copied};
 ghost use Rattle.model_state.specs.Chains.{parent_of};

@@ -1,3 +1,4 @@
+//! The typing rules: which features and values a metamodel lets an element have, and the bounds of its lists.
 ghost use Rattle.std.specs.Prelude.{◌≡◌, Some};
 ghost use Rattle.model_state.specs.Typing.{is_concrete, contains_to, kind_of, upper_of, child_upper, row_upper, plain_to, opposite_of, is_plain, fits, in_width, is_attr, attr_fits, is_many, is_unique, many_fits, is_default, value_eq};
 ghost use Rattle.model_state.specs.Steps.{class_has, may_link};

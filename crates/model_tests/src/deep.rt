@@ -1,5 +1,5 @@
-// Deep models and wide ones, of which each element but the first stands in the one before it, or refers to the first. `%` stands for the number of an element, and `^`
-// for that of the one before it.
+//! Deep models and wide ones: each element but the first stands in the one before it, or refers to the first. `%` stands for the number of an element, and `^`
+//! for that of the one before it.
 use crate::answers::{Calls, check};
 use std::alloc::Global;
 use std::process::Abort;

@@ -1,4 +1,4 @@
-// Ids and ranks at their limits, and copies.
+//! Ids and ranks at their limits, and copies.
 use crate::answers::{Calls, check};
 use crate::lines::{operation_line, words as line_of};
 use crate::reading::{Words, operation, words_of};

@@ -1,4 +1,4 @@
-// Steps and operations as the words that `reading` takes.
+//! Steps and operations as the words that `reading` takes.
 use ecore_meta::{List, Text};
 use model_state::{Id, Operation, Step};
 use std::alloc::Global;

@@ -1,29 +1,29 @@
-// The metamodels of the tests, and the numbers of their classes and features, by which steps name them.
-//
-// boxes: class 0 is Box, with features 0 to 8: 0 label, 1 size, 2 tags, two at most, 3 sizes, which may repeat, 4 inner, two at most, 5 next, 6 back,
-// 7 pair, two at most, 8 friends. Class 1 is Lid, of another type; 2 is Thing, which is abstract.
-//
-// parts: class 0 is Part, with features 0 to 12: 0 name, 1 size, 2 tags, 3 one, 4 few, two at most, 5 many, 6 next, 7 back, 8 likes, 9 liked, 10 sees,
-// 11 main, 12 owner, the opposite of few. Class 1 is Other, which no feature takes; 2 is a Part too.
-//
-// nested: class 0 is Part, with one feature, 0 inner, which contains parts.
-//
-// sides: a reference for each bound and each bound of its opposite, 1, 2 and none, and no opposite: 0 one_one and 1 back, 2 one_few and 3 back,
-// 4 one_many and 5 back, 6 few_few and 7 back, 8 few_many and 9 back, 10 many_many and 11 back, 12 one_alone, 13 few_alone, 14 many_alone.
-// Class 0 is Part, which has them; 1 is Other, which no reference takes.
-//
-// library: classes 0 Library, 1 Book, 2 Writer, 3 Shelf. Features: 0 Library.books, 1 title, 2 pages, 3 tags, 4 authors, 5 sequel, 6 prequel, 7 library,
-// 8 Writer.name, 9 Writer.books, 10 pair, 11 Shelf.name, 12 parts, 13 top, which is one.
-//
-// stacks: class 0 is Thing, which is abstract; 1 is Box, below it. Features: 0 Thing.label, 1 open, true by default, 2 color, red by default, 3 marks,
-// which may repeat, 4 words, two at most, 5 cache, which is derived, 6 base, one Box, whose opposite is 7 tops, two at most.
-//
-// houses: a key in front of `_id` and one behind every letter, an inherited feature, each type of values, enums whose literals' texts aren't their names,
-// a containment of one, of up to two and of any number, and features that are skipped. Class 0 is Thing, which is abstract; 1 is House. Features:
-// 0 Thing.z_last, 1 Thing.$first, 2 roof, 3 doors, 4 rooms, 5 colour, 6 colours, 7 A, 8 built, 9 level, 10 sizes, 11 seen, 12 next, 13 near, 14 far.
-//
-// needs: a feature of each kind with a lower bound, in a class and in one below it. Classes 0 Need, 1 More. Features: 0 text, 1 flag, 2 words, 3 one,
-// 4 many, 5 back, 6 parts, 7 whole, 8 others, 9 unseen, 10 More.few.
+//! The metamodels of the tests, and the numbers of their classes and features, by which steps name them.
+//!
+//! boxes: class 0 is Box, with features 0 to 8: 0 label, 1 size, 2 tags, two at most, 3 sizes, which may repeat, 4 inner, two at most, 5 next, 6 back,
+//! 7 pair, two at most, 8 friends. Class 1 is Lid, of another type; 2 is Thing, which is abstract.
+//!
+//! parts: class 0 is Part, with features 0 to 12: 0 name, 1 size, 2 tags, 3 one, 4 few, two at most, 5 many, 6 next, 7 back, 8 likes, 9 liked, 10 sees,
+//! 11 main, 12 owner, the opposite of few. Class 1 is Other, which no feature takes; 2 is a Part too.
+//!
+//! nested: class 0 is Part, with one feature, 0 inner, which contains parts.
+//!
+//! sides: a reference for each bound and each bound of its opposite, 1, 2 and none, and no opposite: 0 one_one and 1 back, 2 one_few and 3 back,
+//! 4 one_many and 5 back, 6 few_few and 7 back, 8 few_many and 9 back, 10 many_many and 11 back, 12 one_alone, 13 few_alone, 14 many_alone.
+//! Class 0 is Part, which has them; 1 is Other, which no reference takes.
+//!
+//! library: classes 0 Library, 1 Book, 2 Writer, 3 Shelf. Features: 0 Library.books, 1 title, 2 pages, 3 tags, 4 authors, 5 sequel, 6 prequel, 7 library,
+//! 8 Writer.name, 9 Writer.books, 10 pair, 11 Shelf.name, 12 parts, 13 top, which is one.
+//!
+//! stacks: class 0 is Thing, which is abstract; 1 is Box, below it. Features: 0 Thing.label, 1 open, true by default, 2 color, red by default, 3 marks,
+//! which may repeat, 4 words, two at most, 5 cache, which is derived, 6 base, one Box, whose opposite is 7 tops, two at most.
+//!
+//! houses: a key before `_id` and one after every letter, an inherited feature, each type of values, enums whose literals' texts aren't their names,
+//! a containment of one, of up to two and of any number, and features that are skipped. Class 0 is Thing, which is abstract; 1 is House. Features:
+//! 0 Thing.z_last, 1 Thing.$first, 2 roof, 3 doors, 4 rooms, 5 colour, 6 colours, 7 A, 8 built, 9 level, 10 sizes, 11 seen, 12 next, 13 near, 14 far.
+//!
+//! needs: a feature of each kind with a lower bound, in a class and in one below it. Classes 0 Need, 1 More. Features: 0 text, 1 flag, 2 words, 3 one,
+//! 4 many, 5 back, 6 parts, 7 whole, 8 others, 9 unseen, 10 More.few.
 ghost use Rattle.std.specs.Prelude.{IfOk};
 ghost use Rattle.ecore_meta.specs.Sound.{Sound};
 

@@ -1,6 +1,6 @@
-// Creations, the spots at which elements come to stand, moves, and deletions with the subtrees that go. Part a at the root has b and c, b has d; part e and o, which is
-// no part, stand at the root. 4294967296 is 2^32, the rank of the first element of a place and the distance at which a place is ranked anew; 18446744073709551615 is the
-// last rank. A place too long to be ranked anew has 2^32 - 1 elements, which no test makes.
+//! Creations, the ranks that elements get at an index, moves, and deletions of subtrees. Part a at the root has b and c, b has d; part e and o, which is
+//! no part, stand at the root. 4294967296 is 2^32, the rank of the first element of a place and the distance at which a place is renumbered; 18446744073709551615 is the
+//! last rank. A place too long to be renumbered has 2^32 - 1 elements, which no test makes.
 ghost use Rattle.model_state.specs.Good.{Good};
 ghost use Rattle.step_apply.specs.View.{plain_state};
 

@@ -1,7 +1,7 @@
-// Steps as words: the kind of a step and its fields in their order, each behind one blank. A class and a feature are their numbers; a place is `/`, or `a.4` inside
-// the element a, in its feature 4; a value is `"Emma"` as in JSON, `-5`, `true`, or `#1`, the literal of that number; containers have commas between them. `-` is no
-// value, no rank, or no containers. Only a value at the end may have blanks. Steps have `; ` between them; an operation is its kind, `: ` and its steps, and the kind
-// of a composite is `Composite` and its name.
+//! Steps as words: the kind of a step and its fields in their order, each after one blank. A class and a feature are their numbers; a place is `/`, or `a.4` inside
+//! the element a, in its feature 4; a value is `"Emma"` as in JSON, `-5`, `true`, or `#1`, the literal of that number; containers have commas between them. `-` is no
+//! value, no rank, or no containers. Only a value at the end may have blanks. Steps have `; ` between them; an operation is its kind, `: ` and its steps, and the kind
+//! of a composite is `Composite` and its name.
 use ecore_meta::{List, Text, Value};
 use model_state::{Id, OpKind, Operation, Place, Step};
 use serde_json::Value as Json;

@@ -1,9 +1,9 @@
-// Edits, and what is recorded of each: each refusal of each edit where it is the first, with one that comes later beside it, and then the operation, with the new id
-// behind it, of an element that is created. The ranks are multiples of 4294967296, which is 2^32; 18446744073709551615 is the last rank. A list of 2^32 - 1 values, which
-// takes no more, is made by no test, nor is a place of as many elements, which is not ranked anew.
-//
-// In the library authors are two books and two writers, of which the book b has both and the book c the second; where there are sequels, that of a is x, that of c is b.
-// In the stacks two boxes stand on b, and c on d.
+//! Edits, and what is recorded of each: each refusal of each edit where it is the first, with a later one beside it. Then the operation that is recorded,
+//! and after it the new id where an element is created. The ranks are multiples of 4294967296, which is 2^32; 18446744073709551615 is the last rank. A list of 2^32 - 1 values, which
+//! takes no more, is made by no test, nor is a place of as many elements, which is not renumbered.
+//!
+//! In the library authors are two books and two writers, of which the book b has both and the book c the second; where there are sequels, that of a is x, that of c is b.
+//! In the stacks two boxes stand on b, and c on d.
 ghost use Rattle.std.specs.Prelude.{OnOk};
 ghost use Rattle.ecore_meta.specs.Sound.{Sound};
 ghost use Rattle.model_state.specs.Good.{Good};

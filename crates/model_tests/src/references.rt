@@ -1,7 +1,7 @@
-// The steps of each call, for each bound of the reference with each bound of its opposite. 4294967296 is 2^32, the rank
-// of the first entry of a list and the distance at which a list is ranked anew; 18446744073709551615 is the last rank.
-// A list too long to be ranked anew has 2^32 - 1 entries, which no test makes. Four parts and another element, which no
-// reference takes, stand at the root.
+//! The steps of each call, for each bound of the reference with each bound of its opposite. 4294967296 is 2^32, the rank
+//! of the first entry of a list and the distance at which a list is renumbered; 18446744073709551615 is the last rank.
+//! A list too long to be renumbered has 2^32 - 1 entries, which no test makes. Four parts and another element, which no
+//! reference takes, stand at the root.
 ghost use Rattle.std.specs.Prelude.{◌≡◌, true, is_some};
 ghost use Rattle.std.specs.FinMap.{get};
 ghost use Rattle.ecore_meta.specs.Sound.{Sound};

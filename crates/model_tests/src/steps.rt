@@ -1,4 +1,4 @@
-// Each test of each kind of step where it is the first to fail, and where a later one fails beside it. Three boxes and a lid stand at the root.
+//! Each test of each kind of step, where it is the first to fail and where a later one fails beside it. Three boxes and a lid stand at the root.
 ghost use Rattle.model_state.specs.Good.{Good};
 ghost use Rattle.step_apply.specs.View.{plain_state};
 

@@ -1,3 +1,4 @@
+//! The upper bounds of plain references.
 ghost use Rattle.std.specs.Prelude.{◌≡◌};
 ghost use Rattle.finite_maps.specs.Maps.{is_below};
 ghost use Rattle.model_state.specs.Typing.{row_upper};

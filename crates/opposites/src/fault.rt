@@ -1,3 +1,4 @@
+//! The refusals of an edit of a plain reference: an upper bound, a duplicate, a missing entry, a wrong type.
 ghost use Rattle.std.specs.Prelude.{◌≡◌};
 ghost use Rattle.opposites.specs.Refusals.{edit_fault};
 ghost use Rattle.opposites.specs.declared.fault.LinkFault.TheVariants.{Memory};

@@ -1,3 +1,4 @@
+//! The law of the calls: the steps that they make can be taken, and lead to what the edit is to leave.
 ghost use Rattle.edit_laws.specs.Laws.{UnsetMeets};
 ghost use Rattle.opposites.specs.Laws.{SetRefLeads, LinkLeads, UnlinkLeads, ReorderLeads};
 

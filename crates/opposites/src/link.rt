@@ -1,3 +1,4 @@
+//! The insertion of a target into a list of references, with its opposite.
 ghost use Rattle.std.specs.Prelude.{◌≡◌, ◌<◌, true, false, ◌++◌, ◌∷◌, [], IfOk, OnOk, IfErr, None, is_some, not, length, unwrap_or};
 ghost use Rattle.std.specs.FinMap.{get};
 ghost use Rattle.finite_maps.specs.Maps.{is_below};

@@ -1,3 +1,4 @@
+//! The rank of a reference and that of its opposite, looked up in a model.
 ghost use Rattle.std.specs.Prelude.{◌≡◌, IfOk, Some};
 ghost use Rattle.std.specs.FinMap.{get};
 ghost use Rattle.edit_laws.specs.Rows.{mirror_rank};

@@ -1,3 +1,4 @@
+//! The rank for a new entry of a list at an index, with the renumbering of the list where no rank is free.
 ghost use Rattle.std.specs.Prelude.{◌≡◌, ◌≤◌, ◌<◌, ◌*◌, ◌++◌, OnOk, IfSome, length, slice_get, is_some, not, unwrap_or, cond, nat_eq, nat_lt, ◌-◌, ◌+◌, Some, None, true};
 ghost use Rattle.std.specs.Option.{option_map};
 ghost use Rattle.model_state.specs.Ranks.{rank_between};

@@ -1,3 +1,4 @@
+//! The move of a target within its list of references, by its rank.
 ghost use Rattle.std.specs.Prelude.{◌≡◌, ◌<◌, true, ◌++◌, ◌∷◌, [], IfOk, OnOk, IfErr, None, is_some, not, length};
 ghost use Rattle.std.specs.FinMap.{get};
 ghost use Rattle.model_state.specs.Good.{Good, Sound};

@@ -1,3 +1,4 @@
+//! The assignment of a reference of upper bound 1, which displaces its old target.
 ghost use Rattle.std.specs.Prelude.{◌≡◌, ◌<◌, true, ◌++◌, ◌∷◌, [], IfOk, OnOk, IfErr, None, is_some, not, length};
 ghost use Rattle.std.specs.FinMap.{get};
 ghost use Rattle.model_state.specs.Good.{Good, Sound};

@@ -1,3 +1,4 @@
+//! The side of the opposite: the entry that a link displaces there, and the rank that it gets.
 ghost use Rattle.std.specs.Prelude.{◌≡◌, ◌<◌, true, ◌++◌, IfOk, OnOk, IfErr, Some, is_some, not, length, ◌&&◌};
 ghost use Rattle.edit_laws.specs.Spot.{rank_for, ranks_of};
 ghost use Rattle.edit_laws.specs.References.{others_there, rank_there, room_there, displace};

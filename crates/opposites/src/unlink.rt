@@ -1,3 +1,4 @@
+//! The removal of a reference with its opposite.
 ghost use Rattle.std.specs.Prelude.{◌≡◌, ◌∷◌, [], ◌++◌, IfOk, OnOk, IfErr, None};
 ghost use Rattle.model_state.specs.Typing.{opposite_of};
 ghost use Rattle.model_state.specs.Good.{Good, Sound};

@@ -1,3 +1,4 @@
+//! The removal of all targets of a reference, with their opposites.
 ghost use Rattle.std.specs.Prelude.{◌≡◌, IfOk};
 ghost use Rattle.edit_laws.specs.Rows.{unlinks};
 ghost use Rattle.edit_laws.specs.References.{backwards, unset_made};

@@ -1,3 +1,4 @@
+//! The recording of `set`, and of `unset` of single attributes; a default is held as no value.
 ghost use Rattle.std.specs.Prelude.{◌≡◌, IfOk, None, true};
 ghost use Rattle.std.specs.FinMap.{get};
 ghost use Rattle.finite_maps.specs.Equal.{option_eq};

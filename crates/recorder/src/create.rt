@@ -1,3 +1,4 @@
+//! The recording of `create`: its class and place are looked up, and its id is tested or made.
 ghost use Rattle.std.specs.Prelude.{◌≡◌, Some};
 ghost use Rattle.ecore_meta.specs.Meta.{class_named};
 ghost use Rattle.model_state.specs.Good.{Good};

@@ -1,3 +1,4 @@
+//! The lookup of the words of an edit: its element, its feature, its value.
 ghost use Rattle.std.specs.Prelude.{◌≡◌, ◌⊎◌, IfErr, IfOk, OnOk, is_some, true, false};
 ghost use Rattle.std.specs.FinMap.{get};
 ghost use Rattle.model_state.specs.Good.{Good};

@@ -1,3 +1,4 @@
+//! The first id of a workspace that no live element has.
 ghost use Rattle.std.specs.Prelude.{◌≡◌, IfOk, OnOk, true};
 ghost use Rattle.model_state.specs.Ident.{is_id};
 ghost use Rattle.edits.specs.FreshIds.{fresh_id};

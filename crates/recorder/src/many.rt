@@ -1,3 +1,4 @@
+//! The recording of `add`, `remove`, `shift` and `unset` of many-valued attributes.
 ghost use Rattle.std.specs.Prelude.{◌≡◌, ◌≤◌, ◌<◌, ◌∷◌, IfOk, [], None, Some, length, true, unwrap_or};
 ghost use Rattle.std.specs.List.{list_all, list_any};
 ghost use Rattle.finite_maps.specs.Equal.{list_eq};

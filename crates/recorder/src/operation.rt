@@ -1,3 +1,4 @@
+//! The simple operation of a list of steps.
 ghost use Rattle.std.specs.Prelude.{◌≡◌};
 ghost use Rattle.edits.specs.Edits.{operation_of};
 

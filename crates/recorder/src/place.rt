@@ -1,3 +1,4 @@
+//! The recording of `move` and `delete`, and the lookup of the place at which an element is to stand.
 ghost use Rattle.std.specs.Prelude.{◌≡◌, IfOk, IfErr, OnOk, None, true};
 ghost use Rattle.model_state.specs.Good.{Good};
 ghost use Rattle.model_state.specs.State.{is_live};

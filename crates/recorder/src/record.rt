@@ -1,3 +1,4 @@
+//! The recording of any edit: the call of the crate, which finds the recording of its kind.
 ghost use Rattle.std.specs.Prelude.{IfOk};
 ghost use Rattle.model_state.specs.Good.{Good};
 ghost use Rattle.model_state.specs.Typing.{kind_of};

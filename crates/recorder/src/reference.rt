@@ -1,3 +1,4 @@
+//! The recording of `set`, `unset`, `link`, `unlink` and `reorder` of plain references.
 ghost use Rattle.std.specs.Prelude.{◌≡◌, ◌⊎◌, IfOk, IfErr, OnOk, None, true, false};
 ghost use Rattle.std.specs.FinMap.{get};
 ghost use Rattle.ecore_meta.specs.declared.meta.Scalar.TheVariants as types;

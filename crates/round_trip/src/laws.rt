@@ -1,3 +1,4 @@
+//! The laws of the round trip from a model to its text and back, by the parts that make it up.
 ghost use Rattle.round_trip.specs.Laws.{MetamodelsAreNamed, TellingsAreShown, TextsAreTold, TextsComeBack, TextsReadBack};
 
 use emfjson_io::law_of_values;

@@ -1,3 +1,4 @@
+//! The attribute values of a model: the map of those that are set.
 ghost use Rattle.std.specs.Prelude.{◌≡◌, Some, None, OnOk, OnErr, [], unwrap_or, nat_eq};
 ghost use Rattle.finite_maps.specs.Equal.{text_eq};
 ghost use Rattle.std.specs.FinMap.{get, empty};

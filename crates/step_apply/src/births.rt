@@ -1,3 +1,4 @@
+//! The application of New and Gone, by which an element is created and deleted.
 ghost use Rattle.std.specs.Prelude.{◌≡◌, OnOk, OnErr, IfErr, Some, None, nat_eq};
 ghost use Rattle.std.specs.FinMap.{get};
 ghost use Rattle.finite_maps.specs.Maps.{set};

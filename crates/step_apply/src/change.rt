@@ -1,3 +1,4 @@
+//! The implementation of the trait `Change`, which finds the application of each kind of step.
 use crate::Plain;
 use ecore_meta::Metamodel;
 use model_state::{Change, Step, StepFault};

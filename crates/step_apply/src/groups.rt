@@ -1,3 +1,4 @@
+//! The index of lists: the entries of each place, and of each feature of an element, with their ranks.
 ghost use Rattle.std.specs.Prelude.{ℕ, ◌≡◌, None, Some, OnOk, OnErr, IfOk, map, length, true, false, is_some, nat_eq};
 ghost use Rattle.std.specs.List.{list_all};
 ghost use Rattle.std.specs.Ordering.{nat_cmp};

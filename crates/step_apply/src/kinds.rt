@@ -1,3 +1,4 @@
+//! The classes of a model's elements: the map of those that are live.
 ghost use Rattle.std.specs.Prelude.{◌≡◌, Some, None, OnOk, OnErr, IfOk};
 ghost use Rattle.std.specs.BTreeMap as ordered_map;
 ghost use Rattle.std.specs.BTreeMap.{IsOrdered};

@@ -1,3 +1,4 @@
+//! The application of Link, Unlink and RerankRow, by which a reference and its opposite change together.
 ghost use Rattle.std.specs.Prelude.{◌≡◌, OnOk, OnErr, IfErr, Some, None, true, IfOk, nat_eq};
 ghost use Rattle.finite_maps.specs.Equal.{option_eq};
 ghost use Rattle.std.specs.FinMap.{get};

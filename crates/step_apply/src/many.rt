@@ -1,3 +1,4 @@
+//! The application of Ins, Del and Shift to the list of a many-valued attribute.
 ghost use Rattle.std.specs.Prelude.{◌≡◌, ◌≤◌, ◌<◌, OnOk, OnErr, IfOk, IfErr, Some, length, slice_get};
 ghost use Rattle.std.specs.List.{list_any, insert, remove};
 ghost use Rattle.finite_maps.specs.Maps.{set};

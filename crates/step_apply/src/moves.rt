@@ -1,3 +1,4 @@
+//! The application of Move and RerankPlace, with the test of the recorded containers.
 ghost use Rattle.std.specs.Prelude.{◌≡◌, OnOk, OnErr, IfErr, Some};
 ghost use Rattle.std.specs.List.{list_any};
 ghost use Rattle.finite_maps.specs.Maps.{set};

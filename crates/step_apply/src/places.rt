@@ -1,3 +1,4 @@
+//! The places of a model's elements with their ranks, and the index of the elements of each place.
 ghost use Rattle.std.specs.Prelude.{◌≡◌, Some, None, OnOk, OnErr, IfOk, is_some, true, false};
 ghost use Rattle.model_state.specs.Listing.{children};
 ghost use Rattle.model_state.specs.declared.step.Place.{Place as Spot};

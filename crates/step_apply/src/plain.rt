@@ -1,3 +1,4 @@
+//! The model over four ordered maps, and its implementation of the trait `Look`.
 ghost use Rattle.std.specs.Prelude.{◌≡◌, Some, nat_eq};
 ghost use Rattle.std.specs.FinMap.{get};
 ghost use Rattle.finite_maps.specs.Equal.{option_eq};

@@ -1,3 +1,4 @@
+//! The references of a model with their ranks, indexed by source, by feature and by target.
 ghost use Rattle.std.specs.Prelude.{is_some, true, false, ◌≡◌, Some, None, OnOk, OnErr, IfOk, map, count_by, ◌||◌, ◌&&◌, nat_eq};
 ghost use Rattle.std.specs.BTreeMap as ordered_map;
 ghost use Rattle.std.specs.List.{filter};

@@ -1,3 +1,4 @@
+//! The application of Put to a single attribute.
 ghost use Rattle.std.specs.Prelude.{◌≡◌, OnOk, OnErr, IfErr, [], unwrap_or};
 ghost use Rattle.std.specs.FinMap.{get};
 ghost use Rattle.finite_maps.specs.Maps.{set};

@@ -1,4 +1,4 @@
-// How documents of metamodels are read, and how values are shown.
+//! Helpers of these tests: metamodels read from documents, and values shown as texts.
 use ecore_json::read_metamodel;
 use ecore_meta::Metamodel;
 use std::alloc::Global;

@@ -1,4 +1,4 @@
-// Texts of models, and what they say. The faults and their order are those that the format is written down with for its users.
+//! Texts of models, with the document that each says or its first fault, by the format's rules.
 use crate::metamodels::{cut, metamodel, plain, replaced};
 use ecore_meta::Metamodel;
 use emfjson_model::{ModelFault, read_model};

@@ -1,4 +1,4 @@
-// Sessions with composites, and what their models lack.
+//! Sessions with composites, and features below their lower bounds.
 
 // A metamodel with the class Note, which has a title, stars (3 where none is set), two tags at least, and one note that it is about.
 pub(crate) const LACKING: &str =

@@ -1,4 +1,4 @@
-// A session over the library in which a list has no rank left in front: the last link ranks it anew.
+//! A session over the library in which a list has no rank left before its first entry: the last link renumbers it.
 pub(crate) const SESSIONS: &str = r##"> create 1 Writer / w
 ok w
 > create 1 Book / b0

@@ -1,4 +1,4 @@
-// Sessions that bring models in.
+//! Sessions that bring models in.
 
 pub(crate) const SESSIONS: &str = r##"> # models are brought in or refused
 > import 1

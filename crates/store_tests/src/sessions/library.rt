@@ -1,4 +1,4 @@
-// Sessions over a library.
+//! Sessions over a library.
 
 // A library has books; a book has a title, pages, tags, authors, a sequel and a prequel, which are opposites; a writer has a name, books, the opposite of
 // authors, and a pair of two writers at most; a shelf has a name and parts.

@@ -1,4 +1,4 @@
-// Sessions that edit references.
+//! Sessions that edit references.
 
 // A metamodel with Books and Writers: a book has one sequel at most and one prequel at most, which are opposites, and writers; a writer
 // has books, the opposite of writers, and two friends at most, without an opposite.

@@ -1,4 +1,4 @@
-// The bytes of a store, what a stop behind a call leaves of it, and files that are no store.
+//! The bytes of a store, what a crash after a call leaves of it, and files that are no store.
 use crate::sessions::{METAMODEL, are_bytes, beginning, over, ran, serve};
 use emf_top::Status;
 use host_port::{FuseHost, MemoryHost};

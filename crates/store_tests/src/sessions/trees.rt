@@ -1,4 +1,4 @@
-// Sessions whose elements contain others.
+//! Sessions whose elements contain others.
 
 // A metamodel of houses: a house has rooms, one roof and two sheds at most; a room has a name, rooms inside, doors to rooms and entries from them, which are
 // opposites, and a window to one room. Place is abstract.

@@ -1,4 +1,4 @@
-// Sessions that edit attributes.
+//! Sessions that edit attributes.
 
 // A metamodel with the class Note, which has a title, a number of stars (3 where none is set) and tags, each at most once.
 pub(crate) const NOTES: &str =
