@@ -1,0 +1,9 @@
+-- A step leaves what it does not write, and so does a run of steps.
+use Rattle.footprint.proofs.Alike.{step_leaves_others, operation_leaves_others}
+use Rattle.footprint.proofs.laws.law_of_writes.Goals as goal
+
+pub returns-clause-step : goal.returns-clause-step
+returns-clause-step c = step_leaves_others
+
+pub returns-clause-operation : goal.returns-clause-operation
+returns-clause-operation c = operation_leaves_others
