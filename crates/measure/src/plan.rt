@@ -11,6 +11,8 @@ pub enum Task {
     Metamodel { classes: u32, features: u32 },
     /// A package of so many steps.
     Forms { steps: u32 },
+    /// The cells of so many operations.
+    Prints { operations: u32 },
 }
 
 /// What the words ask for, in their order, and whether times are printed.
@@ -44,6 +46,11 @@ pub(crate) fn read_plan(alloc: Global, words: &[String]) -> Result<Plan, Measure
             ("forms", [steps, more @ ..]) => {
                 let steps = number(steps)?;
                 tasks.push(Task::Forms { steps })?;
+                rest = more;
+            }
+            ("prints", [operations, more @ ..]) => {
+                let operations = number(operations)?;
+                tasks.push(Task::Prints { operations })?;
                 rest = more;
             }
             _ => return Err(MeasureFault::Usage),
