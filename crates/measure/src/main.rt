@@ -1,20 +1,25 @@
-//! Measures calls of the libraries on inputs that it makes: a metamodel built of its rows, a package spelled and read again, and a history of
-//! many versions.
+//! Measures calls of the libraries on inputs that it makes: a metamodel built of its rows, a package spelled and read again, a history of
+//! many versions, and the cells of operations.
 #![tactic(auto)]
 
 mod fault;
 mod forms;
 mod histories;
+mod packages;
 mod plan;
+mod prints;
 mod rows;
 
 use anyhow::Result;
 use ecore_meta::build;
 use fault::MeasureFault;
+use footprint::prints_of;
 use forms::{package_of, read_again};
 use histories::{CALLS, history_of, make};
 use op_form::encode;
+use packages::{metamodel, settings};
 use plan::{Task, read_plan};
+use prints::count_interfering;
 use rows::rows_of;
 use std::env;
 use std::time::{Duration, Instant};
@@ -89,6 +94,29 @@ fn measure_history(
     Ok(())
 }
 
+/// How many operations, at most, are each tested with each.
+const TESTED: usize = 1000;
+
+fn measure_prints(rt: &HostRuntime, is_timed: bool, operations: u32) -> Result<()> {
+    let alloc = rt.alloc();
+    let meta = metamodel(alloc)?;
+    let package = settings(alloc, operations)?;
+    let start = Instant::now(rt)?;
+    let prints = prints_of(alloc, package.as_slice(), &meta)?;
+    let printing = start.elapsed(rt)?;
+    let tested = &prints[..prints.len().min(TESTED)];
+    let start = Instant::now(rt)?;
+    let found = count_interfering(tested);
+    let testing = start.elapsed(rt)?;
+    println!(rt;
+        "prints {operations}: {} prints, of {} each with each {found} pairs interfere",
+        prints.len(),
+        tested.len()
+    )?;
+    print_time(rt, is_timed, "print", printing)?;
+    print_time(rt, is_timed, "test", testing)
+}
+
 fn main(rt: HostRuntime) -> Result<()> {
     let alloc = rt.alloc();
     let words: Vec<String> = env::args(&rt)?.skip(1).collect(alloc)?;
@@ -107,6 +135,7 @@ fn main(rt: HostRuntime) -> Result<()> {
                 branches,
                 tags,
             } => measure_history(&rt, plan.is_timed, versions, branches, tags)?,
+            Task::Prints { operations } => measure_prints(&rt, plan.is_timed, operations)?,
         }
     }
     Ok(())

@@ -22,6 +22,10 @@ pub enum Task {
         branches: u32,
         tags: u32,
     },
+    /// The cells of so many operations.
+    Prints {
+        operations: u32,
+    },
 }
 
 /// What the words ask for, in their order, and whether times are printed.
@@ -66,6 +70,11 @@ pub(crate) fn read_plan(alloc: Global, words: &[String]) -> Result<Plan, Measure
                     branches,
                     tags,
                 })?;
+                rest = more;
+            }
+            ("prints", [operations, more @ ..]) => {
+                let operations = number(operations)?;
+                tasks.push(Task::Prints { operations })?;
                 rest = more;
             }
             _ => return Err(MeasureFault::Usage),

@@ -20,7 +20,7 @@ use Rattle.model_laws.proofs.Runs.{steps_keep_good}
 use Rattle.model_laws.proofs.StepNeeds.{goes_by_needs, further}
 use Rattle.model_laws.proofs.StepTouches.{leaves_others}
 
-in_either : (xs ys : List Cell) (c : Cell) {G : Type 0} → has (xs ++ ys) c ≡ true → (has xs c ≡ true → G) → (has ys c ≡ true → G) → G
+pub in_either : (xs ys : List Cell) (c : Cell) {G : Type 0} → has (xs ++ ys) c ≡ true → (has xs c ≡ true → G) → (has ys c ≡ true → G) → G
 in_either xs ys c h = or_cases (has xs c) (has ys c) (sym (has_append xs ys c) ∙ h)
 
 -- a real cell that a run needs is written or read, and one that it touches is written
@@ -103,7 +103,7 @@ first_of_one : (t : Bool) → t || false ≡ true → t ≡ true
 first_of_one true h = refl
 first_of_one false h = h
 
-writes_kind : (meta : Meta) (s : Step) (e : Name) → has (map About (kinds_written s)) (About e) ≡ true → has (step_writes meta s) (OfKind e) ≡ true
+pub writes_kind : (meta : Meta) (s : Step) (e : Name) → has (map About (kinds_written s)) (About e) ≡ true → has (step_writes meta s) (OfKind e) ≡ true
 writes_kind meta (New x class place rank) e h = ap (λ t. t || has (place_list meta place) (OfKind e)) (first_of_one (text_eq e x) h)
 writes_kind meta (Gone x class place rank) e h = ap (λ t. t || has (place_list meta place) (OfKind e)) (first_of_one (text_eq e x) h)
 writes_kind meta s e h = cc
@@ -133,7 +133,7 @@ about_touch meta (s ∷ ss) e h w k =
     (λ wrote. w (has_second (step_writes meta s) (writes_all meta ss) (OfKind e) wrote))
     (λ read. k (has_second (step_reads s) (reads_all ss) (OfKind e) read)))
 
-turned : (meta : Meta) (ps qs : List Step) → KeepApart meta ps qs → KeepApart meta qs ps
+pub turned : (meta : Meta) (ps qs : List Step) → KeepApart meta ps qs → KeepApart meta qs ps
 turned meta ps qs k = record {
   written = λ c h. not_so (has (writes_all meta ps) c) (λ w. true_false _ h (k.written c w));
   first_read = k.second_read;
@@ -145,7 +145,7 @@ real_out meta ps qs k c r h = not_so (has (touches_all meta ps) c) (λ t.
     let wrote = real_touch meta ps c r t in
     real_need meta qs c r h (λ w. true_false _ w (k.written c wrote)) (λ read. true_false _ read (k.second_read c wrote)))
 
-out : (meta : Meta) (ps qs : List Step) → KeepApart meta ps qs → (c : Cell) → has (needs_all meta qs) c ≡ true → has (touches_all meta ps) c ≡ false
+pub out : (meta : Meta) (ps qs : List Step) → KeepApart meta ps qs → (c : Cell) → has (needs_all meta qs) c ≡ true → has (touches_all meta ps) c ≡ false
 out meta ps qs k (About e) h = not_so (has (touches_all meta ps) (About e)) (λ t.
     let wrote = about_need meta qs e h in
     about_touch meta ps e t (λ w. true_false _ wrote (k.written (OfKind e) w)) (λ read. true_false _ read (k.first_read (OfKind e) wrote)))

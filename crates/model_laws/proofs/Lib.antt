@@ -12,3 +12,4 @@ pub mod Exchange
 pub mod StepNeeds
 pub mod StepTouches
 pub mod Apart
+pub mod Packages

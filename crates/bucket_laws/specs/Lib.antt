@@ -1,0 +1,4 @@
+pub mod Parts
+pub mod Classes
+pub mod Laws
+pub mod Order

@@ -1,0 +1,42 @@
+//! The numbers of cells, by which tables list them: equal cells have equal numbers.
+ghost use Rattle.std.specs.Prelude.{ℕ, ◌≡◌, ◌<◌, ◌%◌};
+ghost use Rattle.footprint.specs.Prints.{seen};
+ghost use Rattle.cell_index.specs.Keys.{text_key, cell_key};
+
+use footprint::Cell;
+use model_state::Id;
+
+/// A number of the id.
+fn id_key(id: &Id) -> u64
+    ensures key { result ≡ text_key 0 id.now }
+    ensures low { result < 1000003 }
+{
+    let mut key = 0;
+    for b in id.as_str().as_bytes() {
+        key = (key * 31 + *b as u64) % 1_000_003;
+    }
+    key
+}
+
+/// A number of the cell.
+fn cell_key(cell: &Cell) -> u64
+    ensures { result ≡ cell_key (seen cell.now) }
+{
+    match cell {
+        Cell::Kind(e) => id_key(e) * 8,
+        Cell::Place(e) => id_key(e) * 8 + 1,
+        Cell::Rank(e) => id_key(e) * 8 + 2,
+        Cell::Attr(e, f) => (id_key(e) + *f as u64 * 613) * 8 + 3,
+        Cell::Row(a, f, b) => (id_key(a) + id_key(b) * 17 + *f as u64 * 613) * 8 + 4,
+        Cell::Whole(a, f) => (id_key(a) + *f as u64 * 613) * 8 + 5,
+    }
+}
+
+/// The slot of the cell in a table of the size.
+pub(crate) fn slot_of(cell: &Cell, size: usize) -> usize
+    requires { 0 < size }
+    ensures slot { result ≡ cell_key (seen cell.now) % size }
+    ensures low { result < size }
+{
+    (cell_key(cell) % size as u64) as usize
+}

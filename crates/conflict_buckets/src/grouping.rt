@@ -1,0 +1,45 @@
+//! The buckets, by the labels of the operations.
+ghost use Rattle.std.specs.Prelude.{◌≡◌, ◌++◌, IfOk, length};
+ghost use Rattle.footprint.specs.Buckets.{rows, buckets};
+
+use crate::labelling::{labels_of, places_of};
+use ecore_meta::{List, Metamodel};
+use footprint::{Bucket, Buckets, prints_of, put_prints};
+use model_state::Package;
+use std::alloc::{AllocError, Global};
+
+/// The components with operations of both sides, by the labels of the two sides.
+fn rows_of(alloc: Global, theirs: &[u64], mine: &[u64]) -> Result<List<Bucket>, AllocError>
+    ensures { IfOk result (λ bs. bs ≡ rows theirs.now mine.now (length theirs.now)) }
+{
+    let mut found = List::new(alloc);
+    for n in 0..theirs.len() {
+        let left = places_of(alloc, n as u64, theirs)?;
+        let right = places_of(alloc, n as u64, mine)?;
+        if left.len() > 0 && right.len() > 0 {
+            found.push(Bucket {
+                theirs: left,
+                mine: right,
+            })?;
+        }
+    }
+    Ok(found)
+}
+
+/// The buckets of two packages: the components of operations that interfere, one with the next, which have operations of both packages,
+/// in the order of their first operations.
+pub fn buckets(
+    alloc: Global,
+    theirs: &Package,
+    mine: &Package,
+    meta: &Metamodel,
+) -> Result<Buckets, AllocError>
+    ensures { IfOk result (λ b. b.rows ≡ buckets meta.now theirs.now mine.now) }
+{
+    let mut prints = prints_of(alloc, theirs.as_slice(), meta)?;
+    put_prints(alloc, &mut prints, mine.as_slice(), meta)?;
+    let found = labels_of(alloc, &prints)?;
+    let (left, right) = found.split_at(theirs.len());
+    let rows = rows_of(alloc, left, right)?;
+    Ok(Buckets { rows })
+}

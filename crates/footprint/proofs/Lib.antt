@@ -1,0 +1,5 @@
+pub mod Pairs
+pub mod Runs
+pub mod Alike
+pub mod Held
+pub mod Printed

@@ -1,0 +1,5 @@
+pub mod Interference
+pub mod Same
+pub mod Laws
+pub mod Buckets
+pub mod Prints

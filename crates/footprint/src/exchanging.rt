@@ -1,0 +1,55 @@
+//! Two operations in the other order.
+ghost use Rattle.std.specs.Prelude.{◌≡◌, ◌∷◌, [], false, OnOk, Some};
+ghost use Rattle.model_state.specs.State.{State};
+ghost use Rattle.model_state.specs.Good.{Good, Sound};
+ghost use Rattle.model_state.specs.Packages.{steps_of, fold_package};
+ghost use Rattle.model_state.specs.Steps.{fold};
+ghost use Rattle.footprint.specs.Interference.{interferes};
+
+use ecore_meta::Metamodel;
+use model_laws::replay;
+use model_state::{Change, Operation, Step};
+use std::alloc::AllocError;
+
+fn steps_of(op: &Operation) -> &[Step]
+    ensures { result.now ≡ steps_of op.now }
+{
+    match op {
+        Operation::Simple { steps, .. } => steps.as_slice(),
+        Operation::Composite { steps, .. } => steps.as_slice(),
+    }
+}
+
+/// Takes the steps, which can be taken.
+fn take<M: Change>(model: &mut M, meta: &Metamodel, steps: &[Step]) -> Result<(), AllocError>
+    requires sound { Sound meta.now }
+    requires good { Good meta.now (M.state model.old) }
+    ensures done { OnOk result (fold meta.now (M.state model.old) steps.now ≡ Some (M.state model.new)) }
+    ensures good { Good meta.now (M.state model.new) }
+{
+    match replay(model, meta, steps) {
+        Ok(()) => Ok(()),
+        Err(_) => Err(AllocError),
+    }
+}
+
+/// Of two operations that don't interfere and can be applied one after the other, applies the second and then the first. The model is
+/// then as that order leaves it, which is as the first and then the second leave it. After an error the model holds some of the steps.
+pub fn exchange<M: Change>(
+    model: &mut M,
+    meta: &Metamodel,
+    first: &Operation,
+    second: &Operation,
+) -> Result<(), AllocError>
+    requires sound { Sound meta.now }
+    requires good { Good meta.now (M.state model.old) }
+    requires apart { interferes meta.now first.now second.now ≡ false }
+    requires possible { (n : State) × (fold_package meta.now (M.state model.old) (first.now ∷ second.now ∷ []) ≡ Some n) }
+    ensures done { OnOk result (fold_package meta.now (M.state model.old) (first.now ∷ second.now ∷ []) ≡ Some (M.state model.new)) }
+    ensures swapped { OnOk result (fold_package meta.now (M.state model.old) (second.now ∷ first.now ∷ []) ≡ Some (M.state model.new)) }
+    ensures good { Good meta.now (M.state model.new) }
+{
+    take(model, meta, steps_of(second))?;
+    take(model, meta, steps_of(first))?;
+    Ok(())
+}

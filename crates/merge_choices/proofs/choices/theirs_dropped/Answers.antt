@@ -1,0 +1,6 @@
+-- no letter is left
+use Rattle.merge_choices.proofs.Drops.{theirs_end}
+use Rattle.merge_choices.proofs.choices.theirs_dropped.Goals as goal
+
+pub returns-then-k-letters : goal.returns-then-k-letters
+returns-then-k-letters c = theirs_end c.args.buckets.now c.args.letters.now c.args.place c.loop-k.k c.if-k-letters.true c.loop-k.invariant

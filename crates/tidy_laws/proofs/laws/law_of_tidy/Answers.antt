@@ -1,0 +1,16 @@
+-- By one rule after another.
+use Rattle.tidy_laws.proofs.Whole.{tidy_follows_rules, tidy_is_normal, tidy_keeps_effect}
+use Rattle.tidy_laws.proofs.Choice.{rules_leave_no_choice}
+use Rattle.tidy_laws.proofs.laws.law_of_tidy.Goals as goal
+
+pub returns-clause-rules : goal.returns-clause-rules
+returns-clause-rules c = tidy_follows_rules
+
+pub returns-clause-normal : goal.returns-clause-normal
+returns-clause-normal c = tidy_is_normal
+
+pub returns-clause-effect : goal.returns-clause-effect
+returns-clause-effect c = tidy_keeps_effect
+
+pub returns-clause-one : goal.returns-clause-one
+returns-clause-one c = rules_leave_no_choice

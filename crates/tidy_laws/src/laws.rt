@@ -1,0 +1,11 @@
+//! The laws of tidying. A law is the contract of a function that does nothing.
+ghost use Rattle.tidy_laws.specs.Laws.{TidyFollowsRules, TidyIsNormal, TidyKeepsEffect, RulesLeaveNoChoice};
+
+/// Tidying cuts simple operations into their steps and then takes its rules in order until none applies; no rule applies to what it leaves,
+/// which does what the package did; and the rules leave no choice.
+pub fn law_of_tidy()
+    ensures rules { TidyFollowsRules }
+    ensures normal { TidyIsNormal }
+    ensures effect { TidyKeepsEffect }
+    ensures one { RulesLeaveNoChoice }
+{}
