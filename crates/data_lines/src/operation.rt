@@ -7,7 +7,7 @@ ghost use Rattle.model_state.specs.Packages.{steps_of};
 use crate::line::Line;
 use crate::step::step_line;
 use ecore_meta::{List, Metamodel, Text};
-use model_state::{OpKind, Operation, Package, Step};
+use model_state::{OpKind, Operation, Step};
 use std::alloc::{AllocError, Global};
 
 /// The lines of a package: for each operation `op N KIND`, with N from 1, and then one line a step. That its steps are of
@@ -15,14 +15,14 @@ use std::alloc::{AllocError, Global};
 #[tactic(auto, unfolding(crate::specs::Lines::operation_lines))]
 pub fn operation_lines(
     alloc: Global,
-    package: &Package,
+    package: &[Operation],
     meta: &Metamodel,
 ) -> Result<List<Text>, AllocError>
     requires typed { IsTypedPackage meta.now «package».now }
     ensures lines { IfOk result (λ lines. lines ≡ operation_lines meta.now «package».now) }
 {
     let mut lines = List::new(alloc);
-    for (n, operation) in package.as_slice().iter().enumerate() {
+    for (n, operation) in package.iter().enumerate() {
         lines.push(operation_line(alloc, n as u64 + 1, operation)?)?;
         push_steps(alloc, &mut lines, steps_of(operation), meta)?;
     }
@@ -35,7 +35,7 @@ pub fn operation_lines(
 pub fn open_lines(
     alloc: Global,
     name: &Text,
-    steps: &List<Step>,
+    steps: &[Step],
     meta: &Metamodel,
 ) -> Result<List<Text>, AllocError>
     requires typed { AreTyped meta.now steps.now }
@@ -43,7 +43,7 @@ pub fn open_lines(
 {
     let mut lines = List::new(alloc);
     lines.push(open_line(alloc, name)?)?;
-    push_steps(alloc, &mut lines, steps.as_slice(), meta)?;
+    push_steps(alloc, &mut lines, steps, meta)?;
     Ok(lines)
 }
 

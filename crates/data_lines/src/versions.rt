@@ -46,7 +46,7 @@ pub fn package_lines(
     requires fits { FitsPackage «package».now }
     ensures lines { IfOk result (λ lines. lines ≡ package_lines meta.now «package».now) }
 {
-    let mut lines = operation_lines(alloc, package, meta)?;
+    let mut lines = operation_lines(alloc, package.as_slice(), meta)?;
     lines.push(hex_line(alloc, package)?)?;
     Ok(lines)
 }

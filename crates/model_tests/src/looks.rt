@@ -144,7 +144,7 @@ fn show(alloc: Global, meta: &Metamodel, text: &str) -> Result<String, Fail> {
     if !is_typed_package(&package, meta) {
         return Err("steps of other types")?;
     }
-    texts(alloc, &operation_lines(alloc, &package, meta)?, ";")
+    texts(alloc, &operation_lines(alloc, package.as_slice(), meta)?, ";")
 }
 
 // The lines of an open composite, of its name, `: ` and its steps.
@@ -156,7 +156,7 @@ fn open(alloc: Global, meta: &Metamodel, text: &str) -> Result<String, Fail> {
     }
     texts(
         alloc,
-        &open_lines(alloc, &Text::new(alloc, name)?, &steps, meta)?,
+        &open_lines(alloc, &Text::new(alloc, name)?, steps.as_slice(), meta)?,
         ";",
     )
 }

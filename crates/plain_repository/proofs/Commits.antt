@@ -103,13 +103,13 @@ module _ (s : State) (meta : Meta) (k : Orderly meta s) (ws : ℕ) (w : Workspac
   first : (nat_eq w.base (head s.history w.branch) && is_closed (Some w)) ≡ true
   first = and_left _ (has_local (Some w)) can
 
-  at_head : w.base ≡ head s.history w.branch
+  pub at_head : w.base ≡ head s.history w.branch
   at_head = eqb-true w.base (head s.history w.branch) (and_left _ (is_closed (Some w)) first)
 
-  closed : is_closed (Some w) ≡ true
+  pub closed : is_closed (Some w) ≡ true
   closed = and_right (nat_eq w.base (head s.history w.branch)) (is_closed (Some w)) first
 
-  order : InOrder meta s.history w
+  pub order : InOrder meta s.history w
   order = at_number (InOrder meta s.history) s ws w there k.workspaces
 
   -- the workspace has the same steps behind it as before
@@ -120,7 +120,7 @@ module _ (s : State) (meta : Meta) (k : Orderly meta s) (ws : ℕ) (w : Workspac
       by : false ≡ true → ⊥
       by e = cc
 
-  commit_model : model_of meta more (committed n w) ≡ model_of meta s.history w
+  pub commit_model : model_of meta more (committed n w) ≡ model_of meta s.history w
   commit_model =
       let after : Runs meta more (committed n w) = (commit_itself meta s k message w order at_head closed w.composite refl).runs in
       let same : Some after.model ≡ Some order.runs.model = sym after.run ∙ ap (λ (l : List Step). fold meta nothing l) (same_steps w.composite refl) ∙ order.runs.run in

@@ -343,7 +343,8 @@ same_meta s meta (Branch k name) could = by (workspace_of s k)
 same_meta s meta (Tag name version) could = refl
 same_meta s meta (Drop k) could = refl
 
-effect_keeps : (s : State) (m : Option Meta) (e : Event) → s.meta ≡ m → IsTrue (playable_with s m e) → IsEvent e → AllOrderly m s → AllOrderly (effect s e).meta (effect s e)
+-- so does one where no metamodel is there yet
+pub effect_keeps : (s : State) (m : Option Meta) (e : Event) → s.meta ≡ m → IsTrue (playable_with s m e) → IsEvent e → AllOrderly m s → AllOrderly (effect s e).meta (effect s e)
 effect_keeps s None (Init text) is could spelled all = init_kept s text (metamodel_of text) refl could all.0
 effect_keeps s None (Checkout version branch) is could spelled all = absurd cc
 effect_keeps s None (Edit k operations) is could spelled all = absurd cc

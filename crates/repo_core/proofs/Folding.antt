@@ -1,7 +1,7 @@
 -- Packages taken one operation after another, and versions one after another.
 use Rattle.std.proofs.Math.ListN.{get_or}
 use Rattle.std.proofs.Math.Seq.{drop-cons}
-use Rattle.std.proofs.Common.{◌≡◌, ◌≢◌, ℕ, suc, ◌+◌, ◌<◌, List, [], ◌∷◌, ◌++◌, length, drop, true, Option, Some, None, is_some, Result, Ok, Err, ⊎_elim, refl, ◌∙◌, ap, subst, append-nil, arith}
+use Rattle.std.proofs.Common.{◌≡◌, ◌≢◌, ℕ, suc, ◌+◌, ◌<◌, List, [], ◌∷◌, ◌++◌, length, drop, true, Option, Some, None, is_some, Result, Ok, Err, ⊎_elim, refl, ◌∙◌, ap, subst, arith}
 use Rattle.std.specs.Prelude.{IfErr, OnOk}
 use Rattle.std.specs.Result.{IsErr, IsErrAnd}
 use Rattle.model_state.specs.declared.step.StepFault.TheVariants.{Memory}

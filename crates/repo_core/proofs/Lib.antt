@@ -1,6 +1,12 @@
 pub mod Changing
+pub mod Could
 pub mod Effects
 pub mod Folding
+pub mod Grown
+pub mod Initial
+pub mod Models
 pub mod Needed
 pub mod Ordered
 pub mod Playable
+pub mod Replaying
+pub mod Taking

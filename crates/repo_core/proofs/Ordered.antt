@@ -1,6 +1,6 @@
 -- What all in order gives: where a workspace stands, and that its steps and those of versions can be taken.
-use Rattle.std.proofs.Common.{◌≡◌, ℕ, ◌<◌, ◌∷◌, ◌++◌, append-nil, List, [], Bool, true, false, length, Option, Some, None, is_some, Result, Ok, Err, refl, sym, ◌∙◌, ap, subst}
-use Rattle.std.specs.Prelude.{slice_get, nat_lt, nat_eq, ◌&&◌, ◌||◌, not, IfSome}
+use Rattle.std.proofs.Common.{◌≡◌, ℕ, ◌<◌, ◌∷◌, ◌++◌, append-nil, List, [], true, length, Option, Some, None, is_some, sym, ◌∙◌, ap, subst}
+use Rattle.std.specs.Prelude.{slice_get, IfSome}
 use Rattle.std.specs.Option.{option_copied, option_map, option_map_or}
 use Rattle.std.proofs.Common.{Bor}
 use Rattle.ecore_meta.specs.Meta.{Meta}
@@ -14,7 +14,6 @@ use Rattle.model_state.specs.declared.step.Step.{Step}
 use Rattle.model_state.specs.declared.operation.Operation.{Operation}
 use Rattle.model_laws.proofs.Start.{starts_good}
 use Rattle.model_laws.proofs.Runs.{steps_keep_good}
-use Rattle.history_tree.specs.History.{History, head}
 use Rattle.history_tree.specs.States.{state_folded, operations_of, package_at}
 use Rattle.history_tree.specs.Laws.{path_of_parent}
 use Rattle.history_tree.specs.Whole.{ComesBefore}
@@ -24,8 +23,8 @@ use Rattle.history_tree.proofs.Steady.{operations_append}
 use Rattle.data_lines.specs.Typed.{AreTyped, IsTypedPackage}
 use Rattle.data_lines.proofs.Taken.{packages_typed, steps_typed}
 use Rattle.plain_repository.specs.State.{State, Workspace, open_steps, recorded_steps, workspace_of, folded}
-use Rattle.plain_repository.specs.Orderly.{IsOrderly, InOrder, Stands, steps_to}
-use Rattle.plain_repository.specs.Laws.{IsThere, HasMetamodel}
+use Rattle.plain_repository.specs.Orderly.{IsOrderly, steps_to}
+use Rattle.plain_repository.specs.Laws.{IsThere}
 use Rattle.plain_repository.proofs.Reached.{in_order, kept, models_are_defined, versions_are_defined, workspaces_stand}
 use Rattle.plain_repository.proofs.Recorded.{ByWay, by_way, steps_append}
 use Rattle.repo_core.specs.declared.workspace.Composite.{Composite as Open}
@@ -77,7 +76,7 @@ open_typed s meta w sound there =
     let p = parts s meta w sound there in
     steps_typed meta sound p.operations.way p.model (steps_keep_good meta sound p.base p.operations.way p.good (steps_all w.operations) p.operations.first) (open_steps w.composite) p.operations.rest
 
-pub seen_typed : (meta : Meta) (w : Kept) (r : Option (Bor Open)) → AreTyped meta (open_steps (plain_of w).composite) → option_copied r ≡ w.composite → IfSome r (λ c. AreTyped meta c.now.steps)
+pub seen_typed : (meta : Meta) (w : Kept) (r : Option (Bor Open)) → AreTyped meta (open_steps (plain_of w).composite) → option_copied r ≡ w.composite → IfSome r (λ c. AreTyped meta c.now.steps.items)
 seen_typed meta w None typed is = tt
 seen_typed meta w (Some c) typed is = subst (λ (o : Option Open). AreTyped meta (open_steps (option_map plain_composite o))) (sym is) typed
 

@@ -1,6 +1,6 @@
 -- Which events could be made, by what was found about them.
-use Rattle.std.proofs.Common.{◌≡◌, ◌≢◌, ℕ, ◌<◌, ◌∷◌, List, [], Bool, true, false, length, Option, Some, None, is_some, Result, Ok, Err, refl, sym, ◌∙◌, ap, subst}
-use Rattle.std.specs.Prelude.{IfSome, slice_get, nat_lt, nat_eq, ◌&&◌, ◌||◌}
+use Rattle.std.proofs.Common.{◌≡◌, ℕ, ◌<◌, ◌∷◌, List, [], Bool, true, false, length, Option, Some, None, is_some, Ok, refl}
+use Rattle.std.specs.Prelude.{IfSome, slice_get, nat_eq, ◌&&◌, ◌||◌}
 use Rattle.std.specs.Option.{option_map_or}
 use Rattle.std.proofs.lemmas.Bool.{lt-ltb}
 use Rattle.ecore_meta.specs.Meta.{Meta}
@@ -17,8 +17,7 @@ use Rattle.op_form.specs.declared.event.Event.TheVariants.{Init, Checkout, Edit}
 use Rattle.script_lang.specs.declared.command.Spec.{Spec}
 use Rattle.script_lang.specs.declared.command.Spec.TheVariants.{Number, Branch, Tag as TagNamed}
 use Rattle.plain_repository.specs.State.{State, Composite, Workspace, workspace_of, model_of}
-use Rattle.plain_repository.specs.Checkouts.{can_check_out}
-use Rattle.plain_repository.specs.Edits.{takes, can_follow}
+use Rattle.plain_repository.specs.Edits.{takes}
 use Rattle.plain_repository.specs.Events.{playable_with}
 use Rattle.plain_repository.specs.Specs.{named}
 

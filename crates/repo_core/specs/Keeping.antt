@@ -1,6 +1,6 @@
 -- A workspace in memory, and the model that it may keep beside what is recorded in it.
 use Rattle.std.specs.Prelude.{◌≡◌, List, All, Option, Some, None}
-use Rattle.std.specs.Option.{option_map, option_map_or}
+use Rattle.std.specs.Option.{option_map}
 use Rattle.ecore_meta.specs.Meta.{Meta}
 use Rattle.model_state.specs.Good.{Good}
 use Rattle.step_apply.specs.declared.plain.Plain.{Plain}
@@ -14,11 +14,11 @@ use Rattle.repo_core.specs.declared.workspace.Workspace.{Workspace}
 
 -- an open composite as the plain repository has it
 abbrev pub plain_composite : Composite → plain.Composite
-plain_composite c = record { name = c.name; steps = c.steps }
+plain_composite c = record { name = c.name; steps = c.steps.items }
 
 -- a workspace as the plain repository has it, without its model
 abbrev pub plain_of : Workspace → plain.Workspace
-plain_of w = record { branch = w.branch; base = w.base; operations = w.operations; composite = option_map plain_composite w.composite; pending = w.pending }
+plain_of w = record { branch = w.branch; base = w.base; operations = w.operations.items; composite = option_map plain_composite w.composite; pending = w.pending }
 
 -- the same, where the workspace is there
 abbrev pub plain_any : Option Workspace → Option plain.Workspace

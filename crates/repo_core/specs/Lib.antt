@@ -1,3 +1,4 @@
 pub mod Decisions
 pub mod Keeping
+pub mod Making
 pub mod Working

@@ -2,6 +2,7 @@
 ghost use Rattle.std.specs.Prelude.{◌≡◌, ◌≢◌};
 
 use model_state::StepFault;
+use std::alloc::AllocError;
 use thiserror::Error;
 
 /// Why the bytes of a record are not played.
@@ -14,7 +15,18 @@ pub enum ReplayFault {
     Memory,
 }
 
-/// The fault of a package: a step of it can't be taken, or memory is wanting.
+impl From<AllocError> for ReplayFault {
+    ghost use Rattle.std.specs.Prelude.{◌≡◌};
+    ghost use Rattle.repo_core.specs.declared.fault.ReplayFault.TheVariants.{Memory};
+
+    ghost from_gives = { λ _ f. f ≡ Memory };
+
+    fn from(_: AllocError) -> ReplayFault {
+        ReplayFault::Memory
+    }
+}
+
+/// The fault of operations: a step of them can't be taken, or out of memory.
 pub(crate) fn package_fault(fault: StepFault) -> ReplayFault
     ensures memory { fault ≡ StepFault.Memory → result ≡ ReplayFault.Memory }
     ensures other { result ≡ ReplayFault.NotPlayable → fault ≢ StepFault.Memory }

@@ -3,6 +3,9 @@
 
 mod deciding;
 mod fault;
+mod growing;
+mod lists;
+mod making;
 mod playing;
 mod repo;
 mod states;

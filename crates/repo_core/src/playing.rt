@@ -1,98 +1,23 @@
-//! What an event that a command could make makes of the repository.
-ghost use Rattle.std.specs.Prelude.{◌≡◌, OnOk, OnErr, is_some, true};
-ghost use Rattle.op_form.specs.declared.event.Event.TheVariants.{Begin, Checkout, End, Undo, Discard};
+//! Which events a command could make, and what is made of them, one by one and read again from their bytes.
+ghost use Rattle.std.specs.Prelude.{◌≡◌, ◌≢◌, ◌+◌, ◌<◌, ◌≤◌, ◌^◌, ◌||◌, OnOk, OnErr, IsErrOf, IsTrue, length, is_some, true, false};
+ghost use Rattle.op_form.specs.declared.event.Event.{Event};
+ghost use Rattle.op_form.specs.declared.event.Event.TheVariants.{Begin, Branch, Checkout, Commit, Drop, End, Tag, Undo, Discard};
+ghost use Rattle.op_form.specs.Events.{event_form};
+ghost use Rattle.op_form.specs.Formed.{is_event};
 ghost use Rattle.op_form.specs.Laws.{IsEvent};
+ghost use Rattle.plain_repository.specs.Answers.{most_bytes};
 ghost use Rattle.plain_repository.specs.State.{workspace_of, is_closed, is_open, has_operations, has_local};
-ghost use Rattle.plain_repository.specs.Events.{effect, playable_with};
+ghost use Rattle.plain_repository.specs.Events.{effect, play, playable, playable_with};
+ghost use Rattle.repo_core.specs.Making.{can_take, is_at_head, is_tested_late};
 
-use crate::repo::Repo;
-use crate::workspace::Workspace;
+use crate::fault::ReplayFault;
+use crate::repo::{MOST_BYTES, Repo};
 use ecore_meta::Text;
-use model_state::is_name;
+use model_state::{Package, is_name};
+use op_form::{Event, FormFault, decode_event};
 use std::alloc::{AllocError, Global};
 
 impl Repo {
-    /// Makes a workspace at a version on a branch. For want of memory nothing changes.
-    pub(crate) fn check_out(
-        &mut self,
-        alloc: Global,
-        version: u32,
-        branch: u32,
-    ) -> Result<(), AllocError>
-        requires could { playable_with self.old self.old.meta (Checkout version branch) ≡ true }
-        requires spelled { IsEvent (Checkout version branch) }
-        ensures done { OnOk result (self.new ≡ effect self.old (Checkout version branch)) }
-        ensures same { OnErr result (self.new ≡ self.old) }
-    {
-        let Some(_begun) = &self.begun else {
-            unreachable!()
-        };
-        match self
-            .workspaces
-            .push(Some(Workspace::new(alloc, branch, version)))
-        {
-            Ok(()) => Ok(()),
-            Err(_) => Err(AllocError),
-        }
-    }
-
-    /// Opens a composite of that name in a workspace.
-    pub(crate) fn open_composite(&mut self, alloc: Global, ws: u32, name: Text)
-        requires there { is_some (workspace_of self.old ws) ≡ true }
-        requires could { playable_with self.old self.old.meta (Begin ws name) ≡ true }
-        requires spelled { IsEvent (Begin ws name) }
-        ensures done { self.new ≡ effect self.old (Begin ws name) }
-    {
-        let Some(at) = self.place_of(ws) else {
-            unreachable!()
-        };
-        let Some(_begun) = &self.begun else {
-            unreachable!()
-        };
-        let Some(workspace) = &mut self.workspaces[at] else {
-            unreachable!()
-        };
-        workspace.open_composite(alloc, name);
-    }
-
-    /// Lets the last operation of a workspace go.
-    pub(crate) fn undo(&mut self, ws: u32)
-        requires there { is_some (workspace_of self.old ws) ≡ true }
-        requires could { playable_with self.old self.old.meta (Undo ws) ≡ true }
-        requires spelled { IsEvent (Undo ws) }
-        ensures done { self.new ≡ effect self.old (Undo ws) }
-    {
-        let Some(at) = self.place_of(ws) else {
-            unreachable!()
-        };
-        let Some(_begun) = &self.begun else {
-            unreachable!()
-        };
-        let Some(workspace) = &mut self.workspaces[at] else {
-            unreachable!()
-        };
-        workspace.undo();
-    }
-
-    /// Lets all that is local in a workspace go.
-    pub(crate) fn discard(&mut self, alloc: Global, ws: u32)
-        requires there { is_some (workspace_of self.old ws) ≡ true }
-        requires could { playable_with self.old self.old.meta (Discard ws) ≡ true }
-        requires spelled { IsEvent (Discard ws) }
-        ensures done { self.new ≡ effect self.old (Discard ws) }
-    {
-        let Some(at) = self.place_of(ws) else {
-            unreachable!()
-        };
-        let Some(_begun) = &self.begun else {
-            unreachable!()
-        };
-        let Some(workspace) = &mut self.workspaces[at] else {
-            unreachable!()
-        };
-        workspace.discard(alloc);
-    }
-
     fn is_closed(&self, ws: u32) -> bool
         ensures { result ≡ is_closed (workspace_of self.now ws) }
     {
@@ -129,31 +54,227 @@ impl Repo {
         }
     }
 
+    /// Whether a command could make a workspace at a version on a branch.
+    fn could_check_out(&self, version: u32, branch: u32) -> bool
+        ensures { result ≡ playable_with self.now self.now.meta (Checkout version branch) }
+    {
+        let Some(begun) = &self.begun else {
+            return false;
+        };
+        let history = &begun.history;
+        version < history.version_count()
+            && branch < history.branch_count()
+            && (history.version(version).branch == branch || history.head(branch) == version)
+    }
+
+    /// Whether a workspace takes operations, so that it is left to take their steps.
+    pub(crate) fn could_take(&self, ws: u32, package: &Package) -> bool
+        ensures { result ≡ can_take self.now.meta (workspace_of self.now ws) «package».now }
+    {
+        let Some(_begun) = &self.begun else {
+            return false;
+        };
+        match self.workspace(ws) {
+            None => false,
+            Some(workspace) => { package.len() == 1 || (package.len() > 1 && !workspace.is_open()) }
+        }
+    }
+
     /// Whether a command could open a composite of that name in a workspace.
-    pub(crate) fn could_begin(&self, ws: u32, name: &Text) -> bool
+    fn could_begin(&self, ws: u32, name: &Text) -> bool
         ensures { result ≡ playable_with self.now self.now.meta (Begin ws name.now) }
     {
         self.begun.is_some() && is_name(name.as_str()) && self.is_closed(ws)
     }
 
     /// Whether a command could close the composite that is open in a workspace.
-    pub(crate) fn could_end(&self, ws: u32) -> bool
+    fn could_end(&self, ws: u32) -> bool
         ensures { result ≡ playable_with self.now self.now.meta (End ws) }
     {
         self.begun.is_some() && self.is_open(ws)
     }
 
     /// Whether a command could let the last operation of a workspace go.
-    pub(crate) fn could_undo(&self, ws: u32) -> bool
+    fn could_undo(&self, ws: u32) -> bool
         ensures { result ≡ playable_with self.now self.now.meta (Undo ws) }
     {
         self.begun.is_some() && self.is_closed(ws) && self.has_operations(ws)
     }
 
     /// Whether a command could let all that is local in a workspace go.
-    pub(crate) fn could_discard(&self, ws: u32) -> bool
+    fn could_discard(&self, ws: u32) -> bool
         ensures { result ≡ playable_with self.now self.now.meta (Discard ws) }
     {
         self.begun.is_some() && (self.is_open(ws) || self.has_local(ws))
+    }
+
+    /// Whether a command could make a version of a workspace's operations.
+    fn could_commit(&self, ws: u32, message: &Text) -> bool
+        ensures { result ≡ playable_with self.now self.now.meta (Commit ws message.now) }
+    {
+        // The message may be any text.
+        let _message = message;
+        self.begun.is_some() && self.is_at_head(ws) && self.is_closed(ws) && self.has_local(ws)
+    }
+
+    /// Whether a workspace is there, and its base is the head of its branch.
+    fn is_at_head(&self, ws: u32) -> bool
+        ensures { result ≡ is_at_head self.now.history (workspace_of self.now ws) }
+    {
+        self.orderly();
+        let Some(begun) = &self.begun else {
+            return false;
+        };
+        match self.workspace(ws) {
+            None => false,
+            Some(workspace) => workspace.base == begun.history.head(workspace.branch),
+        }
+    }
+
+    /// Whether a command could start a branch of that name at a workspace's base.
+    fn could_branch(&self, ws: u32, name: &Text) -> bool
+        ensures { result ≡ playable_with self.now self.now.meta (Branch ws name.now) }
+    {
+        let Some(begun) = &self.begun else {
+            return false;
+        };
+        is_name(name.as_str())
+            && begun.history.branch_named(name.as_str()).is_none()
+            && self.is_closed(ws)
+    }
+
+    /// Whether a command could make a tag of that name.
+    fn could_tag(&self, name: &Text, version: u32) -> bool
+        ensures { result ≡ playable_with self.now self.now.meta (Tag name.now version) }
+    {
+        let Some(begun) = &self.begun else {
+            return false;
+        };
+        is_name(name.as_str())
+            && !begun.history.has_tag(name.as_str())
+            && version < begun.history.version_count()
+    }
+
+    /// Whether a command could let a workspace go.
+    fn could_drop(&self, ws: u32) -> bool
+        ensures { result ≡ playable_with self.now self.now.meta (Drop ws) }
+    {
+        self.begun.is_some() && self.workspace(ws).is_some()
+    }
+
+    /// Whether a command could make an event, as far as this is told without making it.
+    fn could(&self, event: &Event) -> bool
+        ensures { result ≡ (is_tested_late event.now || playable_with self.now self.now.meta event.now) }
+    {
+        match event {
+            Event::Init { .. } => true,
+            Event::Checkout { version, branch } => self.could_check_out(*version, *branch),
+            Event::Edit { .. } => true,
+            Event::Begin { ws, name } => self.could_begin(*ws, name),
+            Event::End { ws } => self.could_end(*ws),
+            Event::Undo { ws } => self.could_undo(*ws),
+            Event::Discard { ws } => self.could_discard(*ws),
+            Event::Commit { ws, message } => self.could_commit(*ws, message),
+            Event::Branch { ws, name } => self.could_branch(*ws, name),
+            Event::Tag { name, version } => self.could_tag(name, *version),
+            Event::Drop { ws } => self.could_drop(*ws),
+        }
+    }
+
+    /// What an event changes beside the numbers that every event raises.
+    fn change(&mut self, alloc: Global, event: Event) -> Result<(), ReplayFault>
+        requires tested { (is_tested_late event || playable_with self.old self.old.meta event) ≡ true }
+        requires spelled { IsEvent event }
+        requires short { length (event_form event) ≤ most_bytes }
+        ensures could { OnOk result (playable_with self.old self.old.meta event ≡ true) }
+        ensures done { OnOk result (self.new ≡ effect self.old event) }
+        ensures same { OnErr result (self.new ≡ self.old) }
+        ensures cannot { IsErrOf result ReplayFault.NotPlayable → playable_with self.old self.old.meta event ≡ false }
+    {
+        match event {
+            Event::Init { text } => self.begin(alloc, &text),
+            Event::Checkout { version, branch } => Ok(self.check_out(alloc, version, branch)?),
+            Event::Edit { ws, package } => self.record(alloc, ws, package),
+            Event::Begin { ws, name } => {
+                self.open_composite(alloc, ws, name);
+                Ok(())
+            }
+            Event::End { ws } => Ok(self.close_composite(ws)?),
+            Event::Undo { ws } => {
+                self.undo(alloc, ws);
+                Ok(())
+            }
+            Event::Discard { ws } => {
+                self.discard(alloc, ws);
+                Ok(())
+            }
+            Event::Commit { ws, message } => Ok(self.commit(alloc, ws, message)?),
+            Event::Branch { ws, name } => Ok(self.branch(ws, name)?),
+            Event::Tag { name, version } => Ok(self.tag(name, version)?),
+            Event::Drop { ws } => {
+                self.drop_workspace(ws);
+                Ok(())
+            }
+        }
+    }
+
+    /// Makes an event whose bytes are so many, where a command could make it.
+    #[tactic(auto, unfolding(plain_repository::specs::Events::play, plain_repository::specs::Events::playable))]
+    fn make(&mut self, alloc: Global, event: Event, size: usize) -> Result<(), ReplayFault>
+        requires event { is_event event ≡ true }
+        requires size { size ≡ length (event_form event) }
+        requires room { self.old.end + 5 + size < 2 ^ 40 }
+        ensures could { OnOk result (IsTrue (playable self.old event)) }
+        ensures made { OnOk result (self.new ≡ play self.old event) }
+        ensures same { OnErr result (self.new ≡ self.old) }
+        ensures cannot { IsErrOf result ReplayFault.NotPlayable → playable self.old event ≡ false }
+    {
+        if self.is_full() || size > MOST_BYTES {
+            return Err(ReplayFault::NotPlayable);
+        }
+        if !self.could(&event) {
+            return Err(ReplayFault::NotPlayable);
+        }
+        let events = self.events + 1;
+        let end = self.end + 5 + size as u64;
+        self.change(alloc, event)?;
+        self.events = events;
+        self.end = end;
+        Ok(())
+    }
+
+    /// Makes an event that a command could make, whose bytes are so many. What the event has is moved into the repository. When out of memory
+    /// the repository stays as it is.
+    pub fn play(&mut self, alloc: Global, event: Event, size: usize) -> Result<(), AllocError>
+        requires can { IsTrue (playable self.old event) }
+        requires size { size ≡ length (event_form event) }
+        requires room { self.old.end + 5 + size < 2 ^ 40 }
+        ensures played { OnOk result (self.new ≡ play self.old event) }
+        ensures same { OnErr result (self.new ≡ self.old) }
+    {
+        match self.make(alloc, event, size) {
+            Ok(()) => Ok(()),
+            Err(ReplayFault::Memory) => Err(AllocError),
+            Err(ReplayFault::NotPlayable) => unreachable!(),
+        }
+    }
+
+    /// Makes the event that the bytes of a record are.
+    ///
+    /// # Errors
+    ///
+    /// `NotPlayable` where they are no event that a command could make here, and out of memory. The repository stays as it is.
+    pub fn replay(&mut self, alloc: Global, bytes: &[u8]) -> Result<(), ReplayFault>
+        requires room { self.old.end + 5 + length bytes.now < 2 ^ 40 }
+        ensures played { OnOk result ((event : Event) × IsTrue (playable self.old event) × (bytes.now ≡ event_form event) × (self.new ≡ play self.old event)) }
+        ensures refused { IsErrOf result ReplayFault.NotPlayable → (event : Event) → IsTrue (playable self.old event) → bytes.now ≢ event_form event }
+        ensures same { OnErr result (self.new ≡ self.old) }
+    {
+        let event = match decode_event(alloc, bytes) {
+            Ok(event) => event,
+            Err(FormFault::NotForm { .. }) => return Err(ReplayFault::NotPlayable),
+            Err(FormFault::Memory) => return Err(ReplayFault::Memory),
+        };
+        self.make(alloc, event, bytes.len())
     }
 }

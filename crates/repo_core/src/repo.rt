@@ -32,7 +32,7 @@ pub(crate) struct Begun {
 pub struct Repo {
     pub(crate) begun: Option<Begun>,
     pub(crate) workspaces: Vec<Option<Workspace>>,
-    events: u32,
+    pub(crate) events: u32,
     pub(crate) end: u64,
 }
 

@@ -13,7 +13,8 @@ use model_state::{Operation, Step, StepFault};
 use std::alloc::{AllocError, Global};
 use step_apply::Plain;
 
-fn steps_in(operation: &Operation) -> &[Step]
+/// The steps of an operation, simple or composite.
+pub(crate) fn steps_in(operation: &Operation) -> &[Step]
     ensures { result.now ≡ steps_of operation.now }
 {
     match operation {

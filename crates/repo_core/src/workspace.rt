@@ -1,29 +1,35 @@
 //! A workspace in memory, which may keep its working model.
-ghost use Rattle.std.specs.Prelude.{◌≡◌, ◌≢◌, ◌<◌, ◌&&◌, ◌||◌, length, is_some, true, None, IfOk, OnOk, IfErr, Some};
+ghost use Rattle.std.specs.Prelude.{◌≡◌, ◌≢◌, ◌<◌, ◌&&◌, ◌||◌, length, is_some, true, None, IfOk, IfSome, OnOk, OnErr, IfErr, Some};
 ghost use Rattle.std.specs.Option.{option_copied};
 ghost use Rattle.ecore_meta.specs.Sound.{Sound};
 ghost use Rattle.model_state.specs.Good.{Good};
 ghost use Rattle.model_state.specs.Steps.{fold};
+ghost use Rattle.model_state.specs.Packages.{steps_of, rev_op};
 ghost use Rattle.step_apply.specs.View.{plain_state};
-ghost use Rattle.history_tree.specs.States.{state_folded};
+ghost use Rattle.history_tree.specs.States.{state_folded, state_of};
 ghost use Rattle.plain_repository.specs.State.{model_of, folded, recorded_steps, untouched, has_operations, has_local, is_open};
-ghost use Rattle.plain_repository.specs.Composites.{with_open};
-ghost use Rattle.plain_repository.specs.Local.{can_discard, without_any, without_last};
+ghost use Rattle.plain_repository.specs.Commits.{version_of, committed};
+ghost use Rattle.plain_repository.specs.Composites.{with_open, with_closed};
+ghost use Rattle.plain_repository.specs.Edits.{takes, with_more};
+ghost use Rattle.plain_repository.specs.Local.{can_discard, can_undo, without_any, without_last};
 ghost use Rattle.repo_core.specs.Keeping.{plain_of, Fits};
 
-use crate::states::{follow, state_at};
+use crate::lists::{append, steps_out};
+use crate::states::{follow, state_at, steps_in};
 use ecore_meta::{List, Metamodel, Text};
-use history_tree::History;
+use history_tree::{History, Version};
 use model_laws::replay;
 use model_state::{Operation, Package, Step, StepFault};
+use op_form::reverse_op;
 use std::alloc::{AllocError, Global};
+use std::mem::replace;
 use step_apply::Plain;
 
 /// A composite that is open: its name, and the steps recorded in it so far.
 #[derive(Drop)]
 pub(crate) struct Composite {
     pub(crate) name: Text,
-    pub(crate) steps: List<Step>,
+    pub(crate) steps: Vec<Step>,
 }
 
 /// What is recorded in a workspace, and its working model, where it is kept. Contracts of the repository don't see the model.
@@ -31,10 +37,27 @@ pub(crate) struct Composite {
 pub(crate) struct Workspace {
     pub(crate) branch: u32,
     pub(crate) base: u32,
-    pub(crate) operations: List<Operation>,
+    pub(crate) operations: Vec<Operation>,
     pub(crate) composite: Option<Composite>,
     pub(crate) pending: List<u32>,
     pub(crate) model: Option<Plain>,
+}
+
+/// The model before an operation, whose steps were the last taken; none when out of memory.
+fn take_back(alloc: Global, meta: &Metamodel, model: Plain, operation: &Operation) -> Option<Plain>
+    requires sound { Sound meta.now }
+    requires good { Good meta.now (plain_state model) }
+    ensures back { IfSome result (λ m. fold meta.now (plain_state model) (steps_of (rev_op operation.now)) ≡ Some (plain_state m)) }
+    ensures good { IfSome result (λ m. Good meta.now (plain_state m)) }
+{
+    let Ok(reversal) = reverse_op(alloc, operation) else {
+        return None;
+    };
+    let mut model = model;
+    match replay(&mut model, meta, steps_in(&reversal)) {
+        Ok(()) => Some(model),
+        Err(_) => None,
+    }
 }
 
 impl Workspace {
@@ -46,7 +69,7 @@ impl Workspace {
         Workspace {
             branch,
             base,
-            operations: List::new(alloc),
+            operations: Vec::new(alloc),
             composite: None,
             pending: List::new(alloc),
             model: None,
@@ -54,10 +77,10 @@ impl Workspace {
     }
 
     /// The operations, in their order.
-    pub(crate) fn operations(&self) -> &Package
-        ensures { result.now ≡ self.now.operations }
+    pub(crate) fn operations(&self) -> &[Operation]
+        ensures { result.now ≡ self.now.operations.items }
     {
-        &self.operations
+        self.operations.as_slice()
     }
 
     /// The composite that is open.
@@ -118,25 +141,84 @@ impl Workspace {
         }
     }
 
-    /// Opens a composite of that name, with no step yet. The model is not kept.
+    /// Operations come behind the others, or the steps of one join the composite that is open. When out of memory the workspace stays as it is, but for
+    /// its model, which is given: the one behind the operations.
+    pub(crate) fn install(
+        &mut self,
+        alloc: Global,
+        package: Package,
+        model: Plain,
+    ) -> Result<(), AllocError>
+        requires takes { takes (plain_of self.old).composite «package» ≡ true }
+        ensures more { OnOk result (plain_of self.new ≡ with_more «package» (plain_of self.old)) }
+        ensures kept { OnOk result (self.new.model ≡ Some model) }
+        ensures same { OnErr result (plain_of self.new ≡ plain_of self.old) }
+        ensures gone { OnErr result (self.new.model ≡ None) }
+    {
+        self.model = None;
+        self.push_all(alloc, package)?;
+        self.model = Some(model);
+        Ok(())
+    }
+
+    fn push_all(&mut self, alloc: Global, package: Package) -> Result<(), AllocError>
+        requires takes { takes (plain_of self.old).composite «package» ≡ true }
+        ensures more { OnOk result (plain_of self.new ≡ with_more «package» (plain_of self.old)) }
+        ensures same { OnErr result (plain_of self.new ≡ plain_of self.old) }
+        ensures model { self.new.model ≡ self.old.model }
+    {
+        match &mut self.composite {
+            None => append(alloc, &mut self.operations, package),
+            Some(composite) => append(alloc, &mut composite.steps, steps_out(package)),
+        }
+    }
+
+    /// Opens a composite of that name, with no step yet.
     pub(crate) fn open_composite(&mut self, alloc: Global, name: Text)
         ensures opened { plain_of self.new ≡ with_open name (plain_of self.old) }
-        ensures gone { self.new.model ≡ None }
+        ensures model { self.new.model ≡ self.old.model }
     {
         self.composite = Some(Composite {
             name,
-            steps: List::new(alloc),
+            steps: Vec::new(alloc),
         });
-        self.model = None;
     }
 
-    /// Lets the last operation go. The model is not kept.
-    pub(crate) fn undo(&mut self)
-        ensures undone { plain_of self.new ≡ without_last (plain_of self.old) }
-        ensures gone { self.new.model ≡ None }
+    /// Closes the composite that is open, which is the last operation where it has steps. When out of memory nothing changes.
+    pub(crate) fn close_composite(&mut self) -> Result<(), AllocError>
+        ensures closed { OnOk result (plain_of self.new ≡ with_closed (plain_of self.old)) }
+        ensures same { OnErr result (plain_of self.new ≡ plain_of self.old) }
+        ensures model { self.new.model ≡ self.old.model }
     {
-        let _last = self.operations.pop();
-        self.model = None;
+        self.operations.reserve(1)?;
+        let Some(Composite { name, steps }) = self.composite.take() else {
+            return Ok(());
+        };
+        if steps.len() > 0 {
+            self.operations.push_reserved(Operation::Composite {
+                name,
+                steps: List::from_vec(steps),
+            });
+        }
+        Ok(())
+    }
+
+    /// Lets the last operation go. A model that is kept takes it back, or is not kept when out of memory.
+    pub(crate) fn undo(&mut self, alloc: Global, meta: &Metamodel, _history: &History)
+        requires sound { Sound meta.now }
+        requires can { can_undo (Some (plain_of self.old)) ≡ true }
+        requires base { Good meta.now (state_of meta.now _history.now.history self.old.base) }
+        requires fits { Fits meta.now _history.now.history self.old }
+        ensures undone { plain_of self.new ≡ without_last (plain_of self.old) }
+        ensures fits { Fits meta.now _history.now.history self.new }
+    {
+        let Some(operation) = self.operations.pop() else {
+            unreachable!()
+        };
+        self.model = match self.model.take() {
+            None => None,
+            Some(model) => take_back(alloc, meta, model, &operation),
+        };
     }
 
     /// Lets all that is local go. The model is not kept.
@@ -144,10 +226,27 @@ impl Workspace {
         ensures discarded { plain_of self.new ≡ without_any (plain_of self.old) }
         ensures gone { self.new.model ≡ None }
     {
-        self.operations = List::new(alloc);
+        self.operations = Vec::new(alloc);
         self.composite = None;
         self.pending = List::new(alloc);
         self.model = None;
+    }
+
+    /// The version that the local operations make. The workspace stands at it from now on, under its number, with nothing local.
+    pub(crate) fn commit(&mut self, alloc: Global, message: Text, number: u32) -> Version
+        ensures version { result ≡ version_of (plain_of self.old) message }
+        ensures committed { plain_of self.new ≡ committed number (plain_of self.old) }
+        ensures model { self.new.model ≡ self.old.model }
+    {
+        let parent = replace(&mut self.base, number);
+        let operations = replace(&mut self.operations, Vec::new(alloc));
+        Version {
+            branch: self.branch,
+            parent: Some(parent),
+            merged: replace(&mut self.pending, List::new(alloc)),
+            message,
+            package: List::from_vec(operations),
+        }
     }
 
     /// The workspace keeps a model.

@@ -37,13 +37,13 @@ fn push_open_lines(
     composite: Option<&Composite>,
     meta: &Metamodel,
 ) -> Result<(), AllocError>
-    requires typed { IfSome composite (λ c. AreTyped meta.now c.now.steps) }
+    requires typed { IfSome composite (λ c. AreTyped meta.now c.now.steps.items) }
     ensures lines { OnOk result (lines.new ≡ lines.old ++ lines_of_open meta.now (option_map plain_composite (option_copied composite.entry))) }
 {
     let Some(composite) = composite else {
         return Ok(());
     };
-    let open = open_lines(alloc, &composite.name, &composite.steps, meta)?;
+    let open = open_lines(alloc, &composite.name, composite.steps.as_slice(), meta)?;
     push_lines(alloc, lines, &open)
 }
 

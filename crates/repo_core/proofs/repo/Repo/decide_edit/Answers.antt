@@ -1,4 +1,4 @@
-use Rattle.std.proofs.Common.{◌≡◌, subst, sym, true, is_some, List, [], ◌∷◌}
+use Rattle.std.proofs.Common.{◌≡◌, subst, sym, true, is_some, [], ◌∷◌}
 use Rattle.std.specs.Prelude.{IfSome}
 use Rattle.model_state.specs.State as models
 use Rattle.model_state.specs.Packages.{fold_package}

@@ -1,13 +1,12 @@
-use Rattle.std.proofs.Common.{◌≡◌, ◌∙◌, Option, Some, true, is_some, List, sym, ap, subst}
+use Rattle.std.proofs.Common.{◌≡◌, ◌∙◌, Option, Some, true, is_some, sym, ap, subst}
 use Rattle.ecore_meta.specs.Meta.{Meta}
 use Rattle.history_tree.specs.History.{History}
-use Rattle.history_tree.specs.States.{state_folded}
-use Rattle.plain_repository.specs.State.{State, Workspace, workspace_of, folded}
+use Rattle.plain_repository.specs.State.{State, workspace_of, folded}
 use Rattle.plain_repository.specs.Orderly.{IsOrderly}
 use Rattle.plain_repository.specs.Laws.{IsThere}
 use Rattle.repo_core.specs.Keeping.{FitsAny, meta_of, history_of, plain_any, plain_of}
-use Rattle.repo_core.proofs.Changing.{at_is, below_is, fit_at, fit_set, kept_fits, none_fits, order_same, same_at, view_same, working}
-use Rattle.repo_core.proofs.Ordered.{base_leads, is_there, model_leads}
+use Rattle.repo_core.proofs.Changing.{at_is, below_is, fit_at, fit_set, none_fits, order_same, same_at, view_same, working}
+use Rattle.repo_core.proofs.Ordered.{is_there, model_leads}
 use Rattle.repo_core.proofs.repo.Repo.take_model.Goals as goal
 
 abbrev meta_in : State → Option Meta

@@ -1,10 +1,15 @@
-use Rattle.std.proofs.Common.{◌≡◌, ap}
-use Rattle.model_state.specs.declared.operation.Operation.{Operation}
-use Rattle.std.proofs.Common.{List}
-use Rattle.plain_repository.specs.State.{Workspace}
-use Rattle.repo_core.specs.Keeping.{plain_of}
-use Rattle.repo_core.proofs.Effects.{popped_is}
+use Rattle.std.proofs.Common.{◌≡◌, ◌∙◌, Some, sym}
+use Rattle.repo_core.proofs.Models.{undone_fits}
+use Rattle.repo_core.proofs.workspace.Workspace.undo.Goals.{in-None, in-Some-take}
 use Rattle.repo_core.proofs.workspace.Workspace.undo.Goals as goal
 
-pub returns-clause-undone : goal.returns-clause-undone
-returns-clause-undone c = ap (λ (l : List Operation). record (plain_of c.args.self.now) { operations = l }) (popped_is c.args.self.now.operations c.pop-last.new.self c.pop-last.result c.pop-last.ensures.items c.pop-last.ensures.none)
+pub returns-clause-fits : goal.returns-clause-fits
+returns-clause-fits c = λ m is. elim c.match-take.branch [
+  | in-None w ↦ (let none = w.t-13-is in absurd cc)
+  | in-Some-take w ↦ (
+      let value = c.take.ensures.value in
+      let there = w.in-Some-take.is in
+      let model : c.args.self.now.model ≡ Some w.in-Some-take.model = cc in
+      undone_fits c.args.meta.now c.requires.sound c.args._history.now.history c.args.self.now c.pop.new.self.items c.in-Some.operation w.in-Some-take.model w.take_back.result m (sym w.t-13-is ∙ is)
+      w.take_back.ensures.back w.take_back.ensures.good c.requires.can c.in-Some.ensures.items c.requires.base c.requires.fits model)
+]
