@@ -1,0 +1,11 @@
+//! Packages tidied: what was taken back goes, and what was changed twice is changed once.
+#![tactic(auto)]
+
+mod joining;
+mod search;
+mod splitting;
+mod tidying;
+mod turns;
+mod undoing;
+
+pub use tidying::tidy;

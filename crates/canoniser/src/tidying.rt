@@ -1,0 +1,22 @@
+//! The call that tidies a package.
+ghost use Rattle.std.specs.Prelude.{◌≡◌, IfOk};
+ghost use Rattle.tidy_laws.specs.Tidy.{tidy};
+
+use crate::splitting::split;
+use crate::turns::settle;
+use ecore_meta::{List, Metamodel};
+use footprint::prints_of;
+use model_state::Package;
+use std::alloc::{AllocError, Global};
+
+/// The package with its simple operations cut into their steps, with what was taken back gone and what was changed twice changed once. It
+/// does what the package does. Time grows with the square of the number of operations, as each is compared with those before it, up
+/// to one that interferes with it.
+pub fn tidy(alloc: Global, package: &Package, meta: &Metamodel) -> Result<Package, AllocError>
+    ensures { IfOk result (λ p. p ≡ tidy meta.now «package».now) }
+{
+    let mut list = split(alloc, package.as_slice())?;
+    let mut prints = prints_of(alloc, &list, meta)?;
+    settle(alloc, meta, &mut list, &mut prints)?;
+    Ok(List::from_vec(list))
+}
