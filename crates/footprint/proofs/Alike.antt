@@ -16,13 +16,13 @@ use Rattle.model_state.specs.Steps.{writes, apply, fold}
 use Rattle.model_state.specs.declared.operation.Operation.{Operation}
 use Rattle.model_state.specs.Packages.{steps_of}
 use Rattle.model_laws.specs.Cells.{Cell, OfKind, OfRow, OfWhole, About, cell_eq, has, side, mirror_side, place_list, is_bounded, is_finite, Agree, AgreeAt, step_writes, step_reads, kinds_read, kinds_written, needs, touches, needs_all, touches_all, writes_all, reads_all}
-use Rattle.model_laws.proofs.Exchange.{has_append, has_first, has_second, not_first, not_second, IsReal, real_apart, agree_written, run_leaves}
+use Rattle.model_laws.proofs.Exchange.{has_append, has_first, has_second, not_first, not_second, IsReal, real_apart, agree_written, agree_everywhere, run_leaves}
 use Rattle.model_laws.proofs.Apart.{in_either, writes_kind, out, turned}
 use Rattle.model_laws.proofs.StepNeeds.{goes_by_needs}
 use Rattle.model_laws.proofs.StepTouches.{leaves_others}
 use Rattle.footprint.specs.Interference.{op_writes}
 use Rattle.footprint.specs.Same.{IsCell, Same}
-use Rattle.footprint.specs.Laws.{StepLeavesOthers, OperationLeavesOthers, StepGoesByCells, OthersLeaveSame}
+use Rattle.footprint.specs.Laws.{StepLeavesOthers, OperationLeavesOthers, StatesAreTheirCells, StepGoesByCells, OthersLeaveSame}
 use Rattle.footprint.proofs.Pairs.{keep_apart}
 
 -- ---- a step leaves the cells that it does not write
@@ -49,6 +49,13 @@ real_cell c is = tt
 
 pub operation_leaves_others : OperationLeavesOthers
 operation_leaves_others meta sound m n good o h c is out = run_leaves_others meta sound m n good (steps_of o) (ap (fold meta m) (sym (append-nil (steps_of o))) ∙ h) c (real_cell c is) out
+
+cell_real : (c : Cell) → IsReal c → IsCell c
+cell_real (About e) is = absurd is
+cell_real c is = tt
+
+pub states_are_their_cells : StatesAreTheirCells
+states_are_their_cells meta m n h = agree_everywhere meta m n (λ c real. h c (cell_real c real))
 
 -- ---- a step goes by its operation's cells
 in_writes : (meta : Meta) (front back : List Step) (s : Step) (c : Cell) → has (step_writes meta s) c ≡ true → has (writes_all meta (front ++ (s ∷ back))) c ≡ true
@@ -79,7 +86,7 @@ step_goes_by_cells meta m n good goodn o same front back s is =
     let goes = goes_by_needs meta m n good goodn s (needed_alike meta m n o same front back s is) in
     let on : (c : Cell) → Agree meta m n c → Agree meta (apply meta m s) (apply meta n s) c =
     λ c h. subst (λ w. Agree meta (apply meta m s) (written n w) c) goes.1 (agree_written meta m n (writes meta m s) c h) in
-    (goes.0, λ can. record { written = λ c h. on c (same.written c h); read = λ c h. on c (same.read c h); about = λ e h. on (About e) (same.about e h) })
+    (goes.0, goes.1, λ can. record { written = λ c h. on c (same.written c h); read = λ c h. on c (same.read c h); about = λ e h. on (About e) (same.about e h) })
 
 -- ---- an operation leaves what is the same for another
 -- a class that is written is that of an element that comes or goes

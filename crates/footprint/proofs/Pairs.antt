@@ -1,6 +1,7 @@
 -- Interference by cells: symmetric, and exact.
-use Rattle.std.proofs.Common.{◌≡◌, Bool, true, false, List, [], ◌∷◌, ◌++◌, refl, sym, ap, subst, ◌∙◌, ◌||◌}
+use Rattle.std.proofs.Common.{◌≡◌, Bool, true, false, List, [], ◌∷◌, ◌++◌, refl, sym, ap, subst, ◌∙◌, ◌||◌, inl, inr}
 use Rattle.std.specs.List.{list_any}
+use Rattle.std.proofs.lemmas.Bool.{or_left, or_right}
 use Rattle.finite_maps.specs.Equal.{text_eq}
 use Rattle.finite_maps.proofs.EqualLaws.{and_first, and_second, and_both, nat_equality, text_equality}
 use Rattle.ecore_meta.specs.Meta.{Meta}
@@ -12,7 +13,7 @@ use Rattle.model_laws.proofs.Exchange.{has_append, or_first, or_second, or_cases
 use Rattle.model_state.specs.declared.operation.Operation.{Operation}
 use Rattle.model_state.specs.Packages.{steps_of, steps_all}
 use Rattle.footprint.specs.Interference.{op_writes, op_reads, meets, interferes, Free, NoPair}
-use Rattle.footprint.specs.Laws.{InterferenceIsSymmetric, InterferenceIsOfCells, InterferenceIsExact}
+use Rattle.footprint.specs.Laws.{InterferenceIsSymmetric, InterferenceIsOfCells, InterferenceIsExact, InterferenceHasACell}
 
 -- ---- cells
 pub cell_exact : (c d : Cell) → cell_eq c d ≡ true → c ≡ d
@@ -70,6 +71,13 @@ none_of test (x ∷ xs) out = or_neither (test x) (list_any test xs)
 pub meets_of : (xs ys : List Cell) → ((c : Cell) → has xs c ≡ true → has ys c ≡ false) → meets xs ys ≡ false
 meets_of xs ys out = none_of (has ys) xs out
 
+-- lists that meet have a cell in common
+any_in : (test : Cell → Bool) (xs : List Cell) → list_any test xs ≡ true → (c : Cell) × (has xs c ≡ true) × (test c ≡ true)
+any_in test [] h = cc
+any_in test (x ∷ xs) h = or_cases (test x) (list_any test xs) h
+    (λ here. (x, ap (λ b. b || has xs x) (cell_own x), here))
+    (λ later. let r = any_in test xs later in (r.0, or_right (cell_eq r.0 x) (has xs r.0) r.1, r.2))
+
 neither : (xs ys : List Cell) (c : Cell) → has xs c ≡ false → has ys c ≡ false → has (xs ++ ys) c ≡ false
 neither xs ys c p q = has_append xs ys c ∙ or_neither (has xs c) (has ys c) p q
 
@@ -100,6 +108,15 @@ interference_is_of_cells meta o p = refl
 
 pub interference_is_exact : InterferenceIsExact
 interference_is_exact meta o p = (keep_apart meta o p, interferes_not meta o p)
+
+pub interference_has_a_cell : InterferenceHasACell
+unfolding interferes
+interference_has_a_cell meta o p h =
+    or_cases (meets (op_writes meta o) (op_writes meta p)) (meets (op_writes meta o) (op_reads p) || meets (op_writes meta p) (op_reads o)) h
+    (λ both. let c = any_in (has (op_writes meta p)) (op_writes meta o) both in (c.0, inl (c.1, or_left (has (op_writes meta p) c.0) (has (op_reads p) c.0) c.2)))
+    (λ rest. or_cases (meets (op_writes meta o) (op_reads p)) (meets (op_writes meta p) (op_reads o)) rest
+    (λ read. let c = any_in (has (op_reads p)) (op_writes meta o) read in (c.0, inl (c.1, or_right (has (op_writes meta p) c.0) (has (op_reads p) c.0) c.2)))
+    (λ read. let c = any_in (has (op_reads o)) (op_writes meta p) read in (c.0, inr (c.1, or_right (has (op_writes meta o) c.0) (has (op_reads o) c.0) c.2))))
 
 pub symmetric_false : (meta : Meta) (o p : Operation) → interferes meta o p ≡ false → interferes meta p o ≡ false
 symmetric_false meta o p h = interferes_not meta p o (turned meta (steps_of o) (steps_of p) (keep_apart meta o p h))

@@ -1,9 +1,9 @@
 -- What is promised of cells, of interference and of operations that don't interfere.
-use Rattle.std.specs.Prelude.{◌≡◌, false, List, [], ◌∷◌, ◌++◌, Some}
+use Rattle.std.specs.Prelude.{◌≡◌, true, false, List, [], ◌∷◌, ◌++◌, ◌||◌, ◌⊎◌, Some}
 use Rattle.ecore_meta.specs.Meta.{Meta}
 use Rattle.model_state.specs.declared.step.Step.{Step}
 use Rattle.model_state.specs.State.{State}
-use Rattle.model_state.specs.Steps.{Can, fault, apply}
+use Rattle.model_state.specs.Steps.{Can, fault, writes, apply}
 use Rattle.model_state.specs.Good.{Good, Sound}
 use Rattle.model_state.specs.declared.operation.Operation.{Operation}
 use Rattle.model_state.specs.Packages.{steps_of, fold_package}
@@ -19,10 +19,14 @@ StepLeavesOthers = (meta : Meta) (m : State) → Good meta m → (s : Step) → 
 abbrev pub OperationLeavesOthers : Type 0
 OperationLeavesOthers = (meta : Meta) → Sound meta → (m n : State) → Good meta m → (o : Operation) → fold_package meta m (o ∷ []) ≡ Some n → (c : Cell) → IsCell c → has (op_writes meta o) c ≡ false → Agree meta m n c
 
--- in states that are the same for an operation, a step of it meets the same fault or none, and leaves states that are the same for it
+-- states that agree at each cell are equal
+abbrev pub StatesAreTheirCells : Type 0
+StatesAreTheirCells = (meta : Meta) (m n : State) → ((c : Cell) → IsCell c → Agree meta m n c) → m ≡ n
+
+-- in states that are the same for an operation, a step of it meets the same fault or none, writes the same, and leaves states that are the same for it
 abbrev pub StepGoesByCells : Type 0
 StepGoesByCells = (meta : Meta) (m n : State) → Good meta m → Good meta n → (o : Operation) → Same meta m n o → (earlier later : List Step) (s : Step) → steps_of o ≡ earlier ++ (s ∷ later)
-    → (fault meta m s ≡ fault meta n s) × (Can meta m s → Same meta (apply meta m s) (apply meta n s) o)
+    → (fault meta m s ≡ fault meta n s) × (writes meta m s ≡ writes meta n s) × (Can meta m s → Same meta (apply meta m s) (apply meta n s) o)
 
 -- an operation leaves a state that is the same for one that it does not interfere with
 abbrev pub OthersLeaveSame : Type 0
@@ -39,6 +43,14 @@ InterferenceIsOfCells = (meta : Meta) (o p : Operation) → interferes meta o p 
 -- two operations do not interfere exactly where no cell that one writes is written or read by the other
 abbrev pub InterferenceIsExact : Type 0
 InterferenceIsExact = (meta : Meta) (o p : Operation) → (interferes meta o p ≡ false → KeepApart meta (steps_of o) (steps_of p)) × (KeepApart meta (steps_of o) (steps_of p) → interferes meta o p ≡ false)
+
+-- one of the operations writes the cell, and the other writes or reads it
+abbrev pub MeetAt : Meta → Operation → Operation → Cell → Type 0
+MeetAt meta o p c = ((has (op_writes meta o) c ≡ true) × (has (op_writes meta p) c || has (op_reads p) c ≡ true)) ⊎ ((has (op_writes meta p) c ≡ true) × (has (op_writes meta o) c || has (op_reads o) c ≡ true))
+
+-- two operations that interfere meet at a cell
+abbrev pub InterferenceHasACell : Type 0
+InterferenceHasACell = (meta : Meta) (o p : Operation) → interferes meta o p ≡ true → (c : Cell) × MeetAt meta o p c
 
 -- two operations that do not interfere may change places
 abbrev pub OperationsExchange : Type 0

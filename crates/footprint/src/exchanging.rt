@@ -33,8 +33,8 @@ fn take<M: Change>(model: &mut M, meta: &Metamodel, steps: &[Step]) -> Result<()
     }
 }
 
-/// Of two operations that don't interfere and can be applied one after the other, applies the second and then the first. That
-/// leaves the state that the first and then the second leave. After an error the model holds some of the steps.
+/// Of two operations that don't interfere and can be applied one after the other, applies the second and then the first. The model is
+/// then as that order leaves it, which is as the first and then the second leave it. After an error the model holds some of the steps.
 pub fn exchange<M: Change>(
     model: &mut M,
     meta: &Metamodel,
@@ -46,6 +46,7 @@ pub fn exchange<M: Change>(
     requires apart { interferes meta.now first.now second.now ≡ false }
     requires possible { (n : State) × (fold_package meta.now (M.state model.old) (first.now ∷ second.now ∷ []) ≡ Some n) }
     ensures done { OnOk result (fold_package meta.now (M.state model.old) (first.now ∷ second.now ∷ []) ≡ Some (M.state model.new)) }
+    ensures swapped { OnOk result (fold_package meta.now (M.state model.old) (second.now ∷ first.now ∷ []) ≡ Some (M.state model.new)) }
     ensures good { Good meta.now (M.state model.new) }
 {
     take(model, meta, steps_of(second))?;

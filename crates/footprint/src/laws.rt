@@ -1,14 +1,15 @@
 //! The laws of cells, of interference, and of operations that don't interfere. A law is the contract of a function that does nothing.
-ghost use Rattle.footprint.specs.Laws.{StepLeavesOthers, OperationLeavesOthers, StepGoesByCells, OthersLeaveSame, InterferenceIsSymmetric, InterferenceIsOfCells, InterferenceIsExact, OperationsExchange, PackagesExchange, PackagesSideBySide};
+ghost use Rattle.footprint.specs.Laws.{StepLeavesOthers, OperationLeavesOthers, StatesAreTheirCells, StepGoesByCells, OthersLeaveSame, InterferenceIsSymmetric, InterferenceIsOfCells, InterferenceIsExact, InterferenceHasACell, OperationsExchange, PackagesExchange, PackagesSideBySide};
 
-/// A step leaves each cell that it doesn't write, and so does an operation.
+/// A step leaves each cell that it doesn't write, and so does an operation. No cell is missing: states that agree at each are equal.
 pub fn law_of_writes()
     ensures step { StepLeavesOthers }
     ensures operation { OperationLeavesOthers }
+    ensures whole { StatesAreTheirCells }
 {}
 
 /// Whether a step of an operation can be taken, and what it does, go by the cells of the operation alone: in two states that are the same
-/// for the operation it meets the same fault or none, and leaves states that are the same for it.
+/// for the operation it meets the same fault or none, writes the same, and leaves states that are the same for it.
 pub fn law_of_reads()
     ensures { StepGoesByCells }
 {}
@@ -24,6 +25,7 @@ pub fn law_of_interference()
     ensures symmetric { InterferenceIsSymmetric }
     ensures cells { InterferenceIsOfCells }
     ensures exact { InterferenceIsExact }
+    ensures cell { InterferenceHasACell }
 {}
 
 /// Two operations that don't interfere may change places, and so may packages without an interfering pair; where two such packages can
