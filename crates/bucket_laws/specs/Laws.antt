@@ -3,6 +3,7 @@ use Rattle.std.specs.Prelude.{◌≡◌, ℕ, ◌≤◌, List, Some, slice_get}
 use Rattle.ecore_meta.specs.Meta.{Meta}
 use Rattle.model_state.specs.declared.operation.Operation.{Operation}
 use Rattle.footprint.specs.Buckets.{labels, buckets}
+use Rattle.footprint.specs.declared.bucket.Bucket.{Bucket}
 use Rattle.bucket_laws.specs.Parts.{Parts}
 use Rattle.bucket_laws.specs.Order.{InOrder}
 use Rattle.bucket_laws.specs.Classes.{Linked, AreClasses}
@@ -23,3 +24,7 @@ BucketsAreClasses = (meta : Meta) (theirs mine : List Operation) → AreClasses 
 -- the buckets stand in the order of their first operations, and the places in each rise
 abbrev pub BucketsInOrder : Type 0
 BucketsInOrder = (meta : Meta) (theirs mine : List Operation) → InOrder (buckets meta theirs mine)
+
+-- a list of buckets that are the classes with operations of both sides, in order, is the buckets
+abbrev pub BucketsLeaveNoChoice : Type 0
+BucketsLeaveNoChoice = (meta : Meta) (theirs mine : List Operation) (bs : List Bucket) → AreClasses meta theirs mine bs → InOrder bs → bs ≡ buckets meta theirs mine

@@ -13,7 +13,8 @@ use Rattle.bucket_laws.specs.Parts.{Parts}
 use Rattle.bucket_laws.proofs.Rows.{buckets_are_parts}
 use Rattle.merge_laws.specs.declared.side.Side.{Side}
 use Rattle.merge_laws.specs.Merge.{drops_theirs, drops_mine, dropped, kept, merged, update_list, merge_list}
-use Rattle.merge_laws.specs.Laws.{UpdateGivesMerged, MergeGivesMerged, RevertTakesOut, MineLeads}
+use Rattle.merge_laws.specs.Laws.{UpdateGivesMerged, MergeGivesMerged, RevertTakesOut, MineLeads, MergeLeadsToMerged}
+use Rattle.tidy_laws.specs.Tidy.{tidy}
 use Rattle.tidy_laws.proofs.Whole.{tidy_keeps_effect}
 use Rattle.merge_laws.proofs.Gather.{gather}
 use Rattle.merge_laws.proofs.Choices.{theirs_apart, mine_apart, kept_apart}
@@ -93,3 +94,8 @@ mine_leads meta sound common met base work good taken since local is_met is_base
     (join meta met common work (rev_package taken) (since ++ local)
     (package_undone meta sound common met good taken is_met)
     (join meta common base work since local is_base is_work))
+
+pub merge_leads_to_merged : MergeLeadsToMerged
+merge_leads_to_merged meta sound common met base head work good taken since local theirs is_met is_base is_work is_head letters is =
+    merge_gives_merged meta sound met head work (packages_keep meta sound common met good taken is_met) theirs (tidy meta (rev_package taken ++ (since ++ local))) is_head
+    (mine_leads meta sound common met base work good taken since local is_met is_base is_work) letters is

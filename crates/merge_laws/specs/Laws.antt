@@ -34,3 +34,10 @@ abbrev pub MineLeads : Type 0
 MineLeads = (meta : Meta) → Sound meta → (common met base work : State) → Good meta common → (taken since local : List Operation)
     → fold_package meta common taken ≡ Some met → fold_package meta common since ≡ Some base → fold_package meta base local ≡ Some work
     → fold_package meta met (tidy meta (rev_package taken ++ (since ++ local))) ≡ Some work
+
+-- where the met version's packages to the head are merged into the working model, the merge's list leads from the working model to the merged one
+abbrev pub MergeLeadsToMerged : Type 0
+MergeLeadsToMerged = (meta : Meta) → Sound meta → (common met base head work : State) → Good meta common → (taken since local theirs : List Operation)
+    → fold_package meta common taken ≡ Some met → fold_package meta common since ≡ Some base → fold_package meta base local ≡ Some work → fold_package meta met theirs ≡ Some head
+    → let mine = tidy meta (rev_package taken ++ (since ++ local)) in (letters : List Side) → length letters ≡ length (buckets meta theirs mine)
+    → (n : State) × (fold_package meta work (merge_list theirs mine (buckets meta theirs mine) letters) ≡ Some n) × (merged meta met theirs mine (buckets meta theirs mine) letters ≡ Some n)

@@ -13,9 +13,13 @@ use Rattle.tidy_laws.specs.Tidy.{once, tidy, Normal}
 abbrev pub TidyFollowsRules : Type 0
 TidyFollowsRules = (meta : Meta) (p : List Operation) → Settles meta (split p) (tidy meta p)
 
--- what it leaves, it leaves as it is
+-- what it leaves is normal
 abbrev pub TidyIsNormal : Type 0
 TidyIsNormal = (meta : Meta) (p : List Operation) → Normal meta (tidy meta p)
+
+-- what it leaves, it leaves as it is
+abbrev pub TidyIsIdempotent : Type 0
+TidyIsIdempotent = (meta : Meta) (p : List Operation) → tidy meta (tidy meta p) ≡ tidy meta p
 
 -- where the package can be applied, so can the tidied one, with the same result
 abbrev pub TidyKeepsEffect : Type 0

@@ -42,7 +42,7 @@ settle meta (suc n) p = elim (once meta [] p) [ None ↦ p | Some q ↦ settle m
 unfoldable pub tidy : Meta → List Operation → List Operation
 tidy meta p = settle meta (length (split p)) (split p)
 
--- a package that tidy leaves as it is
+-- each simple operation has one step, and no rule applies at any two places
 pub record Normal (meta : Meta) (p : List Operation) : Type 0 where
   pub alone : EachAlone p
   pub settled : NoRule meta p

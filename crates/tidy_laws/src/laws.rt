@@ -1,11 +1,12 @@
 //! The laws of tidying. A law is the contract of a function that does nothing.
-ghost use Rattle.tidy_laws.specs.Laws.{TidyFollowsRules, TidyIsNormal, TidyKeepsEffect, RulesLeaveNoChoice};
+ghost use Rattle.tidy_laws.specs.Laws.{TidyFollowsRules, TidyIsNormal, TidyIsIdempotent, TidyKeepsEffect, RulesLeaveNoChoice};
 
 /// Tidying cuts simple operations into their steps and then takes its rules in order until none applies; no rule applies to what it leaves,
-/// which does what the package did; and the rules leave no choice.
+/// which tidying leaves as it is and which does what the package did; and the rules leave no choice.
 pub fn law_of_tidy()
     ensures rules { TidyFollowsRules }
     ensures normal { TidyIsNormal }
+    ensures idempotent { TidyIsIdempotent }
     ensures effect { TidyKeepsEffect }
     ensures one { RulesLeaveNoChoice }
 {}

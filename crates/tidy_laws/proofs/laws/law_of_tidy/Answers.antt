@@ -1,6 +1,7 @@
 -- By one rule after another.
 use Rattle.tidy_laws.proofs.Whole.{tidy_follows_rules, tidy_is_normal, tidy_keeps_effect}
 use Rattle.tidy_laws.proofs.Choice.{rules_leave_no_choice}
+use Rattle.tidy_laws.proofs.Again.{tidy_is_idempotent}
 use Rattle.tidy_laws.proofs.laws.law_of_tidy.Goals as goal
 
 pub returns-clause-rules : goal.returns-clause-rules
@@ -14,3 +15,6 @@ returns-clause-effect c = tidy_keeps_effect
 
 pub returns-clause-one : goal.returns-clause-one
 returns-clause-one c = rules_leave_no_choice
+
+pub returns-clause-idempotent : goal.returns-clause-idempotent
+returns-clause-idempotent c = tidy_is_idempotent
