@@ -1,6 +1,8 @@
 //! The call that tidies a package.
 ghost use Rattle.std.specs.Prelude.{◌≡◌, IfOk};
-ghost use Rattle.tidy_laws.specs.Tidy.{tidy};
+ghost use Rattle.tidy_laws.specs.Split.{split as split_of};
+ghost use Rattle.tidy_laws.specs.Rules.{Settles};
+ghost use Rattle.tidy_laws.specs.Tidy.{tidy, Normal};
 
 use crate::splitting::split;
 use crate::turns::settle;
@@ -13,7 +15,9 @@ use std::alloc::{AllocError, Global};
 /// does what the package does. Time grows with the square of the number of operations, as each is compared with those before it, up
 /// to one that interferes with it.
 pub fn tidy(alloc: Global, package: &Package, meta: &Metamodel) -> Result<Package, AllocError>
-    ensures { IfOk result (λ p. p ≡ tidy meta.now «package».now) }
+    ensures tidied { IfOk result (λ p. p ≡ tidy meta.now «package».now) }
+    ensures normal { IfOk result (λ p. Normal meta.now p) }
+    ensures rules { IfOk result (λ p. Settles meta.now (split_of «package».now) p) }
 {
     let mut list = split(alloc, package.as_slice())?;
     let mut prints = prints_of(alloc, &list, meta)?;

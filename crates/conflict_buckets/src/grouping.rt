@@ -1,6 +1,8 @@
 //! The buckets, by the labels of the operations.
 ghost use Rattle.std.specs.Prelude.{◌≡◌, ◌++◌, IfOk, length};
 ghost use Rattle.footprint.specs.Buckets.{rows, buckets};
+ghost use Rattle.bucket_laws.specs.Classes.{AreClasses};
+ghost use Rattle.bucket_laws.specs.Order.{InOrder};
 
 use crate::labelling::{labels_of, places_of};
 use ecore_meta::{List, Metamodel};
@@ -34,7 +36,9 @@ pub fn buckets(
     mine: &Package,
     meta: &Metamodel,
 ) -> Result<Buckets, AllocError>
-    ensures { IfOk result (λ b. b.rows ≡ buckets meta.now theirs.now mine.now) }
+    ensures rows { IfOk result (λ b. b.rows ≡ buckets meta.now theirs.now mine.now) }
+    ensures classes { IfOk result (λ b. AreClasses meta.now theirs.now mine.now b.rows) }
+    ensures order { IfOk result (λ b. InOrder b.rows) }
 {
     let mut prints = prints_of(alloc, theirs.as_slice(), meta)?;
     put_prints(alloc, &mut prints, mine.as_slice(), meta)?;

@@ -1,11 +1,19 @@
--- the rules leave no choice
-use Rattle.std.proofs.Common.{◌≡◌, ap, subst, ◌∙◌}
+-- the rules leave no choice, and what they leave is normal
+use Rattle.std.proofs.Common.{◌≡◌, sym, ap, subst, ◌∙◌}
 use Rattle.tidy_laws.specs.Split.{split}
 use Rattle.tidy_laws.specs.Rules.{Settles}
+use Rattle.tidy_laws.specs.Tidy.{Normal}
+use Rattle.tidy_laws.proofs.Whole.{tidy_follows_rules, tidy_is_normal}
 use Rattle.tidy_laws.proofs.Choice.{rules_leave_no_choice}
 use Rattle.canoniser.proofs.tidying.tidy.Goals as goal
 
-pub returns : goal.returns
-returns c =
+pub returns-clause-tidied : goal.returns-clause-tidied
+returns-clause-tidied c =
     let is : c.in_ok-list.list.items ≡ split c.args.package.now = c.in_ok-list.ensures ∙ ap split c.as_slice.ensures in
     c.from_vec.ensures ∙ (rules_leave_no_choice c.args.meta.now c.args.package.now c.settle.new.list.items).2 (subst (λ l. Settles c.args.meta.now l c.settle.new.list.items) is c.in_ok-settle.ensures)
+
+pub returns-clause-normal : goal.returns-clause-normal
+returns-clause-normal c = subst (Normal c.args.meta.now) (sym (returns-clause-tidied c)) (tidy_is_normal c.args.meta.now c.args.package.now)
+
+pub returns-clause-rules : goal.returns-clause-rules
+returns-clause-rules c = subst (Settles c.args.meta.now (split c.args.package.now)) (sym (returns-clause-tidied c)) (tidy_follows_rules c.args.meta.now c.args.package.now)
