@@ -2,8 +2,8 @@
 #![tactic(auto)]
 
 mod ecore;
-mod laws;
 mod fault;
+mod laws;
 mod read;
 mod reference;
 mod rows;

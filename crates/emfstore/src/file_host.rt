@@ -7,6 +7,7 @@ use std::os::unix::fs::FileExt;
 use std::rt::Files;
 
 const JOURNAL: &str = "emfstore.journal";
+
 const FOLDER: &str = ".";
 
 /// The open file, which no other program that asks for the lock writes to meanwhile.

@@ -144,7 +144,11 @@ fn show(alloc: Global, meta: &Metamodel, text: &str) -> Result<String, Fail> {
     if !is_typed_package(&package, meta) {
         return Err("steps of other types")?;
     }
-    texts(alloc, &operation_lines(alloc, package.as_slice(), meta)?, ";")
+    texts(
+        alloc,
+        &operation_lines(alloc, package.as_slice(), meta)?,
+        ";",
+    )
 }
 
 // The lines of an open composite, of its name, `: ` and its steps.
