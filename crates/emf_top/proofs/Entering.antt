@@ -1,6 +1,6 @@
 -- How an event enters the store, at each moment and at the end.
 use Rattle.std.proofs.Common.{◌≡◌, inl, inr, ⊎_elim, ℕ, Bool, true, ◌&&◌, List, [], ◌∷◌, ◌++◌, take, Option, Some, None, refl, sym, ◌∙◌, ap, subst}
-use Rattle.std.specs.Prelude.{IsTrue, map}
+use Rattle.std.specs.Prelude.{IsTrue, IsSome, map}
 use Rattle.std.proofs.lemmas.List.{append-nil}
 use Rattle.host_port.specs.Host.{Told, Disk, MayLeave, Throughout, KeepsDisk, KeepsSaid, AddsPart, disk_now, said_now, StopLeaves}
 use Rattle.host_port.proofs.Course.{still_disk}
@@ -39,6 +39,11 @@ holds_stands disk state end made holds = record { forms = stands disk.now (map e
 pub none_ready : (state : State) (event : Option Event) (ready : Option (List ℕ)) → ready ≡ None → IsReady state event ready → event ≡ None
 none_ready state None ready none is = refl
 none_ready state (Some event) ready none is = let form_is = is.0 in cc
+
+-- a record is ready for an event alone
+pub event_ready : (state : State) (event : Option Event) (ready : Option (List ℕ)) → IsReady state event ready → IsSome ready → IsSome event
+event_ready state None ready is some = subst (λ (o : Option (List ℕ)). IsSome o) is some
+event_ready state (Some event) ready is some = refl
 
 -- the event of a record that is ready
 pub record IsOf (state : State) (event : Option Event) (form : List ℕ) : Type 0 where

@@ -22,7 +22,7 @@ use Rattle.emf_top.specs.declared.top.Status.TheVariants.{Accepted, Refused, Bad
 use Rattle.emf_top.specs.declared.session.SessionFault.{SessionFault}
 use Rattle.emf_top.specs.declared.session.SessionFault.TheVariants as session
 use Rattle.emf_top.specs.Session.{Holds, IfDamaged}
-use Rattle.emf_top.specs.Headline.{script, said_by, made_by, least_of, outcome, Ends, NothingRose, IsFoundDamaged, IsUnsaid, IsHalted, IsKept, session_status}
+use Rattle.emf_top.specs.Headline.{script, said_by, made_by, least_of, outcome, Ends, NothingRose, IsFoundDamaged, IsUnsaid, IsUnopened, IsUnanswered, IsHalted, IsKept, session_status}
 use Rattle.emf_top.proofs.Opening.{IsMounting}
 
 pub same_events : (file : List ℕ) (first made : List Event) → Stands file first → Stands file made → first ≡ made
@@ -44,6 +44,9 @@ unsaid_from s c first entry a b same e = record {
   stands = e.stands;
 }
 
+unanswered_from : (s : State) (c : Script) (first : List Event) (entry a b : Told) → said_now a ≡ said_now entry → IsUnanswered s c first a b → IsUnanswered s c first entry b
+unanswered_from s c first entry a b same e = record { done = e.done; item = e.item; left = e.left; items = e.items; event = e.event; said = e.said ∙ ap (λ (l : List ℕ). l ++ replies decide play s e.done) same; stands = e.stands }
+
 ends_from : (s : State) (c : Script) (first : List Event) (entry a b : Told) → said_now a ≡ said_now entry → (status : Status) → Ends s c first a b status → Ends s c first entry b status
 ends_from s c first entry a b same Accepted e = (record { said = e.0.said ∙ ap (λ (l : List ℕ). l ++ said_by s c) same; stands = e.0.stands }, e.1, e.2)
 ends_from s c first entry a b same Refused e = (record { said = e.0.said ∙ ap (λ (l : List ℕ). l ++ said_by s c) same; stands = e.0.stands }, e.1, e.2)
@@ -52,8 +55,18 @@ ends_from s c first entry a b same WriteFault e = unsaid_from s c first entry a 
 ends_from s c first entry a b same (Damaged at) e = e
 ends_from s c first entry a b same BadWords e = e
 ends_from s c first entry a b same ReadFault e = halted_from s c first entry a b same e
-ends_from s c first entry a b same DiskFault e = ⊎_elim (λ h. inl (halted_from s c first entry a b same h)) (λ u. inr (unsaid_from s c first entry a b same u)) e
+ends_from s c first entry a b same DiskFault e = ⊎_elim (λ h. inl (record { said = h.said ∙ same; stands = h.stands })) (λ u. inr (unanswered_from s c first entry a b same u)) e
 ends_from s c first entry a b same Memory e = halted_from s c first entry a b same e
+
+-- no command was answered
+pub none_answered : (s : State) (c : Script) (first : List Event) (entry a : Told) → IsUnopened first entry a → IsHalted s c first entry a
+none_answered s c first entry a e = record {
+  done = [];
+  left = c.items;
+  items = refl;
+  said = e.said ∙ sym (append-nil (said_now entry));
+  stands = subst (λ (l : List Event). Stands (disk_now a).now l) (sym (append-nil first)) e.stands;
+}
 
 -- the opening
 module _ (entry a : Told) (course : GoesOn entry a) (said : KeepsSaid entry a) (mounting : Throughout entry a (λ disk said. IsMounting (disk_now entry) disk)) (first : List Event) (stood : Stands (disk_now entry).now first) (s : State) (c : Script) where
@@ -70,16 +83,13 @@ module _ (entry a : Told) (course : GoesOn entry a) (said : KeepsSaid entry a) (
       (mounting told t low high)
 
   -- before the first line
-  pub unopened_halted : MayLeave (disk_now a) (disk_now a).now → IsTrue entry.tells → IsHalted s c first entry a
-  unopened_halted left told = record {
-    done = [];
-    left = c.items;
-    items = refl;
-    said = said_kept_now entry a course said told ∙ sym (append-nil (said_now entry));
-    stands = subst (λ (l : List Event). Stands (disk_now a).now l) (sym (append-nil first)) (⊎_elim
+  pub unopened : MayLeave (disk_now a) (disk_now a).now → IsTrue entry.tells → IsUnopened first entry a
+  unopened left told = record {
+    said = said_kept_now entry a course said told;
+    stands = ⊎_elim
         (λ before. subst (λ d. Stands d.now first) (sym before) stood)
         (λ same. record { forms = same (disk_now a).now left (map event_form first) stood.forms; playable = stood.playable })
-        (at_last entry a (λ disk said. IsMounting (disk_now entry) disk) course mounting told));
+        (at_last entry a (λ disk said. IsMounting (disk_now entry) disk) course mounting told);
   }
 
   -- and then the lines
@@ -147,14 +157,14 @@ complete s c first entry b Memory e none read write disk = inr refl
 -- a store that was not opened
 module _ (entry a : Told) (fault : SessionFault) (never : fault ≡ session.SayFault → ⊥)
     (damage : IfDamaged fault (λ at. IsTrue entry.tells → IsDamaged (disk_now entry).now at × StandsForNoEvents (disk_now entry).now × ((disk_now a).now ≡ (disk_now entry).now))) where
-  pub unopened_ends : (s : State) (c : Script) (first : List Event) → IsTrue entry.tells → Stands (disk_now entry).now first → IsHalted s c first entry a → Ends s c first entry a (session_status fault)
-  unopened_ends s c first told stood halted = go fault never damage
+  pub unopened_ends : (s : State) (c : Script) (first : List Event) → IsTrue entry.tells → Stands (disk_now entry).now first → IsUnopened first entry a → Ends s c first entry a (session_status fault)
+  unopened_ends s c first told stood ended = go fault never damage
     where
       go : (f : SessionFault) → (f ≡ session.SayFault → ⊥) → IfDamaged f (λ at. IsTrue entry.tells → IsDamaged (disk_now entry).now at × StandsForNoEvents (disk_now entry).now × ((disk_now a).now ≡ (disk_now entry).now)) → Ends s c first entry a (session_status f)
-      go session.DiskFault n d = inl halted
+      go session.DiskFault n d = inl ended
       go session.SayFault n d = absurd (n refl)
       go (session.Damaged at) n d = (d told).1 first stood
-      go session.Memory n d = halted
+      go session.Memory n d = none_answered s c first entry a ended
 
   pub unopened_damaged : KeepsSaid entry a → (at : ℕ) → session_status fault ≡ Damaged at → IsFoundDamaged entry a at
   unopened_damaged said at is = go fault damage is

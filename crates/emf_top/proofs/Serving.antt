@@ -1,12 +1,12 @@
 -- The loop over the lines of the input.
-use Rattle.std.proofs.Common.{◌⊎◌, inr, inl, ⊎_elim, ◌≡◌, ℕ, List, ◌++◌, Bool, false, ◌||◌, Option, Some, None, Err, append_assoc, refl, sym, ◌∙◌, ap, subst}
-use Rattle.std.specs.Prelude.{IsTrue}
+use Rattle.std.proofs.Common.{◌⊎◌, inr, inl, ⊎_elim, ◌≡◌, ℕ, List, [], ◌∷◌, ◌++◌, Bool, false, ◌||◌, Option, Some, None, Err, append_assoc, refl, sym, ◌∙◌, ap, subst}
+use Rattle.std.specs.Prelude.{IsTrue, IsSome}
 use Rattle.std.proofs.lemmas.List.{append-nil}
 use Rattle.host_port.specs.Host.{MayLeave, Told, GoesOn, Throughout, KeepsDisk, KeepsSaid, KeepsInput, AddsPart, disk_now, said_now}
 use Rattle.host_port.specs.Cut.{Item, Script, script_from, with_item, ends_by}
 use Rattle.host_port.specs.declared.lines.LineFault.{LineFault}
 use Rattle.host_port.specs.declared.lines.LineFault.TheVariants as faults
-use Rattle.host_port.proofs.Course.{at_last, course_on, course_still, told_next, kept_now}
+use Rattle.host_port.proofs.Course.{at_last, course_on, course_still, told_next, kept_now, said_kept_now}
 use Rattle.command_runs.specs.Runs.{listed, played, after, replies, events, refuses}
 use Rattle.command_runs.specs.Stops.{IsRunning, IsStepping}
 use Rattle.command_runs.proofs.Going.{Going, Steps, quietly, begins, one_more, stepped_part, stepped_moments, events_done, items_more}
@@ -20,7 +20,7 @@ use Rattle.emf_top.specs.declared.session.SessionFault.{SessionFault}
 use Rattle.emf_top.specs.declared.session.SessionFault.TheVariants as session
 use Rattle.emf_top.specs.declared.top.Status.TheVariants.{ReadFault}
 use Rattle.emf_top.specs.Session.{Holds, IfMade, GotItem}
-use Rattle.emf_top.specs.Headline.{IsServed, IsUnsaid, IsHalted, Ends, input_status, session_status, end_of, outcome, said_by, made_by, refused_in, least_of}
+use Rattle.emf_top.specs.Headline.{IsServed, IsUnsaid, IsUnanswered, IsHalted, Ends, input_status, session_status, end_of, outcome, said_by, made_by, refused_in, least_of}
 use Rattle.emf_top.proofs.Entering.{rest_leaves, holds_stands}
 
 -- a run between two commands, where the store rests
@@ -126,6 +126,12 @@ module _ (entry b d : Told) (made : List Event) (s0 : State) (whole next : Scrip
   pub answered_moments : Throughout entry d (IsRunning Stands made (made_by s0 whole) (least_of s0 whole) (said_now entry))
   answered_moments = stepped_moments decide play Stands entry made s0 whole b d (with_item item.line item.block next) state refused (λ events. Holds (disk_now b) state end events) going course item next refl steps
 
+  kept_too : Stands (disk_now d).now ((made ++ events decide play s0 going.done) ++ listed (decide state item).event) → Stands (disk_now d).now (made ++ events decide play s0 (going.done ++ item ∷ []))
+  kept_too stood = subst (λ (l : List Event). Stands (disk_now d).now l)
+      (append_assoc made (events decide play s0 going.done) (listed (decide state item).event)
+      ∙ ap (λ (l : List Event). made ++ l) (sym (events_done decide play Stands entry made s0 whole b d (with_item item.line item.block next) state refused (λ events. Holds (disk_now b) state end events) going course item next refl steps)))
+      stood
+
   -- its reply was not said whole, and it is kept
   pub unsaid_kept : IsTrue b.tells → Stands (disk_now d).now ((made ++ events decide play s0 going.done) ++ listed (decide state item).event) → IsUnsaid s0 whole made entry d
   unsaid_kept told_b stood = record {
@@ -135,18 +141,23 @@ module _ (entry b d : Told) (made : List Event) (s0 : State) (whole next : Scrip
     items = items_more decide play Stands entry made s0 whole b d (with_item item.line item.block next) state refused (λ events. Holds (disk_now b) state end events) going course item next refl steps;
     said = subst (λ (l : List ℕ). AddsPart l (decide (played play s0 (events decide play s0 going.done)) item).reply (said_now d)) going.said
         (subst (λ (t : State). AddsPart (said_now b) (decide t item).reply (said_now d)) going.state_is (at_last b d (λ disk said. AddsPart (said_now b) (decide state item).reply said) on part told_b));
-    stands = subst (λ (l : List Event). Stands (disk_now d).now l)
-        (append_assoc made (events decide play s0 going.done) (listed (decide state item).event)
-        ∙ ap (λ (l : List Event). made ++ l) (sym (events_done decide play Stands entry made s0 whole b d (with_item item.line item.block next) state refused (λ events. Holds (disk_now b) state end events) going course item next refl steps)))
-        stood;
+    stands = kept_too stood;
   }
 
   -- it was being written, and is kept or not
-  pub written_or_not : IsTrue b.tells → MayLeave (disk_now d) (disk_now d).now → IsHalted s0 whole made entry d ⊎ IsUnsaid s0 whole made entry d
-  written_or_not told_b left = ⊎_elim
-      (λ (stood, same). inl (record { done = going.done; left = (with_item item.line item.block next).items; items = going.items; said = same ∙ going.said; stands = stood }))
-      (λ stood. inr (unsaid_kept told_b stood))
-      (at_last b d (IsStepping Stands (made ++ events decide play s0 going.done) (decide state item).event (said_now b)) on (moments (made ++ events decide play s0 going.done) going.rest) told_b (disk_now d).now left)
+  pub unanswered : IsTrue b.tells → KeepsSaid b d × IsSome (decide state item).event → MayLeave (disk_now d) (disk_now d).now → IsUnanswered s0 whole made entry d
+  unanswered told_b quiet left = record {
+    done = going.done;
+    item = item;
+    left = next.items;
+    items = items_more decide play Stands entry made s0 whole b d (with_item item.line item.block next) state refused (λ events. Holds (disk_now b) state end events) going course item next refl steps;
+    event = subst (λ (t : State). IsSome (decide t item).event) going.state_is quiet.1;
+    said = said_kept_now b d on quiet.0 told_b ∙ going.said;
+    stands = ⊎_elim
+        (λ (stood, same). inl stood)
+        (λ stood. inr (kept_too stood))
+        (at_last b d (IsStepping Stands (made ++ events decide play s0 going.done) (decide state item).event (said_now b)) on (moments (made ++ events decide play s0 going.done) going.rest) told_b (disk_now d).now left);
+  }
 
   module _ (now : State) (end_next : ℕ) (added : (events : List Event) → Holds (disk_now b) state end events → Holds (disk_now d) now end_next (events ++ listed (decide state item).event)) where
     -- the reply was not said
@@ -191,15 +202,15 @@ module _ (entry a b d : Told) (s0 : State) (e0 : ℕ) (whole : Script) (failed :
 
   pub step_fault_ends : (fault : SessionFault) (now : State) (end_next : ℕ)
       → IfMade (Err fault) (IsTrue b.tells → (events : List Event) → Holds (disk_now b) state end events → Holds (disk_now d) now end_next (events ++ listed (decide state item).event))
-      → ((at : ℕ) → fault ≡ session.Damaged at → ⊥) → (fault ≡ session.Memory → KeepsDisk b d × KeepsSaid b d) → (IsTrue d.tells → MayLeave (disk_now d) (disk_now d).now)
+      → ((at : ℕ) → fault ≡ session.Damaged at → ⊥) → (fault ≡ session.Memory → KeepsDisk b d × KeepsSaid b d) → (fault ≡ session.DiskFault → KeepsSaid b d × IsSome (decide state item).event) → (IsTrue d.tells → MayLeave (disk_now d) (disk_now d).now)
       → IsTrue entry.tells → (made : List Event) → Holds (disk_now entry) s0 e0 made → Ends s0 whole made entry d (session_status fault)
-  step_fault_ends session.DiskFault now end_next added never quiet left told made holds =
+  step_fault_ends session.DiskFault now end_next added never quiet unsaid_yet left told made holds =
       let told_b = told_next entry b course_b told in
-      written_or_not entry b d made s0 whole (script_from takes_block place_b (pending_b ++ b.left)) item state end refused (item_between told made holds) course_b step_on part moments told_b (left (told_next b d step_on told_b))
-  step_fault_ends session.SayFault now end_next added never quiet left told made holds =
+      inr (unanswered entry b d made s0 whole (script_from takes_block place_b (pending_b ++ b.left)) item state end refused (item_between told made holds) course_b step_on part moments told_b (unsaid_yet refl) (left (told_next b d step_on told_b)))
+  step_fault_ends session.SayFault now end_next added never quiet unsaid_yet left told made holds =
       unsaid entry b d made s0 whole (script_from takes_block place_b (pending_b ++ b.left)) item state end refused (item_between told made holds) course_b step_on part moments now end_next (added (told_next entry b course_b told)) (told_next entry b course_b told)
-  step_fault_ends (session.Damaged at) now end_next added never quiet left told made holds = absurd (never at refl)
-  step_fault_ends session.Memory now end_next added never quiet left told made holds =
+  step_fault_ends (session.Damaged at) now end_next added never quiet unsaid_yet left told made holds = absurd (never at refl)
+  step_fault_ends session.Memory now end_next added never quiet unsaid_yet left told made holds =
       let item_left = with_item item.line item.block (script_from takes_block place_b (pending_b ++ b.left)) in
       let keeps = quiet refl in
       halted entry d made s0 whole item_left state end refused (looked entry b d made s0 whole item_left state end refused (item_between told made holds) course_b step_on keeps.0 keeps.1 told item_left refl)

@@ -1,5 +1,5 @@
 -- What a run says and makes, and how it ends.
-use Rattle.std.specs.Prelude.{◌≡◌, ◌⊎◌, ℕ, ◌-◌, List, [], ◌∷◌, ◌++◌, Bool, true, false, length, Option, Some, None, IsTrue}
+use Rattle.std.specs.Prelude.{◌≡◌, ◌⊎◌, ℕ, ◌-◌, List, [], ◌∷◌, ◌++◌, Bool, true, false, length, Option, Some, None, IsSome, IsTrue}
 use Rattle.host_port.specs.Host.{Told, disk_now, said_now, Rose, KeepsSaid, AddsPart}
 use Rattle.host_port.specs.Cut.{Item, Script, script_of}
 use Rattle.host_port.specs.declared.lines.LineFault.{LineFault}
@@ -71,6 +71,22 @@ pub record IsUnsaid (s : State) (commands : Script) (first : List Event) (before
   pub said : AddsPart (said_now before ++ replies decide play s done) (decide (played play s (events decide play s done)) item).reply (said_now now)
   pub stands : Stands (disk_now now).now (first ++ events decide play s (done ++ item ∷ []))
 
+-- nothing was said, and the file stands for the first events alone
+pub record IsUnopened (first : List Event) (before now : Told) : Type 0 where
+  pub said : said_now now ≡ said_now before
+  pub stands : Stands (disk_now now).now first
+
+-- A command that makes an event was on its way: nothing of its reply was said, and its event is kept whole or not at all.
+-- Each command before it is kept, and its reply was said.
+pub record IsUnanswered (s : State) (commands : Script) (first : List Event) (before now : Told) : Type 0 where
+  pub done : List Item
+  pub item : Item
+  pub left : List Item
+  pub items : commands.items ≡ (done ++ item ∷ []) ++ left
+  pub event : IsSome (decide (played play s (events decide play s done)) item).event
+  pub said : said_now now ≡ said_now before ++ replies decide play s done
+  pub stands : Stands (disk_now now).now (first ++ events decide play s done) ⊎ Stands (disk_now now).now (first ++ events decide play s (done ++ item ∷ []))
+
 -- the first commands are answered and their events kept, and of the others nothing is said and nothing kept
 pub record IsHalted (s : State) (commands : Script) (first : List Event) (before now : Told) : Type 0 where
   pub done : List Item
@@ -83,8 +99,8 @@ pub record IsHalted (s : State) (commands : Script) (first : List Event) (before
 abbrev pub IsKept : State → Script → List Event → Told → Told → Type 0
 IsKept s commands first before now = IsAmong Stands first (made_by s commands) (least_of s commands (length (said_now now) - length (said_now before))) (disk_now now).now
 
--- A run ends so, where the file stood for the first events. At a disk fault the command that was being written is not
--- kept, or it is kept whole.
+-- A run ends so, where the file stood for the first events. A disk fault comes while the store is opened, or while a
+-- command's event is on its way.
 abbrev pub Ends : State → Script → List Event → Told → Told → Status → Type 0
 Ends s commands first before now Accepted = IsServed s commands first before now × (outcome s commands ≡ Accepted) × (now.left ≡ [])
 Ends s commands first before now Refused = IsServed s commands first before now × (outcome s commands ≡ Refused) × (now.left ≡ [])
@@ -93,7 +109,7 @@ Ends s commands first before now WriteFault = IsUnsaid s commands first before n
 Ends s commands first before now (Damaged at) = ⊥
 Ends s commands first before now BadWords = ⊥
 Ends s commands first before now ReadFault = IsHalted s commands first before now
-Ends s commands first before now DiskFault = IsHalted s commands first before now ⊎ IsUnsaid s commands first before now
+Ends s commands first before now DiskFault = IsUnopened first before now ⊎ IsUnanswered s commands first before now
 Ends s commands first before now Memory = IsHalted s commands first before now
 
 -- the answer to a fault of the session

@@ -1,5 +1,5 @@
 //! One command after another: decided, written, made, and answered.
-ghost use Rattle.std.specs.Prelude.{◌≡◌, ◌≢◌, ◌⊎◌, ◌++◌, ℕ, List, Option, None, IsTrue, IfOk, OnOk, IfErr, OnErr, IsErrOf, false};
+ghost use Rattle.std.specs.Prelude.{◌≡◌, ◌≢◌, ◌⊎◌, ◌++◌, ℕ, List, Option, None, IsTrue, IfOk, OnOk, IfErr, OnErr, IsErrOf, IsSome, true, false};
 ghost use Rattle.host_port.specs.Host.{disk_now, said_now, Rose, GoesOn, Throughout, KeepsDisk, KeepsSaid, KeepsInput, AddsPart, StopLeaves};
 ghost use Rattle.command_runs.specs.Runs.{listed, after};
 ghost use Rattle.command_runs.specs.Stops.{IsStepping};
@@ -92,6 +92,8 @@ fn enter<H: Host>(
     ensures entering { (state : State) (event : Option Event) → IsReady state event ready → (made : List Event) → Holds (disk_now (H.told host.old)) state journal.old.end made
         → Throughout (H.told host.old) (H.told host.new) (λ disk _. IsEntering made event disk) }
     ensures fault { IfErr result (λ e. e ≡ DiskFault) }
+    ensures broken { OnErr result (journal.new.broken ≡ true) }
+    ensures event { OnErr result (IsSome ready) }
     ensures cause { IsErrOf result SessionFault.DiskFault → Rose (H.told host.old).disk_faults (H.told host.new).disk_faults }
     ensures course { GoesOn (H.told host.old) (H.told host.new) }
     ensures said { KeepsSaid (H.told host.old) (H.told host.new) }
@@ -190,8 +192,12 @@ impl Session {
         ensures state { IfMade result (self.new.repo ≡ after play self.old.repo (decide self.old.repo item.now).event) }
         ensures added { IfMade result (IsTrue (H.told host.old).tells → (made : List Event) → Holds (disk_now (H.told host.old)) self.old.repo self.old.journal.end made
             → Holds (disk_now (H.told host.new)) self.new.repo self.new.journal.end (made ++ listed (decide self.old.repo item.now).event)) }
-        ensures whole { OnOk result (self.new.journal.broken ≡ false) }
-        ensures end { OnOk result (self.new.repo.end ≡ self.new.journal.end) }
+        ensures whole { IfMade result (self.new.journal.broken ≡ false) }
+        ensures end { IfMade result (self.new.repo.end ≡ self.new.journal.end) }
+        // A disk fault comes with a command that makes an event, before any byte of the reply is said, and breaks the session.
+        ensures event { IsErrOf result SessionFault.DiskFault → IsSome (decide self.old.repo item.now).event }
+        ensures unsaid { IsErrOf result SessionFault.DiskFault → KeepsSaid (H.told host.old) (H.told host.new) }
+        ensures broken { IsErrOf result SessionFault.DiskFault → self.new.journal.broken ≡ true }
         // At each moment a front of the reply is said, and none of it before a stop leaves the event.
         ensures part { Throughout (H.told host.old) (H.told host.new) (λ _ said. AddsPart (said_now (H.told host.old)) (decide self.old.repo item.now).reply said) }
         ensures moments { (made : List Event) → Holds (disk_now (H.told host.old)) self.old.repo self.old.journal.end made

@@ -4,12 +4,12 @@ use Rattle.command_runs.specs.Runs.{played}
 use Rattle.plain_repository.specs.State.{empty}
 use Rattle.plain_repository.specs.Events.{play}
 use Rattle.emf_top.specs.Headline.{script}
-use Rattle.emf_top.proofs.Headlines.{unopened_halted, opening_part, opening_moments, whole_ends, whole_part, whole_moments, unopened_ends, unopened_damaged, unopened_damages, status_disk, status_say}
+use Rattle.emf_top.proofs.Headlines.{none_answered, unopened, opening_part, opening_moments, whole_ends, whole_part, whole_moments, unopened_ends, unopened_damaged, unopened_damages, status_disk, status_say}
 use Rattle.emf_top.proofs.top.run_store.Goals as goal
 
 pub returns-in-Err-clause-ends : goal.returns-in-Err-clause-ends
 returns-in-Err-clause-ends g c = λ told first stood. rw c.status_of.ensures (unopened_ends (g.H.Host.told c.args.host.now) (g.H.Host.told c.mount.new.host) c.in-Err.fault c.in-Err.ensures.never c.in-Err.ensures.damaged (played play empty first) (script (g.H.Host.told c.args.host.now).left) first told stood
-    (unopened_halted (g.H.Host.told c.args.host.now) (g.H.Host.told c.mount.new.host) c.mount.ensures.course c.mount.ensures.said c.mount.ensures.moments first stood (played play empty first) (script (g.H.Host.told c.args.host.now).left)
+    (unopened (g.H.Host.told c.args.host.now) (g.H.Host.told c.mount.new.host) c.mount.ensures.course c.mount.ensures.said c.mount.ensures.moments first stood (played play empty first) (script (g.H.Host.told c.args.host.now).left)
     (g.met.H.Host.now_is_left c.mount.new.host (g.H.Host.told c.mount.new.host).clock (told_next (g.H.Host.told c.args.host.now) (g.H.Host.told c.mount.new.host) c.mount.ensures.course told) (omega arith)) told))
 
 pub returns-in-Err-clause-part : goal.returns-in-Err-clause-part
@@ -31,7 +31,7 @@ pub returns-in-Err-clause-write : goal.returns-in-Err-clause-write
 returns-in-Err-clause-write g c = λ is. absurd (c.in-Err.ensures.never (status_say c.in-Err.fault (sym c.status_of.ensures ∙ is)))
 
 pub returns-in_default-clause-ends : goal.returns-in_default-clause-ends
-returns-in_default-clause-ends g c = λ told first stood. (unopened_halted (g.H.Host.told c.args.host.now) (g.H.Host.told c.mount.new.host) c.mount.ensures.course c.mount.ensures.said c.mount.ensures.moments first stood (played play empty first) (script (g.H.Host.told c.args.host.now).left)
+returns-in_default-clause-ends g c = λ told first stood. none_answered (played play empty first) (script (g.H.Host.told c.args.host.now).left) first (g.H.Host.told c.args.host.now) (g.H.Host.told c.mount.new.host) (unopened (g.H.Host.told c.args.host.now) (g.H.Host.told c.mount.new.host) c.mount.ensures.course c.mount.ensures.said c.mount.ensures.moments first stood (played play empty first) (script (g.H.Host.told c.args.host.now).left)
     (g.met.H.Host.now_is_left c.mount.new.host (g.H.Host.told c.mount.new.host).clock (told_next (g.H.Host.told c.args.host.now) (g.H.Host.told c.mount.new.host) c.mount.ensures.course told) (omega arith)) told)
 
 pub returns-in_default-clause-part : goal.returns-in_default-clause-part

@@ -43,7 +43,7 @@ returns-in-Ok-None-clause-part g c = λ made holds told. looked_part (g.H.Host.t
 pub returns-in-Err-step-clause-ends : goal.returns-in-Err-step-clause-ends
 returns-in-Err-step-clause-ends g c = λ told made holds. rw c.status_of.ensures (step_fault_ends (g.H.Host.told c.args.host.now) (g.H.Host.told c.commands.host) (g.H.Host.told c.next_item.new.host) (g.H.Host.told c.step.new.host) c.args.session.now.repo c.args.session.now.journal.end (script_from takes_block c.args.lines.now.place (c.args.lines.now.pending ++ (g.H.Host.told c.args.host.now).left)) c.commands.lines.failed c.commands.lines.place c.commands.lines.pending c.commands.refused c.commands.session.repo c.commands.session.journal.end c.commands.session.journal.broken c.commands.invariant c.next_item.ensures.course c.next_item.ensures.disk c.next_item.ensures.said
     c.in-Ok-Some.item c.next_item.new.lines.place c.next_item.new.lines.pending (rw c.in-Ok-Some.field-0-is at c.in-Ok-Some.ensures.item)
-    c.step.ensures.course c.step.ensures.part c.step.ensures.moments c.in-Err-step.fault c.step.new.self.repo c.step.new.self.journal.end c.in-Err-step.ensures.added c.in-Err-step.ensures.never (λ is. c.in-Err-step.ensures.memory (rw is refl))
+    c.step.ensures.course c.step.ensures.part c.step.ensures.moments c.in-Err-step.fault c.step.new.self.repo c.step.new.self.journal.end c.in-Err-step.ensures.added c.in-Err-step.ensures.never (λ is. c.in-Err-step.ensures.memory (rw is refl)) (λ is. (c.in-Err-step.ensures.unsaid (rw is refl), c.in-Err-step.ensures.event (rw is refl)))
     (λ told_d. g.met.H.Host.now_is_left c.step.new.host (g.H.Host.told c.step.new.host).clock told_d (omega arith)) told made holds)
 
 pub returns-in-Err-step-clause-part : goal.returns-in-Err-step-clause-part

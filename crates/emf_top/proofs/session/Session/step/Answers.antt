@@ -1,4 +1,5 @@
 use Rattle.std.proofs.Common.{ℕ, ◌++◌, sym, ◌∙◌, ap, subst}
+use Rattle.std.specs.Prelude.{IsSome}
 use Rattle.std.proofs.lemmas.List.{append-nil}
 use Rattle.host_port.specs.Host.{disk_now, said_now}
 use Rattle.host_port.proofs.Course.{still_disk, still_said}
@@ -8,7 +9,7 @@ use Rattle.op_form.specs.declared.event.Event.{Event}
 use Rattle.plain_repository.specs.Events.{play}
 use Rattle.plain_repository.specs.Repository.{decide, decide_line}
 use Rattle.emf_top.specs.Session.{Holds, answered_as}
-use Rattle.emf_top.proofs.Entering.{quiet_step, none_added}
+use Rattle.emf_top.proofs.Entering.{quiet_step, none_added, event_ready}
 use Rattle.emf_top.proofs.Answering.{decide_skipped, decide_read, entered_moments, said_added, said_moments, said_part, said_whole}
 use Rattle.emf_top.proofs.session.Session.step.Goals as goal
 
@@ -35,6 +36,10 @@ returns-in_default-clause-moments g c = λ made holds. quiet_step (g.H.Host.told
 
 pub returns-in_err-enter-clause-moments : goal.returns-in_err-enter-clause-moments
 returns-in_err-enter-clause-moments g c = entered_moments (g.H.Host.told c.args.host.now) (g.H.Host.told c.enter.new.host) c.args.self.now.repo c.args.self.now.journal.end c.plan.new.self.journal.end (decide c.args.self.now.repo c.args.item.now) ((decide_line c.args.self.now.repo c.args.item.now.line c.args.item.now.block).event) (ap end_of c.plan.ensures.journal) (ap (λ (o : Answer Event). o.event) (sym (decide_read c.args.self.now.repo c.args.item.now (sym c.is_skipped.ensures ∙ c.if-is_skipped.false)))) c.enter.ensures.course c.enter.ensures.said (c.enter.ensures.entering c.args.self.now.repo ((decide_line c.args.self.now.repo c.args.item.now.line c.args.item.now.block).event) c.in-Ok.ensures.plan.ready)
+
+pub returns-in_err-enter-clause-event : goal.returns-in_err-enter-clause-event
+returns-in_err-enter-clause-event g c = λ is. subst (λ (o : Answer Event). IsSome o.event) (sym (decide_read c.args.self.now.repo c.args.item.now (sym c.is_skipped.ensures ∙ c.if-is_skipped.false)))
+    (event_ready c.args.self.now.repo ((decide_line c.args.self.now.repo c.args.item.now.line c.args.item.now.block).event) _ c.in-Ok.ensures.plan.ready c.in_err-enter.ensures.event)
 
 pub returns-in-Ok-say-clause-refused : goal.returns-in-Ok-say-clause-refused
 returns-in-Ok-say-clause-refused g c = c.in-Ok.ensures.plan.answered ∙ ap (λ (o : Answer Event). answered_as o.refused) (sym (decide_read c.args.self.now.repo c.args.item.now (sym c.is_skipped.ensures ∙ c.if-is_skipped.false)))
