@@ -1,5 +1,5 @@
 //! Measures calls of the libraries on inputs that it makes: a metamodel built of its rows, a package spelled and read again, a history of
-//! many versions, and the cells of operations.
+//! many versions, the cells of operations, and the conflicts of two packages.
 #![tactic(auto)]
 
 mod fault;
@@ -10,14 +10,21 @@ mod plan;
 mod prints;
 mod rows;
 
+ghost use Rattle.std.specs.Prelude.{◌≡◌};
+ghost use Rattle.footprint.specs.Buckets.{buckets as buckets_of};
+
 use anyhow::Result;
-use ecore_meta::build;
+use conflict_buckets::{buckets, pairs};
+use ecore_meta::{Metamodel, build};
 use fault::MeasureFault;
-use footprint::prints_of;
+use footprint::{Buckets, prints_of};
 use forms::{package_of, read_again};
 use histories::{CALLS, history_of, make};
+use merge_choices::{merge_package, update_package};
+use merge_laws::Side;
+use model_state::Package;
 use op_form::encode;
-use packages::{metamodel, settings};
+use packages::{Shape, metamodel, settings, side_of};
 use plan::{Task, read_plan};
 use prints::count_interfering;
 use rows::rows_of;
@@ -117,6 +124,62 @@ fn measure_prints(rt: &HostRuntime, is_timed: bool, operations: u32) -> Result<(
     print_time(rt, is_timed, "test", testing)
 }
 
+fn measure_pairs(rt: &HostRuntime, is_timed: bool, shape: Shape, operations: u32) -> Result<()> {
+    let alloc = rt.alloc();
+    let meta = metamodel(alloc)?;
+    let theirs = side_of(alloc, shape, operations, false)?;
+    let mine = side_of(alloc, shape, operations, true)?;
+    let start = Instant::now(rt)?;
+    let found = pairs(alloc, &theirs, &mine, &meta)?;
+    let pairing = start.elapsed(rt)?;
+    println!(rt; "pairs {shape:?} {operations}: {} pairs", found.len())?;
+    print_time(rt, is_timed, "pairs", pairing)
+}
+
+/// An update and a merge that keep mine of each bucket.
+fn measure_choices(
+    rt: &HostRuntime,
+    is_timed: bool,
+    theirs: &Package,
+    mine: &Package,
+    found: &Buckets,
+    meta: &Metamodel,
+) -> Result<()>
+    requires { found.now.rows ≡ buckets_of meta.now theirs.now mine.now }
+{
+    let alloc = rt.alloc();
+    let choices = vec![in alloc; Side::Mine; found.rows.len()]?;
+    let start = Instant::now(rt)?;
+    let update = update_package(alloc, theirs, mine, found, &choices, meta)?;
+    let updating = start.elapsed(rt)?;
+    let start = Instant::now(rt)?;
+    let merge = merge_package(alloc, theirs, mine, found, &choices, meta)?;
+    let merging = start.elapsed(rt)?;
+    println!(rt;
+        "an update of {} operations, a merge of {}",
+        update.len(),
+        merge.len()
+    )?;
+    print_time(rt, is_timed, "update", updating)?;
+    print_time(rt, is_timed, "merge", merging)
+}
+
+fn measure_merge(rt: &HostRuntime, is_timed: bool, shape: Shape, operations: u32) -> Result<()> {
+    let alloc = rt.alloc();
+    let meta = metamodel(alloc)?;
+    let theirs = side_of(alloc, shape, operations, false)?;
+    let mine = side_of(alloc, shape, operations, true)?;
+    let start = Instant::now(rt)?;
+    let found = buckets(alloc, &theirs, &mine, &meta)?;
+    let grouping = start.elapsed(rt)?;
+    println!(rt;
+        "merge {shape:?} {operations}: {} buckets",
+        found.rows.len()
+    )?;
+    print_time(rt, is_timed, "buckets", grouping)?;
+    measure_choices(rt, is_timed, &theirs, &mine, &found, &meta)
+}
+
 fn main(rt: HostRuntime) -> Result<()> {
     let alloc = rt.alloc();
     let words: Vec<String> = env::args(&rt)?.skip(1).collect(alloc)?;
@@ -136,6 +199,18 @@ fn main(rt: HostRuntime) -> Result<()> {
                 tags,
             } => measure_history(&rt, plan.is_timed, versions, branches, tags)?,
             Task::Prints { operations } => measure_prints(&rt, plan.is_timed, operations)?,
+            Task::Pairs { shape, operations } => measure_pairs(
+                &rt,
+                plan.is_timed,
+                shape,
+                operations,
+            )?,
+            Task::Merge { shape, operations } => measure_merge(
+                &rt,
+                plan.is_timed,
+                shape,
+                operations,
+            )?,
         }
     }
     Ok(())

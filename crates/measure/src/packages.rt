@@ -1,5 +1,5 @@
 //! Packages of operations that interfere in a known way, over a metamodel of one class.
-ghost use Rattle.std.specs.Prelude.{◌≡◌, IfOk, length};
+ghost use Rattle.std.specs.Prelude.{◌≡◌, ◌<◌, ◌^◌, IfOk, length};
 
 use crate::fault::MeasureFault;
 use crate::rows::rows_of;
@@ -16,8 +16,21 @@ pub(crate) fn metamodel(alloc: Global) -> Result<Metamodel, MeasureFault> {
     Ok(build(alloc, &rows)?)
 }
 
+/// How two packages interfere.
+#[derive(Clone, Copy, Debug, PartialEq, Drop)]
+pub enum Shape {
+    /// No operation interferes with another.
+    Apart,
+    /// Each operation of the one interferes with one of the other, and with no more.
+    Each,
+    /// All operations interfere.
+    One,
+    /// Composites of twenty steps, a tenth of which interfere with one of the other package each.
+    Composites,
+}
+
 /// The step that sets the text of the element of that number.
-fn setting(alloc: Global, element: u32) -> Result<Step, MeasureFault> {
+fn setting(alloc: Global, element: u64) -> Result<Step, MeasureFault> {
     Ok(Step::Put {
         e: Id::read(alloc, format!(in alloc; "n{element}")?.as_str())?,
         f: 0,
@@ -41,7 +54,64 @@ pub(crate) fn settings(alloc: Global, operations: u32) -> Result<Package, Measur
 {
     let mut package = List::new(alloc);
     for element in 0..operations {
-        package.push(single(alloc, setting(alloc, element)?)?)?;
+        package.push(single(alloc, setting(alloc, element as u64)?)?)?;
+    }
+    Ok(package)
+}
+
+/// How many steps a composite has.
+const STEPS: u64 = 20;
+
+/// A composite that sets the texts of elements of its own.
+fn composite(alloc: Global, number: u64) -> Result<Operation, MeasureFault>
+    requires { number < 2 ^ 34 }
+{
+    let mut steps = List::new(alloc);
+    for k in 0..STEPS {
+        steps.push(setting(alloc, number * STEPS + k)?)?;
+    }
+    Ok(Operation::Composite {
+        name: Text::new(alloc, "texts")?,
+        steps,
+    })
+}
+
+/// The operation of a number, of the first of two packages or of the second, of so many operations each.
+fn operation_of(
+    alloc: Global,
+    shape: Shape,
+    operations: u32,
+    is_second: bool,
+    number: u32,
+) -> Result<Operation, MeasureFault> {
+    let size = operations as u64;
+    let number = number as u64;
+    match shape {
+        Shape::Apart => {
+            let first = if is_second { size } else { 0 };
+            single(alloc, setting(alloc, first + number)?)
+        }
+        Shape::Each => single(alloc, setting(alloc, number)?),
+        Shape::One => single(alloc, setting(alloc, 0)?),
+        Shape::Composites => {
+            let first = if is_second { size - size / 10 } else { 0 };
+            composite(alloc, first + number)
+        }
+    }
+}
+
+/// The first of two packages of a shape, or the second.
+pub(crate) fn side_of(
+    alloc: Global,
+    shape: Shape,
+    operations: u32,
+    is_second: bool,
+) -> Result<Package, MeasureFault>
+    ensures count { IfOk result (λ p. length p ≡ operations) }
+{
+    let mut package = List::new(alloc);
+    for number in 0..operations {
+        package.push(operation_of(alloc, shape, operations, is_second, number)?)?;
     }
     Ok(package)
 }

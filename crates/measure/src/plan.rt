@@ -1,6 +1,7 @@
 //! The words of the command line.
 
 use crate::fault::MeasureFault;
+use crate::packages::Shape;
 use ecore_meta::List;
 use std::alloc::Global;
 
@@ -26,6 +27,16 @@ pub enum Task {
     Prints {
         operations: u32,
     },
+    /// The interfering pairs of two packages, each of so many operations.
+    Pairs {
+        shape: Shape,
+        operations: u32,
+    },
+    /// The buckets of two such packages, an update and a merge of them.
+    Merge {
+        shape: Shape,
+        operations: u32,
+    },
 }
 
 /// What the words ask for, in their order, and whether times are printed.
@@ -39,6 +50,27 @@ fn number(word: &String) -> Result<u32, MeasureFault> {
     word.as_str()
         .parse::<u32>()
         .map_err(|_| MeasureFault::Usage)
+}
+
+fn shape_named(word: &String) -> Result<Shape, MeasureFault> {
+    match word.as_str() {
+        "apart" => Ok(Shape::Apart),
+        "each" => Ok(Shape::Each),
+        "one" => Ok(Shape::One),
+        "composites" => Ok(Shape::Composites),
+        _ => Err(MeasureFault::Usage),
+    }
+}
+
+/// The task of a word behind which a shape stands.
+fn shaped_task(word: &str, shape: &String, operations: &String) -> Result<Task, MeasureFault> {
+    let shape = shape_named(shape)?;
+    let operations = number(operations)?;
+    match word {
+        "pairs" => Ok(Task::Pairs { shape, operations }),
+        "merge" => Ok(Task::Merge { shape, operations }),
+        _ => Err(MeasureFault::Usage),
+    }
 }
 
 /// Reads the words behind the program's name.
@@ -75,6 +107,10 @@ pub(crate) fn read_plan(alloc: Global, words: &[String]) -> Result<Plan, Measure
             ("prints", [operations, more @ ..]) => {
                 let operations = number(operations)?;
                 tasks.push(Task::Prints { operations })?;
+                rest = more;
+            }
+            (word, [shape, operations, more @ ..]) => {
+                tasks.push(shaped_task(word, shape, operations)?)?;
                 rest = more;
             }
             _ => return Err(MeasureFault::Usage),
