@@ -8,7 +8,7 @@ ghost use Rattle.step_apply.specs.View.{plain_state};
 
 use crate::metamodels::metamodel;
 use crate::reading::step;
-use crate::{limits, looks, places, recordings, references, steps};
+use crate::{cells, limits, looks, packages, places, recordings, references, steps};
 use ecore_meta::Metamodel;
 use model_laws::replay;
 use std::alloc::Global;
@@ -19,9 +19,11 @@ use step_apply::Plain;
 // Which calls a table has.
 #[derive(Clone, Copy, Drop)]
 pub(crate) enum Calls {
+    Cells,
     Edits,
     Limits,
     Looks,
+    Packages,
     Places,
     References,
     Steps,
@@ -70,9 +72,11 @@ fn answer(
     requires good { Good meta.now (plain_state plain.old) }
 {
     match calls {
+        Calls::Cells => cells::answer(alloc, meta, call),
         Calls::Edits => recordings::answer(alloc, meta, plain, call),
         Calls::Limits => limits::answer(alloc, call),
         Calls::Looks => looks::answer(alloc, meta, plain, call),
+        Calls::Packages => packages::answer(alloc, meta, call),
         Calls::Places => places::answer(alloc, meta, plain, call),
         Calls::References => references::answer(alloc, meta, plain, call),
         Calls::Steps => steps::answer(alloc, meta, plain, call),

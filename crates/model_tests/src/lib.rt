@@ -4,6 +4,8 @@
 #[cfg(test)]
 mod answers;
 #[cfg(test)]
+mod cells;
+#[cfg(test)]
 mod deep;
 #[cfg(test)]
 mod histories;
@@ -15,6 +17,8 @@ mod lines;
 mod looks;
 #[cfg(test)]
 mod metamodels;
+#[cfg(test)]
+mod packages;
 #[cfg(test)]
 mod places;
 #[cfg(test)]
