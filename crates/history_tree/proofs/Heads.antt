@@ -1,6 +1,6 @@
 -- The last version on a branch.
 use Rattle.std.proofs.Common.{◌≡◌, ◌≢◌, rules, ℕ, zero, suc, ◌+◌, ◌<◌, ◌≤◌, nat_eq, Bool, true, false, cond, List, [], ◌∷◌, ◌++◌, length, refl, ◌∙◌, ap, arith}
-use Rattle.std.specs.Prelude.{All, slice_get}
+use Rattle.std.specs.Prelude.{All, Some, slice_get}
 use Rattle.std.specs.Option.{option_map_or}
 use Rattle.std.proofs.lemmas.Bool.{eqb-true}
 use Rattle.std.proofs.lemmas.List.Elements.{All-head, All-tail}
@@ -58,3 +58,29 @@ pub head_other : (h : History) (v : Version) (branch : ℕ) → v.branch ≢ bra
 head_other h v branch apart =
     last_on_more branch h.versions v 0 (start_of h branch)
     ∙ ap (λ b. cond b (0 + length h.versions) (head h branch)) (other_number v.branch branch apart)
+
+-- where no version is on the branch, what was found before stays
+last_none : (branch : ℕ) (vs : List Version) (n found : ℕ) → ((u : ℕ) (x : Version) → slice_get vs u ≡ Some x → x.branch ≢ branch) → last_on branch vs n found ≡ found
+last_none branch [] n found none = refl
+last_none branch (w ∷ vs) n found none =
+    ap (λ b. last_on branch vs (suc n) (cond b n found)) (other_number w.branch branch (none 0 w refl)) ∙ last_none branch vs (suc n) found (λ u x there. none (suc u) x there)
+
+-- a version on the branch is found, where none after it is on the branch
+last_here : (branch : ℕ) (vs : List Version) (n found k : ℕ) (x : Version) → slice_get vs k ≡ Some x → x.branch ≡ branch
+    → ((u : ℕ) (y : Version) → k < u → slice_get vs u ≡ Some y → y.branch ≢ branch) → last_on branch vs n found ≡ n + k
+last_here branch [] n found k x there on later = absurd cc
+last_here branch (w ∷ vs) n found zero x there on later =
+    let same : w ≡ x = cc in
+    let here : nat_eq w.branch branch ≡ true = ap (λ (y : Version). nat_eq y.branch branch) same ∙ ap (λ k. nat_eq k branch) on ∙ same_number branch in
+    ap (λ b. last_on branch vs (suc n) (cond b n found)) here ∙ last_none branch vs (suc n) n (λ u y at. later (suc u) y (omega arith) at) ∙ omega arith
+last_here branch (w ∷ vs) n found (suc k) x there on later =
+    last_here branch vs (suc n) (cond (nat_eq w.branch branch) n found) k x there on (λ u y low at. later (suc u) y (omega (arith, low)) at) ∙ omega arith
+
+-- the last version on a branch is its head
+pub head_last : (h : History) (v : ℕ) (version : Version) → slice_get h.versions v ≡ Some version
+    → ((u : ℕ) (x : Version) → v < u → slice_get h.versions u ≡ Some x → x.branch ≢ version.branch) → head h version.branch ≡ v
+head_last h v version there later = last_here version.branch h.versions 0 (start_of h version.branch) v version there refl later ∙ omega arith
+
+-- a branch without a version has its start as its head
+pub head_start : (h : History) (branch : ℕ) → ((u : ℕ) (x : Version) → slice_get h.versions u ≡ Some x → x.branch ≢ branch) → head h branch ≡ start_of h branch
+head_start h branch none = last_none branch h.versions 0 (start_of h branch) none

@@ -3,3 +3,4 @@ pub mod Heads
 pub mod HeadsBeside
 pub mod Paths
 pub mod Steady
+mod Leading

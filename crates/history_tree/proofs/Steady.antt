@@ -162,7 +162,7 @@ pub whole_first : IsWhole first_history
 whole_first = record {
   some_version = omega arith;
   some_branch = omega arith;
-  parents = (tt, tt);
+  parents = (refl, tt);
   branches = All-from_recursion (λ (v : Version). v.branch < 1) first_history.versions (omega arith, tt);
   merged = All-from_recursion (λ (v : Version). All (λ u. u < 1) v.merged) first_history.versions (λ k d within. absurd (omega (arith, within)), tt);
   starts = All-from_recursion (λ (b : Branch). b.start < 1) first_history.branches (omega arith, tt);

@@ -1,7 +1,7 @@
 -- What holds of paths and heads.
-use Rattle.std.specs.Prelude.{◌≡◌, ◌≢◌, ℕ, ◌<◌, List, [], ◌∷◌, ◌++◌, Option, None, Some, length, slice_get}
+use Rattle.std.specs.Prelude.{◌≡◌, ◌≢◌, ℕ, ◌<◌, List, [], ◌∷◌, ◌++◌, Option, None, Some, length, slice_get, All}
 use Rattle.history_tree.specs.declared.version.Version.{Version}
-use Rattle.history_tree.specs.History.{History, with_version, path, head}
+use Rattle.history_tree.specs.History.{History, with_version, path, start_of, head}
 use Rattle.history_tree.specs.Whole.{IsWhole}
 
 -- the path of a parent, where there is one
@@ -13,9 +13,33 @@ path_of_parent h (Some parent) = path h parent
 abbrev pub PathsGoByParents : Type 0
 PathsGoByParents = (h : History) → IsWhole h → (v : ℕ) (version : Version) → slice_get h.versions v ≡ Some version → path h v ≡ path_of_parent h version.parent ++ v ∷ []
 
+-- each number is below all that follow it
+abbrev pub Rises : List ℕ → Type 0
+Rises [] = Unit {0}
+Rises (u ∷ us) = All (λ v. u < v) us × Rises us
+
+-- the list begins with version 0, rises, and ends with that version
+pub record LeadsTo (v : ℕ) (us : List ℕ) : Type 0 where
+  pub first : slice_get us 0 ≡ Some 0
+  pub rises : Rises us
+  pub last : (before : List ℕ) × (us ≡ before ++ v ∷ [])
+
+-- so does each path
+abbrev pub PathsLead : Type 0
+PathsLead = (h : History) → IsWhole h → (v : ℕ) → v < length h.versions → LeadsTo v (path h v)
+
 -- a further version leaves the path of each version that is there
 abbrev pub PathsStay : Type 0
 PathsStay = (h : History) (version : Version) (v : ℕ) → v < length h.versions → path (with_version h version) v ≡ path h v
+
+-- the last version on a branch is its head
+abbrev pub HeadIsLast : Type 0
+HeadIsLast = (h : History) (v : ℕ) (version : Version) → slice_get h.versions v ≡ Some version
+    → ((u : ℕ) (x : Version) → v < u → slice_get h.versions u ≡ Some x → x.branch ≢ version.branch) → head h version.branch ≡ v
+
+-- a branch without a version has its start as its head
+abbrev pub HeadIsStart : Type 0
+HeadIsStart = (h : History) (branch : ℕ) → ((u : ℕ) (x : Version) → slice_get h.versions u ≡ Some x → x.branch ≢ branch) → head h branch ≡ start_of h branch
 
 -- a further version is the head of its branch
 abbrev pub LastIsHead : Type 0

@@ -1,11 +1,11 @@
 -- What holds of every history that the calls make: each number that stands in it names something.
-use Rattle.std.specs.Prelude.{ℕ, suc, ◌<◌, List, [], ◌∷◌, Option, None, Some, length, All}
+use Rattle.std.specs.Prelude.{◌≡◌, ℕ, suc, ◌<◌, List, [], ◌∷◌, Option, None, Some, length, All}
 use Rattle.history_tree.specs.declared.version.Version.{Version}
 use Rattle.history_tree.specs.History.{History}
 
--- the parent, where there is one, comes before the version of that number
+-- the parent comes before the version of that number; version 0 alone has none
 abbrev pub ComesBefore : Option ℕ → ℕ → Type 0
-ComesBefore None v = Unit {0}
+ComesBefore None v = v ≡ 0
 ComesBefore (Some parent) v = parent < v
 
 -- so for each version, numbered from n on
