@@ -77,7 +77,7 @@ module _ (a s l : Told) (sync_course : GoesOn a s) (sync_moments : Throughout a 
       (λ told t low high. sync_leaves (disk_now a) (s.disk t) (sync_moments told t low high))
       (λ told_s t low high. synced_leaves (disk_now a) (l.disk t) (len_disk told_s t low high ∙ stable told)) told
 
-  now_to_len : Throughout a l (λ disk said. disk.now ≡ (disk_now a).now)
+  pub now_to_len : Throughout a l (λ disk said. disk.now ≡ (disk_now a).now)
   now_to_len told = carry_on a s l (λ disk said. disk.now ≡ (disk_now a).now) sync_course len_course
       (λ told t low high. ⊎_elim (ap (λ (d : Disk). d.now)) (ap (λ (d : Disk). d.now)) (sync_moments told t low high))
       (λ told_s t low high. ap (λ (d : Disk). d.now) (len_disk told_s t low high ∙ stable told)) told

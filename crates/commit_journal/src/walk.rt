@@ -122,6 +122,8 @@ impl Walk {
         ensures damaged { IfErr result (λ fault. IfDamaged fault (λ at. IsTrue (H.told host.old).tells → IsNoHeader (disk_now (H.told host.old)).now at)) }
         ensures nothing { IfErr result (λ fault. IfDamaged fault (λ _. IsTrue (H.told host.old).tells → StandsForNone (disk_now (H.told host.old)).now)) }
         ensures kept { IfErr result (λ fault. IfDamaged fault (λ _. Throughout (H.told host.old) (H.told host.new) (λ disk _. disk.now ≡ (disk_now (H.told host.old)).now))) }
+        // A file that is long enough to hold a record reads as it was at each moment, whatever the answer.
+        ensures long { 17 < length (disk_now (H.told host.old)).now → Throughout (H.told host.old) (H.told host.new) (λ disk _. disk.now ≡ (disk_now (H.told host.old)).now) }
         ensures cause { IsErrOf result JournalFault.DiskFault → Rose (H.told host.old).disk_faults (H.told host.new).disk_faults }
         ensures memory { ¬ IsErrOf result JournalFault.Memory }
         ensures alone { RaisesDiskAlone (H.told host.old) (H.told host.new) }
