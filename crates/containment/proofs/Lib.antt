@@ -15,3 +15,4 @@ pub mod Reranks
 pub mod PlaceRefusals
 pub mod Walks
 pub mod ContainerLists
+pub mod Keeps

@@ -1,6 +1,6 @@
 -- Refusals at a place.
 use Rattle.std.proofs.lemmas.Bool.Decides.{nat_tests}
-use Rattle.std.proofs.Common.{◌≡◌, ℕ, Bool, true, false, cond, not, List, refl, ap, ◌∙◌, arith, nat_le, length}
+use Rattle.std.proofs.Common.{◌≡◌, ℕ, Bool, true, false, cond, not, List, [], refl, ap, ◌∙◌, arith, nat_le, length}
 use Rattle.std.specs.Prelude.{Option, None, Some, is_some}
 use Rattle.std.specs.FinMap.{FinMap, get, entries}
 use Rattle.finite_maps.specs.Maps.{count, tally}
@@ -13,7 +13,9 @@ use Rattle.model_state.specs.Keys.{Name, id_cmp}
 use Rattle.model_state.specs.Listing.{children, entry_cmp}
 use Rattle.model_state.specs.State.{State, place_eq}
 use Rattle.model_state.specs.Steps.{may_move}
-use Rattle.edit_laws.specs.Spot.{end_spot}
+use Rattle.edit_laws.specs.Spot.{end_spot, rank_for, ranks_of, spot_by}
+use Rattle.edit_laws.specs.Places.{rerank_places}
+use Rattle.containment.proofs.Reranks.{no_reranks}
 use Rattle.edit_laws.proofs.Lists.{tally-filter}
 use Rattle.edit_laws.proofs.Creates.{spot_of}
 use Rattle.opposites.proofs.RankLaws.{length_tally, true_too}
@@ -38,6 +40,15 @@ own_le n = grind (arith, nat_tests)
 -- at the end only the rank is asked for
 pub end_refused : (xs : List Entry) → spot_refusal xs None ≡ cond (is_some (end_spot xs).rank) None (Some Bound)
 end_refused xs = ap (λ b. cond b (cond (is_some (end_spot xs).rank) None (Some Bound)) (Some NoEntry)) (own_le (length xs))
+
+-- where there is a rank behind the last entry, the others keep theirs
+pub end_kept : (xs : List Entry) (r : ℕ) → rank_for (ranks_of xs) (length xs) ≡ Some r → (rerank_places xs (end_spot xs).ranks ≡ []) × ((end_spot xs).rank ≡ Some r) × (spot_refusal xs None ≡ None)
+end_kept xs r is =
+    let rank : (end_spot xs).rank ≡ Some r = ap (λ o. (spot_by o xs (length xs)).rank) is in (
+      ap (λ o. rerank_places xs (spot_by o xs (length xs)).ranks) is ∙ no_reranks xs,
+      rank,
+      end_refused xs ∙ ap (λ o. cond (is_some o) None (Some Bound)) rank,
+    )
 
 -- ---- the three tests of an arrival, by those of its spot
 pub arrival_refused : (a b c : Bool) (e : MoveFault) → cond a (cond c None (Some Bound)) (Some NoEntry) ≡ Some e → cond a (cond b (cond c None (Some Bound)) (Some Bound)) (Some NoEntry) ≡ Some e

@@ -1,5 +1,5 @@
 -- The steps of a call that is not refused can be taken one by one, and lead to the model that the edit is to leave.
-use Rattle.std.specs.Prelude.{◌≡◌, ℕ, List, ◌∷◌, Option, None, Some, true, false}
+use Rattle.std.specs.Prelude.{◌≡◌, ℕ, List, ◌∷◌, Option, None, Some, true, false, length, unwrap_or}
 use Rattle.std.specs.FinMap.{get}
 use Rattle.ecore_meta.specs.Meta.{Meta}
 use Rattle.model_state.specs.declared.step.Place.{Place}
@@ -10,9 +10,13 @@ use Rattle.model_state.specs.Steps.{fold}
 use Rattle.model_state.specs.Typing.{is_concrete}
 use Rattle.model_state.specs.Good.{Good, Sound}
 use Rattle.model_state.specs.Chains.{IsChain}
+use Rattle.model_state.specs.Listing.{children}
+use Rattle.edit_laws.specs.References.{without_entry}
+use Rattle.edit_laws.specs.Standing.{Placed}
 use Rattle.edit_laws.specs.Places.{create_after, create_made}
 use Rattle.containment.specs.Subtree.{children_of, each, is_among, subtree_of}
 use Rattle.containment.specs.Deletes.{delete_after, delete_made}
+use Rattle.containment.specs.Stays.{Keeps}
 use Rattle.containment.specs.Refusals.{IsPlace, create_refusal, move_refusal}
 use Rattle.containment.specs.Moves.{IsMove, move_after}
 use Rattle.containment.specs.Containers.{containers_of}
@@ -50,3 +54,18 @@ SubtreeIsLive = (meta : Meta) (m : State) → Good meta m → (e : Name) → is_
 -- a place's containers are its chain, and no other list is
 abbrev pub ContainersAreChain : Type 0
 ContainersAreChain = (meta : Meta) (m : State) → Good meta m → (p : Place) (xs : List Name) → IsChain m.place (Some p) xs → containers_of m p ≡ xs
+
+-- an element that is created stands last in its place, and each other place is as it was
+abbrev pub CreatedStands : Type 0
+CreatedStands = (meta : Meta) → Sound meta → (m : State) → Good meta m → (e : Name) (c : ℕ) (p : Place) → is_live m e ≡ false → is_concrete meta c ≡ true → IsPlace meta m p → create_refusal meta m c p ≡ None
+    → Placed m (create_after m e c p) e p (length (children m.place m.prank p))
+
+-- an element that moves stands at the index of the others of its new place, None for their end, and each other place is as it was, the old one without it
+abbrev pub MovedStands : Type 0
+MovedStands = (meta : Meta) → Sound meta → (m : State) → Good meta m → (e : Name) (to : Place) (at : Option ℕ) → is_live m e ≡ true → IsPlace meta m to
+    → (down : List Name) → IsChain m.place (Some to) down → move_refusal meta m e to down at ≡ None
+    → Placed m (move_after m e to at) e to (unwrap_or at (length (without_entry e (children m.place m.prank to))))
+
+-- a deletion keeps what stays, as it was
+abbrev pub DeleteKeeps : Type 0
+DeleteKeeps = (meta : Meta) (m : State) → Good meta m → (e : Name) → Keeps m (delete_after meta m e) e

@@ -5,4 +5,5 @@ pub mod Refusals
 pub mod EditFaults
 pub mod Moves
 pub mod Containers
+pub mod Stays
 pub mod Laws

@@ -7,7 +7,7 @@ ghost use Rattle.containment.specs.Refusals.{IsRefusal, create_refusal};
 
 use crate::MoveFault;
 use crate::place::{has_room, may_stand};
-use crate::spots::{Spot, find_spot};
+use crate::spots::{Spot, last_spot};
 use ecore_meta::{List, Metamodel};
 use model_state::{Id, Look, Place, Step};
 use std::alloc::{AllocError, Global};
@@ -28,11 +28,10 @@ pub fn creation_spot<L: Look>(
     if !may_stand(look, meta, class, place) {
         return Err(MoveFault::WrongType);
     }
-    let there = look.children(alloc, place)?;
-    if !has_room(look, meta, place, there.as_slice()) {
+    if !has_room(look, meta, place) {
         return Err(MoveFault::Bound);
     }
-    find_spot(alloc, there, None)
+    last_spot(alloc, look, place)
 }
 
 /// The steps that create an element of a class at its spot, last in a place: the reranks of the others where there is no

@@ -1,21 +1,25 @@
 //! The laws of containment: what creations, moves and deletions lead to, and what subtrees and chains of containers
 //! are.
-ghost use Rattle.containment.specs.Laws.{ContainersAreChain, CreateLeads, DeleteLeads, MoveLeads, SubtreeIsBelow, SubtreeIsInOrder, SubtreeIsLive};
+ghost use Rattle.containment.specs.Laws.{ContainersAreChain, CreateLeads, CreatedStands, DeleteKeeps, DeleteLeads, MoveLeads, MovedStands, SubtreeIsBelow, SubtreeIsInOrder, SubtreeIsLive};
 
 /// The steps of a creation that is not refused lead to a model in which the element is live, last in its place.
 pub fn law_of_creations()
-    ensures { CreateLeads }
+    ensures leads { CreateLeads }
+    ensures stands { CreatedStands }
 {}
 
 /// The steps of a move that is not refused lead to a model in which the element stands at that index of that place.
 pub fn law_of_moves()
-    ensures { MoveLeads }
+    ensures leads { MoveLeads }
+    ensures stands { MovedStands }
 {}
 
-/// The steps of a deletion lead to the model without the subtree of the element: its maps have none of the subtree's
-/// elements, and a reference stays where both its ends stay.
+/// The steps of a deletion lead to the model without the subtree of the element: an element is there as it was exactly
+/// where it isn't the deleted one and doesn't have it among its containers, and a reference exactly where both its ends
+/// stay.
 pub fn law_of_deletions()
-    ensures { DeleteLeads }
+    ensures leads { DeleteLeads }
+    ensures keeps { DeleteKeeps }
 {}
 
 /// The subtree of an element is the element and then the subtrees of its children in order, and these are the element and

@@ -11,7 +11,7 @@ ghost use Rattle.containment.specs.Moves.{HasRefusal, IsMove, IsMoveRefusal};
 
 use crate::MoveFault;
 use crate::place::{has_room, may_move};
-use crate::spots::find_spot;
+use crate::spots::{arrival_spot, find_spot};
 use ecore_meta::{List, Metamodel};
 use model_state::{Id, Look, Place, Placed, Step, chain};
 use opposites::{index_or_end, stands_at, without_entry};
@@ -76,10 +76,8 @@ fn move_to<L: Look>(
     ensures taken { OnOk result (first_refusal (arrival_tests meta.now (L.state look.now) to.now (children (L.state look.now).place (L.state look.now).prank to.now) at) ≡ None) }
     ensures refused { IfErr result (λ x. IsRefusal (first_refusal (arrival_tests meta.now (L.state look.now) to.now (children (L.state look.now).place (L.state look.now).prank to.now) at)) x) }
 {
-    let there = look.children(alloc, to)?;
-    let is_roomy = has_room(look, meta, to, there.as_slice());
-    let spot = find_spot(alloc, there, at)?;
-    if !is_roomy {
+    let spot = arrival_spot(alloc, look, to, at)?;
+    if !has_room(look, meta, to) {
         return Err(MoveFault::Bound);
     }
     let mut steps = spot.steps;

@@ -1,13 +1,12 @@
 //! The tests of a place: whether it is one, whether it takes a class, and whether its upper bound lets one more in.
 ghost use Rattle.std.specs.Prelude.{◌≡◌};
 ghost use Rattle.finite_maps.specs.Maps.{is_below};
-ghost use Rattle.model_state.specs.Listing.{children};
 ghost use Rattle.model_state.specs.Steps.{has_room, may_move, may_stand};
 ghost use Rattle.model_state.specs.Typing.{child_upper, contains_kind, kind_of};
 ghost use Rattle.containment.specs.Refusals.{is_place};
 
 use ecore_meta::{Kind, Metamodel};
-use model_state::{Entry, Look, Place, child_upper, class_has, may_contain};
+use model_state::{Look, Place, child_upper, class_has, may_contain};
 
 /// Whether the feature is a containment.
 pub fn is_containment(meta: &Metamodel, f: u32) -> bool
@@ -68,12 +67,11 @@ fn is_roomy(meta: &Metamodel, f: u32, n: usize) -> bool
 }
 
 /// Whether the place has room for one more than the elements there.
-pub fn has_room<L: Look>(look: &L, meta: &Metamodel, place: &Place, there: &[Entry]) -> bool
-    requires { there.now ≡ children (L.state look.now).place (L.state look.now).prank place.now }
+pub fn has_room<L: Look>(look: &L, meta: &Metamodel, place: &Place) -> bool
     ensures { result ≡ has_room meta.now (L.state look.now) place.now }
 {
     match place {
         Place::Root => true,
-        Place::Inside { feature, .. } => is_roomy(meta, *feature, there.len()),
+        Place::Inside { feature, .. } => is_roomy(meta, *feature, look.child_count(place)),
     }
 }

@@ -70,7 +70,7 @@ fn incoming_unlink<L: Look>(
     ensures { IfOk result (λ s. s ≡ incoming_unlink meta.now (L.state look.now).row e.now row.now) }
 {
     let opposite = opposite_of(meta, row.feature);
-    let mirror = rank_of_mirror(alloc, look, opposite, &row.source, e)?;
+    let mirror = rank_of_mirror(look, opposite, &row.source, e);
     unlink_step(
         alloc,
         opposite,

@@ -1,13 +1,14 @@
 //! The rank of an element at an index of a place, with the reranks of the others where no rank is free.
 ghost use Rattle.std.specs.Prelude.{◌≡◌, ◌<◌, true, not, IfOk, IfErr, OnOk, None, Some, is_some, length, unwrap_or};
 ghost use Rattle.std.specs.Option.{option_copied};
-ghost use Rattle.edit_laws.specs.Spot.{evened, rank_for, ranks_of, spot};
+ghost use Rattle.edit_laws.specs.Spot.{end_spot, evened, rank_for, ranks_of, spot};
 ghost use Rattle.edit_laws.specs.Places.{rerank_places};
+ghost use Rattle.model_state.specs.Listing.{children};
 ghost use Rattle.containment.specs.Refusals.{IsRefusal, others_in, spot_refusal};
 
 use crate::MoveFault;
 use ecore_meta::List;
-use model_state::{Entry, Id, Look, Place, Step};
+use model_state::{Entry, Id, Look, Place, Step, rank_between};
 use opposites::{Opening, index_or_end, without_entry};
 use std::alloc::{AllocError, Global};
 
@@ -70,6 +71,53 @@ pub fn find_spot(alloc: Global, others: List<Entry>, at: Option<u32>) -> Result<
         steps: reranks(alloc, &opening)?,
         rank: opening.rank,
     })
+}
+
+/// The rank behind the last element of the place, None where there is no room.
+fn rank_behind<L: Look>(look: &L, place: &Place) -> Option<u64>
+    ensures { let xs = children (L.state look.now).place (L.state look.now).prank place.now in result ≡ rank_for (ranks_of xs) (length xs) }
+{
+    rank_between(look.last_child(place).unwrap_or(0), None)
+}
+
+/// The spot behind the last element of a place. The elements there are listed only where they are to be ranked anew.
+/// Refused with Bound.
+pub fn last_spot<L: Look>(alloc: Global, look: &L, place: &Place) -> Result<Spot, MoveFault>
+    ensures steps { IfOk result (λ s. let xs = children (L.state look.now).place (L.state look.now).prank place.now in s.steps ≡ rerank_places xs (end_spot xs).ranks) }
+    ensures rank { IfOk result (λ s. (end_spot (children (L.state look.now).place (L.state look.now).prank place.now)).rank ≡ Some s.rank) }
+    ensures taken { OnOk result (spot_refusal (children (L.state look.now).place (L.state look.now).prank place.now) None ≡ None) }
+    ensures refused { IfErr result (λ e. IsRefusal (spot_refusal (children (L.state look.now).place (L.state look.now).prank place.now) None) e) }
+{
+    if let Some(rank) = rank_behind(look, place) {
+        return Ok(Spot {
+            steps: List::new(alloc),
+            rank,
+        });
+    }
+    let there = look.children(alloc, place)?;
+    find_spot(alloc, there, None)
+}
+
+/// The spot of an element that comes to a place, at an index of the elements there, None for their end. Refused with
+/// NoEntry before Bound.
+pub fn arrival_spot<L: Look>(
+    alloc: Global,
+    look: &L,
+    place: &Place,
+    at: Option<u32>,
+) -> Result<Spot, MoveFault>
+    ensures steps { IfOk result (λ s. let xs = children (L.state look.now).place (L.state look.now).prank place.now in s.steps ≡ rerank_places xs (spot xs (unwrap_or at (length xs))).ranks) }
+    ensures rank { IfOk result (λ s. let xs = children (L.state look.now).place (L.state look.now).prank place.now in (spot xs (unwrap_or at (length xs))).rank ≡ Some s.rank) }
+    ensures taken { OnOk result (spot_refusal (children (L.state look.now).place (L.state look.now).prank place.now) at ≡ None) }
+    ensures refused { IfErr result (λ e. IsRefusal (spot_refusal (children (L.state look.now).place (L.state look.now).prank place.now) at) e) }
+{
+    match at {
+        None => last_spot(alloc, look, place),
+        Some(_) => {
+            let there = look.children(alloc, place)?;
+            find_spot(alloc, there, at)
+        }
+    }
 }
 
 /// The elements of the place, but for the one that is skipped.

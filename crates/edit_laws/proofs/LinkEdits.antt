@@ -67,7 +67,7 @@ module _ (meta : Meta) (sound : Sound meta) (m : State) (good : Good meta m) (a 
   b_same : (g : ℕ) (is : opposite_of meta f ≡ Some g) (y : Name) → get (next (Some g) is) (b, g, y) ≡ get (left (Some g)) (b, g, y)
   b_same g is y = ranked_other a f (targets (left (Some g)) a f) (spot (targets (left (Some g)) a f) k).ranks (left (Some g)) (b, g, y) (not_of a f b g y (sound.other f g is))
 
-  others_are : (o : Option ℕ) (is : opposite_of meta f ≡ o) → targets_there (next o is) o b ≡ others_there meta m.row o b
+  pub others_are : (o : Option ℕ) (is : opposite_of meta f ≡ o) → targets_there (next o is) o b ≡ others_there meta m.row o b
   others_are None is = refl
   others_are (Some g) is =
       targets_alike (next (Some g) is) (left (Some g)) b g (b_same g is)

@@ -84,7 +84,7 @@ module _ (m : State) (p : Place) where
         | false ↦ λ _. mapped es all.1
       ] refl
 
-  children_there : AllByRecursion (λ (x : Entry). get m.place x.id ≡ Some p) (children m.place m.prank p)
+  pub children_there : AllByRecursion (λ (x : Entry). get m.place x.id ≡ Some p) (children m.place m.prank p)
   children_there = all-in_order entry_cmp (λ (x : Entry). get m.place x.id ≡ Some p) _ (mapped (entries m.place) (entries_held id_order m.place))
 
 same_Some : (x y : Place) → Some x ≡ Some y → x ≡ y
@@ -99,7 +99,7 @@ none_such m e from to is elsewhere (x ∷ xs) all =
     true_false (place_eq from to) (ap (place_eq from) (sym (same_Some from to there)) ∙ place_equality.own from) elsewhere) in
     ap (λ b. b || list_any (λ (x : Entry). text_eq e x.id) xs) other ∙ none_such m e from to is elsewhere xs all.1
 
-not_there : (meta : Meta) (m : State) (good : Good meta m) (e : Name) (from to : Place) → get m.place e ≡ Some from → place_eq from to ≡ false → list_any (λ (x : Entry). text_eq e x.id) (children m.place m.prank to) ≡ false
+pub not_there : (meta : Meta) (m : State) (good : Good meta m) (e : Name) (from to : Place) → get m.place e ≡ Some from → place_eq from to ≡ false → list_any (λ (x : Entry). text_eq e x.id) (children m.place m.prank to) ≡ false
 not_there meta m good e from to is elsewhere = none_such m e from to is elsewhere (children m.place m.prank to) (children_there m to)
 
 pub move_to_meets : MoveToMeets

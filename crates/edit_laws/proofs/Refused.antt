@@ -48,6 +48,7 @@ module _ (meta : Meta) (m : State) (a : Name) (f : ℕ) (b : Name) where
       record {
         typed = p.0;
         absent = no_some _ (not_true _ p.1.0);
+        within = p.1.1.0;
         free = p.1.1.1.0;
         room = p.1.1.1.1.0;
         ranked = p.1.1.1.1.1.0;
@@ -63,5 +64,6 @@ module _ (m : State) (a : Name) (f : ℕ) (b : Name) where
       let p = all_pass (reorder_tests m a f b k) open_ in
       record {
         there = p.0;
+        within = p.1.0;
         ranked = left_or _ _ p.1.1.0;
       }

@@ -90,7 +90,7 @@ module _ (meta : Meta) (sound : Sound meta) (m : State) (good : Good meta m) (a 
       ∙ ap (unlinks (gone (Some g)) (Some f) b g) lists)
 
   -- a has no row left
-  none_left : (o : Option ℕ) (y : Name) → get (left o) (a, f, y) ≡ None
+  pub none_left : (o : Option ℕ) (y : Name) → get (left o) (a, f, y) ≡ None
   none_left None y = clear_gone None a f m.row (a, f, y) (own_near None a f y)
   none_left (Some g) y =
       let here = clear_gone (Some g) a f m.row (a, f, y) (own_near (Some g) a f y) in
@@ -100,7 +100,7 @@ module _ (meta : Meta) (sound : Sound meta) (m : State) (good : Good meta m) (a 
       ]
 
   -- the entries that stay beside the mirror
-  others_are : (o : Option ℕ) → opposite_of meta f ≡ o → targets_there (left o) o b ≡ others_there meta m.row o b
+  pub others_are : (o : Option ℕ) → opposite_of meta f ≡ o → targets_there (left o) o b ≡ others_there meta m.row o b
   others_are None is = refl
   others_are (Some g) is =
       elim (is_one meta g) as (λ t. targets (cond t (clear (Some f) b g (gone (Some g))) (gone (Some g))) b g ≡ cond t [] (targets m.row b g)) [

@@ -5,4 +5,5 @@ pub mod Refusals
 pub mod Places
 pub mod Attributes
 pub mod ManyValues
+pub mod Standing
 pub mod Laws

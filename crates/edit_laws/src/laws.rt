@@ -1,5 +1,6 @@
 //! The laws of single edits: the steps of each lead to the model that its definition says.
-ghost use Rattle.edit_laws.specs.Laws.{ClearMeets, InsertMeets, RemoveMeets, ShiftMeets, SetRefIdle, CreateMeets, MoveWithinMeets, MoveToMeets, SetAttrMeets, UnsetAttrMeets, SetRefMeets, LinkMeets, UnlinkMeets, UnsetMeets, ReorderMeets};
+ghost use Rattle.edit_laws.specs.Standing.{SpotStands};
+ghost use Rattle.edit_laws.specs.Laws.{LinkStands, SetRefStands, ReorderStands, CreateStands, MoveWithinStands, MoveToStands, ClearMeets, InsertMeets, RemoveMeets, ShiftMeets, SetRefIdle, CreateMeets, MoveWithinMeets, MoveToMeets, SetAttrMeets, UnsetAttrMeets, SetRefMeets, LinkMeets, UnlinkMeets, UnsetMeets, ReorderMeets};
 
 /// The steps of an edit of a plain reference lead to the rows that the edit is to leave, with the mirrors of
 /// opposites and what they displace. Setting a reference takes no step exactly where it changes nothing.
@@ -35,4 +36,18 @@ pub fn law_of_many_value_edits()
     ensures remove { RemoveMeets }
     ensures shift { ShiftMeets }
     ensures clear { ClearMeets }
+{}
+
+/// An entry stands where it was asked for. In a list by rank and then by id, one with the rank of the spot at an index
+/// stands at that index of the others, and these stand as they did, ranked anew or not. So a target that is linked or
+/// reordered stands at its index, its source last in the opposite's list, a new element last in its place and one that
+/// moves at its index, and each other list is as it was, without what the edit takes away.
+pub fn law_of_standing()
+    ensures spot { SpotStands }
+    ensures link { LinkStands }
+    ensures set_ref { SetRefStands }
+    ensures reorder { ReorderStands }
+    ensures create { CreateStands }
+    ensures within { MoveWithinStands }
+    ensures to_another { MoveToStands }
 {}

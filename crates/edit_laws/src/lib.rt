@@ -8,5 +8,5 @@ mod laws;
 pub use fault::EditFault;
 pub use laws::{
     law_of_attribute_edits, law_of_creation, law_of_many_value_edits, law_of_moves,
-    law_of_reference_edits,
+    law_of_reference_edits, law_of_standing,
 };

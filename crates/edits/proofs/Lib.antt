@@ -6,3 +6,4 @@ pub mod Placed
 pub mod Taken
 pub mod Stays
 pub mod Unchanged
+pub mod Stands

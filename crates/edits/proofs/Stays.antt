@@ -5,7 +5,7 @@ use Rattle.std.specs.List.{list_any}
 use Rattle.std.specs.FinMap.{get}
 use Rattle.finite_maps.specs.Maps.{set}
 use Rattle.finite_maps.specs.Equal.{text_eq}
-use Rattle.finite_maps.proofs.Cases.{not_so, true_false, no_some}
+use Rattle.finite_maps.proofs.Cases.{not_so, true_false}
 use Rattle.finite_maps.proofs.MapLaws.{get-set_other, get-set_same, set_here}
 use Rattle.finite_maps.proofs.NestedLaws.{get-without}
 use Rattle.finite_maps.proofs.EqualLaws.{nat_equality, text_equality}
@@ -136,6 +136,7 @@ module _ (meta : Meta) (sound : Sound meta) (m : State) (good : Good meta m) (e 
       → cond b (move_within_made m e to inner) (move_to_made m e (place_of m e) to outer up down) ≡ []) [
         | true ↦ λ same tests. within_still meta sound m good e to inner (record {
           stands = stands ∙ ap Some (place_equality.exact (place_of m e) to same);
+          within = tests.0;
           ranked = left_or _ _ tests.1.0;
         })
         | false ↦ λ differ tests same. absurd (not_moved differ same)

@@ -1,4 +1,5 @@
 pub mod FreshIds
 pub mod Edits
 pub mod Answers
+pub mod Standing
 pub mod Laws

@@ -13,3 +13,4 @@ pub mod StepNeeds
 pub mod StepTouches
 pub mod Apart
 pub mod Packages
+pub mod Stops

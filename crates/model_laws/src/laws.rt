@@ -1,5 +1,5 @@
 //! The laws of steps: reversal undoes, the invariant is kept, and steps of disjoint cells commute.
-ghost use Rattle.model_laws.specs.Laws.{ReversalUndoes, StepsKeepGood, StartsGood, ExchangeHolds, SideBySide};
+ghost use Rattle.model_laws.specs.Laws.{FirstIsStop, LeadsNoStop, NoStopLeads, StopIsFault, StopIsFirst, ReversalUndoes, StepsKeepGood, StartsGood, ExchangeHolds, SideBySide};
 
 /// What steps did, their reversals in reversed order undo, and each step keeps the invariant.
 pub fn law_of_reversal()
@@ -12,4 +12,14 @@ pub fn law_of_reversal()
 pub fn law_of_exchange()
     ensures exchange { ExchangeHolds }
     ensures side_by_side { SideBySide }
+{}
+
+/// Where steps can't all be taken one by one, there is one place up to which they can, and the step there can't be taken
+/// then: the first stop, with that step's fault.
+pub fn law_of_stops()
+    ensures first { StopIsFirst }
+    ensures only { FirstIsStop }
+    ensures leads { NoStopLeads }
+    ensures none { LeadsNoStop }
+    ensures fault { StopIsFault }
 {}

@@ -1,3 +1,4 @@
 pub mod Orders
 pub mod StepTests
 pub mod ChainLaws
+pub mod EntryLaws

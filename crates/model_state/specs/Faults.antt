@@ -2,6 +2,7 @@
 use Rattle.std.specs.Prelude.{◌≡◌, ◌⊎◌, ℕ, List, Option, Some, false}
 use Rattle.model_state.specs.declared.id.IdFault.{IdFault}
 use Rattle.model_state.specs.declared.id.IdFault.TheVariants.{Bad, Memory as IdMemory}
+use Rattle.model_state.specs.declared.step.ApplyFault.{ApplyFault}
 use Rattle.model_state.specs.declared.step.StepFault.{StepFault}
 use Rattle.model_state.specs.declared.step.StepFault.TheVariants.{Memory}
 use Rattle.model_state.specs.Ident.{is_id}
@@ -9,6 +10,10 @@ use Rattle.model_state.specs.Ident.{is_id}
 -- want of memory, or the fault of the first test that fails
 abbrev pub IsFault : Option StepFault → StepFault → Type 0
 IsFault first e = (e ≡ Memory) ⊎ (first ≡ Some e)
+
+-- want of memory, or the first step that can't be taken and its fault
+abbrev pub IsApplyFault : Option ApplyFault → ApplyFault → Type 0
+IsApplyFault first e = (e.fault ≡ Memory) ⊎ (first ≡ Some e)
 
 -- want of memory, or Bad where the text is no id
 abbrev pub IsIdFault : List ℕ → IdFault → Type 0

@@ -1,5 +1,5 @@
 -- The lists of a state: the targets of a feature, the elements of a place, the rows to an element, the ids.
-use Rattle.std.specs.Prelude.{ℕ, Bool, List, [], map, nat_eq, ◌&&◌, unwrap_or}
+use Rattle.std.specs.Prelude.{ℕ, Bool, List, [], ◌∷◌, Option, None, Some, map, nat_eq, ◌&&◌, unwrap_or}
 use Rattle.std.specs.declared.cmp.Ordering.{Ordering}
 use Rattle.std.specs.Ordering.{nat_cmp, ordering_then}
 use Rattle.std.specs.FinMap.{FinMap, get, keys}
@@ -39,6 +39,11 @@ rank_at prank e = unwrap_or (get prank e) 0
 -- the elements of a place, by rank and then by id
 abbrev pub children : FinMap id_cmp Place → FinMap id_cmp ℕ → Place → List Entry
 children place prank p = in_order entry_cmp (map (λ (e : Name × Place). record { rank = rank_at prank e.0; id = e.0 }) (picked (λ e. place_eq p e.1) place))
+
+-- the rank of the last entry
+abbrev pub last_rank : List Entry → Option ℕ
+last_rank [] = None
+last_rank (x ∷ xs) = Some (unwrap_or (last_rank xs) x.rank)
 
 -- the source and the feature of a row, with its rank
 abbrev pub row_incoming : RowKey × ℕ → Incoming

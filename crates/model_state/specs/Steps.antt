@@ -1,5 +1,5 @@
 -- The steps: when each may be taken, what it does, and its reversal.
-use Rattle.std.specs.Prelude.{◌≡◌, ℕ, Bool, true, false, List, [], ◌∷◌, ◌++◌, Option, None, Some, is_some, nat_eq, nat_lt, nat_le, not, ◌&&◌, cond, length, slice_get}
+use Rattle.std.specs.Prelude.{◌≡◌, ℕ, ◌+◌, Bool, true, false, List, [], ◌∷◌, ◌++◌, Option, None, Some, is_some, nat_eq, nat_lt, nat_le, not, ◌&&◌, cond, length, slice_get}
 use Rattle.std.specs.List.{list_any, insert, remove}
 use Rattle.model_state.specs.Lists.{entry_of, values_of, shifted}
 use Rattle.std.specs.FinMap.{FinMap, get}
@@ -12,6 +12,7 @@ use Rattle.model_state.specs.declared.step.Place.TheVariants.{Root, Inside}
 use Rattle.model_state.specs.declared.step.Step.{Step}
 use Rattle.model_state.specs.declared.step.Step.TheVariants.{Put, Ins, Del, Shift, Link, Unlink, RerankRow, New, Gone, Move, RerankPlace}
 use Rattle.model_state.specs.declared.step.StepFault.{StepFault}
+use Rattle.model_state.specs.declared.step.ApplyFault.{ApplyFault}
 use Rattle.model_state.specs.declared.step.StepFault.TheVariants.{NotThere, There, OldDiffers, Bound, WrongType, Chain, NotEmpty, BadStep}
 use Rattle.model_state.specs.Keys.{Name, id_cmp}
 use Rattle.model_state.specs.Typing.{is_plain, is_many, is_unique, many_fits, upper_of, has_feature, kind_of, row_upper, child_upper, opposite_of, links, contains_to, is_concrete, is_default, attr_fits, is_attr, value_eq}
@@ -254,3 +255,13 @@ fold meta m (s ∷ ss) = elim (fault meta m s) [ None ↦ fold meta (apply meta 
 abbrev pub fault_along : Meta → State → List Step → Option StepFault
 fault_along meta m [] = None
 fault_along meta m (s ∷ ss) = elim (fault meta m s) [ None ↦ fault_along meta (apply meta m s) ss | Some e ↦ Some e ]
+
+-- the same fault, so many places further on
+abbrev pub further_on : ℕ → Option ApplyFault → Option ApplyFault
+further_on n None = None
+further_on n (Some x) = Some (record { at = n + x.at; fault = x.fault })
+
+-- the first of the steps that can't be taken in its turn: its place, from 0, and its fault
+abbrev pub first_stop : Meta → State → List Step → Option ApplyFault
+first_stop meta m [] = None
+first_stop meta m (s ∷ ss) = elim (fault meta m s) [ None ↦ further_on 1 (first_stop meta (apply meta m s) ss) | Some e ↦ Some (record { at = 0; fault = e }) ]

@@ -142,6 +142,13 @@ pub enum StepFault {
     Memory,
 }
 
+/// The first of a list's steps that can't be taken: its place in the list, from 0, and its fault.
+#[derive(Clone, Copy, Debug, PartialEq, Eq, Drop)]
+pub struct ApplyFault {
+    pub at: u64,
+    pub fault: StepFault,
+}
+
 impl Place {
     /// The element that the place is inside.
     pub fn parent(&self) -> Option<&Id>

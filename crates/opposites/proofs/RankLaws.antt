@@ -1,10 +1,7 @@
--- The rank of a row is that of its target in the list.
-use Rattle.std.proofs.Common.{◌≡◌, ℕ, suc, ◌+◌, Bool, true, false, cond, List, [], ◌∷◌, refl, sym, ap, ◌∙◌, ◌||◌, ◌&&◌, length, map, arith, not, ◌≤◌, ◌<◌}
-use Rattle.std.specs.Prelude.{None, Some}
-use Rattle.std.specs.List.{list_any, AllByRecursion}
-use Rattle.std.specs.FinMap.{FinMap, get, entries}
+-- How many entries lists have.
+use Rattle.std.proofs.Common.{◌≡◌, ℕ, suc, ◌+◌, Bool, true, false, cond, List, [], ◌∷◌, refl, ◌∙◌, ◌&&◌, length, map, arith, not, ◌≤◌, ◌<◌}
+use Rattle.std.specs.FinMap.{FinMap, entries}
 use Rattle.finite_maps.specs.Equal.{text_eq}
-use Rattle.finite_maps.proofs.EqualLaws.{text_equality}
 use Rattle.model_state.specs.declared.entry.Entry.{Entry}
 use Rattle.model_state.specs.Keys.{Name, RowKey, row_cmp}
 use Rattle.model_state.specs.Listing.{targets, entry_cmp, row_entry, is_of}
@@ -12,33 +9,7 @@ use Rattle.finite_maps.specs.Maps.{tally, count}
 use Rattle.finite_maps.specs.Sorts.{picked}
 use Rattle.finite_maps.proofs.SortLaws.{tally-in_order, tally-map}
 use Rattle.edit_laws.specs.References.{without_entry}
-use Rattle.edit_laws.proofs.Lists.{targets_held, targets_has, tally-filter, one_passes}
-use Rattle.opposites.specs.Ranks.{rank_in}
-
-none_any : (b : Name) (xs : List Entry) → list_any (λ (x : Entry). text_eq b x.id) xs ≡ false → rank_in b xs ≡ None
-none_any b [] h = refl
-none_any b (x ∷ xs) h =
-    elim (text_eq b x.id) as (λ t. t || list_any (λ (x : Entry). text_eq b x.id) xs ≡ false → cond t (Some x.rank) (rank_in b xs) ≡ None) [ true ↦ λ g. cc | false ↦ λ g. none_any b xs g ] h
-
-module _ (row : FinMap row_cmp ℕ) (a : Name) (f : ℕ) (b : Name) where
-  some_in : (xs : List Entry) → AllByRecursion (λ (x : Entry). get row (a, f, x.id) ≡ Some x.rank) xs → list_any (λ (x : Entry). text_eq b x.id) xs ≡ true → rank_in b xs ≡ get row (a, f, b)
-  some_in [] all h = cc
-  some_in (x ∷ xs) all h =
-      elim (text_eq b x.id) as (λ t. text_eq b x.id ≡ t → t || list_any (λ (x : Entry). text_eq b x.id) xs ≡ true → cond t (Some x.rank) (rank_in b xs) ≡ get row (a, f, b)) [
-        | true ↦ λ is _. sym all.0 ∙ ap (λ (z : Name). get row (a, f, z)) (sym (text_equality.exact b x.id is))
-        | false ↦ λ _ g. some_in xs all.1 g
-      ] refl h
-
-  pub rank_in_is : rank_in b (targets row a f) ≡ get row (a, f, b)
-  rank_in_is =
-      elim (get row (a, f, b)) as (λ o. get row (a, f, b) ≡ o → rank_in b (targets row a f) ≡ get row (a, f, b)) [
-        | Some r ↦ λ is. some_in (targets row a f) (targets_held row a f) (targets_has row a f b r is)
-        | None ↦ λ none. ends none (list_any (λ (x : Entry). text_eq b x.id) (targets row a f)) refl
-      ] refl
-    where
-      ends : get row (a, f, b) ≡ None → (t : Bool) → list_any (λ (x : Entry). text_eq b x.id) (targets row a f) ≡ t → rank_in b (targets row a f) ≡ get row (a, f, b)
-      ends none true is = some_in (targets row a f) (targets_held row a f) is
-      ends none false is = none_any b (targets row a f) is ∙ sym none
+use Rattle.edit_laws.proofs.Lists.{tally-filter, one_passes}
 
 -- as many targets as rows
 pub length_tally : {X : Type 0} (xs : List X) → length xs ≡ tally (λ _. true) xs

@@ -15,7 +15,6 @@ ghost use Rattle.opposites.specs.Ends.{reranks_by};
 
 use crate::LinkFault;
 use crate::bounds::has_room;
-use crate::look_up::rank_of;
 use crate::openings::{Opening, rerank};
 use crate::there::{displace, opening_there, rerank_there};
 use ecore_meta::{List, Metamodel};
@@ -135,7 +134,7 @@ pub fn link_steps<L: Look>(
     if !may_link(meta, look.class(a), f, look.class(b)) {
         return Err(LinkFault::WrongType);
     }
-    if rank_of(alloc, look, a, f, b)?.is_some() {
+    if look.row(a, f, b).is_some() {
         return Err(LinkFault::AlreadyThere);
     }
     let mine = look.targets(alloc, a, f)?;

@@ -9,7 +9,6 @@ ghost use Rattle.edit_laws.specs.Refusals.{reorder_refusal};
 ghost use Rattle.opposites.specs.Refusals.{IsReference, IsRefusal};
 
 use crate::LinkFault;
-use crate::look_up::rank_of;
 use crate::openings::{Opening, rerank};
 use ecore_meta::{List, Metamodel};
 use model_state::{Entry, Id, Look, Step};
@@ -89,7 +88,7 @@ pub fn reorder_steps<L: Look>(
 {
     // The contract alone speaks of it.
     let _meta = meta;
-    let Some(old) = rank_of(alloc, look, a, f, b)? else {
+    let Some(old) = look.row(a, f, b) else {
         return Err(LinkFault::NoEntry);
     };
     let mine = look.targets(alloc, a, f)?;

@@ -13,7 +13,6 @@ ghost use Rattle.opposites.specs.Ends.{reranks_by};
 
 use crate::LinkFault;
 use crate::link::link_step;
-use crate::look_up::rank_of;
 use crate::openings::Opening;
 use crate::there::{displace, opening_there, rerank_there};
 use crate::unlink::unlinks;
@@ -70,7 +69,7 @@ pub fn set_ref_steps<L: Look>(
     if !may_link(meta, look.class(a), f, look.class(b)) {
         return Err(LinkFault::WrongType);
     }
-    if rank_of(alloc, look, a, f, b)?.is_some() {
+    if look.row(a, f, b).is_some() {
         return Ok(List::new(alloc));
     }
     let there = opening_there(alloc, look, meta, opposite_of(meta, f), b)?;

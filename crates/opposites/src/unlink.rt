@@ -8,7 +8,7 @@ ghost use Rattle.edit_laws.specs.Refusals.{unlink_refusal};
 ghost use Rattle.opposites.specs.Refusals.{IsReference, IsRefusal};
 
 use crate::LinkFault;
-use crate::look_up::{rank_of, rank_of_mirror};
+use crate::look_up::rank_of_mirror;
 use ecore_meta::{List, Metamodel};
 use model_state::{Entry, Id, Look, Step, opposite_of};
 use std::alloc::{AllocError, Global};
@@ -70,7 +70,7 @@ pub fn unlinks<L: Look>(
     ensures { OnOk result (steps.new ≡ steps.old ++ unlinks (L.state look.now).row opposite a.now f list.now) }
 {
     for x in list {
-        let rb = rank_of_mirror(alloc, look, opposite, a, &x.id)?;
+        let rb = rank_of_mirror(look, opposite, a, &x.id);
         steps.push(unlink_step(alloc, opposite, a, f, x.rank, &x.id, rb)?)?;
     }
     Ok(())
@@ -88,7 +88,7 @@ fn one_unlink<L: Look>(
     ensures { IfOk result (λ s. s ≡ unlinks (L.state look.now).row (opposite_of meta.now f) a.now f (record { rank = ra; id = b.now } ∷ [])) }
 {
     let opposite = opposite_of(meta, f);
-    let rb = rank_of_mirror(alloc, look, opposite, a, b)?;
+    let rb = rank_of_mirror(look, opposite, a, b);
     let mut steps = List::new(alloc);
     steps.push(unlink_step(alloc, opposite, a, f, ra, b, rb)?)?;
     Ok(steps)
@@ -110,7 +110,7 @@ pub fn unlink_steps<L: Look>(
     ensures taken { OnOk result (unlink_refusal (L.state look.now) a.now f b.now ≡ None) }
     ensures refused { IfErr result (λ e. IsRefusal (unlink_refusal (L.state look.now) a.now f b.now) e) }
 {
-    let Some(ra) = rank_of(alloc, look, a, f, b)? else {
+    let Some(ra) = look.row(a, f, b) else {
         return Err(LinkFault::NoEntry);
     };
     Ok(one_unlink(alloc, look, meta, a, f, ra, b)?)

@@ -23,7 +23,7 @@ fn unlinks_backwards<L: Look>(
     let mut steps = List::new(alloc);
     for at in (0..list.len()).rev() {
         let x = &list[at];
-        let rb = rank_of_mirror(alloc, look, opposite, a, &x.id)?;
+        let rb = rank_of_mirror(look, opposite, a, &x.id);
         steps.push(unlink_step(alloc, opposite, a, f, x.rank, &x.id, rb)?)?;
     }
     Ok(steps)

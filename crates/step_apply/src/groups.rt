@@ -13,6 +13,9 @@ ghost use Rattle.model_state.specs.declared.step.Place.{Place as Spot};
 ghost use Rattle.model_state.specs.Keys.{Name, id_cmp};
 ghost use Rattle.model_state.specs.State.{place_eq};
 ghost use Rattle.step_apply.specs.Groups.{group_of, held, standing};
+ghost use Rattle.std.specs.Prelude.{cond, nat_lt};
+ghost use Rattle.finite_maps.specs.Sorts.{in_order};
+ghost use Rattle.model_state.specs.Listing.{entry_cmp, last_rank};
 ghost use Rattle.step_apply.specs.Standing.{ranked_entry};
 
 use model_state::{Entry, Id, Place};
@@ -137,6 +140,24 @@ pub(crate) fn entries_of(alloc: Global, group: &BTreeMap<Id, u64>) -> Result<Vec
     Ok(found)
 }
 
+fn higher(x: u64, y: u64) -> u64
+    ensures { result ≡ cond (nat_lt x y) y x }
+{
+    if x < y { y } else { x }
+}
+
+/// The rank of the last of a list, `None` where the list has none. This goes over the list and takes no memory.
+pub(crate) fn last_of(group: &BTreeMap<Id, u64>) -> Option<u64>
+    ensures last { result ≡ last_rank (in_order entry_cmp (map ranked_entry group.now.entries)) }
+    ensures ordered { IsOrdered id_cmp group.now }
+{
+    let mut last = None;
+    for (_, rank) in group {
+        last = Some(higher(*rank, last.unwrap_or(0)));
+    }
+    last
+}
+
 pub(crate) fn group_in<'a>(
     inside: &'a BTreeMap<Id, BTreeMap<u32, BTreeMap<Id, u64>>>,
     a: &Id,
@@ -217,6 +238,19 @@ impl Groups {
             Place::Inside { parent, feature } => match group_in(&self.inside, parent, *feature) {
                 None => 0,
                 Some(group) => group.len(),
+            },
+        }
+    }
+
+    /// The rank of the last element of the place, `None` where there is none.
+    pub fn last(&self, place: &Place) -> Option<u64>
+        ensures { result ≡ last_rank (in_order entry_cmp (map ranked_entry (entries (standing self.now place.now)))) }
+    {
+        match place {
+            Place::Root => last_of(&self.roots),
+            Place::Inside { parent, feature } => match group_in(&self.inside, parent, *feature) {
+                None => None,
+                Some(group) => last_of(group),
             },
         }
     }

@@ -1,6 +1,6 @@
 //! The places of a model's elements with their ranks, and the index of the elements of each place.
 ghost use Rattle.std.specs.Prelude.{◌≡◌, Some, None, OnOk, OnErr, IfOk, is_some, true, false};
-ghost use Rattle.model_state.specs.Listing.{children};
+ghost use Rattle.model_state.specs.Listing.{children, last_rank};
 ghost use Rattle.model_state.specs.declared.step.Place.{Place as Spot};
 ghost use Rattle.step_apply.specs.Groups.{standing, stood};
 ghost use Rattle.std.specs.Option.{option_copied, option_map};
@@ -154,6 +154,13 @@ impl Places {
     {
         let old = self.tree.remove(e);
         leave(&mut self.groups, old, e);
+    }
+
+    /// The rank of the last element of a place, `None` where there is none. This goes over these alone, and sorts none.
+    pub fn last_child(&self, place: &Place) -> Option<u64>
+        ensures { result ≡ last_rank (children self.now.place self.now.rank place.now) }
+    {
+        self.groups.last(place)
     }
 
     /// The elements of a place, by rank and then by id. This sorts these alone, whatever else the model holds.

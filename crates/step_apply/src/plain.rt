@@ -128,6 +128,22 @@ impl Look for Plain {
         self.attrs.find(e, f)
     }
 
+    fn row(&self, a: &Id, f: u32, b: &Id) -> Option<u64> {
+        self.rows.rank(a, f, b)
+    }
+
+    fn child_count(&self, place: &Place) -> usize {
+        self.places.count_at(place)
+    }
+
+    fn last_child(&self, place: &Place) -> Option<u64> {
+        self.places.last_child(place)
+    }
+
+    fn last_target(&self, a: &Id, f: u32) -> Option<u64> {
+        self.rows.last_target(a, f)
+    }
+
     fn targets(&self, alloc: Global, a: &Id, f: u32) -> Result<List<Entry>, AllocError> {
         self.rows.targets(alloc, a, f)
     }

@@ -9,9 +9,9 @@ ghost use Rattle.finite_maps.specs.Tables.{table};
 ghost use Rattle.step_apply.specs.Groups.{arriving};
 ghost use Rattle.finite_maps.specs.Equal.{text_eq};
 ghost use Rattle.model_state.specs.Keys.{Name, RowKey, row_cmp};
-ghost use Rattle.model_state.specs.Listing.{row_incoming, targets, incoming};
+ghost use Rattle.model_state.specs.Listing.{row_incoming, last_rank, targets, incoming};
 
-use crate::groups::{entries_of, group_in, is_bare, put_in, rewrite_in};
+use crate::groups::{entries_of, group_in, is_bare, last_of, put_in, rewrite_in};
 use ecore_meta::List;
 use model_state::{Entry, Id, Incoming};
 use std::alloc::{AllocError, Global};
@@ -174,6 +174,16 @@ impl Rows {
         self.tree.get(key).copied()
     }
 
+    /// The rank of the row from an element to another by a feature, `None` where there is no such row. This takes no memory.
+    pub fn rank(&self, a: &Id, f: u32, b: &Id) -> Option<u64>
+        ensures { result ≡ get self.now (a.now, f, b.now) }
+    {
+        match group_in(&self.out, a, f) {
+            None => None,
+            Some(group) => group.get(b).copied(),
+        }
+    }
+
     /// Gives a row its rank, a new row or one that is there. The error is want of memory.
     pub fn put(&mut self, key: (Id, u32, Id), rank: u64) -> Result<(), AllocError>
         ensures ok { OnOk result (self.new ≡ set self.old key (Some rank)) }
@@ -229,6 +239,17 @@ impl Rows {
             return 0;
         }
         counted_at(&self.tree, e)
+    }
+
+    /// The rank of the last target of a feature of an element, `None` where there is none. This goes over these alone, and
+    /// sorts none.
+    pub fn last_target(&self, a: &Id, f: u32) -> Option<u64>
+        ensures { result ≡ last_rank (targets self.now a.now f) }
+    {
+        match group_in(&self.out, a, f) {
+            None => None,
+            Some(group) => last_of(group),
+        }
     }
 
     /// The targets of a feature of an element, by rank and then by id. This sorts these alone, whatever else the model holds.

@@ -1,4 +1,5 @@
 use Rattle.edits.proofs.Taken.{edits_meet, edits_keep_good}
+use Rattle.edits.proofs.Stands.{edits_stand}
 use Rattle.edits.proofs.Unchanged.{edits_idle}
 use Rattle.edits.proofs.laws.law_of_edits.Goals as goal
 
@@ -10,3 +11,6 @@ returns-clause-idle c = edits_idle
 
 pub returns-clause-good : goal.returns-clause-good
 returns-clause-good c = edits_keep_good
+
+pub returns-clause-stands : goal.returns-clause-stands
+returns-clause-stands c = edits_stand
