@@ -20,7 +20,7 @@ use Rattle.model_state.specs.declared.step.Step.TheVariants.{Put, Ins, Del, Shif
 use Rattle.model_state.specs.declared.operation.Operation.{Operation}
 use Rattle.model_state.specs.declared.operation.Operation.TheVariants.{Simple, Composite}
 use Rattle.op_form.specs.declared.event.Event.{Event}
-use Rattle.op_form.specs.declared.event.Event.TheVariants.{Init, Checkout, Edit, Begin, End, Undo, Discard, Commit, Branch, Tag, Drop}
+use Rattle.op_form.specs.declared.event.Event.TheVariants.{Init, Checkout, Edit, Begin, End, Undo, Discard, Tidy, Commit, Branch, Tag, Update, Merge, Drop}
 use Rattle.op_form.specs.Laws.{EventsAreTested, IsU32, IsU64, IsIdText, IsNameText, IsGiven, IsList, IsSomeList, IsValue, IsPlace, IsStep, IsOperation, IsPackage, IsEvent}
 use Rattle.op_form.specs.Sizes.{FitsValue, FitsIfAny, FitsStep, FitsSteps, FitsOperation, FitsPackage, FitsEvent}
 use Rattle.op_form.specs.Formed.{is_u32, is_u64, is_i64, is_short_text, is_given, is_list, is_some_list, is_value, is_place, is_step, is_operation, is_package, is_event}
@@ -147,9 +147,12 @@ event_told (Begin ws name) = two (u32_told ws) (text_told name)
 event_told (End ws) = u32_told ws
 event_told (Undo ws) = u32_told ws
 event_told (Discard ws) = u32_told ws
+event_told (Tidy ws) = u32_told ws
 event_told (Commit ws message) = two (u32_told ws) (text_told message)
 event_told (Branch ws name) = two (u32_told ws) (text_told name)
 event_told (Tag name version) = two (text_told name) (u32_told version)
+event_told (Update ws choices) = two (u32_told ws) (text_told choices)
+event_told (Merge ws branch choices) = three (u32_told ws) (u32_told branch) (text_told choices)
 event_told (Drop ws) = u32_told ws
 
 -- what passes the test has a spelling, and what has one passes it
@@ -199,6 +202,8 @@ event_fits (Begin ws name) is = is.1.0
 event_fits (Commit ws message) is = is.1.0
 event_fits (Branch ws name) is = is.1.0
 event_fits (Tag name version) is = is.0.0
+event_fits (Update ws choices) is = is.1.0
+event_fits (Merge ws branch choices) is = is.1.1.0
 event_fits e is = tt
 
 pub is_event_fits : (e : Event) → is_event e ≡ true → FitsEvent e

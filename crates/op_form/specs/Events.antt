@@ -5,7 +5,7 @@ use Rattle.byte_form.specs.Fields.{◌>>=◌, text_form, ends_at, u32_form}
 use Rattle.op_form.specs.declared.fault.FormFault.{FormFault}
 use Rattle.op_form.specs.declared.fault.FormFault.TheVariants.{NotForm}
 use Rattle.op_form.specs.declared.event.Event.{Event}
-use Rattle.op_form.specs.declared.event.Event.TheVariants.{Init, Checkout, Edit, Begin, End, Undo, Discard, Commit, Branch, Tag, Drop}
+use Rattle.op_form.specs.declared.event.Event.TheVariants.{Init, Checkout, Edit, Begin, End, Undo, Discard, Tidy, Commit, Branch, Tag, Update, Merge, Drop}
 use Rattle.op_form.specs.Reading.{Reading, made, ◌⊗◌, field, u8_at, u32_at, any_text_at}
 use Rattle.op_form.specs.Packages.{package_at, package_form}
 
@@ -37,6 +37,14 @@ branch_at r = made (λ t. Branch t.0 t.1) ((u32_at ⊗ any_text_at) r)
 unfoldable pub tag_at : Reading Event
 tag_at r = made (λ t. Tag t.0 t.1) ((any_text_at ⊗ u32_at) r)
 
+-- Update: the workspace and the choices
+unfoldable pub update_at : Reading Event
+update_at r = made (λ t. Update t.0 t.1) ((u32_at ⊗ any_text_at) r)
+
+-- Merge: the workspace, the branch and the choices
+unfoldable pub merge_at : Reading Event
+merge_at r = made (λ t. Merge t.0 t.1.0 t.1.1) ((u32_at ⊗ u32_at ⊗ any_text_at) r)
+
 -- the kind's byte chooses
 abbrev pub event_of : ℕ → ℕ × Rest → Result (Event × Rest) FormFault
 event_of place kind =
@@ -47,9 +55,12 @@ event_of place kind =
     else if kind.0 == 5 then made (λ ws. End ws) (u32_at kind.1)
     else if kind.0 == 6 then made (λ ws. Undo ws) (u32_at kind.1)
     else if kind.0 == 7 then made (λ ws. Discard ws) (u32_at kind.1)
+    else if kind.0 == 8 then made (λ ws. Tidy ws) (u32_at kind.1)
     else if kind.0 == 9 then commit_at kind.1
     else if kind.0 == 10 then branch_at kind.1
     else if kind.0 == 11 then tag_at kind.1
+    else if kind.0 == 12 then update_at kind.1
+    else if kind.0 == 13 then merge_at kind.1
     else if kind.0 == 14 then made (λ ws. Drop ws) (u32_at kind.1)
     else Err (NotForm place)
 
@@ -66,9 +77,12 @@ event_form (Begin ws name) = 4 ∷ (u32_form ws ++ text_form name)
 event_form (End ws) = 5 ∷ u32_form ws
 event_form (Undo ws) = 6 ∷ u32_form ws
 event_form (Discard ws) = 7 ∷ u32_form ws
+event_form (Tidy ws) = 8 ∷ u32_form ws
 event_form (Commit ws message) = 9 ∷ (u32_form ws ++ text_form message)
 event_form (Branch ws name) = 10 ∷ (u32_form ws ++ text_form name)
 event_form (Tag name version) = 11 ∷ (text_form name ++ u32_form version)
+event_form (Update ws choices) = 12 ∷ (u32_form ws ++ text_form choices)
+event_form (Merge ws branch choices) = 13 ∷ (u32_form ws ++ (u32_form branch ++ text_form choices))
 event_form (Drop ws) = 14 ∷ u32_form ws
 
 -- all of some bytes, as one value

@@ -13,7 +13,7 @@ use Rattle.model_state.specs.declared.step.Step.TheVariants.{Put, Ins, Del, Shif
 use Rattle.model_state.specs.declared.operation.Operation.{Operation}
 use Rattle.model_state.specs.declared.operation.Operation.TheVariants.{Simple, Composite}
 use Rattle.op_form.specs.declared.event.Event.{Event}
-use Rattle.op_form.specs.declared.event.Event.TheVariants.{Init, Checkout, Edit, Begin, End, Undo, Discard, Commit, Branch, Tag, Drop}
+use Rattle.op_form.specs.declared.event.Event.TheVariants.{Init, Checkout, Edit, Begin, End, Undo, Discard, Tidy, Commit, Branch, Tag, Update, Merge, Drop}
 
 -- a number of 32 bits
 abbrev pub is_u32 : ℕ → Bool
@@ -90,7 +90,10 @@ is_event (Begin ws name) = is_u32 ws && is_short_text name
 is_event (End ws) = is_u32 ws
 is_event (Undo ws) = is_u32 ws
 is_event (Discard ws) = is_u32 ws
+is_event (Tidy ws) = is_u32 ws
 is_event (Commit ws message) = is_u32 ws && is_short_text message
 is_event (Branch ws name) = is_u32 ws && is_short_text name
 is_event (Tag name version) = is_short_text name && is_u32 version
+is_event (Update ws choices) = is_u32 ws && is_short_text choices
+is_event (Merge ws branch choices) = is_u32 ws && is_u32 branch && is_short_text choices
 is_event (Drop ws) = is_u32 ws

@@ -13,7 +13,7 @@ use Rattle.model_state.specs.declared.step.Step.TheVariants.{Put, Ins, Del, Shif
 use Rattle.model_state.specs.declared.operation.Operation.{Operation}
 use Rattle.model_state.specs.declared.operation.Operation.TheVariants.{Simple, Composite}
 use Rattle.op_form.specs.declared.event.Event.{Event}
-use Rattle.op_form.specs.declared.event.Event.TheVariants.{Init, Checkout, Edit, Begin, End, Undo, Discard, Commit, Branch, Tag, Drop}
+use Rattle.op_form.specs.declared.event.Event.TheVariants.{Init, Checkout, Edit, Begin, End, Undo, Discard, Tidy, Commit, Branch, Tag, Update, Merge, Drop}
 use Rattle.op_form.specs.declared.fault.FormFault.{FormFault}
 use Rattle.op_form.specs.Packages.{package_at, package_form}
 use Rattle.op_form.specs.Events.{event_at, event_form, whole_of}
@@ -93,9 +93,12 @@ IsEvent (Begin ws name) = IsU32 ws × IsShortText name
 IsEvent (End ws) = IsU32 ws
 IsEvent (Undo ws) = IsU32 ws
 IsEvent (Discard ws) = IsU32 ws
+IsEvent (Tidy ws) = IsU32 ws
 IsEvent (Commit ws message) = IsU32 ws × IsShortText message
 IsEvent (Branch ws name) = IsU32 ws × IsShortText name
 IsEvent (Tag name version) = IsShortText name × IsU32 version
+IsEvent (Update ws choices) = IsU32 ws × IsShortText choices
+IsEvent (Merge ws branch choices) = IsU32 ws × (IsU32 branch × IsShortText choices)
 IsEvent (Drop ws) = IsU32 ws
 
 -- the spelling of each value is read as it

@@ -8,7 +8,7 @@ use Rattle.model_state.specs.declared.step.Step.TheVariants.{Put, Ins, Del, Shif
 use Rattle.model_state.specs.declared.operation.Operation.{Operation}
 use Rattle.model_state.specs.declared.operation.Operation.TheVariants.{Simple, Composite}
 use Rattle.op_form.specs.declared.event.Event.{Event}
-use Rattle.op_form.specs.declared.event.Event.TheVariants.{Init, Checkout, Edit, Begin, End, Undo, Discard, Commit, Branch, Tag, Drop}
+use Rattle.op_form.specs.declared.event.Event.TheVariants.{Init, Checkout, Edit, Begin, End, Undo, Discard, Tidy, Commit, Branch, Tag, Update, Merge, Drop}
 
 -- a text or a list of fewer than 2 ^ 32 items
 abbrev pub IsShort : {X : Type 0} → List X → Type 0
@@ -53,7 +53,7 @@ FitsOperation (Composite name steps) = (is_name name ≡ true) × IsShort name �
 abbrev pub FitsPackage : List Operation → Type 0
 FitsPackage operations = IsShort operations × All FitsOperation operations
 
--- an event whose text, name or package is short
+-- an event whose text, name, choices or package is short
 abbrev pub FitsEvent : Event → Type 0
 FitsEvent (Init text) = IsShort text
 FitsEvent (Checkout version branch) = Unit {0}
@@ -62,7 +62,10 @@ FitsEvent (Begin ws name) = IsShort name
 FitsEvent (End ws) = Unit {0}
 FitsEvent (Undo ws) = Unit {0}
 FitsEvent (Discard ws) = Unit {0}
+FitsEvent (Tidy ws) = Unit {0}
 FitsEvent (Commit ws message) = IsShort message
 FitsEvent (Branch ws name) = IsShort name
 FitsEvent (Tag name version) = IsShort name
+FitsEvent (Update ws choices) = IsShort choices
+FitsEvent (Merge ws branch choices) = IsShort choices
 FitsEvent (Drop ws) = Unit {0}

@@ -18,12 +18,18 @@ pub enum Event {
     Undo { ws: u32 },
     /// What the workspace has recorded goes.
     Discard { ws: u32 },
+    /// The local operations are tidied.
+    Tidy { ws: u32 },
     /// The local operations are a new version, with that message.
     Commit { ws: u32, message: Text },
     /// A branch of that name starts at the workspace's base, and the workspace is on it.
     Branch { ws: u32, name: Text },
     /// A version has a tag of that name.
     Tag { name: Text, version: u32 },
+    /// The workspace takes up the versions up to its branch's head, with these choices; no text where no bucket was to be chosen of.
+    Update { ws: u32, choices: Text },
+    /// The workspace takes up the versions of that branch, with these choices.
+    Merge { ws: u32, branch: u32, choices: Text },
     /// The workspace goes.
     Drop { ws: u32 },
 }

@@ -259,9 +259,16 @@ fn is_event(event: &Event) -> bool
         Event::End { ws } => is_u32(*ws),
         Event::Undo { ws } => is_u32(*ws),
         Event::Discard { ws } => is_u32(*ws),
+        Event::Tidy { ws } => is_u32(*ws),
         Event::Commit { ws, message } => is_u32(*ws) && is_short_text(message),
         Event::Branch { ws, name } => is_u32(*ws) && is_short_text(name),
         Event::Tag { name, version } => is_short_text(name) && is_u32(*version),
+        Event::Update { ws, choices } => is_u32(*ws) && is_short_text(choices),
+        Event::Merge {
+            ws,
+            branch,
+            choices,
+        } => is_u32(*ws) && is_u32(*branch) && is_short_text(choices),
         Event::Drop { ws } => is_u32(*ws),
     }
 }

@@ -2,7 +2,7 @@
 ghost use Rattle.op_form.specs.Reading.{list_at, some_at, items_at};
 ghost use Rattle.op_form.specs.Steps.{step_at};
 ghost use Rattle.op_form.specs.Packages.{kind_at, name_at, simple_at, composite_at, operation_at, package_at};
-ghost use Rattle.op_form.specs.Events.{init_at, checkout_at, edit_at, begin_at, commit_at, branch_at, tag_at, event_at, whole_of};
+ghost use Rattle.op_form.specs.Events.{init_at, checkout_at, edit_at, begin_at, commit_at, branch_at, tag_at, update_at, merge_at, event_at, whole_of};
 ghost use Rattle.op_form.specs.Given.{Gives, GivesWhole};
 
 use crate::read_step::take_step;
@@ -164,9 +164,14 @@ fn take_event(alloc: Global, reader: &mut Reader<'_>) -> Result<Event, FormFault
         7 => Ok(Event::Discard {
             ws: reader.take_u32()?,
         }),
+        8 => Ok(Event::Tidy {
+            ws: reader.take_u32()?,
+        }),
         9 => take_commit(alloc, reader),
         10 => take_branch(alloc, reader),
         11 => take_tag(alloc, reader),
+        12 => take_update(alloc, reader),
+        13 => take_merge(alloc, reader),
         14 => Ok(Event::Drop {
             ws: reader.take_u32()?,
         }),
@@ -234,4 +239,27 @@ fn take_tag(alloc: Global, reader: &mut Reader<'_>) -> Result<Event, FormFault>
     let name = take_text(alloc, reader)?;
     let version = reader.take_u32()?;
     Ok(Event::Tag { name, version })
+}
+
+#[tactic(auto, unfolding(crate::specs::Events::update_at))]
+fn take_update(alloc: Global, reader: &mut Reader<'_>) -> Result<Event, FormFault>
+    ensures { Gives reader.new result (update_at reader.old) }
+{
+    let ws = reader.take_u32()?;
+    let choices = take_text(alloc, reader)?;
+    Ok(Event::Update { ws, choices })
+}
+
+#[tactic(auto, unfolding(crate::specs::Events::merge_at))]
+fn take_merge(alloc: Global, reader: &mut Reader<'_>) -> Result<Event, FormFault>
+    ensures { Gives reader.new result (merge_at reader.old) }
+{
+    let ws = reader.take_u32()?;
+    let branch = reader.take_u32()?;
+    let choices = take_text(alloc, reader)?;
+    Ok(Event::Merge {
+        ws,
+        branch,
+        choices,
+    })
 }

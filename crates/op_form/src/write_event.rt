@@ -131,6 +131,7 @@ fn put_event(form: &mut Form, event: &Event) -> Result<(), AllocError>
         Event::End { ws } => put_of_workspace(form, 5, *ws),
         Event::Undo { ws } => put_of_workspace(form, 6, *ws),
         Event::Discard { ws } => put_of_workspace(form, 7, *ws),
+        Event::Tidy { ws } => put_of_workspace(form, 8, *ws),
         Event::Commit { ws, message } => {
             form.put_u8(9)?;
             form.put_u32(*ws)?;
@@ -145,6 +146,21 @@ fn put_event(form: &mut Form, event: &Event) -> Result<(), AllocError>
             form.put_u8(11)?;
             form.put_text(name.as_str())?;
             form.put_u32(*version)
+        }
+        Event::Update { ws, choices } => {
+            form.put_u8(12)?;
+            form.put_u32(*ws)?;
+            form.put_text(choices.as_str())
+        }
+        Event::Merge {
+            ws,
+            branch,
+            choices,
+        } => {
+            form.put_u8(13)?;
+            form.put_u32(*ws)?;
+            form.put_u32(*branch)?;
+            form.put_text(choices.as_str())
         }
         Event::Drop { ws } => put_of_workspace(form, 14, *ws),
     }
