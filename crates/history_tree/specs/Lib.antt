@@ -4,5 +4,6 @@ pub mod History
 pub mod Laws
 pub mod MergeBase
 pub mod Room
+pub mod Since
 pub mod States
 pub mod Whole
