@@ -1,12 +1,10 @@
 -- Packages are applied and reverted: the commands `apply` and `revert`, which make the event Edit.
 use Rattle.std.specs.Prelude.{ℕ, nat_eq, List, [], ◌∷◌, Bool, Option, Some, None, Result, Ok, Err, if◌then◌else◌}
-use Rattle.std.specs.List.{find, list_any}
 use Rattle.ecore_meta.specs.Meta.{Meta}
 use Rattle.model_state.specs.Packages.{rev_package, steps_all}
 use Rattle.model_state.specs.Steps.{first_stop}
 use Rattle.model_state.specs.declared.operation.Operation.{Operation}
 use Rattle.model_state.specs.declared.step.ApplyFault.{ApplyFault}
-use Rattle.history_tree.specs.declared.version.Version.{Version}
 use Rattle.history_tree.specs.declared.found.Found.{Found}
 use Rattle.history_tree.specs.declared.found.FindFault.{FindFault}
 use Rattle.history_tree.specs.History.{History, path}
@@ -14,7 +12,7 @@ use Rattle.history_tree.specs.Found.{found_by_number}
 use Rattle.history_tree.specs.MergeBase.{is_among}
 use Rattle.history_tree.specs.Since.{path_after}
 use Rattle.history_tree.specs.States.{package_at}
-use Rattle.footprint.specs.Interference.{interferes}
+use Rattle.merge_plans.specs.Pairs.{have_pair, first_interfering}
 use Rattle.op_form.specs.declared.event.Event.TheVariants as events
 use Rattle.op_form.specs.declared.fault.FormFault.{FormFault}
 use Rattle.op_form.specs.declared.fault.FormFault.TheVariants as forms
@@ -57,14 +55,6 @@ unfoldable pub decide_apply : State → Meta → ℕ → List ℕ → Decision
 decide_apply s meta ws bytes = apply_in s meta ws (workspace_of s ws) bytes
 
 -- ---- revert
--- does an operation of the one list interfere with one of the other
-abbrev pub have_pair : Meta → List Operation → List Operation → Bool
-have_pair meta os ps = list_any (λ o. list_any (interferes meta o) ps) os
-
--- the first of some versions with an operation that interferes with one of the list
-abbrev pub first_interfering : Meta → List Version → List Operation → List ℕ → Option ℕ
-first_interfering meta versions operations us = find (λ u. have_pair meta operations (package_at versions u)) us
-
 -- the reversal of a package is recorded, where nothing later interferes with it: no version after it up to the base, and nothing local
 abbrev pub taken_out : State → Meta → ℕ → Workspace → List Operation → Option ℕ → Decision
 taken_out s meta ws w operations (Some u) = refused (refusals.Interferes (Some u))

@@ -1,24 +1,10 @@
--- What a user chooses where theirs and mine conflict: a letter a bucket.
-use Rattle.std.specs.Prelude.{ℕ, ◌==◌, ◌&&◌, ◌||◌, List, [], ◌∷◌, Bool, length, Option, Some, None, if◌then◌else◌}
-use Rattle.std.specs.List.{list_all}
+-- What is answered where theirs and mine conflict.
+use Rattle.std.specs.Prelude.{ℕ, List, [], ◌∷◌, length, Option, Some, None, if◌then◌else◌}
 use Rattle.footprint.specs.declared.bucket.Bucket.{Bucket}
-use Rattle.merge_laws.specs.declared.side.Side.{Side}
-use Rattle.merge_laws.specs.declared.side.Side.TheVariants.{Mine, Theirs}
+use Rattle.merge_plans.specs.Choices.{are_choices}
 use Rattle.data_lines.specs.Buckets.{bucket_lines}
 use Rattle.script_lang.specs.declared.reply.Refusal.TheVariants as refusals
 use Rattle.plain_repository.specs.Answers.{Decision, refused, refused_with}
-
--- is the byte `m` or `t`
-abbrev pub is_choice : ℕ → Bool
-is_choice letter = letter == 109 || letter == 116
-
--- the side that a letter keeps: mine for `m`, theirs for `t`
-abbrev pub side_of : ℕ → Side
-side_of letter = if letter == 109 then Mine else Theirs
-
--- there is a letter for each bucket, and no other byte
-abbrev pub are_choices : List ℕ → List Bucket → Bool
-are_choices letters rows = list_all is_choice letters && length letters == length rows
 
 -- what is decided where the choices fit the buckets; a bucket without choices, and choices that don't fit, are refused
 abbrev pub chosen : List Bucket → Option (List ℕ) → Decision → Decision

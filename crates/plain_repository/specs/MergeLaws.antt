@@ -6,14 +6,15 @@ use Rattle.model_state.specs.State.{nothing}
 use Rattle.model_state.specs.Packages.{fold_package}
 use Rattle.history_tree.specs.History.{History, head, path}
 use Rattle.history_tree.specs.States.{operations_of, state_of}
-use Rattle.tidy_laws.specs.Tidy.{tidy}
+use Rattle.history_tree.specs.MergeBase.{merge_base}
 use Rattle.merge_laws.specs.Merge.{merged}
 use Rattle.op_form.specs.declared.event.Event.{Event}
 use Rattle.op_form.specs.declared.event.Event.TheVariants.{Tidy, Update, Merge}
 use Rattle.script_lang.specs.declared.command.Command.TheVariants as commands
 use Rattle.plain_repository.specs.State.{State, Workspace, workspace_of, model_of}
-use Rattle.plain_repository.specs.Choices.{side_of}
-use Rattle.plain_repository.specs.Merging.{incoming, update_buckets, merge_start, theirs_of, mine_of, merge_buckets}
+use Rattle.merge_plans.specs.Choices.{side_of}
+use Rattle.merge_plans.specs.Plans.{incoming}
+use Rattle.plain_repository.specs.Merging.{update_buckets, merge_theirs, merge_mine, merge_buckets}
 use Rattle.plain_repository.specs.Events.{play, playable}
 use Rattle.plain_repository.specs.Repository.{decide_command}
 use Rattle.plain_repository.specs.Laws.{HasMetamodel}
@@ -33,14 +34,14 @@ TidyingKeepsModels = (s : State) (meta : Meta) (ws : ℕ) (before after : Worksp
 -- an update leads to the merged model: from the state of the old base, what the choices keep of theirs, and then what they keep of mine
 abbrev pub UpdatesMerge : Type 0
 UpdatesMerge = (s : State) (meta : Meta) (ws : ℕ) (letters : List ℕ) (before after : Workspace) → Changes s meta ws (Update ws letters) before after
-    → merged meta (state_of meta s.history before.base) (incoming s.history before) before.operations (update_buckets meta s.history before) (map side_of letters)
+    → merged meta (state_of meta s.history before.base) (incoming s.history before.branch before.base) before.operations (update_buckets meta s.history before) (map side_of letters)
       ≡ Some (model_of meta (play s (Update ws letters)).history after)
 
 -- a merge leads to the merged model: from the state of the version where it begins, what the choices keep of theirs, and then what they keep of mine
 abbrev pub MergesMerge : Type 0
 MergesMerge = (s : State) (meta : Meta) (ws branch : ℕ) (letters : List ℕ) (before after : Workspace) → Changes s meta ws (Merge ws branch letters) before after
     → let other = head s.history branch in
-      merged meta (state_of meta s.history (merge_start s.history before other)) (theirs_of s.history before other) (tidy meta (mine_of s.history before other)) (merge_buckets meta s.history before other) (map side_of letters)
+      merged meta (state_of meta s.history (merge_base s.history before.base before.pending other)) (merge_theirs s.history before other) (merge_mine meta s.history before other) (merge_buckets meta s.history before other) (map side_of letters)
       ≡ Some (model_of meta (play s (Merge ws branch letters)).history after)
 
 -- the versions on a version's path but for one

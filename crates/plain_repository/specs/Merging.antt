@@ -2,34 +2,29 @@
 use Rattle.std.specs.Prelude.{ℕ, ◌==◌, ◌&&◌, nat_lt, not, List, [], ◌∷◌, ◌++◌, map, Bool, false, length, Option, Some, None, unwrap_or, if◌then◌else◌}
 use Rattle.std.specs.Fmt.{decimal}
 use Rattle.ecore_meta.specs.Meta.{Meta}
-use Rattle.model_state.specs.Packages.{rev_package}
 use Rattle.model_state.specs.declared.operation.Operation.{Operation}
 use Rattle.history_tree.specs.History.{History, head}
 use Rattle.history_tree.specs.Found.{branch_named}
-use Rattle.history_tree.specs.MergeBase.{last_common, merge_base}
-use Rattle.history_tree.specs.Since.{operations_after}
 use Rattle.footprint.specs.declared.bucket.Bucket.{Bucket}
 use Rattle.footprint.specs.Buckets.{buckets}
 use Rattle.tidy_laws.specs.Tidy.{tidy}
 use Rattle.merge_laws.specs.Merge.{update_list, merge_list}
+use Rattle.merge_plans.specs.Choices.{are_choices, side_of}
+use Rattle.merge_plans.specs.Plans.{incoming, theirs_of, mine_of}
 use Rattle.op_form.specs.declared.event.Event.TheVariants as events
 use Rattle.script_lang.specs.declared.reply.Refusal.TheVariants as refusals
 use Rattle.plain_repository.specs.State.{State, Workspace, workspace_of, is_open, is_closed}
 use Rattle.plain_repository.specs.Answers.{Decision, refused, told, with_room}
-use Rattle.plain_repository.specs.Choices.{are_choices, chosen, side_of}
+use Rattle.plain_repository.specs.Choices.{chosen}
 
 -- ---- Update
--- theirs of an update: the operations of the branch's versions after the workspace's base
-abbrev pub incoming : History → Workspace → List Operation
-incoming h w = operations_after h w.base (head h w.branch)
-
 -- the buckets of an update; mine are the local operations
 abbrev pub update_buckets : Meta → History → Workspace → List Bucket
-update_buckets meta h w = buckets meta (incoming h w) w.operations
+update_buckets meta h w = buckets meta (incoming h w.branch w.base) w.operations
 
 -- the base is the head, and the local operations are what theirs and mine leave by the choices
 abbrev pub updated : Meta → History → List ℕ → Workspace → Workspace
-updated meta h letters w = record w { base = head h w.branch; operations = update_list (incoming h w) w.operations (update_buckets meta h w) (map side_of letters) }
+updated meta h letters w = record w { base = head h w.branch; operations = update_list (incoming h w.branch w.base) w.operations (update_buckets meta h w) (map side_of letters) }
 
 -- no composite is open, the base is not the head, and the choices fit
 abbrev pub can_update : Meta → History → List ℕ → Option Workspace → Bool
@@ -52,27 +47,21 @@ unfoldable pub decide_update : State → Meta → ℕ → Option (List ℕ) → 
 decide_update s meta ws choices = update_in s meta ws choices (workspace_of s ws)
 
 -- ---- Merge
--- where a merge of a version begins: the greatest version on that version's path that the workspace's base has or counts as merged
-abbrev pub merge_start : History → Workspace → ℕ → ℕ
-merge_start h w other = merge_base h w.base w.pending other
+-- theirs of a merge into a workspace
+abbrev pub merge_theirs : History → Workspace → ℕ → List Operation
+merge_theirs h w other = theirs_of h w.base w.pending other
 
--- theirs of a merge: the operations on the other version's path after that
-abbrev pub theirs_of : History → Workspace → ℕ → List Operation
-theirs_of h w other = operations_after h (merge_start h w other) other
+-- and mine, tidied
+abbrev pub merge_mine : Meta → History → Workspace → ℕ → List Operation
+merge_mine meta h w other = tidy meta (mine_of h w.base w.pending w.operations other)
 
--- the operations that lead from where a merge begins to the working model: back to the last version that both have, from there to the base, and then the local ones
-abbrev pub mine_of : History → Workspace → ℕ → List Operation
-mine_of h w other =
-    let common = last_common h w.base other in
-    rev_package (operations_after h common (merge_start h w other)) ++ (operations_after h common w.base ++ w.operations)
-
--- the buckets of a merge; mine are these, tidied
+-- the buckets of a merge
 abbrev pub merge_buckets : Meta → History → Workspace → ℕ → List Bucket
-merge_buckets meta h w other = buckets meta (theirs_of h w other) (tidy meta (mine_of h w other))
+merge_buckets meta h w other = buckets meta (merge_theirs h w other) (merge_mine meta h w other)
 
 -- what a merge appends to the local operations
 abbrev pub merge_tail : Meta → History → Workspace → ℕ → List ℕ → List Operation
-merge_tail meta h w other letters = merge_list (theirs_of h w other) (tidy meta (mine_of h w other)) (merge_buckets meta h w other) (map side_of letters)
+merge_tail meta h w other letters = merge_list (merge_theirs h w other) (merge_mine meta h w other) (merge_buckets meta h w other) (map side_of letters)
 
 -- what theirs and mine leave by the choices comes after the local operations, and the version is pending
 abbrev pub merged_with : Meta → History → ℕ → List ℕ → Workspace → Workspace
@@ -84,7 +73,7 @@ is_other_branch h w branch = nat_lt branch (length h.branches) && not (branch ==
 
 -- there is something to merge
 abbrev pub has_theirs : History → Workspace → ℕ → Bool
-has_theirs h w other = nat_lt 0 (length (theirs_of h w other))
+has_theirs h w other = nat_lt 0 (length (merge_theirs h w other))
 
 -- no composite is open, the branch is another, its head has something to merge, and the choices fit
 abbrev pub can_merge : Meta → History → ℕ → List ℕ → Option Workspace → Bool
