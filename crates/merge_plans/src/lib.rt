@@ -6,7 +6,7 @@ mod letters;
 mod pairs;
 mod plan;
 
-pub use gathering::operations_after;
+pub use gathering::{copy_operations, operations_after, path_after};
 pub use letters::are_choices;
 pub use pairs::{first_interfering, have_pair};
 pub use plan::{Plan, plan_merge, plan_update};

@@ -1,12 +1,12 @@
 //! The plan of an update and of a merge: two packages that begin at one model, and their buckets.
-ghost use Rattle.std.specs.Prelude.{◌≡◌, ◌<◌, All, IfOk, length, map};
+ghost use Rattle.std.specs.Prelude.{◌≡◌, ◌<◌, ◌^◌, ◌-◌, All, IfOk, length, map};
 ghost use Rattle.footprint.specs.Buckets.{buckets as buckets_of};
 ghost use Rattle.tidy_laws.specs.Tidy.{tidy as tidy_of};
 ghost use Rattle.merge_laws.specs.Merge.{merge_list, update_list};
 ghost use Rattle.merge_plans.specs.Choices.{are_choices, side_of};
 ghost use Rattle.merge_plans.specs.Plans.{incoming, mine_of, theirs_of};
 
-use crate::gathering::{operations_after, push_copies};
+use crate::gathering::{copy_operations, operations_after, push_copies};
 use crate::letters::sides_of;
 use canoniser::tidy;
 use conflict_buckets::buckets;
@@ -39,10 +39,10 @@ pub fn plan_update(
     ensures theirs { IfOk result (λ p. p.theirs ≡ incoming history.now.history branch base) }
     ensures mine { IfOk result (λ p. p.mine ≡ local.now) }
     ensures buckets { IfOk result (λ p. p.buckets.rows ≡ buckets_of meta.now (incoming history.now.history branch base) local.now) }
+    ensures places { IfOk result (λ p. All (λ b. All (λ i. i < 2 ^ 64 - 1) b.theirs × All (λ i. i < 2 ^ 64 - 1) b.mine) p.buckets.rows) }
 {
     let theirs = operations_after(alloc, history, base, history.head(branch))?;
-    let mut mine = List::new(alloc);
-    push_copies(alloc, &mut mine, local)?;
+    let mine = copy_operations(alloc, local)?;
     let buckets = buckets(alloc, &theirs, &mine, meta)?;
     Ok(Plan {
         theirs,
@@ -92,6 +92,7 @@ pub fn plan_merge(
     ensures theirs { IfOk result (λ p. p.theirs ≡ theirs_of history.now.history base pending.now other) }
     ensures mine { IfOk result (λ p. p.mine ≡ tidy_of meta.now (mine_of history.now.history base pending.now local.now other)) }
     ensures buckets { IfOk result (λ p. p.buckets.rows ≡ buckets_of meta.now (theirs_of history.now.history base pending.now other) (tidy_of meta.now (mine_of history.now.history base pending.now local.now other))) }
+    ensures places { IfOk result (λ p. All (λ b. All (λ i. i < 2 ^ 64 - 1) b.theirs × All (λ i. i < 2 ^ 64 - 1) b.mine) p.buckets.rows) }
 {
     let start = history.merge_base(alloc, base, pending, other)?;
     let theirs = operations_after(alloc, history, start, other)?;

@@ -1,8 +1,7 @@
 //! A decision: the reply to a command, and the event that it makes.
-ghost use Rattle.std.specs.Prelude.{◌≡◌, IfOk, true};
+ghost use Rattle.std.specs.Prelude.{◌≡◌, IfOk, None, true};
 ghost use Rattle.std.specs.Fmt.{decimal};
-ghost use Rattle.plain_repository.specs.State.{State};
-ghost use Rattle.plain_repository.specs.Answers.{refused, told, with_room};
+ghost use Rattle.plain_repository.specs.Answers.{refused, refused_with, told, with_room};
 ghost use Rattle.plain_repository.specs.Events.{playable_with};
 ghost use Rattle.repo_core.specs.Decisions.{seen, CanMakeIt};
 
@@ -28,24 +27,32 @@ pub struct Decision {
     pub made: Option<Made>,
 }
 
-/// A refusal, which makes no event.
-pub(crate) fn refuse(alloc: Global, refusal: Refusal) -> Decision
-    ensures decision { seen result ≡ refused refusal }
-    ensures made { (s : State) → CanMakeIt s result.made }
+/// A refusal with data lines, which makes no event.
+pub(crate) fn refuse_with(lines: List<Text>, refusal: Refusal) -> Decision
+    ensures decision { seen result ≡ refused_with lines refusal }
+    ensures made { result.made ≡ None }
 {
     Decision {
         reply: Reply {
-            lines: List::new(alloc),
+            lines,
             last: Last::No(refusal),
         },
         made: None,
     }
 }
 
+/// A refusal without any.
+pub(crate) fn refuse(alloc: Global, refusal: Refusal) -> Decision
+    ensures decision { seen result ≡ refused refusal }
+    ensures made { result.made ≡ None }
+{
+    refuse_with(List::new(alloc), refusal)
+}
+
 /// An answer that changes nothing.
 pub(crate) fn tell(lines: List<Text>, words: Text) -> Decision
     ensures decision { seen result ≡ told lines words }
-    ensures made { (s : State) → CanMakeIt s result.made }
+    ensures made { result.made ≡ None }
 {
     Decision {
         reply: Reply {
