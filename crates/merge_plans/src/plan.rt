@@ -66,7 +66,7 @@ fn mine_from(
     ensures { IfOk result (λ p. p ≡ mine_of history.now.history base pending.now local.now other) }
 {
     let start = history.merge_base(alloc, base, pending, other)?;
-    let common = history.last_common(alloc, base, other)?;
+    let common = history.last_common(base, other);
     let taken = operations_after(alloc, history, common, start)?;
     let mut mine = reverse(alloc, &taken)?;
     let since = operations_after(alloc, history, common, base)?;
