@@ -164,6 +164,7 @@ impl Repo {
         ensures same { OnErr result (self.new ≡ self.old) }
         ensures cannot { IsErrOf result ReplayFault.NotPlayable → playable_with self.old self.old.meta (Tidy ws) ≡ false }
     {
+        self.orderly();
         let local = self.tidied(alloc, ws)?;
         self.restart(ws, local);
         Ok(())
@@ -182,6 +183,7 @@ impl Repo {
         ensures same { OnErr result (self.new ≡ self.old) }
         ensures cannot { IsErrOf result ReplayFault.NotPlayable → playable_with self.old self.old.meta (Update ws letters.now) ≡ false }
     {
+        self.orderly();
         let local = self.updated(alloc, ws, letters)?;
         self.restart(ws, local);
         Ok(())
@@ -201,6 +203,7 @@ impl Repo {
         ensures same { OnErr result (self.new ≡ self.old) }
         ensures cannot { IsErrOf result ReplayFault.NotPlayable → playable_with self.old self.old.meta (Merge ws branch letters.now) ≡ false }
     {
+        self.orderly();
         let merged = self.merged(alloc, ws, branch, letters)?;
         self.take_up(alloc, ws, merged)?;
         Ok(())

@@ -1,6 +1,7 @@
 //! A decision: the reply to a command, and the event that it makes.
-ghost use Rattle.std.specs.Prelude.{◌≡◌, IfOk, None, true};
+ghost use Rattle.std.specs.Prelude.{◌≡◌, IfOk, true};
 ghost use Rattle.std.specs.Fmt.{decimal};
+ghost use Rattle.plain_repository.specs.State.{State};
 ghost use Rattle.plain_repository.specs.Answers.{refused, refused_with, told, with_room};
 ghost use Rattle.plain_repository.specs.Events.{playable_with};
 ghost use Rattle.repo_core.specs.Decisions.{seen, CanMakeIt};
@@ -30,7 +31,7 @@ pub struct Decision {
 /// A refusal with data lines, which makes no event.
 pub(crate) fn refuse_with(lines: List<Text>, refusal: Refusal) -> Decision
     ensures decision { seen result ≡ refused_with lines refusal }
-    ensures made { result.made ≡ None }
+    ensures made { (s : State) → CanMakeIt s result.made }
 {
     Decision {
         reply: Reply {
@@ -44,7 +45,7 @@ pub(crate) fn refuse_with(lines: List<Text>, refusal: Refusal) -> Decision
 /// A refusal without any.
 pub(crate) fn refuse(alloc: Global, refusal: Refusal) -> Decision
     ensures decision { seen result ≡ refused refusal }
-    ensures made { result.made ≡ None }
+    ensures made { (s : State) → CanMakeIt s result.made }
 {
     refuse_with(List::new(alloc), refusal)
 }
@@ -52,7 +53,7 @@ pub(crate) fn refuse(alloc: Global, refusal: Refusal) -> Decision
 /// An answer that changes nothing.
 pub(crate) fn tell(lines: List<Text>, words: Text) -> Decision
     ensures decision { seen result ≡ told lines words }
-    ensures made { result.made ≡ None }
+    ensures made { (s : State) → CanMakeIt s result.made }
 {
     Decision {
         reply: Reply {

@@ -1,9 +1,10 @@
 //! What is answered where theirs and mine conflict.
-ghost use Rattle.std.specs.Prelude.{◌≡◌, [], ◌<◌, ◌-◌, ◌^◌, All, IfOk, IfNone, IfSome, None, true, unwrap_or};
+ghost use Rattle.std.specs.Prelude.{◌≡◌, [], ◌<◌, ◌-◌, ◌^◌, All, IfOk, IfNone, IfSome, true, unwrap_or};
 ghost use Rattle.plain_repository.specs.Answers as plain;
 ghost use Rattle.plain_repository.specs.Choices.{chosen};
 ghost use Rattle.merge_plans.specs.Choices.{are_choices};
-ghost use Rattle.repo_core.specs.Decisions.{seen};
+ghost use Rattle.plain_repository.specs.State.{State};
+ghost use Rattle.repo_core.specs.Decisions.{seen, CanMakeIt};
 
 use crate::deciding::answers::{Decision, refuse, refuse_with};
 use data_lines::bucket_lines;
@@ -32,7 +33,7 @@ pub(crate) fn refused_choices(
 ) -> Result<Option<Decision>, AllocError>
     requires places { All (λ b. All (λ i. i < 2 ^ 64 - 1) b.theirs × All (λ i. i < 2 ^ 64 - 1) b.mine) buckets.now.rows }
     ensures refused { IfOk result (λ found. IfSome found (λ d. (otherwise : plain.Decision) → seen d ≡ chosen buckets.now.rows choices.now otherwise)) }
-    ensures made { IfOk result (λ found. IfSome found (λ d. d.made ≡ None)) }
+    ensures made { IfOk result (λ found. IfSome found (λ d. (s : State) → CanMakeIt s d.made)) }
     ensures passed { IfOk result (λ found. IfNone found ((otherwise : plain.Decision) → chosen buckets.now.rows choices.now otherwise ≡ otherwise)) }
     ensures fit { IfOk result (λ found. IfNone found (are_choices (unwrap_or choices.now []) buckets.now.rows ≡ true)) }
 {
