@@ -1,5 +1,6 @@
 //! Choices as they are written: a letter a bucket.
 ghost use Rattle.std.specs.Prelude.{◌≡◌, IfOk, map};
+ghost use Rattle.std.specs.List.{list_all};
 ghost use Rattle.merge_plans.specs.Choices.{are_choices, is_choice, side_of};
 
 use footprint::Bucket;
@@ -23,11 +24,17 @@ fn side_of(letter: u8) -> Side
     }
 }
 
+fn each_is_choice(letters: &[u8]) -> bool
+    ensures { result ≡ list_all is_choice letters.now }
+{
+    letters.iter().all(|letter| is_choice(*letter))
+}
+
 /// Whether there is a letter `m` or `t` for each bucket, and no other byte.
 pub fn are_choices(letters: &str, rows: &[Bucket]) -> bool
     ensures { result ≡ are_choices letters.now rows.now }
 {
-    letters.as_bytes().iter().all(|letter| is_choice(*letter)) && letters.len() == rows.len()
+    letters.len() == rows.len() && each_is_choice(letters.as_bytes())
 }
 
 /// The sides that letters keep, in their order.

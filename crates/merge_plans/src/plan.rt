@@ -1,5 +1,5 @@
 //! The plan of an update and of a merge: two packages that begin at one model, and their buckets.
-ghost use Rattle.std.specs.Prelude.{◌≡◌, ◌<◌, ◌^◌, ◌-◌, All, IfOk, length, map};
+ghost use Rattle.std.specs.Prelude.{◌≡◌, ◌<◌, ◌^◌, ◌-◌, All, IfOk, length, map, true};
 ghost use Rattle.footprint.specs.Buckets.{buckets as buckets_of};
 ghost use Rattle.tidy_laws.specs.Tidy.{tidy as tidy_of};
 ghost use Rattle.merge_laws.specs.Merge.{merge_list, update_list};
@@ -26,6 +26,16 @@ pub struct Plan {
     pub buckets: Buckets,
 }
 
+/// The places in the buckets of two packages have numbers of 64 bits, counted from 1 too. It does nothing.
+fn numbered(_meta: &Metamodel, theirs: &Package, mine: &Package, _buckets: &Buckets)
+    requires same { _buckets.now.rows ≡ buckets_of _meta.now theirs.now mine.now }
+    ensures places { All (λ b. All (λ i. i < 2 ^ 64 - 1) b.theirs × All (λ i. i < 2 ^ 64 - 1) b.mine) _buckets.now.rows }
+{
+    // For the bounds of the lengths.
+    let _theirs = theirs.len();
+    let _mine = mine.len();
+}
+
 /// The plan of an update: theirs are the operations of the branch's versions after the base, mine the local ones.
 pub fn plan_update(
     alloc: Global,
@@ -44,6 +54,7 @@ pub fn plan_update(
     let theirs = operations_after(alloc, history, base, history.head(branch))?;
     let mine = copy_operations(alloc, local)?;
     let buckets = buckets(alloc, &theirs, &mine, meta)?;
+    numbered(meta, &theirs, &mine, &buckets);
     Ok(Plan {
         theirs,
         mine,
@@ -99,6 +110,7 @@ pub fn plan_merge(
     let mine = mine_from(alloc, history, base, pending, local, other)?;
     let mine = tidy(alloc, &mine, meta)?;
     let buckets = buckets(alloc, &theirs, &mine, meta)?;
+    numbered(meta, &theirs, &mine, &buckets);
     Ok(Plan {
         theirs,
         mine,

@@ -17,7 +17,7 @@ use crate::repo::{Begun, Repo};
 use crate::states::stop_in;
 use crate::workspace::Workspace;
 use ecore_meta::{List, Text};
-use merge_plans::{first_interfering, have_pair, path_after};
+use merge_plans::{copy_operations, first_interfering, have_pair, path_after};
 use model_state::Package;
 use op_form::{Event, FormFault, decode, reverse};
 use script_lang::Refusal;
@@ -133,13 +133,14 @@ impl Repo {
             alloc,
             &begun.meta,
             history,
-            package.as_slice(),
+            package,
             later.as_slice(),
         )?;
         if found.is_some() {
             return Ok(refuse(alloc, Refusal::Interferes { version: found }));
         }
-        if have_pair(alloc, &begun.meta, package.as_slice(), workspace.operations())? {
+        let local = copy_operations(alloc, workspace.operations())?;
+        if have_pair(alloc, &begun.meta, package, &local)? {
             return Ok(refuse(alloc, Refusal::Interferes { version: None }));
         }
         let reversal = reverse(alloc, package)?;
