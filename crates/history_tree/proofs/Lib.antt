@@ -3,4 +3,7 @@ pub mod Heads
 pub mod HeadsBeside
 pub mod Paths
 pub mod Steady
+mod Bases
+mod Flags
+mod Greatest
 mod Leading

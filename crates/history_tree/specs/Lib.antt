@@ -2,7 +2,9 @@ pub mod Found
 pub mod Heads
 pub mod History
 pub mod Laws
+pub mod Marks
 pub mod MergeBase
 pub mod Room
+pub mod Since
 pub mod States
 pub mod Whole

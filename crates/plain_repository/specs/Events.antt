@@ -3,9 +3,10 @@ use Rattle.std.specs.Prelude.{◌+◌, ◌&&◌, nat_lt, List, [], ◌∷◌, Bo
 use Rattle.ecore_meta.specs.Meta.{Meta}
 use Rattle.model_state.specs.Names.{is_name}
 use Rattle.op_form.specs.declared.event.Event.{Event}
-use Rattle.op_form.specs.declared.event.Event.TheVariants.{Init, Checkout, Edit, Begin, End, Undo, Discard, Commit, Branch, Tag, Drop}
+use Rattle.op_form.specs.declared.event.Event.TheVariants.{Init, Checkout, Edit, Begin, End, Undo, Discard, Tidy, Commit, Branch, Tag, Update, Merge, Drop}
+use Rattle.history_tree.specs.History.{head}
 use Rattle.op_form.specs.Events.{event_form}
-use Rattle.plain_repository.specs.State.{State, workspace_of, with_changed, is_open, is_closed}
+use Rattle.plain_repository.specs.State.{State, Workspace, workspace_of, with_changed, is_open, is_closed}
 use Rattle.plain_repository.specs.Answers.{most_events, fits_record}
 use Rattle.plain_repository.specs.Metamodels.{initialized, is_metamodel}
 use Rattle.plain_repository.specs.Checkouts.{checked_out, can_check_out, dropped}
@@ -13,6 +14,13 @@ use Rattle.plain_repository.specs.Commits.{with_commit, can_commit, with_new_bra
 use Rattle.plain_repository.specs.Edits.{with_more, can_follow}
 use Rattle.plain_repository.specs.Composites.{with_open, can_begin, with_closed}
 use Rattle.plain_repository.specs.Local.{without_last, can_undo, without_any, can_discard}
+use Rattle.plain_repository.specs.Tidying.{tidied, can_tidy}
+use Rattle.plain_repository.specs.Merging.{updated, can_update, merged_with, can_merge}
+
+-- a change that goes by the metamodel, where there is one
+abbrev pub by_meta : Option Meta → (Meta → Workspace → Workspace) → Workspace → Workspace
+by_meta None change w = w
+by_meta (Some meta) change w = change meta w
 
 -- what an event changes beside the numbers that every event raises
 abbrev pub effect : State → Event → State
@@ -23,9 +31,12 @@ effect s (Begin ws name) = with_changed (with_open name) ws s
 effect s (End ws) = with_changed with_closed ws s
 effect s (Undo ws) = with_changed without_last ws s
 effect s (Discard ws) = with_changed without_any ws s
+effect s (Tidy ws) = with_changed (by_meta s.meta tidied) ws s
 effect s (Commit ws message) = with_commit ws message (workspace_of s ws) s
 effect s (Branch ws name) = with_new_branch ws name (workspace_of s ws) s
 effect s (Tag name version) = with_new_tag name version s
+effect s (Update ws letters) = with_changed (by_meta s.meta (λ meta. updated meta s.history letters)) ws s
+effect s (Merge ws branch letters) = with_changed (by_meta s.meta (λ meta. merged_with meta s.history (head s.history branch) letters)) ws s
 effect s (Drop ws) = dropped ws s
 
 -- the state that an event makes
@@ -41,9 +52,12 @@ playable_with s (Some meta) (Begin ws name) = can_begin name (workspace_of s ws)
 playable_with s (Some meta) (End ws) = is_open (workspace_of s ws)
 playable_with s (Some meta) (Undo ws) = can_undo (workspace_of s ws)
 playable_with s (Some meta) (Discard ws) = can_discard (workspace_of s ws)
+playable_with s (Some meta) (Tidy ws) = can_tidy meta (workspace_of s ws)
 playable_with s (Some meta) (Commit ws message) = can_commit s.history (workspace_of s ws)
 playable_with s (Some meta) (Branch ws name) = is_name name && is_new_branch s.history name && is_closed (workspace_of s ws)
 playable_with s (Some meta) (Tag name version) = can_tag s.history name version
+playable_with s (Some meta) (Update ws letters) = can_update meta s.history letters (workspace_of s ws)
+playable_with s (Some meta) (Merge ws branch letters) = can_merge meta s.history branch letters (workspace_of s ws)
 playable_with s (Some meta) (Drop ws) = is_some (workspace_of s ws)
 playable_with s meta event = false
 

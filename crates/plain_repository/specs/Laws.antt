@@ -13,7 +13,7 @@ use Rattle.history_tree.specs.History.{History, head}
 use Rattle.history_tree.specs.States.{state_folded, state_of}
 use Rattle.history_tree.specs.Whole.{IsWhole}
 use Rattle.op_form.specs.declared.event.Event.{Event}
-use Rattle.op_form.specs.declared.event.Event.TheVariants.{Init, Checkout, Edit, Begin, End, Undo, Discard, Commit, Branch, Tag, Drop}
+use Rattle.op_form.specs.declared.event.Event.TheVariants.{Init, Checkout, Edit, Begin, End, Undo, Discard, Tidy, Commit, Branch, Tag, Update, Merge, Drop}
 use Rattle.script_lang.specs.declared.command.Command.TheVariants as commands
 use Rattle.script_lang.specs.declared.reply.Refusal.TheVariants as refusals
 use Rattle.script_lang.specs.declared.reply.Last.TheVariants as last
@@ -114,9 +114,12 @@ is_of ws (Begin k name) = k == ws
 is_of ws (End k) = k == ws
 is_of ws (Undo k) = k == ws
 is_of ws (Discard k) = k == ws
+is_of ws (Tidy k) = k == ws
 is_of ws (Commit k message) = k == ws
 is_of ws (Branch k name) = k == ws
 is_of ws (Tag name version) = false
+is_of ws (Update k letters) = k == ws
+is_of ws (Merge k branch letters) = k == ws
 is_of ws (Drop k) = k == ws
 
 -- an event that is not of a workspace leaves its branch, base, operations, open composite and pending list

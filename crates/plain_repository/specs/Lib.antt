@@ -1,5 +1,7 @@
 pub mod Answers
+pub mod Applying
 pub mod Checkouts
+pub mod Choices
 pub mod Commits
 pub mod Composites
 pub mod Edits
@@ -7,10 +9,13 @@ pub mod Events
 pub mod Laws
 pub mod Lines
 pub mod Local
+pub mod MergeLaws
+pub mod Merging
 pub mod Metamodels
 pub mod Orderly
 pub mod Repository
 pub mod Specs
 pub mod State
 pub mod Store
+pub mod Tidying
 pub mod Views

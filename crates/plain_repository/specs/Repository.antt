@@ -18,6 +18,9 @@ use Rattle.plain_repository.specs.Commits.{decide_commit, decide_branch, decide_
 use Rattle.plain_repository.specs.Edits.{decide_edit, decide_import}
 use Rattle.plain_repository.specs.Composites.{decide_begin, decide_end}
 use Rattle.plain_repository.specs.Local.{decide_undo, decide_discard}
+use Rattle.plain_repository.specs.Tidying.{decide_tidy}
+use Rattle.plain_repository.specs.Applying.{decide_apply, decide_revert}
+use Rattle.plain_repository.specs.Merging.{decide_update, decide_merge}
 use Rattle.plain_repository.specs.Views.{decide_changes, decide_show, decide_validate, decide_cat, decide_package, decide_log}
 
 -- the text of a block, empty where there is none
@@ -35,6 +38,8 @@ decide_begun s meta block (commands.Begin ws name) = decide_begin s ws name
 decide_begun s meta block (commands.End ws) = decide_end s ws
 decide_begun s meta block (commands.Undo ws) = decide_undo s ws
 decide_begun s meta block (commands.Discard ws) = decide_discard s ws
+decide_begun s meta block (commands.Tidy ws) = decide_tidy s meta ws
+decide_begun s meta block (commands.Apply ws bytes) = decide_apply s meta ws bytes
 decide_begun s meta block (commands.Changes ws) = decide_changes s meta ws
 decide_begun s meta block (commands.Show ws) = decide_show s meta ws
 decide_begun s meta block (commands.Cat spec) = decide_cat s meta spec
@@ -44,6 +49,9 @@ decide_begun s meta block (commands.Branch ws name) = decide_branch s ws name
 decide_begun s meta block (commands.Tag name spec) = decide_tag s name spec
 decide_begun s meta block commands.Log = decide_log s
 decide_begun s meta block (commands.Package spec) = decide_package s meta spec
+decide_begun s meta block (commands.Update ws choices) = decide_update s meta ws choices
+decide_begun s meta block (commands.Merge ws branch choices) = decide_merge s meta ws branch choices
+decide_begun s meta block (commands.Revert ws version) = decide_revert s meta ws version
 decide_begun s meta block (commands.Drop ws) = decide_drop s ws
 
 -- before there is a metamodel, `init` alone is answered otherwise than so
