@@ -15,7 +15,7 @@ ghost use Rattle.plain_repository.specs.Local.{can_discard, can_undo, without_an
 ghost use Rattle.repo_core.specs.Keeping.{plain_of, Fits};
 
 use crate::lists::{append, steps_out};
-use crate::states::{follow, state_at, steps_in};
+use crate::states::{follow, state_at, steps_in, take_steps};
 use ecore_meta::{List, Metamodel, Text};
 use history_tree::{History, Version};
 use model_laws::replay;
@@ -295,7 +295,7 @@ impl Workspace {
             None => Ok(()),
             Some(composite) => {
                 let steps = composite.steps.as_slice();
-                replay(model, meta, steps)
+                take_steps(model, meta, steps)
             }
         }
     }
