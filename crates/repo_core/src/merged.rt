@@ -103,16 +103,16 @@ impl Repo {
         let Some(workspace) = self.workspace(ws) else {
             return Err(ReplayFault::NotPlayable);
         };
-        if workspace.is_open() || branch >= begun.history.branch_count() || branch == workspace.branch
+        if workspace.is_open()
+            || branch >= begun.history.branch_count()
+            || branch == workspace.branch
         {
             return Err(ReplayFault::NotPlayable);
         }
         self.orderly();
         let version = begun.history.head(branch);
         let plan = begun.merge_plan(alloc, workspace, version)?;
-        if plan.theirs.len() == 0
-            || !are_choices(letters.as_str(), plan.buckets.rows.as_slice())
-        {
+        if plan.theirs.len() == 0 || !are_choices(letters.as_str(), plan.buckets.rows.as_slice()) {
             return Err(ReplayFault::NotPlayable);
         }
         let more = plan.merge_list(alloc, &begun.meta, letters.as_str())?;

@@ -17,7 +17,7 @@ ghost use Rattle.repo_core.specs.Planning.{restarted, taken_up};
 
 use crate::lists::{append, items_of, steps_out};
 use crate::merged::{Local, Merged};
-use crate::states::{follow, state_at, steps_in};
+use crate::states::{follow, state_at, steps_in, take_steps};
 use ecore_meta::{List, Metamodel, Text};
 use history_tree::{History, Version};
 use model_laws::replay;
@@ -326,10 +326,7 @@ impl Workspace {
             None => Ok(()),
             Some(composite) => {
                 let steps = composite.steps.as_slice();
-                match replay(model, meta, steps) {
-                    Ok(()) => Ok(()),
-                    Err(stop) => Err(stop.fault),
-                }
+                take_steps(model, meta, steps)
             }
         }
     }

@@ -129,13 +129,7 @@ impl Repo {
         let history = &begun.history;
         let package = &history.version(version).package;
         let later = path_after(alloc, history, version, workspace.base)?;
-        let found = first_interfering(
-            alloc,
-            &begun.meta,
-            history,
-            package,
-            later.as_slice(),
-        )?;
+        let found = first_interfering(alloc, &begun.meta, history, package, later.as_slice())?;
         if found.is_some() {
             return Ok(refuse(alloc, Refusal::Interferes { version: found }));
         }

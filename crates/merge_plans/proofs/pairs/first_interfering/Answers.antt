@@ -18,7 +18,7 @@ returns-then-branch c =
     let i = c.loop-u.u-index in
     let p : ℕ → Bool = λ u. have_pair c.args.meta.now c.args.operations.now (package_at vs u) in
     let at : package_at vs (slice_index_or us i 0) ≡ c.version.result.now.«package» = ap (λ (o : Option Version). option_map_or (λ v. v.«package») o []) c.version.ensures.version in
-    sym (found_here p us i 0 c.loop-u-test.true c.loop-u.invariant (ap (have_pair c.args.meta.now c.args.operations.now) at ∙ sym c.in_ok-have_pair.ensures ∙ c.if-branch.true))
+    record { first = sym (found_here p us i 0 c.loop-u-test.true c.loop-u.invariant (ap (have_pair c.args.meta.now c.args.operations.now) at ∙ sym c.in_ok-have_pair.ensures.found ∙ c.if-branch.true)) }
 
 pub loop-u-preserved : goal.loop-u-preserved
 loop-u-preserved c =
@@ -27,4 +27,4 @@ loop-u-preserved c =
     let i = c.loop-u.u-index in
     let p : ℕ → Bool = λ u. have_pair c.args.meta.now c.args.operations.now (package_at vs u) in
     let at : package_at vs (slice_index_or us i 0) ≡ c.version.result.now.«package» = ap (λ (o : Option Version). option_map_or (λ v. v.«package») o []) c.version.ensures.version in
-    found_later p us i 0 c.loop-u-test.true c.loop-u.invariant (ap (have_pair c.args.meta.now c.args.operations.now) at ∙ sym c.in_ok-have_pair.ensures ∙ c.if-branch.false)
+    found_later p us i 0 c.loop-u-test.true c.loop-u.invariant (ap (have_pair c.args.meta.now c.args.operations.now) at ∙ sym c.in_ok-have_pair.ensures.found ∙ c.if-branch.false)
