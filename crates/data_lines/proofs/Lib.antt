@@ -1,3 +1,2 @@
 pub mod Taken
 pub mod VersionLines
-pub mod BucketNumbers
