@@ -2,5 +2,6 @@ pub mod Growing
 pub mod Heads
 pub mod HeadsBeside
 pub mod Paths
+pub mod Since
 pub mod Steady
 mod Leading
