@@ -3,3 +3,4 @@ pub mod Typed
 pub mod Validation
 pub mod Versions
 pub mod Laws
+pub mod Buckets

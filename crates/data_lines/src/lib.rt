@@ -1,7 +1,8 @@
 //! Data lines: what the replies to commands show besides their last line. The lines of operations and steps, those of features below their lower
-//! bounds, and those of versions.
+//! bounds, those of versions, and those of buckets.
 #![tactic(auto)]
 
+mod buckets;
 mod laws;
 mod line;
 mod operation;
@@ -11,6 +12,7 @@ mod validation;
 mod versions;
 mod words;
 
+pub use buckets::bucket_lines;
 pub use laws::law_of_taken_steps;
 pub use operation::{open_lines, operation_lines};
 pub use typed::{are_typed, is_typed, is_typed_package};

@@ -138,7 +138,7 @@ fn push_number_if_any(line: &mut Line, number: Option<u32>) -> Result<(), AllocE
 }
 
 /// Adds a space and words with commas between them, or `-` where there is none.
-fn push_list(line: &mut Line, words: &[Text]) -> Result<(), AllocError>
+pub(crate) fn push_list(line: &mut Line, words: &[Text]) -> Result<(), AllocError>
     ensures { OnOk result (line.new ≡ line.old ++ 32 ∷ listed words.now) }
 {
     match words {

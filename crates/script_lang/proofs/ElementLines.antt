@@ -32,7 +32,7 @@ create_spelled left command e =
     let end = end_tells o.0.1 _ command o.2 in
     let t = optional_out c o.0.0 o.0.1 o.1 end.0 in
     told_as (codes "create") left (commands.Edit ws (Create class place o.0.0)) command (decimal ws ∷ class ∷ (destination_words place ++ optional_word o.0.0)) (is_ws, (is_class, is_place, t.0))
-    (at_ws (class ∷ (destination_words place ++ optional_word o.0.0)) (at_class (destination_words place ++ optional_word o.0.0) (at_place (optional_word o.0.0) t.1))) refl end.1)))
+    (at_ws (class ∷ (destination_words place ++ optional_word o.0.0)) (at_class (destination_words place ++ optional_word o.0.0) (at_place (optional_word o.0.0) t.1))) (λ l e. e) end.1)))
 
 pub delete_read : (ws : ℕ) (id : List ℕ) → IsCommand (commands.Edit ws (Delete id)) → (column : ℕ)
     → delete_at (record { rest = joined (decimal ws ∷ id ∷ []); column = column }) ≡ Ok (commands.Edit ws (Delete id))
@@ -49,7 +49,7 @@ delete_spelled left command e =
     tells word_kind a _ command e1 (λ id b is_id at_id e2.
     let end = end_tells b _ command e2 in
     told_as (codes "delete") left (commands.Edit ws (Delete id)) command (decimal ws ∷ id ∷ []) (is_ws, is_id)
-    (at_ws (id ∷ []) (at_id [] end.0)) refl end.1))
+    (at_ws (id ∷ []) (at_id [] end.0)) (λ l e. e) end.1))
 
 pub move_read : (ws : ℕ) (id : List ℕ) (place : Destination) (index : Option ℕ) → IsCommand (commands.Edit ws (Move id place index)) → (column : ℕ)
     → move_at (record { rest = joined (decimal ws ∷ id ∷ (destination_words place ++ index_if_any index)); column = column }) ≡ Ok (commands.Edit ws (Move id place index))
@@ -70,4 +70,4 @@ move_spelled left command e =
     let end = end_tells o.0.1 _ command o.2 in
     let t = last_index_out c o.0.0 o.0.1 o.1 end.0 in
     told_as (codes "move") left (commands.Edit ws (Move id place o.0.0)) command (decimal ws ∷ id ∷ (destination_words place ++ index_if_any o.0.0)) (is_ws, (is_id, is_place, t.0))
-    (at_ws (id ∷ (destination_words place ++ index_if_any o.0.0)) (at_id (destination_words place ++ index_if_any o.0.0) (at_place (index_if_any o.0.0) t.1))) refl end.1)))
+    (at_ws (id ∷ (destination_words place ++ index_if_any o.0.0)) (at_id (destination_words place ++ index_if_any o.0.0) (at_place (index_if_any o.0.0) t.1))) (λ l e. e) end.1)))

@@ -10,4 +10,5 @@ pub mod Destinations
 pub mod ElementLines
 pub mod EditLines
 pub mod WorkspaceLines
+pub mod MergingLines
 pub mod LineLemmas

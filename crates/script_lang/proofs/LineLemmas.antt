@@ -1,14 +1,18 @@
 -- A line and the command that it spells.
-use Rattle.std.proofs.Common.{◌≡◌, ℕ, List, [], ◌∷◌, refl, sym, ap, subst, ◌∙◌, true, false, Bool, cond, Some, Result, Ok, Err, arith, codes}
+use Rattle.std.proofs.Common.{◌≡◌, ℕ, suc, List, [], ◌∷◌, refl, sym, ap, subst, ◌∙◌, true, false, Bool, cond, Some, Result, Ok, Err, arith, codes}
+use Rattle.std.specs.List.{AllPass, list_any}
+use Rattle.std.proofs.lemmas.Bool.{eqb-true}
+use Rattle.hex.specs.Hex.{encode_lower, is_hex_digit}
+use Rattle.hex.proofs.HexLemmas.{decode_of-encode_lower, decode_of-ok}
 use Rattle.std.specs.Fmt.{decimal}
 use Rattle.script_lang.specs.declared.command.Command.{Command}
 use Rattle.script_lang.specs.declared.command.Command.TheVariants as commands
 use Rattle.edits.specs.declared.edit.Edit.{Edit}
 use Rattle.edits.specs.declared.edit.Edit.TheVariants.{Create, Delete, Set, Unset, Add, Remove, Shift, Link, Unlink, Reorder, Move}
 use Rattle.script_lang.specs.Left.{Left}
-use Rattle.script_lang.specs.Words.{is_word, word_at}
-use Rattle.script_lang.specs.Command.{init_at, import_at, checkout_at, create_at, delete_at, move_at, set_at, unset_at, add_at, remove_at, shift_at, link_at, unlink_at, reorder_at, begin_at, end_line_at, undo_at, discard_at, changes_at, show_at, cat_at, validate_at, commit_at, branch_at, tag_at, log_at, package_at, drop_at, command_of}
-use Rattle.script_lang.specs.Spelling.{IsCommand, edit_word, edit_fields, spec_word, optional_word, words_of, spaced, Spells}
+use Rattle.script_lang.specs.Words.{is_space, is_word, word_at}
+use Rattle.script_lang.specs.Command.{init_at, import_at, checkout_at, create_at, delete_at, move_at, set_at, unset_at, add_at, remove_at, shift_at, link_at, unlink_at, reorder_at, begin_at, end_line_at, undo_at, discard_at, tidy_at, apply_at, changes_at, show_at, cat_at, validate_at, commit_at, branch_at, tag_at, log_at, package_at, update_at, merge_at, revert_at, drop_at, command_of}
+use Rattle.script_lang.specs.Spelling.{IsWord, IsCommand, CommandsHaveLines, edit_word, edit_fields, spec_word, optional_word, words_of, spaced, Spells}
 use Rattle.script_lang.proofs.WordLemmas.{word_back}
 use Rattle.script_lang.proofs.Readings.{reads, reached, word_kind, joined, spaced_joined, some_is, Tells}
 use Rattle.script_lang.proofs.FieldLemmas.{same_word}
@@ -16,6 +20,7 @@ use Rattle.script_lang.proofs.ElementLines.{create_read, create_spelled, delete_
 use Rattle.script_lang.proofs.EditLines.{set_read, set_spelled, unset_read, unset_spelled, add_read, add_spelled, remove_read, remove_spelled, shift_read, shift_spelled}
 use Rattle.script_lang.proofs.ReferenceLines.{link_read, link_spelled, unlink_read, unlink_spelled, reorder_read, reorder_spelled}
 use Rattle.script_lang.proofs.WorkspaceLines.{init_read, init_spelled, import_read, import_spelled, checkout_read, checkout_spelled, begin_read, begin_spelled, end_read, end_spelled, undo_read, undo_spelled, discard_read, discard_spelled, changes_read, changes_spelled, show_read, show_spelled, cat_read, cat_spelled, validate_read, validate_spelled}
+use Rattle.script_lang.proofs.MergingLines.{tidy_read, tidy_spelled, apply_read, apply_spelled, update_read, update_spelled, merge_read, merge_spelled, revert_read, revert_spelled}
 use Rattle.script_lang.proofs.VersionLines.{commit_read, commit_spelled, branch_read, branch_spelled, tag_read, tag_spelled, log_read, log_spelled, package_read, package_spelled, drop_read, drop_spelled}
 
 -- a line is what is left of it in front of its first word
@@ -67,6 +72,12 @@ line_read line (commands.Undo ws) spells =
     rw (line_joined line (codes "undo") (decimal ws ∷ []) spells.words) (reads word_kind (codes "undo") (omega arith, refl) (decimal ws ∷ []) 1 _ _ (undo_read ws spells.form))
 line_read line (commands.Discard ws) spells =
     rw (line_joined line (codes "discard") (decimal ws ∷ []) spells.words) (reads word_kind (codes "discard") (omega arith, refl) (decimal ws ∷ []) 1 _ _ (discard_read ws spells.form))
+line_read line (commands.Tidy ws) spells =
+    rw (line_joined line (codes "tidy") (decimal ws ∷ []) spells.words) (reads word_kind (codes "tidy") (omega arith, refl) (decimal ws ∷ []) 1 _ _ (tidy_read ws spells.form))
+line_read line (commands.Apply ws bytes) spells =
+    let digits = spells.words.0 in
+    rw (line_joined line (codes "apply") (decimal ws ∷ digits ∷ []) spells.words.3)
+    (reads word_kind (codes "apply") (omega arith, refl) (decimal ws ∷ digits ∷ []) 1 _ _ (apply_read ws digits bytes spells.form.0 spells.words.1 spells.words.2))
 line_read line (commands.Changes ws) spells =
     rw (line_joined line (codes "changes") (decimal ws ∷ []) spells.words) (reads word_kind (codes "changes") (omega arith, refl) (decimal ws ∷ []) 1 _ _ (changes_read ws spells.form))
 line_read line (commands.Show ws) spells =
@@ -89,6 +100,15 @@ line_read line commands.Log spells = rw (line_joined line (codes "log") [] spell
 line_read line (commands.Package spec) spells =
     rw (line_joined line (codes "package") (spec_word spec ∷ []) spells.words)
     (reads word_kind (codes "package") (omega arith, refl) (spec_word spec ∷ []) 1 _ _ (package_read spec spells.form))
+line_read line (commands.Update ws choices) spells =
+    rw (line_joined line (codes "update") (decimal ws ∷ optional_word choices) spells.words)
+    (reads word_kind (codes "update") (omega arith, refl) (decimal ws ∷ optional_word choices) 1 _ _ (update_read ws choices spells.form))
+line_read line (commands.Merge ws branch choices) spells =
+    rw (line_joined line (codes "merge") (decimal ws ∷ branch ∷ optional_word choices) spells.words)
+    (reads word_kind (codes "merge") (omega arith, refl) (decimal ws ∷ branch ∷ optional_word choices) 1 _ _ (merge_read ws branch choices spells.form))
+line_read line (commands.Revert ws version) spells =
+    rw (line_joined line (codes "revert") (decimal ws ∷ decimal version ∷ []) spells.words)
+    (reads word_kind (codes "revert") (omega arith, refl) (decimal ws ∷ decimal version ∷ []) 1 _ _ (revert_read ws version spells.form))
 line_read line (commands.Drop ws) spells =
     rw (line_joined line (codes "drop") (decimal ws ∷ []) spells.words) (reads word_kind (codes "drop") (omega arith, refl) (decimal ws ∷ []) 1 _ _ (drop_read ws spells.form))
 
@@ -103,7 +123,7 @@ no_command first left command e = cc
 
 -- what the first word chooses is spelled behind it
 first_spelled : (first : List ℕ) (left : Left) (command : Command)
-    → cond (is_word first (codes "init")) (init_at left) (cond (is_word first (codes "import")) (import_at left) (cond (is_word first (codes "checkout")) (checkout_at left) (cond (is_word first (codes "create")) (create_at left) (cond (is_word first (codes "delete")) (delete_at left) (cond (is_word first (codes "move")) (move_at left) (cond (is_word first (codes "set")) (set_at left) (cond (is_word first (codes "unset")) (unset_at left) (cond (is_word first (codes "add")) (add_at left) (cond (is_word first (codes "remove")) (remove_at left) (cond (is_word first (codes "shift")) (shift_at left) (cond (is_word first (codes "link")) (link_at left) (cond (is_word first (codes "unlink")) (unlink_at left) (cond (is_word first (codes "reorder")) (reorder_at left) (cond (is_word first (codes "begin")) (begin_at left) (cond (is_word first (codes "end")) (end_line_at left) (cond (is_word first (codes "undo")) (undo_at left) (cond (is_word first (codes "discard")) (discard_at left) (cond (is_word first (codes "changes")) (changes_at left) (cond (is_word first (codes "show")) (show_at left) (cond (is_word first (codes "cat")) (cat_at left) (cond (is_word first (codes "validate")) (validate_at left) (cond (is_word first (codes "commit")) (commit_at left) (cond (is_word first (codes "branch")) (branch_at left) (cond (is_word first (codes "tag")) (tag_at left) (cond (is_word first (codes "log")) (log_at left) (cond (is_word first (codes "package")) (package_at left) (cond (is_word first (codes "drop")) (drop_at left) (Err 1)))))))))))))))))))))))))))) ≡ Ok command
+    → cond (is_word first (codes "init")) (init_at left) (cond (is_word first (codes "import")) (import_at left) (cond (is_word first (codes "checkout")) (checkout_at left) (cond (is_word first (codes "create")) (create_at left) (cond (is_word first (codes "delete")) (delete_at left) (cond (is_word first (codes "move")) (move_at left) (cond (is_word first (codes "set")) (set_at left) (cond (is_word first (codes "unset")) (unset_at left) (cond (is_word first (codes "add")) (add_at left) (cond (is_word first (codes "remove")) (remove_at left) (cond (is_word first (codes "shift")) (shift_at left) (cond (is_word first (codes "link")) (link_at left) (cond (is_word first (codes "unlink")) (unlink_at left) (cond (is_word first (codes "reorder")) (reorder_at left) (cond (is_word first (codes "begin")) (begin_at left) (cond (is_word first (codes "end")) (end_line_at left) (cond (is_word first (codes "undo")) (undo_at left) (cond (is_word first (codes "discard")) (discard_at left) (cond (is_word first (codes "tidy")) (tidy_at left) (cond (is_word first (codes "apply")) (apply_at left) (cond (is_word first (codes "changes")) (changes_at left) (cond (is_word first (codes "show")) (show_at left) (cond (is_word first (codes "cat")) (cat_at left) (cond (is_word first (codes "validate")) (validate_at left) (cond (is_word first (codes "commit")) (commit_at left) (cond (is_word first (codes "branch")) (branch_at left) (cond (is_word first (codes "tag")) (tag_at left) (cond (is_word first (codes "log")) (log_at left) (cond (is_word first (codes "package")) (package_at left) (cond (is_word first (codes "update")) (update_at left) (cond (is_word first (codes "merge")) (merge_at left) (cond (is_word first (codes "revert")) (revert_at left) (cond (is_word first (codes "drop")) (drop_at left) (Err 1))))))))))))))))))))))))))))))))) ≡ Ok command
     → Tells first left command
 first_spelled first left command =
     chosen_or first (codes "init") left command _ _ _ refl (init_spelled left command) (
@@ -124,6 +144,8 @@ first_spelled first left command =
     chosen_or first (codes "end") left command _ _ _ refl (end_spelled left command) (
     chosen_or first (codes "undo") left command _ _ _ refl (undo_spelled left command) (
     chosen_or first (codes "discard") left command _ _ _ refl (discard_spelled left command) (
+    chosen_or first (codes "tidy") left command _ _ _ refl (tidy_spelled left command) (
+    chosen_or first (codes "apply") left command _ _ _ refl (apply_spelled left command) (
     chosen_or first (codes "changes") left command _ _ _ refl (changes_spelled left command) (
     chosen_or first (codes "show") left command _ _ _ refl (show_spelled left command) (
     chosen_or first (codes "cat") left command _ _ _ refl (cat_spelled left command) (
@@ -133,28 +155,11 @@ first_spelled first left command =
     chosen_or first (codes "tag") left command _ _ _ refl (tag_spelled left command) (
     chosen_or first (codes "log") left command _ _ _ refl (log_spelled left command) (
     chosen_or first (codes "package") left command _ _ _ refl (package_spelled left command) (
+    chosen_or first (codes "update") left command _ _ _ refl (update_spelled left command) (
+    chosen_or first (codes "merge") left command _ _ _ refl (merge_spelled left command) (
+    chosen_or first (codes "revert") left command _ _ _ refl (revert_spelled left command) (
     chosen_or first (codes "drop") left command _ _ _ refl (drop_spelled left command) (
-    no_command first left command))))))))))))))))))))))))))))
-
-joined_line : (command : Command) → joined (words_of command) ≡ Some (spaced (words_of command))
-joined_line commands.Init = sym (spaced_joined (codes "init") [])
-joined_line (commands.Import ws) = sym (spaced_joined (codes "import") (decimal ws ∷ []))
-joined_line (commands.Checkout spec) = sym (spaced_joined (codes "checkout") (spec_word spec ∷ []))
-joined_line (commands.Edit ws edit) = sym (spaced_joined (edit_word edit) (decimal ws ∷ edit_fields edit))
-joined_line (commands.Begin ws name) = sym (spaced_joined (codes "begin") (decimal ws ∷ name ∷ []))
-joined_line (commands.End ws) = sym (spaced_joined (codes "end") (decimal ws ∷ []))
-joined_line (commands.Undo ws) = sym (spaced_joined (codes "undo") (decimal ws ∷ []))
-joined_line (commands.Discard ws) = sym (spaced_joined (codes "discard") (decimal ws ∷ []))
-joined_line (commands.Changes ws) = sym (spaced_joined (codes "changes") (decimal ws ∷ []))
-joined_line (commands.Show ws) = sym (spaced_joined (codes "show") (decimal ws ∷ []))
-joined_line (commands.Cat spec) = sym (spaced_joined (codes "cat") (spec_word spec ∷ []))
-joined_line (commands.Validate ws) = sym (spaced_joined (codes "validate") (decimal ws ∷ []))
-joined_line (commands.Commit ws message) = sym (spaced_joined (codes "commit") (decimal ws ∷ optional_word message))
-joined_line (commands.Branch ws name) = sym (spaced_joined (codes "branch") (decimal ws ∷ name ∷ []))
-joined_line (commands.Tag name spec) = sym (spaced_joined (codes "tag") (name ∷ spec_word spec ∷ []))
-joined_line commands.Log = sym (spaced_joined (codes "log") [])
-joined_line (commands.Package spec) = sym (spaced_joined (codes "package") (spec_word spec ∷ []))
-joined_line (commands.Drop ws) = sym (spaced_joined (codes "drop") (decimal ws ∷ []))
+    no_command first left command)))))))))))))))))))))))))))))))))
 
 pub line_spelled : (line : List ℕ) (command : Command) → command_of line ≡ Ok command → Spells line command
 unfolding command_of
@@ -162,4 +167,27 @@ line_spelled line command e =
     let k = reached (word_at (record { rest = Some line; column = 1 })) _ command e in
     let w = word_back (record { rest = Some line; column = 1 }) k.0.0 k.0.1 k.1 in
     let t = first_spelled k.0.0 k.0.1 command k.2 in
-    record { form = t.0; words = some_is line (spaced (words_of command)) (w.1 ∙ t.1 ∙ joined_line command) }
+    record { form = t.0; words = t.1 line w.1 }
+
+-- no digit is a space
+no_space : (c : ℕ) (b : Bool) → is_space c ≡ b → is_hex_digit c ≡ true → b ≡ false
+no_space c true space digit =
+    let IsDigit : ℕ → Type 0 = λ n. is_hex_digit n ≡ true in
+    let other : is_hex_digit 32 ≡ true = subst IsDigit (eqb-true c 32 space) digit in
+    cc
+no_space c false space digit = refl
+
+no_spaces : (digits : List ℕ) → AllPass is_hex_digit digits → list_any is_space digits ≡ false
+no_spaces [] all = refl
+no_spaces (c ∷ cs) all =
+    rw (no_space c (is_space c) refl (all 0 c (omega arith))) (no_spaces cs (λ k d lt. all (suc k) d (omega (arith, lt))))
+
+-- the line of a command's words spells it
+pub commands_have_lines : CommandsHaveLines
+commands_have_lines (commands.Apply ws bytes) is =
+    let digits = encode_lower bytes in
+    let decoded = decode_of-encode_lower bytes is.1.1 in
+    let ok = decode_of-ok digits bytes decoded in
+    let word : IsWord digits = (omega (arith, ok.2, is.1.0), no_spaces digits ok.1) in
+    record { form = is; words = (digits, word, decoded, refl) }
+commands_have_lines command is = record { form = is; words = refl }

@@ -4,7 +4,7 @@ use Rattle.std.proofs.lemmas.List.{append-nil}
 use Rattle.script_lang.specs.Left.{Left}
 use Rattle.script_lang.specs.Words.{◌>>=◌, word_at, found_at}
 use Rattle.script_lang.specs.declared.command.Command.{Command}
-use Rattle.script_lang.specs.Spelling.{IsWord, IsCommand, words_of, spaced}
+use Rattle.script_lang.specs.Spelling.{IsWord, IsCommand, IsLineOf, spaced}
 use Rattle.script_lang.proofs.WordLemmas.{behind, word_first, word_last, word_back}
 
 pub ok_is : {X : Type 0} (x y : X) → ◌≡◌ {A = Result X ℕ} (Ok x) (Ok y) → x ≡ y
@@ -63,7 +63,7 @@ word_kind = record {
   told = λ left x next e. word_back left x next e;
 }
 
-found : {X : Type 0} (column : ℕ) (o : Option X) (left : Left) (x : X) (next : Left) → found_at column o left ≡ Ok (x, next) → (o ≡ Some x) × (left ≡ next)
+pub found : {X : Type 0} (column : ℕ) (o : Option X) (left : Left) (x : X) (next : Left) → found_at column o left ≡ Ok (x, next) → (o ≡ Some x) × (left ≡ next)
 found column None left x next e = cc
 found column (Some y) left x next e = let pair = ok_is (y, left) (x, next) e in (ap (λ p. Some p.0) pair, ap (λ p. p.1) pair)
 
@@ -88,10 +88,14 @@ module _ {X : Type 0} (named : List ℕ → Option X) (Is : X → Type 0) (word 
 
 -- a first word and what stands behind it are the line of a command
 abbrev pub Tells : List ℕ → Left → Command → Type 0
-Tells first left command = IsCommand command × (Some (first ++ behind left.rest) ≡ joined (words_of command))
+Tells first left command = IsCommand command × ((line : List ℕ) → Some line ≡ Some (first ++ behind left.rest) → IsLineOf line command)
 
-pub told_as : (first : List ℕ) (left : Left) (c command : Command) (words : List (List ℕ)) → IsCommand c → left.rest ≡ joined words → words_of c ≡ first ∷ words
-    → ◌≡◌ {A = Result Command ℕ} (Ok c) (Ok command) → Tells first left command
+pub told_as : (first : List ℕ) (left : Left) (c command : Command) (words : List (List ℕ)) → IsCommand c → left.rest ≡ joined words
+    → ((line : List ℕ) → line ≡ spaced (first ∷ words) → IsLineOf line c) → ◌≡◌ {A = Result Command ℕ} (Ok c) (Ok command) → Tells first left command
 told_as first left c command words is behind_it spelled e =
-    let same = ok_is c command e in
-    (subst IsCommand same is, ap (λ r. Some (first ++ behind r)) behind_it ∙ ap joined (sym spelled) ∙ ap (λ d. joined (words_of d)) same)
+    let same = ok_is c command e in (
+      subst IsCommand same is,
+      λ line at_front.
+          let whole = at_front ∙ ap (λ r. Some (first ++ behind r)) behind_it ∙ sym (spaced_joined first words) in
+          subst (IsLineOf line) same (spelled line (some_is line (spaced (first ∷ words)) whole)),
+    )

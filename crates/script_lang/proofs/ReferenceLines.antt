@@ -32,7 +32,7 @@ link_spelled left command e =
     let end = end_tells o.0.1 _ command o.2 in
     let t = last_index_out d o.0.0 o.0.1 o.1 end.0 in
     told_as (codes "link") left (commands.Edit ws (Link id feature target o.0.0)) command (decimal ws ∷ id ∷ feature ∷ target ∷ index_if_any o.0.0) (is_ws, (is_id, is_feature, is_target, t.0))
-    (at_ws (id ∷ feature ∷ target ∷ index_if_any o.0.0) (at_id (feature ∷ target ∷ index_if_any o.0.0) (at_feature (target ∷ index_if_any o.0.0) (at_target (index_if_any o.0.0) t.1)))) refl end.1))))
+    (at_ws (id ∷ feature ∷ target ∷ index_if_any o.0.0) (at_id (feature ∷ target ∷ index_if_any o.0.0) (at_feature (target ∷ index_if_any o.0.0) (at_target (index_if_any o.0.0) t.1)))) (λ l e. e) end.1))))
 
 pub unlink_read : (ws : ℕ) (id feature target : List ℕ) → IsCommand (commands.Edit ws (Unlink id feature target)) → (column : ℕ)
     → unlink_at (record { rest = joined (decimal ws ∷ id ∷ feature ∷ target ∷ []); column = column }) ≡ Ok (commands.Edit ws (Unlink id feature target))
@@ -53,7 +53,7 @@ unlink_spelled left command e =
     tells word_kind c _ command e3 (λ target d is_target at_target e4.
     let end = end_tells d _ command e4 in
     told_as (codes "unlink") left (commands.Edit ws (Unlink id feature target)) command (decimal ws ∷ id ∷ feature ∷ target ∷ []) (is_ws, (is_id, is_feature, is_target))
-    (at_ws (id ∷ feature ∷ target ∷ []) (at_id (feature ∷ target ∷ []) (at_feature (target ∷ []) (at_target [] end.0)))) refl end.1))))
+    (at_ws (id ∷ feature ∷ target ∷ []) (at_id (feature ∷ target ∷ []) (at_feature (target ∷ []) (at_target [] end.0)))) (λ l e. e) end.1))))
 
 pub reorder_read : (ws : ℕ) (id feature target : List ℕ) (index : ℕ) → IsCommand (commands.Edit ws (Reorder id feature target index)) → (column : ℕ)
     → reorder_at (record { rest = joined (decimal ws ∷ id ∷ feature ∷ target ∷ decimal index ∷ []); column = column }) ≡ Ok (commands.Edit ws (Reorder id feature target index))
@@ -76,4 +76,4 @@ reorder_spelled left command e =
     tells index_kind d _ command e4 (λ index e is_index at_index e5.
     let end = end_tells e _ command e5 in
     told_as (codes "reorder") left (commands.Edit ws (Reorder id feature target index)) command (decimal ws ∷ id ∷ feature ∷ target ∷ decimal index ∷ []) (is_ws, (is_id, is_feature, is_target, is_index))
-    (at_ws (id ∷ feature ∷ target ∷ decimal index ∷ []) (at_id (feature ∷ target ∷ decimal index ∷ []) (at_feature (target ∷ decimal index ∷ []) (at_target (decimal index ∷ []) (at_index [] end.0))))) refl end.1)))))
+    (at_ws (id ∷ feature ∷ target ∷ decimal index ∷ []) (at_id (feature ∷ target ∷ decimal index ∷ []) (at_feature (target ∷ decimal index ∷ []) (at_target (decimal index ∷ []) (at_index [] end.0))))) (λ l e. e) end.1)))))

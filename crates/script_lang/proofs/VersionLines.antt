@@ -23,7 +23,7 @@ unfolding commit_at
 commit_spelled left command e =
     tells (number_kind 1) left _ command e (λ ws a is_ws at_ws e1.
     optional_text_tells a _ command e1 (λ message is_message at_message e2.
-    told_as (codes "commit") left (commands.Commit ws message) command (decimal ws ∷ optional_word message) (is_ws, is_message) (at_ws (optional_word message) at_message) refl e2))
+    told_as (codes "commit") left (commands.Commit ws message) command (decimal ws ∷ optional_word message) (is_ws, is_message) (at_ws (optional_word message) at_message) (λ l e. e) e2))
 
 pub branch_read : (ws : ℕ) (name : List ℕ) → IsCommand (commands.Branch ws name) → (column : ℕ)
     → branch_at (record { rest = joined (decimal ws ∷ name ∷ []); column = column }) ≡ Ok (commands.Branch ws name)
@@ -39,7 +39,7 @@ branch_spelled left command e =
     tells (number_kind 1) left _ command e (λ ws a is_ws at_ws e1.
     tells name_kind a _ command e1 (λ name b is_name at_name e2.
     let end = end_tells b _ command e2 in
-    told_as (codes "branch") left (commands.Branch ws name) command (decimal ws ∷ name ∷ []) (is_ws, is_name) (at_ws (name ∷ []) (at_name [] end.0)) refl end.1))
+    told_as (codes "branch") left (commands.Branch ws name) command (decimal ws ∷ name ∷ []) (is_ws, is_name) (at_ws (name ∷ []) (at_name [] end.0)) (λ l e. e) end.1))
 
 pub tag_read : (name : List ℕ) (spec : Spec) → IsCommand (commands.Tag name spec) → (column : ℕ)
     → tag_at (record { rest = joined (name ∷ spec_word spec ∷ []); column = column }) ≡ Ok (commands.Tag name spec)
@@ -55,7 +55,7 @@ tag_spelled left command e =
     tells name_kind left _ command e (λ name a is_name at_name e1.
     tells spec_kind a _ command e1 (λ spec b is_spec at_spec e2.
     let end = end_tells b _ command e2 in
-    told_as (codes "tag") left (commands.Tag name spec) command (name ∷ spec_word spec ∷ []) (is_name, is_spec) (at_name (spec_word spec ∷ []) (at_spec [] end.0)) refl end.1))
+    told_as (codes "tag") left (commands.Tag name spec) command (name ∷ spec_word spec ∷ []) (is_name, is_spec) (at_name (spec_word spec ∷ []) (at_spec [] end.0)) (λ l e. e) end.1))
 
 pub log_read : (column : ℕ) → log_at (record { rest = joined []; column = column }) ≡ Ok commands.Log
 unfolding log_at
@@ -65,7 +65,7 @@ pub log_spelled : (left : Left) (command : Command) → log_at left ≡ Ok comma
 unfolding log_at
 log_spelled left command e =
     let end = end_tells left _ command e in
-    told_as (codes "log") left commands.Log command [] tt end.0 refl end.1
+    told_as (codes "log") left commands.Log command [] tt end.0 (λ l e. e) end.1
 
 pub package_read : (spec : Spec) → IsCommand (commands.Package spec) → (column : ℕ) → package_at (record { rest = joined (spec_word spec ∷ []); column = column }) ≡ Ok (commands.Package spec)
 unfolding package_at
@@ -76,7 +76,7 @@ unfolding package_at
 package_spelled left command e =
     tells spec_kind left _ command e (λ spec a is_spec at_spec e1.
     let end = end_tells a _ command e1 in
-    told_as (codes "package") left (commands.Package spec) command (spec_word spec ∷ []) is_spec (at_spec [] end.0) refl end.1)
+    told_as (codes "package") left (commands.Package spec) command (spec_word spec ∷ []) is_spec (at_spec [] end.0) (λ l e. e) end.1)
 
 pub drop_read : (ws : ℕ) → IsCommand (commands.Drop ws) → (column : ℕ) → drop_at (record { rest = joined (decimal ws ∷ []); column = column }) ≡ Ok (commands.Drop ws)
 unfolding drop_at
@@ -87,4 +87,4 @@ unfolding drop_at
 drop_spelled left command e =
     tells (number_kind 1) left _ command e (λ ws a is_ws at_ws e1.
     let end = end_tells a _ command e1 in
-    told_as (codes "drop") left (commands.Drop ws) command (decimal ws ∷ []) is_ws (at_ws [] end.0) refl end.1)
+    told_as (codes "drop") left (commands.Drop ws) command (decimal ws ∷ []) is_ws (at_ws [] end.0) (λ l e. e) end.1)

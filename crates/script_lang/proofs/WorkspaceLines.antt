@@ -19,7 +19,7 @@ pub init_spelled : (left : Left) (command : Command) → init_at left ≡ Ok com
 unfolding init_at
 init_spelled left command e =
     let end = end_tells left _ command e in
-    told_as (codes "init") left commands.Init command [] tt end.0 refl end.1
+    told_as (codes "init") left commands.Init command [] tt end.0 (λ l e. e) end.1
 
 pub checkout_read : (spec : Spec) → IsCommand (commands.Checkout spec) → (column : ℕ) → checkout_at (record { rest = joined (spec_word spec ∷ []); column = column }) ≡ Ok (commands.Checkout spec)
 unfolding checkout_at
@@ -30,7 +30,7 @@ unfolding checkout_at
 checkout_spelled left command e =
     tells spec_kind left _ command e (λ spec a is_spec at_spec e1.
     let end = end_tells a _ command e1 in
-    told_as (codes "checkout") left (commands.Checkout spec) command (spec_word spec ∷ []) is_spec (at_spec [] end.0) refl end.1)
+    told_as (codes "checkout") left (commands.Checkout spec) command (spec_word spec ∷ []) is_spec (at_spec [] end.0) (λ l e. e) end.1)
 
 pub begin_read : (ws : ℕ) (name : List ℕ) → IsCommand (commands.Begin ws name) → (column : ℕ)
     → begin_at (record { rest = joined (decimal ws ∷ name ∷ []); column = column }) ≡ Ok (commands.Begin ws name)
@@ -46,7 +46,7 @@ begin_spelled left command e =
     tells (number_kind 1) left _ command e (λ ws a is_ws at_ws e1.
     tells name_kind a _ command e1 (λ name b is_name at_name e2.
     let end = end_tells b _ command e2 in
-    told_as (codes "begin") left (commands.Begin ws name) command (decimal ws ∷ name ∷ []) (is_ws, is_name) (at_ws (name ∷ []) (at_name [] end.0)) refl end.1))
+    told_as (codes "begin") left (commands.Begin ws name) command (decimal ws ∷ name ∷ []) (is_ws, is_name) (at_ws (name ∷ []) (at_name [] end.0)) (λ l e. e) end.1))
 
 pub end_read : (ws : ℕ) → IsCommand (commands.End ws) → (column : ℕ) → end_line_at (record { rest = joined (decimal ws ∷ []); column = column }) ≡ Ok (commands.End ws)
 unfolding end_line_at
@@ -57,7 +57,7 @@ unfolding end_line_at
 end_spelled left command e =
     tells (number_kind 1) left _ command e (λ ws a is_ws at_ws e1.
     let end = end_tells a _ command e1 in
-    told_as (codes "end") left (commands.End ws) command (decimal ws ∷ []) is_ws (at_ws [] end.0) refl end.1)
+    told_as (codes "end") left (commands.End ws) command (decimal ws ∷ []) is_ws (at_ws [] end.0) (λ l e. e) end.1)
 
 pub import_read : (ws : ℕ) → IsCommand (commands.Import ws) → (column : ℕ) → import_at (record { rest = joined (decimal ws ∷ []); column = column }) ≡ Ok (commands.Import ws)
 unfolding import_at
@@ -68,7 +68,7 @@ unfolding import_at
 import_spelled left command e =
     tells (number_kind 1) left _ command e (λ ws a is_ws at_ws e1.
     let end = end_tells a _ command e1 in
-    told_as (codes "import") left (commands.Import ws) command (decimal ws ∷ []) is_ws (at_ws [] end.0) refl end.1)
+    told_as (codes "import") left (commands.Import ws) command (decimal ws ∷ []) is_ws (at_ws [] end.0) (λ l e. e) end.1)
 
 pub undo_read : (ws : ℕ) → IsCommand (commands.Undo ws) → (column : ℕ) → undo_at (record { rest = joined (decimal ws ∷ []); column = column }) ≡ Ok (commands.Undo ws)
 unfolding undo_at
@@ -79,7 +79,7 @@ unfolding undo_at
 undo_spelled left command e =
     tells (number_kind 1) left _ command e (λ ws a is_ws at_ws e1.
     let end = end_tells a _ command e1 in
-    told_as (codes "undo") left (commands.Undo ws) command (decimal ws ∷ []) is_ws (at_ws [] end.0) refl end.1)
+    told_as (codes "undo") left (commands.Undo ws) command (decimal ws ∷ []) is_ws (at_ws [] end.0) (λ l e. e) end.1)
 
 pub discard_read : (ws : ℕ) → IsCommand (commands.Discard ws) → (column : ℕ) → discard_at (record { rest = joined (decimal ws ∷ []); column = column }) ≡ Ok (commands.Discard ws)
 unfolding discard_at
@@ -90,7 +90,7 @@ unfolding discard_at
 discard_spelled left command e =
     tells (number_kind 1) left _ command e (λ ws a is_ws at_ws e1.
     let end = end_tells a _ command e1 in
-    told_as (codes "discard") left (commands.Discard ws) command (decimal ws ∷ []) is_ws (at_ws [] end.0) refl end.1)
+    told_as (codes "discard") left (commands.Discard ws) command (decimal ws ∷ []) is_ws (at_ws [] end.0) (λ l e. e) end.1)
 
 pub changes_read : (ws : ℕ) → IsCommand (commands.Changes ws) → (column : ℕ) → changes_at (record { rest = joined (decimal ws ∷ []); column = column }) ≡ Ok (commands.Changes ws)
 unfolding changes_at
@@ -101,7 +101,7 @@ unfolding changes_at
 changes_spelled left command e =
     tells (number_kind 1) left _ command e (λ ws a is_ws at_ws e1.
     let end = end_tells a _ command e1 in
-    told_as (codes "changes") left (commands.Changes ws) command (decimal ws ∷ []) is_ws (at_ws [] end.0) refl end.1)
+    told_as (codes "changes") left (commands.Changes ws) command (decimal ws ∷ []) is_ws (at_ws [] end.0) (λ l e. e) end.1)
 
 pub show_read : (ws : ℕ) → IsCommand (commands.Show ws) → (column : ℕ) → show_at (record { rest = joined (decimal ws ∷ []); column = column }) ≡ Ok (commands.Show ws)
 unfolding show_at
@@ -112,7 +112,7 @@ unfolding show_at
 show_spelled left command e =
     tells (number_kind 1) left _ command e (λ ws a is_ws at_ws e1.
     let end = end_tells a _ command e1 in
-    told_as (codes "show") left (commands.Show ws) command (decimal ws ∷ []) is_ws (at_ws [] end.0) refl end.1)
+    told_as (codes "show") left (commands.Show ws) command (decimal ws ∷ []) is_ws (at_ws [] end.0) (λ l e. e) end.1)
 
 pub validate_read : (ws : ℕ) → IsCommand (commands.Validate ws) → (column : ℕ) → validate_at (record { rest = joined (decimal ws ∷ []); column = column }) ≡ Ok (commands.Validate ws)
 unfolding validate_at
@@ -123,7 +123,7 @@ unfolding validate_at
 validate_spelled left command e =
     tells (number_kind 1) left _ command e (λ ws a is_ws at_ws e1.
     let end = end_tells a _ command e1 in
-    told_as (codes "validate") left (commands.Validate ws) command (decimal ws ∷ []) is_ws (at_ws [] end.0) refl end.1)
+    told_as (codes "validate") left (commands.Validate ws) command (decimal ws ∷ []) is_ws (at_ws [] end.0) (λ l e. e) end.1)
 
 pub cat_read : (spec : Spec) → IsCommand (commands.Cat spec) → (column : ℕ) → cat_at (record { rest = joined (spec_word spec ∷ []); column = column }) ≡ Ok (commands.Cat spec)
 unfolding cat_at
@@ -134,4 +134,4 @@ unfolding cat_at
 cat_spelled left command e =
     tells spec_kind left _ command e (λ spec a is_spec at_spec e1.
     let end = end_tells a _ command e1 in
-    told_as (codes "cat") left (commands.Cat spec) command (spec_word spec ∷ []) is_spec (at_spec [] end.0) refl end.1)
+    told_as (codes "cat") left (commands.Cat spec) command (spec_word spec ∷ []) is_spec (at_spec [] end.0) (λ l e. e) end.1)

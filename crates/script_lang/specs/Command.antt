@@ -10,6 +10,8 @@ use Rattle.edits.specs.declared.edit.Destination.TheVariants.{Root, Inside}
 use Rattle.edits.specs.declared.edit.Edit.TheVariants.{Create, Delete, Set, Unset, Add, Remove, Shift, Link, Unlink, Reorder, Move}
 use Rattle.script_lang.specs.Left.{Left}
 use Rattle.model_state.specs.Names.{is_name}
+use Rattle.hex.specs.Hex.{decode_of}
+use Rattle.hex.specs.declared.error.FromHexError.{FromHexError}
 use Rattle.script_lang.specs.Words.{◌>>=◌, word_at, number_of, number_at, found_at, end_at, name_at, optional_at, optional_number_at, rest_at, optional_rest_at, index_or_end_at, is_word, IsBad}
 
 -- `@` and a name is a tag's
@@ -204,6 +206,32 @@ discard_at left = do
   end ← end_at ws.1
   Ok (commands.Discard ws.0)
 
+-- behind `tidy`: WS
+unfoldable pub tidy_at : Left → Result Command ℕ
+tidy_at left = do
+  ws ← number_at 1 left
+  end ← end_at ws.1
+  Ok (commands.Tidy ws.0)
+
+-- what decoding gave, where it gave bytes
+abbrev pub if_decoded : Result (List ℕ) FromHexError → Option (List ℕ)
+if_decoded (Ok bytes) = Some bytes
+if_decoded (Err e) = None
+
+-- the next word, which spells bytes, two hexadecimal digits of either case a byte
+unfoldable pub bytes_at : Left → Result (List ℕ × Left) ℕ
+bytes_at left = do
+  word ← word_at left
+  found_at left.column (if_decoded (decode_of word.0)) word.1
+
+-- behind `apply`: WS HEX
+unfoldable pub apply_at : Left → Result Command ℕ
+apply_at left = do
+  ws ← number_at 1 left
+  bytes ← bytes_at ws.1
+  end ← end_at bytes.1
+  Ok (commands.Apply ws.0 bytes.0)
+
 -- behind `changes`: WS
 unfoldable pub changes_at : Left → Result Command ℕ
 changes_at left = do
@@ -268,6 +296,31 @@ package_at left = do
   end ← end_at spec.1
   Ok (commands.Package spec.0)
 
+-- behind `update`: WS [CHOICES]
+unfoldable pub update_at : Left → Result Command ℕ
+update_at left = do
+  ws ← number_at 1 left
+  choices ← optional_at ws.1
+  end ← end_at choices.1
+  Ok (commands.Update ws.0 choices.0)
+
+-- behind `merge`: WS BRANCH [CHOICES]
+unfoldable pub merge_at : Left → Result Command ℕ
+merge_at left = do
+  ws ← number_at 1 left
+  branch ← name_at ws.1
+  choices ← optional_at branch.1
+  end ← end_at choices.1
+  Ok (commands.Merge ws.0 branch.0 choices.0)
+
+-- behind `revert`: WS VERSION
+unfoldable pub revert_at : Left → Result Command ℕ
+revert_at left = do
+  ws ← number_at 1 left
+  version ← number_at 0 ws.1
+  end ← end_at version.1
+  Ok (commands.Revert ws.0 version.0)
+
 -- behind `drop`: WS
 unfoldable pub drop_at : Left → Result Command ℕ
 drop_at left = do
@@ -297,6 +350,8 @@ command_of line = do
       else if is_word first.0 (codes "end") then end_line_at first.1
       else if is_word first.0 (codes "undo") then undo_at first.1
       else if is_word first.0 (codes "discard") then discard_at first.1
+      else if is_word first.0 (codes "tidy") then tidy_at first.1
+      else if is_word first.0 (codes "apply") then apply_at first.1
       else if is_word first.0 (codes "changes") then changes_at first.1
       else if is_word first.0 (codes "show") then show_at first.1
       else if is_word first.0 (codes "cat") then cat_at first.1
@@ -306,6 +361,9 @@ command_of line = do
       else if is_word first.0 (codes "tag") then tag_at first.1
       else if is_word first.0 (codes "log") then log_at first.1
       else if is_word first.0 (codes "package") then package_at first.1
+      else if is_word first.0 (codes "update") then update_at first.1
+      else if is_word first.0 (codes "merge") then merge_at first.1
+      else if is_word first.0 (codes "revert") then revert_at first.1
       else if is_word first.0 (codes "drop") then drop_at first.1
       else Err 1
 

@@ -1,8 +1,8 @@
 -- What is said to a command.
-use Rattle.std.specs.Prelude.{ℕ, List, [], ◌∷◌, ◌++◌, codes}
+use Rattle.std.specs.Prelude.{ℕ, List, [], ◌∷◌, ◌++◌, codes, Some, None}
 use Rattle.std.specs.Fmt.{decimal}
 use Rattle.script_lang.specs.declared.reply.Refusal.{Refusal}
-use Rattle.script_lang.specs.declared.reply.Refusal.TheVariants.{BadLine, NotInit, AlreadyInit, BadMetamodel, NoWorkspace, NoVersion, NoBranch, BranchExists, TagExists, NoElement, IdInUse, BadId, NoClass, Abstract, NoFeature, WrongKind, BadValue, WrongType, Bound, AlreadyThere, NoEntry, WouldCycle, NothingLocal, Stale, CompositeOpen, NoComposite, BadModel, HistoryFull, TooLarge, JournalFull}
+use Rattle.script_lang.specs.declared.reply.Refusal.TheVariants.{BadLine, NotInit, AlreadyInit, BadMetamodel, NoWorkspace, NoVersion, NoBranch, BranchExists, TagExists, NoElement, IdInUse, BadId, NoClass, Abstract, NoFeature, WrongKind, BadValue, WrongType, Bound, AlreadyThere, NoEntry, WouldCycle, NothingLocal, Stale, Conflicts, BadChoice, CompositeOpen, NoComposite, BadModel, Interferes, SameBranch, NotOnPath, HistoryFull, TooLarge, JournalFull, NotApplicable, NotForm}
 use Rattle.script_lang.specs.declared.reply.Last.{Last}
 use Rattle.script_lang.specs.declared.reply.Last.TheVariants as last
 use Rattle.script_lang.specs.declared.reply.Reply.{Reply}
@@ -33,12 +33,20 @@ refusal_text NoEntry = codes "21 NoEntry"
 refusal_text WouldCycle = codes "22 WouldCycle"
 refusal_text NothingLocal = codes "23 NothingLocal"
 refusal_text (Stale base head) = codes "24 Stale " ++ (decimal base ++ (codes " " ++ decimal head))
+refusal_text (Conflicts buckets) = codes "25 Conflicts " ++ decimal buckets
+refusal_text (BadChoice want got) = codes "26 BadChoice " ++ (decimal want ++ (codes " " ++ decimal got))
 refusal_text CompositeOpen = codes "27 CompositeOpen"
 refusal_text NoComposite = codes "28 NoComposite"
 refusal_text (BadModel n) = codes "29 BadModel " ++ decimal n
+refusal_text (Interferes None) = codes "30 Interferes local"
+refusal_text (Interferes (Some version)) = codes "30 Interferes " ++ decimal version
+refusal_text SameBranch = codes "31 SameBranch"
+refusal_text NotOnPath = codes "32 NotOnPath"
 refusal_text HistoryFull = codes "33 HistoryFull"
 refusal_text TooLarge = codes "34 TooLarge"
 refusal_text JournalFull = codes "35 JournalFull"
+refusal_text (NotApplicable step) = codes "36 NotApplicable " ++ decimal step
+refusal_text (NotForm place) = codes "37 NotForm " ++ decimal place
 
 -- `ok`, with its words where there are any
 abbrev pub ok_line : List ℕ → List ℕ

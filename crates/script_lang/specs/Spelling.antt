@@ -11,6 +11,7 @@ use Rattle.edits.specs.declared.edit.Edit.TheVariants.{Create, Delete, Set, Unse
 use Rattle.edits.specs.declared.edit.Destination.{Destination}
 use Rattle.edits.specs.declared.edit.Destination.TheVariants.{Root, Inside}
 use Rattle.model_state.specs.Names.{is_name}
+use Rattle.hex.specs.Hex.{IsBytes, decode_of, encode_lower}
 use Rattle.script_lang.specs.Words.{is_space}
 use Rattle.script_lang.specs.Command.{command_of}
 
@@ -66,6 +67,10 @@ IsEdit (Link id feature target index) = IsWord id × IsWord feature × IsWord ta
 IsEdit (Unlink id feature target) = IsWord id × IsWord feature × IsWord target
 IsEdit (Reorder id feature target index) = IsWord id × IsWord feature × IsWord target × IsNumber index
 
+-- bytes that a word can spell: at least one
+abbrev pub IsSomeBytes : List ℕ → Type 0
+IsSomeBytes bytes = (0 < length bytes) × IsBytes bytes
+
 -- workspaces are counted from 1
 abbrev pub IsWorkspace : ℕ → Type 0
 IsWorkspace ws = (1 ≤ ws) × IsNumber ws
@@ -80,6 +85,8 @@ IsCommand (commands.Begin ws name) = IsWorkspace ws × (is_name name ≡ true)
 IsCommand (commands.End ws) = IsWorkspace ws
 IsCommand (commands.Undo ws) = IsWorkspace ws
 IsCommand (commands.Discard ws) = IsWorkspace ws
+IsCommand (commands.Tidy ws) = IsWorkspace ws
+IsCommand (commands.Apply ws bytes) = IsWorkspace ws × IsSomeBytes bytes
 IsCommand (commands.Changes ws) = IsWorkspace ws
 IsCommand (commands.Show ws) = IsWorkspace ws
 IsCommand (commands.Cat spec) = IsSpec spec
@@ -89,6 +96,9 @@ IsCommand (commands.Branch ws name) = IsWorkspace ws × (is_name name ≡ true)
 IsCommand (commands.Tag name spec) = (is_name name ≡ true) × IsSpec spec
 IsCommand commands.Log = Unit {0}
 IsCommand (commands.Package spec) = IsSpec spec
+IsCommand (commands.Update ws choices) = IsWorkspace ws × IsOptionalWord choices
+IsCommand (commands.Merge ws branch choices) = IsWorkspace ws × (is_name branch ≡ true) × IsOptionalWord choices
+IsCommand (commands.Revert ws version) = IsWorkspace ws × IsNumber version
 IsCommand (commands.Drop ws) = IsWorkspace ws
 
 -- the word that names a version
@@ -145,7 +155,7 @@ edit_fields (Link id feature target index) = id ∷ feature ∷ target ∷ index
 edit_fields (Unlink id feature target) = id ∷ feature ∷ target ∷ []
 edit_fields (Reorder id feature target index) = id ∷ feature ∷ target ∷ decimal index ∷ []
 
--- the words of a command's line
+-- the words of a command's line; bytes are in digits of lower case
 abbrev pub words_of : Command → List (List ℕ)
 words_of commands.Init = codes "init" ∷ []
 words_of (commands.Import ws) = codes "import" ∷ decimal ws ∷ []
@@ -155,6 +165,8 @@ words_of (commands.Begin ws name) = codes "begin" ∷ decimal ws ∷ name ∷ []
 words_of (commands.End ws) = codes "end" ∷ decimal ws ∷ []
 words_of (commands.Undo ws) = codes "undo" ∷ decimal ws ∷ []
 words_of (commands.Discard ws) = codes "discard" ∷ decimal ws ∷ []
+words_of (commands.Tidy ws) = codes "tidy" ∷ decimal ws ∷ []
+words_of (commands.Apply ws bytes) = codes "apply" ∷ decimal ws ∷ encode_lower bytes ∷ []
 words_of (commands.Changes ws) = codes "changes" ∷ decimal ws ∷ []
 words_of (commands.Show ws) = codes "show" ∷ decimal ws ∷ []
 words_of (commands.Cat spec) = codes "cat" ∷ spec_word spec ∷ []
@@ -164,6 +176,9 @@ words_of (commands.Branch ws name) = codes "branch" ∷ decimal ws ∷ name ∷ 
 words_of (commands.Tag name spec) = codes "tag" ∷ name ∷ spec_word spec ∷ []
 words_of commands.Log = codes "log" ∷ []
 words_of (commands.Package spec) = codes "package" ∷ spec_word spec ∷ []
+words_of (commands.Update ws choices) = codes "update" ∷ decimal ws ∷ optional_word choices
+words_of (commands.Merge ws branch choices) = codes "merge" ∷ decimal ws ∷ branch ∷ optional_word choices
+words_of (commands.Revert ws version) = codes "revert" ∷ decimal ws ∷ decimal version ∷ []
 words_of (commands.Drop ws) = codes "drop" ∷ decimal ws ∷ []
 
 -- words with single spaces between them
@@ -172,10 +187,16 @@ spaced [] = []
 spaced (word ∷ []) = word
 spaced (word ∷ next ∷ words) = word ++ (32 ∷ spaced (next ∷ words))
 
+-- the line is the command's words; the bytes of `apply` have several spellings, since a digit is of either case
+abbrev pub IsLineOf : List ℕ → Command → Type 0
+IsLineOf line (commands.Apply ws bytes) =
+    (digits : List ℕ) × IsWord digits × (decode_of digits ≡ Ok bytes) × (line ≡ spaced (codes "apply" ∷ decimal ws ∷ digits ∷ []))
+IsLineOf line command = line ≡ spaced (words_of command)
+
 -- the line spells the command
 pub record Spells (line : List ℕ) (command : Command) : Type 0 where
   pub form : IsCommand command
-  pub words : line ≡ spaced (words_of command)
+  pub words : IsLineOf line command
 
 -- a line that is read as a command spells it
 abbrev pub LinesAreSpelled : Type 0
@@ -184,3 +205,7 @@ LinesAreSpelled = (line : List ℕ) (command : Command) → command_of line ≡ 
 -- a line that spells a command is read as that one
 abbrev pub LinesAreRead : Type 0
 LinesAreRead = (line : List ℕ) (command : Command) → Spells line command → command_of line ≡ Ok command
+
+-- each command that a line can spell is spelled by the line of its words
+abbrev pub CommandsHaveLines : Type 0
+CommandsHaveLines = (command : Command) → IsCommand command → Spells (spaced (words_of command)) command

@@ -1,3 +1,4 @@
+use crate::Bytes;
 use ecore_meta::Text;
 use edits::Edit;
 
@@ -34,6 +35,10 @@ pub enum Command {
     Undo { ws: u32 },
     /// `discard WS`: all that is local goes.
     Discard { ws: u32 },
+    /// `tidy WS`: the local operations are tidied.
+    Tidy { ws: u32 },
+    /// `apply WS HEX`: the operations of the package with those bytes are recorded. HEX is two hexadecimal digits a byte, of either case.
+    Apply { ws: u32, bytes: Bytes },
     /// `changes WS`: what is local is shown.
     Changes { ws: u32 },
     /// `show WS`: the text of the workspace's model.
@@ -52,6 +57,17 @@ pub enum Command {
     Log,
     /// `package SPEC`: the operations of that version.
     Package { spec: Spec },
+    /// `update WS [CHOICES]`: the versions up to the head of the workspace's branch are taken up. CHOICES is a letter for each bucket of
+    /// operations in conflict: `m` keeps the workspace's own, `t` those of the versions.
+    Update { ws: u32, choices: Option<Text> },
+    /// `merge WS BRANCH [CHOICES]`: the versions of that branch are taken up.
+    Merge {
+        ws: u32,
+        branch: Text,
+        choices: Option<Text>,
+    },
+    /// `revert WS VERSION`: what that version did is undone by operations of the workspace.
+    Revert { ws: u32, version: u32 },
     /// `drop WS`: the workspace goes.
     Drop { ws: u32 },
 }

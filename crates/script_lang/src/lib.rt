@@ -4,6 +4,7 @@
 //! spells none is refused with the column of the first word that does not fit.
 #![tactic(auto)]
 
+mod bytes;
 mod command;
 mod fault;
 mod laws;
@@ -11,6 +12,7 @@ mod parse;
 mod reply;
 mod words;
 
+pub use bytes::Bytes;
 pub use command::{Command, Spec};
 pub use fault::ParseFault;
 pub use laws::law_of_lines;

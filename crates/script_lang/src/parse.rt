@@ -1,13 +1,14 @@
 //! A line as a command: one private function a command.
 ghost use Rattle.std.specs.Prelude.{◌≡◌, ◌-◌, ◌<◌, ◌^◌, length, IfOk, IfNone, IfSome, None, Some};
 ghost use Rattle.script_lang.specs.Words.{Gives};
-ghost use Rattle.script_lang.specs.Command.{GivesCommand, GivesSpec, command_of, init_at, import_at, checkout_at, create_at, delete_at, move_at, destination_at, set_at, unset_at, add_at, remove_at, shift_at, link_at, unlink_at, reorder_at, begin_at, end_line_at, undo_at, discard_at, changes_at, show_at, cat_at, validate_at, commit_at, branch_at, tag_at, log_at, package_at, drop_at, spec_of, spec_at, tag_of};
+ghost use Rattle.script_lang.specs.Command.{GivesCommand, GivesSpec, command_of, init_at, import_at, checkout_at, create_at, delete_at, move_at, destination_at, set_at, unset_at, add_at, remove_at, shift_at, link_at, unlink_at, reorder_at, begin_at, end_line_at, undo_at, discard_at, tidy_at, apply_at, bytes_at, changes_at, show_at, cat_at, validate_at, commit_at, branch_at, tag_at, log_at, package_at, update_at, merge_at, revert_at, drop_at, spec_of, spec_at, tag_of};
 ghost use Rattle.script_lang.specs.declared.command.Spec.TheVariants.{Tag};
 
 use crate::words::{Words, bad_line, number_of};
-use crate::{Command, ParseFault, Spec};
+use crate::{Bytes, Command, ParseFault, Spec};
 use ecore_meta::Text;
 use edits::{Destination, Edit};
+use hex::FromHexError;
 use model_state::is_name;
 use std::alloc::{AllocError, Global};
 
@@ -42,6 +43,8 @@ pub fn parse_line(alloc: Global, line: &str) -> Result<Command, ParseFault>
         "end" => end(&mut words),
         "undo" => undo(&mut words),
         "discard" => discard(&mut words),
+        "tidy" => tidy(&mut words),
+        "apply" => apply(alloc, &mut words),
         "changes" => changes(&mut words),
         "show" => show(&mut words),
         "cat" => cat(alloc, &mut words),
@@ -51,6 +54,9 @@ pub fn parse_line(alloc: Global, line: &str) -> Result<Command, ParseFault>
         "tag" => tag(alloc, &mut words),
         "log" => log(&words),
         "package" => package_of(alloc, &mut words),
+        "update" => update(alloc, &mut words),
+        "merge" => merge(alloc, &mut words),
+        "revert" => revert(&mut words),
         "drop" => drop_workspace(&mut words),
         _ => Err(ParseFault::BadLine { column: 1 }),
     }
@@ -350,6 +356,43 @@ fn discard(words: &mut Words<'_>) -> Result<Command, ParseFault>
     Ok(Command::Discard { ws })
 }
 
+#[tactic(auto, unfolding(crate::specs::Command::tidy_at))]
+fn tidy(words: &mut Words<'_>) -> Result<Command, ParseFault>
+    ensures { GivesCommand result (tidy_at words.old) }
+{
+    let ws = words.workspace()?;
+    words.end()?;
+    Ok(Command::Tidy { ws })
+}
+
+#[tactic(auto, unfolding(crate::specs::Command::apply_at))]
+fn apply(alloc: Global, words: &mut Words<'_>) -> Result<Command, ParseFault>
+    ensures { GivesCommand result (apply_at words.old) }
+{
+    let ws = words.workspace()?;
+    let bytes = bytes(alloc, words)?;
+    words.end()?;
+    Ok(Command::Apply { ws, bytes })
+}
+
+/// The next word, which spells bytes in hexadecimal digits.
+#[tactic(auto, unfolding(crate::specs::Command::bytes_at))]
+fn bytes(alloc: Global, words: &mut Words<'_>) -> Result<Bytes, ParseFault>
+    ensures { Gives words.new result (bytes_at words.old) }
+{
+    let column = words.column();
+    let word = words.word()?;
+    match hex::decode(alloc, word) {
+        Ok(bytes) => Ok(Bytes::from_vec(bytes)),
+        Err(FromHexError::OutOfMemory) => Err(ParseFault::Memory),
+        Err(
+            FromHexError::InvalidHexCharacter { .. }
+            | FromHexError::OddLength
+            | FromHexError::InvalidStringLength,
+        ) => Err(bad_line(column)),
+    }
+}
+
 #[tactic(auto, unfolding(crate::specs::Command::changes_at))]
 fn changes(words: &mut Words<'_>) -> Result<Command, ParseFault>
     ensures { GivesCommand result (changes_at words.old) }
@@ -442,6 +485,50 @@ fn package_of(alloc: Global, words: &mut Words<'_>) -> Result<Command, ParseFaul
     let spec = spec(alloc, words)?;
     words.end()?;
     Ok(Command::Package { spec })
+}
+
+#[tactic(auto, unfolding(crate::specs::Command::update_at))]
+fn update(alloc: Global, words: &mut Words<'_>) -> Result<Command, ParseFault>
+    ensures { GivesCommand result (update_at words.old) }
+{
+    let ws = words.workspace()?;
+    let choices = words.optional_word()?;
+    words.end()?;
+    Ok(Command::Update {
+        ws,
+        choices: match choices {
+            None => None,
+            Some(choices) => Some(Text::new(alloc, choices)?),
+        },
+    })
+}
+
+#[tactic(auto, unfolding(crate::specs::Command::merge_at))]
+fn merge(alloc: Global, words: &mut Words<'_>) -> Result<Command, ParseFault>
+    ensures { GivesCommand result (merge_at words.old) }
+{
+    let ws = words.workspace()?;
+    let branch = words.name()?;
+    let choices = words.optional_word()?;
+    words.end()?;
+    Ok(Command::Merge {
+        ws,
+        branch: Text::new(alloc, branch)?,
+        choices: match choices {
+            None => None,
+            Some(choices) => Some(Text::new(alloc, choices)?),
+        },
+    })
+}
+
+#[tactic(auto, unfolding(crate::specs::Command::revert_at))]
+fn revert(words: &mut Words<'_>) -> Result<Command, ParseFault>
+    ensures { GivesCommand result (revert_at words.old) }
+{
+    let ws = words.workspace()?;
+    let version = words.number(0)?;
+    words.end()?;
+    Ok(Command::Revert { ws, version })
 }
 
 #[tactic(auto, unfolding(crate::specs::Command::drop_at))]

@@ -57,18 +57,32 @@ pub enum Refusal {
     NothingLocal,
     /// 24: the workspace's base is not its branch's head.
     Stale { base: u32, head: u32 },
+    /// 25: operations of both sides are in conflict, in so many buckets, and the line has no choices.
+    Conflicts { buckets: u64 },
+    /// 26: the choices are not a letter `m` or `t` for each bucket: so many buckets there are, and so many bytes the choices have.
+    BadChoice { want: u64, got: u64 },
     /// 27: a composite is open in the workspace.
     CompositeOpen,
     /// 28: no composite is open in the workspace.
     NoComposite,
     /// 29: the block is no model text, for the fault of that number.
     BadModel { n: u32 },
+    /// 30: an operation of that later version interferes with the version to be reverted, or local operations alone do.
+    Interferes { version: Option<u32> },
+    /// 31: the branch is the workspace's own.
+    SameBranch,
+    /// 32: the version is not on the path of the workspace's base.
+    NotOnPath,
     /// 33: as many events stand in the history as it can hold.
     HistoryFull,
     /// 34: the event's record would be longer than a record may be.
     TooLarge,
     /// 35: the event's record would pass the journal's limit.
     JournalFull,
+    /// 36: the package's step of that number, from 0 over all its operations, can't be applied.
+    NotApplicable { step: u64 },
+    /// 37: the bytes are no package: the place is that of the first field that can't be read, or of the first byte left over.
+    NotForm { at: u64 },
 }
 
 impl fmt::Display for Refusal {
@@ -104,12 +118,22 @@ impl fmt::Display for Refusal {
             Refusal::WouldCycle => f.write_str("22 WouldCycle"),
             Refusal::NothingLocal => f.write_str("23 NothingLocal"),
             Refusal::Stale { base, head } => write!(f, "24 Stale {base} {head}"),
+            Refusal::Conflicts { buckets } => write!(f, "25 Conflicts {buckets}"),
+            Refusal::BadChoice { want, got } => write!(f, "26 BadChoice {want} {got}"),
             Refusal::CompositeOpen => f.write_str("27 CompositeOpen"),
             Refusal::NoComposite => f.write_str("28 NoComposite"),
             Refusal::BadModel { n } => write!(f, "29 BadModel {n}"),
+            Refusal::Interferes { version: None } => f.write_str("30 Interferes local"),
+            Refusal::Interferes {
+                version: Some(version),
+            } => write!(f, "30 Interferes {version}"),
+            Refusal::SameBranch => f.write_str("31 SameBranch"),
+            Refusal::NotOnPath => f.write_str("32 NotOnPath"),
             Refusal::HistoryFull => f.write_str("33 HistoryFull"),
             Refusal::TooLarge => f.write_str("34 TooLarge"),
             Refusal::JournalFull => f.write_str("35 JournalFull"),
+            Refusal::NotApplicable { step } => write!(f, "36 NotApplicable {step}"),
+            Refusal::NotForm { at } => write!(f, "37 NotForm {at}"),
         }
     }
 }
