@@ -51,6 +51,10 @@ leading h whole (suc n) v low there =
     subst (λ us. Leading v us) (sym (path_by_parent h v version at before))
     (by_parent h v version.parent before (λ p under. leading h whole n p (omega (arith, low, under)) (omega (arith, under, there))))
 
+-- no version on a path comes after its own
+pub path_upto : (h : History) → IsWhole h → (v : ℕ) → v < length h.versions → All (λ u. u < suc v) (path h v)
+path_upto h whole v there = (leading h whole (suc v) v (omega arith) there).below
+
 pub path_leads : (h : History) → IsWhole h → (v : ℕ) → v < length h.versions → LeadsTo v (path h v)
 path_leads h whole v there = (leading h whole (suc v) v (omega arith) there).leads
 

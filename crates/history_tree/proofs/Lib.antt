@@ -4,4 +4,7 @@ pub mod HeadsBeside
 pub mod Paths
 pub mod Since
 pub mod Steady
+mod Bases
+mod Flags
+mod Greatest
 mod Leading

@@ -1,8 +1,9 @@
--- What holds of paths and heads.
-use Rattle.std.specs.Prelude.{◌≡◌, ◌≢◌, ℕ, ◌<◌, List, [], ◌∷◌, ◌++◌, Option, None, Some, length, slice_get, All}
+-- What holds of paths, heads and merge bases.
+use Rattle.std.specs.Prelude.{◌≡◌, ◌≢◌, ℕ, ◌<◌, ◌≤◌, List, [], ◌∷◌, ◌++◌, Option, None, Some, length, slice_get, All}
 use Rattle.history_tree.specs.declared.version.Version.{Version}
 use Rattle.history_tree.specs.History.{History, with_version, path, start_of, head}
 use Rattle.history_tree.specs.Whole.{IsWhole}
+use Rattle.history_tree.specs.MergeBase.{last_common, merge_base, IsLastCommon, IsMergeBase}
 
 -- the path of a parent, where there is one
 abbrev pub path_of_parent : History → Option ℕ → List ℕ
@@ -48,3 +49,15 @@ LastIsHead = (h : History) (version : Version) → head (with_version h version)
 -- and leaves the head of each other branch
 abbrev pub OtherHeadsStay : Type 0
 OtherHeadsStay = (h : History) (version : Version) (branch : ℕ) → version.branch ≢ branch → head (with_version h version) branch ≡ head h branch
+
+-- the last common version is on both paths, and no later one is
+abbrev pub LastCommonIsLast : Type 0
+LastCommonIsLast = (h : History) → IsWhole h → (a b : ℕ) → a < length h.versions → b < length h.versions → IsLastCommon h a b (last_common h a b)
+
+-- the merge base is the last version on the other's path that is on the base's path or counts as merged
+abbrev pub MergeBaseIsLast : Type 0
+MergeBaseIsLast = (h : History) → IsWhole h → (base : ℕ) (pending : List ℕ) (other : ℕ) → base < length h.versions → other < length h.versions → IsMergeBase h base pending other (merge_base h base pending other)
+
+-- it doesn't come before the last common version
+abbrev pub MergeBaseIsAfterCommon : Type 0
+MergeBaseIsAfterCommon = (h : History) → IsWhole h → (base : ℕ) (pending : List ℕ) (other : ℕ) → base < length h.versions → other < length h.versions → last_common h base other ≤ merge_base h base pending other

@@ -2,6 +2,7 @@ pub mod Found
 pub mod Heads
 pub mod History
 pub mod Laws
+pub mod Marks
 pub mod MergeBase
 pub mod Room
 pub mod Since

@@ -1,12 +1,14 @@
-//! Versions, branches and tags, as numbers and names: what is on a version's path, which version is a branch's head, and what a name names.
+//! Versions, branches and tags, as numbers and names: what is on a version's path, which version is a branch's head, what a name names, and
+//! which version two paths have last in common.
 #![tactic(auto)]
 
 mod found;
 mod history;
 mod laws;
+mod merging;
 mod version;
 
 pub use found::{FindFault, Found};
 pub use history::History;
-pub use laws::law_of_histories;
+pub use laws::{law_of_histories, law_of_merge_bases};
 pub use version::Version;
