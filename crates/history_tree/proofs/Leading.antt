@@ -57,7 +57,3 @@ path_upto h whole v there = (leading h whole (suc v) v (omega arith) there).belo
 
 pub path_leads : (h : History) → IsWhole h → (v : ℕ) → v < length h.versions → LeadsTo v (path h v)
 path_leads h whole v there = (leading h whole (suc v) v (omega arith) there).leads
-
--- no version on a path is greater than its end
-pub path_up_to : (h : History) → IsWhole h → (v : ℕ) → v < length h.versions → All (λ u. u < suc v) (path h v)
-path_up_to h whole v there = (leading h whole (suc v) v (omega arith) there).below

@@ -4,7 +4,7 @@ pub mod HeadsBeside
 pub mod Paths
 pub mod Since
 pub mod Steady
-mod Bases
+pub mod Bases
 mod Flags
 mod Greatest
 mod Leading

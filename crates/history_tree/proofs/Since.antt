@@ -11,7 +11,7 @@ use Rattle.history_tree.specs.States.{operations_of, operations_to}
 use Rattle.history_tree.specs.Since.{path_after, operations_after}
 use Rattle.history_tree.specs.Whole.{ComesBefore, IsWhole}
 use Rattle.history_tree.specs.Laws.{path_of_parent}
-use Rattle.history_tree.proofs.Leading.{path_up_to}
+use Rattle.history_tree.proofs.Leading.{path_upto}
 use Rattle.history_tree.proofs.Paths.{path_by_parent, parent_before}
 use Rattle.history_tree.proofs.Steady.{operations_append, path_there}
 
@@ -71,14 +71,14 @@ pub on_path_there : (h : History) (u v : ℕ) → Contains (path h v) u → u < 
 on_path_there h u v on = All-contains (λ w. w < length h.versions) (path h v) u (path_there h v) on
 
 pub on_path_low : (h : History) → IsWhole h → (u v : ℕ) → v < length h.versions → Contains (path h v) u → u ≤ v
-on_path_low h whole u v there on = omega (arith, All-contains (λ w. w < suc v) (path h v) u (path_up_to h whole v there) on)
+on_path_low h whole u v there on = omega (arith, All-contains (λ w. w < suc v) (path h v) u (path_upto h whole v there) on)
 
 -- by what the path of the parent is
 splits_by : (h : History) → IsWhole h → (u v : ℕ) → v < length h.versions → ((p : ℕ) → p < v → p < length h.versions → Contains (path h p) u → path h p ≡ path h u ++ path_after h u p) → (v ≡ u) ⊎ ComesFrom h u v
     → path h v ≡ path h u ++ path_after h u v
 splits_by h whole u v there before (inl same) =
     subst (λ w. path h v ≡ path h w ++ path_after h w v) same
-    (sym (append-nil (path h v)) ∙ ap (λ us. path h v ++ us) (sym (none_after v (path h v) (path_up_to h whole v there))))
+    (sym (append-nil (path h v)) ∙ ap (λ us. path h v ++ us) (sym (none_after v (path h v) (path_upto h whole v there))))
 splits_by h whole u v there before (inr c) =
     let known : c.parent < length h.versions = omega (arith, c.before, there) in
     let under : u ≤ c.parent = on_path_low h whole u c.parent known c.on_path in

@@ -3,6 +3,7 @@ pub mod Commits
 pub mod Forms
 pub mod Growth
 pub mod Kept
+pub mod Merged
 pub mod Named
 pub mod Numbers
 pub mod Places
@@ -10,5 +11,6 @@ pub mod Reached
 pub mod Recorded
 pub mod Rows
 pub mod Runs
+pub mod Spelled
 pub mod Stores
 pub mod Undoing

@@ -80,40 +80,8 @@ versions_have_ids s meta has v within =
     let r : RunsTo meta s.history v = (kept s meta has).versions v within in
     subst HasIds (sym (version_model meta s.history v r)) (run_named meta (steps_to s.history v) r)
 
--- the metamodel, once there is one, is sound
-abbrev IsSound : Option Meta → Type 0
-IsSound None = Unit {0}
-IsSound (Some meta) = Sound meta
-
-text_sound : (text : List ℕ) (r : Result Meta EcoreFault) → metamodel_of text ≡ r → IsSound (meta_of_read r)
-text_sound text (Ok meta) is = read_sound text meta is
-text_sound text (Err e) is = tt
-
-effect_sound : (s : State) (m : Option Meta) (e : Event) → s.meta ≡ m → IsTrue (playable_with s m e) → IsSound m → IsSound (effect s e).meta
-effect_sound s None (Init text) is could kept = text_sound text (metamodel_of text) refl
-effect_sound s None (Checkout version branch) is could kept = absurd cc
-effect_sound s None (Edit k operations) is could kept = absurd cc
-effect_sound s None (Begin k name) is could kept = absurd cc
-effect_sound s None (End k) is could kept = absurd cc
-effect_sound s None (Undo k) is could kept = absurd cc
-effect_sound s None (Discard k) is could kept = absurd cc
-effect_sound s None (Commit k message) is could kept = absurd cc
-effect_sound s None (Branch k name) is could kept = absurd cc
-effect_sound s None (Tag name version) is could kept = absurd cc
-effect_sound s None (Drop k) is could kept = absurd cc
-effect_sound s (Some meta) e is could kept = subst IsSound (sym (same_meta s meta e could ∙ is)) kept
-
-play_sound : (s : State) (e : Event) → IsTrue (playable s e) → IsSound s.meta → IsSound (play s e).meta
-unfolding play playable
-play_sound s e could kept = effect_sound s s.meta e refl (and_right _ (playable_with s s.meta e) could) kept
-
-played_sound : (s : State) (events : List Event) → IsTrue (are_playable s events) → IsSound s.meta → IsSound (played play s events).meta
-played_sound s [] could kept = kept
-played_sound s (e ∷ events) could kept = played_sound (play s e) events (and_right (playable s e) (are_playable (play s e) events) could) (play_sound s e (and_left (playable s e) (are_playable (play s e) events) could) kept)
-
 pub metamodels_are_sound : MetamodelsAreSound
-metamodels_are_sound s r meta begun =
-    subst IsSound begun (subst (λ (t : State). IsSound t.meta) r.reached (played_sound empty r.events r.could tt))
+metamodels_are_sound s r meta begun = (kept s meta (record { orderly = all_is_in_order s r; begun = begun })).sound
 
 pub histories_are_whole : HistoriesAreWhole
 histories_are_whole s meta has = (kept s meta has).whole

@@ -9,5 +9,5 @@ use Rattle.plain_repository.specs.Answers.{Decision, refused, refused_with}
 -- what is decided where the choices fit the buckets; a bucket without choices, and choices that don't fit, are refused
 abbrev pub chosen : List Bucket → Option (List ℕ) → Decision → Decision
 chosen [] None decision = decision
-chosen (b ∷ bs) None decision = refused_with (bucket_lines (b ∷ bs)) (refusals.Conflicts (length (b ∷ bs)))
+chosen (b ∷ bs) None decision = refused_with (bucket_lines (record { rows = b ∷ bs })) (refusals.Conflicts (length (b ∷ bs)))
 chosen rows (Some letters) decision = if are_choices letters rows then decision else refused (refusals.BadChoice (length rows) (length letters))
