@@ -6,5 +6,5 @@ pub mod Since
 pub mod Steady
 pub mod Bases
 mod Flags
-mod Greatest
+pub mod Greatest
 mod Leading

@@ -73,6 +73,10 @@ on_path_there h u v on = All-contains (λ w. w < length h.versions) (path h v) u
 pub on_path_low : (h : History) → IsWhole h → (u v : ℕ) → v < length h.versions → Contains (path h v) u → u ≤ v
 on_path_low h whole u v there on = omega (arith, All-contains (λ w. w < suc v) (path h v) u (path_upto h whole v there) on)
 
+-- nothing comes after a version on its own path
+pub nothing_after : (h : History) → IsWhole h → (v : ℕ) → v < length h.versions → path_after h v v ≡ []
+nothing_after h whole v there = none_after v (path h v) (path_upto h whole v there)
+
 -- by what the path of the parent is
 splits_by : (h : History) → IsWhole h → (u v : ℕ) → v < length h.versions → ((p : ℕ) → p < v → p < length h.versions → Contains (path h p) u → path h p ≡ path h u ++ path_after h u p) → (v ≡ u) ⊎ ComesFrom h u v
     → path h v ≡ path h u ++ path_after h u v
@@ -111,6 +115,9 @@ after_one u v vs all false is = all
 all_after : (u : ℕ) (vs : List ℕ) → All (λ w. u < w) (filter (λ w. nat_lt u w) vs)
 all_after u [] = λ k d within. absurd (omega (arith, within))
 all_after u (v ∷ vs) = after_one u v (filter (λ w. nat_lt u w) vs) (all_after u vs) (nat_lt u v) refl
+
+pub after_above : (h : History) (u v : ℕ) → All (λ w. u < w) (path_after h u v)
+after_above h u v = all_after u (path h v)
 
 -- of two versions on one path the lesser is on the path of the greater
 pub earlier_on_path : (h : History) → IsWhole h → (t u v : ℕ) → v < length h.versions → Contains (path h v) t → Contains (path h v) u → t ≤ u → Contains (path h u) t
