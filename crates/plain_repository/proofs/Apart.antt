@@ -67,7 +67,7 @@ workspaces_stay_apart s ws w there e apart =
 pub same_model : (meta : Meta) (g h : History) (w : Workspace) → operations_to g w.base ≡ operations_to h w.base → model_of meta g w ≡ model_of meta h w
 same_model meta g h w same = ap (λ (os : List Operation). unwrap_or (fold meta (unwrap_or (fold_package meta nothing os) nothing) (recorded_steps w)) nothing) same
 
-effect_leaves : (meta : Meta) (s : State) (w : Workspace) → w.base < length s.history.versions → (e : Event) → IsTrue (playable_with s (Some meta) e) → operations_to (effect s e).history w.base ≡ operations_to s.history w.base
+pub effect_leaves : (meta : Meta) (s : State) (w : Workspace) → w.base < length s.history.versions → (e : Event) → IsTrue (playable_with s (Some meta) e) → operations_to (effect s e).history w.base ≡ operations_to s.history w.base
 effect_leaves meta s w within (Init text) could = absurd cc
 effect_leaves meta s w within (Checkout version branch) could = refl
 effect_leaves meta s w within (Edit k operations) could = refl
