@@ -1,8 +1,14 @@
-ghost use Rattle.data_lines.specs.Laws.{TakenPackagesAreTyped, TakenStepsAreTyped};
+ghost use Rattle.data_lines.specs.Laws.{BucketsHaveNumbers, TakenPackagesAreTyped, TakenStepsAreTyped};
 
 /// The law of steps that were taken: what can be taken from a good state, one by one, is of the metamodel, as the lines
 /// of steps ask. So a caller that keeps a state and the operations that led there needs no test.
 pub fn law_of_taken_steps()
     ensures steps { TakenStepsAreTyped }
     ensures packages { TakenPackagesAreTyped }
+{}
+
+/// The law of buckets: the operations of the buckets of two packages have numbers, as their lines ask. So a caller that found the buckets
+/// needs no test.
+pub fn law_of_bucket_numbers()
+    ensures numbers { BucketsHaveNumbers }
 {}

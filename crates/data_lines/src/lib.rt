@@ -13,7 +13,7 @@ mod versions;
 mod words;
 
 pub use buckets::bucket_lines;
-pub use laws::law_of_taken_steps;
+pub use laws::{law_of_bucket_numbers, law_of_taken_steps};
 pub use operation::{open_lines, operation_lines};
 pub use typed::{are_typed, is_typed, is_typed_package};
 pub use validation::validate_lines;

@@ -28,11 +28,16 @@ const EVENTS: &str = r#"01 000000027b7d = Init { text: Text { text: "{}" } }
 06 00000000 = Undo { ws: 0 }
 06 00000002 = Undo { ws: 2 }
 07 00000002 = Discard { ws: 2 }
+08 00000002 = Tidy { ws: 2 }
 09 00000001 00000000 = Commit { ws: 1, message: Text { text: "" } }
 09 00000002 0000000461202062 = Commit { ws: 2, message: Text { text: "a  b" } }
 0a 00000001 00000003646576 = Branch { ws: 1, name: Text { text: "dev" } }
 0b 0000000161 00000000 = Tag { name: Text { text: "a" }, version: 0 }
 0b 000000027631 ffffffff = Tag { name: Text { text: "v1" }, version: 4294967295 }
+0c 00000001 00000000 = Update { ws: 1, choices: Text { text: "" } }
+0c 00000002 000000036d746d = Update { ws: 2, choices: Text { text: "mtm" } }
+0d 00000001 00000002 00000000 = Merge { ws: 1, branch: 2, choices: Text { text: "" } }
+0d ffffffff 00000000 000000026d74 = Merge { ws: 4294967295, branch: 0, choices: Text { text: "mt" } }
 0e 00000002 = Drop { ws: 2 }"#;
 
 fn read(alloc: Global, text: &str) -> Result<Vec<u8>, Fail> {
@@ -87,6 +92,8 @@ const NO_EVENTS: &str = "0f 00000001 = 0
 01 00000001ff = 1
 05 00000002 00 = 5
 0b 00000000 0000000161 = 9
+0c 00000001 000000016d 00 = 10
+0d 00000001 000000016d 6d = 9
 0e 00000002 00 = 5
 03 00000001 00 = 5
 03 00000001 ffffffff = 9

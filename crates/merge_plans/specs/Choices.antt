@@ -15,4 +15,4 @@ side_of letter = if letter == 109 then Mine else Theirs
 
 -- there is a letter for each bucket, and no other byte
 abbrev pub are_choices : List ℕ → List Bucket → Bool
-are_choices letters rows = list_all is_choice letters && length letters == length rows
+are_choices letters rows = length letters == length rows && list_all is_choice letters

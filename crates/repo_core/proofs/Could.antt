@@ -56,7 +56,7 @@ installed_fits s meta h ws w new os m begun hist there orderly leads is kept =
     (ap (folded meta s.history) is ∙ more_leads meta s.history os (plain_of w) (model_of meta s.history (plain_of w)) (plain_state m) (models_are_defined s meta (plain_of w) (is_there s meta ws (plain_of w) orderly begun there)) lead.0) lead.1)
 
 -- ---- the workspace of an event that could be made is there
-tested : (test : Option Workspace → Bool) → test None ≡ false → (o : Option Workspace) → test o ≡ true → is_some o ≡ true
+pub tested : (test : Option Workspace → Bool) → test None ≡ false → (o : Option Workspace) → test o ≡ true → is_some o ≡ true
 tested test none None is = absurd (by (sym none ∙ is))
   where
     by : false ≡ true → ⊥

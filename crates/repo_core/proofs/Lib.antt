@@ -8,5 +8,6 @@ pub mod Models
 pub mod Needed
 pub mod Ordered
 pub mod Playable
+pub mod Putting
 pub mod Replaying
 pub mod Taking

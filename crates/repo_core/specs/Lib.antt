@@ -1,4 +1,5 @@
 pub mod Decisions
 pub mod Keeping
 pub mod Making
+pub mod Planning
 pub mod Working

@@ -8,14 +8,17 @@ use Rattle.step_apply.specs.declared.plain.Plain.{Plain}
 use Rattle.step_apply.specs.View.{plain_state}
 use Rattle.history_tree.specs.History.{History, head}
 use Rattle.op_form.specs.declared.event.Event.{Event}
-use Rattle.op_form.specs.declared.event.Event.TheVariants.{Init, Edit}
+use Rattle.op_form.specs.declared.event.Event.TheVariants.{Init, Edit, Tidy, Update, Merge}
 use Rattle.plain_repository.specs.Edits.{takes}
 use Rattle.plain_repository.specs.State.{State, Workspace, workspace_of, model_of}
 
--- the events whose test is a part of making them: a text is read, and steps are taken
+-- the events whose test is a part of making them: a text is read, steps are taken, or operations are compared
 abbrev pub is_tested_late : Event → Bool
 is_tested_late (Init text) = true
 is_tested_late (Edit ws operations) = true
+is_tested_late (Tidy ws) = true
+is_tested_late (Update ws letters) = true
+is_tested_late (Merge ws branch letters) = true
 is_tested_late event = false
 
 -- there are a metamodel, the workspace and operations, as many as the workspace takes

@@ -6,14 +6,18 @@ ghost use Rattle.repo_core.specs.Working.{IsModelFor, NeedsNone};
 ghost use Rattle.repo_core.specs.Decisions.{seen, CanMakeIt, IsShortBlock};
 
 mod answers;
+mod applying;
 mod checkouts;
+mod choosing;
 mod commits;
 mod composites;
 mod local;
+mod merging;
 mod metamodels;
 mod models;
 mod naming;
 mod recording;
+mod tidying;
 mod views;
 
 use crate::repo::Repo;
@@ -117,6 +121,8 @@ impl Repo {
             Command::End { ws } => self.decide_end(alloc, *ws),
             Command::Undo { ws } => self.decide_undo(alloc, *ws),
             Command::Discard { ws } => self.decide_discard(alloc, *ws),
+            Command::Tidy { ws } => self.decide_tidy(alloc, begun, *ws),
+            Command::Apply { ws, bytes } => self.decide_apply(alloc, begun, *ws, bytes.as_slice()),
             Command::Changes { ws } => self.decide_changes(alloc, begun, *ws),
             Command::Show { ws } => self.decide_show(alloc, begun, *ws, model),
             Command::Cat { spec } => self.decide_cat(alloc, begun, spec),
@@ -126,6 +132,13 @@ impl Repo {
             Command::Tag { name, spec } => self.decide_tag(alloc, begun, name, spec),
             Command::Log => self.decide_log(alloc, begun),
             Command::Package { spec } => self.decide_package(alloc, begun, spec),
+            Command::Update { ws, choices } => self.decide_update(alloc, begun, *ws, choices),
+            Command::Merge {
+                ws,
+                branch,
+                choices,
+            } => self.decide_merge(alloc, begun, *ws, branch, choices),
+            Command::Revert { ws, version } => self.decide_revert(alloc, begun, *ws, *version),
             Command::Drop { ws } => self.decide_drop(alloc, *ws),
         }
     }

@@ -6,6 +6,8 @@ mod fault;
 mod growing;
 mod lists;
 mod making;
+mod merged;
+mod planning;
 mod playing;
 mod repo;
 mod states;

@@ -7,7 +7,7 @@ use model_state::{Operation, Package, Step};
 use std::alloc::{AllocError, Global};
 
 /// The items of a list, moved.
-fn items_of<T: Drop>(alloc: Global, list: List<T>) -> Result<Vec<T>, AllocError>
+pub(crate) fn items_of<T: Drop>(alloc: Global, list: List<T>) -> Result<Vec<T>, AllocError>
     ensures { IfOk result (λ v. v.items ≡ list) }
 {
     let mut rest = list;

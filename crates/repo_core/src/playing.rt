@@ -174,9 +174,12 @@ impl Repo {
             Event::End { ws } => self.could_end(*ws),
             Event::Undo { ws } => self.could_undo(*ws),
             Event::Discard { ws } => self.could_discard(*ws),
+            Event::Tidy { .. } => true,
             Event::Commit { ws, message } => self.could_commit(*ws, message),
             Event::Branch { ws, name } => self.could_branch(*ws, name),
             Event::Tag { name, version } => self.could_tag(name, *version),
+            Event::Update { .. } => true,
+            Event::Merge { .. } => true,
             Event::Drop { ws } => self.could_drop(*ws),
         }
     }
@@ -208,9 +211,16 @@ impl Repo {
                 self.discard(alloc, ws);
                 Ok(())
             }
+            Event::Tidy { ws } => self.tidy(alloc, ws),
             Event::Commit { ws, message } => Ok(self.commit(alloc, ws, message)?),
             Event::Branch { ws, name } => Ok(self.branch(ws, name)?),
             Event::Tag { name, version } => Ok(self.tag(name, version)?),
+            Event::Update { ws, choices } => self.update(alloc, ws, &choices),
+            Event::Merge {
+                ws,
+                branch,
+                choices,
+            } => self.merge(alloc, ws, branch, &choices),
             Event::Drop { ws } => {
                 self.drop_workspace(ws);
                 Ok(())

@@ -1,8 +1,10 @@
 //! The state of a version, folded from the empty project.
-ghost use Rattle.std.specs.Prelude.{◌≡◌, ◌≢◌, ◌<◌, length, is_some, true, None, Some, IfOk, OnOk, IfErr};
+ghost use Rattle.std.specs.Prelude.{◌≡◌, ◌≢◌, ◌<◌, ◌^◌, length, is_some, option_map, true, None, Some, IfOk, OnOk, IfErr};
 ghost use Rattle.ecore_meta.specs.Sound.{Sound};
+ghost use Rattle.model_state.specs.Faults.{IsFault};
 ghost use Rattle.model_state.specs.Good.{Good};
-ghost use Rattle.model_state.specs.Packages.{fold_package, steps_of};
+ghost use Rattle.model_state.specs.Packages.{fold_package, steps_all, steps_of};
+ghost use Rattle.model_state.specs.Steps.{fault_along, first_stop, fold};
 ghost use Rattle.step_apply.specs.View.{plain_state};
 ghost use Rattle.history_tree.specs.States.{state_folded, state_of};
 
@@ -23,6 +25,24 @@ pub(crate) fn steps_in(operation: &Operation) -> &[Step]
     }
 }
 
+/// Takes the steps one by one, up to the first that can't be taken, whose fault it gives.
+pub(crate) fn take_steps(
+    model: &mut Plain,
+    meta: &Metamodel,
+    steps: &[Step],
+) -> Result<(), StepFault>
+    requires sound { Sound meta.now }
+    requires good { Good meta.now (plain_state model.old) }
+    ensures done { OnOk result (fold meta.now (plain_state model.old) steps.now ≡ Some (plain_state model.new)) }
+    ensures cannot { IfErr result (λ e. IsFault (fault_along meta.now (plain_state model.old) steps.now) e) }
+    ensures good { Good meta.now (plain_state model.new) }
+{
+    match replay(model, meta, steps) {
+        Ok(()) => Ok(()),
+        Err(stop) => Err(stop.fault),
+    }
+}
+
 /// Takes the steps of operations one by one, up to the first that can't be taken. After an error the model is of no use.
 pub(crate) fn follow(
     model: &mut Plain,
@@ -36,9 +56,34 @@ pub(crate) fn follow(
     ensures good { Good meta.now (plain_state model.new) }
 {
     for operation in operations {
-        replay(model, meta, steps_in(operation))?;
+        take_steps(model, meta, steps_in(operation))?;
     }
     Ok(())
+}
+
+/// The number, from 0 over all operations, of the first step that can't be taken, None where each can. The steps before it are taken on the model.
+pub(crate) fn stop_in(
+    model: &mut Plain,
+    meta: &Metamodel,
+    operations: &[Operation],
+) -> Result<Option<u64>, AllocError>
+    requires sound { Sound meta.now }
+    requires good { Good meta.now (plain_state model.old) }
+    requires few { length (steps_all operations.now) < 2 ^ 64 }
+    ensures stop { IfOk result (λ found. found ≡ option_map (λ x. x.at) (first_stop meta.now (plain_state model.old) (steps_all operations.now))) }
+{
+    let mut before = 0;
+    for operation in operations {
+        let steps = steps_in(operation);
+        if let Err(stop) = replay(model, meta, steps) {
+            return match stop.fault {
+                StepFault::Memory => Err(AllocError),
+                _ => Ok(Some(before + stop.at)),
+            };
+        }
+        before += steps.len() as u64;
+    }
+    Ok(None)
 }
 
 /// The state of a version whose operations can be taken.

@@ -13,9 +13,11 @@ ghost use Rattle.plain_repository.specs.Composites.{with_open, with_closed};
 ghost use Rattle.plain_repository.specs.Edits.{takes, with_more};
 ghost use Rattle.plain_repository.specs.Local.{can_discard, can_undo, without_any, without_last};
 ghost use Rattle.repo_core.specs.Keeping.{plain_of, Fits};
+ghost use Rattle.repo_core.specs.Planning.{restarted, taken_up};
 
-use crate::lists::{append, steps_out};
-use crate::states::{follow, state_at, steps_in};
+use crate::lists::{append, items_of, steps_out};
+use crate::merged::{Local, Merged};
+use crate::states::{follow, state_at, steps_in, take_steps};
 use ecore_meta::{List, Metamodel, Text};
 use history_tree::{History, Version};
 use model_laws::replay;
@@ -249,6 +251,35 @@ impl Workspace {
         }
     }
 
+    /// Stands at a version with other operations. The model is not kept.
+    pub(crate) fn restart(&mut self, local: Local)
+        ensures restarted { plain_of self.new ≡ restarted local.base local.operations.items (plain_of self.old) }
+        ensures gone { self.new.model ≡ None }
+    {
+        self.base = local.base;
+        self.operations = local.operations;
+        self.model = None;
+    }
+
+    /// Takes further operations after the others, of a version that is pending from now on. The model is not kept. When out of memory nothing
+    /// else changes.
+    pub(crate) fn take_up(&mut self, alloc: Global, merged: Merged) -> Result<(), AllocError>
+        ensures taken { OnOk result (plain_of self.new ≡ taken_up merged.more merged.version (plain_of self.old)) }
+        ensures same { OnErr result (plain_of self.new ≡ plain_of self.old) }
+        ensures gone { self.new.model ≡ None }
+    {
+        self.model = None;
+        let mut more = items_of(alloc, merged.more)?;
+        self.pending.push(merged.version)?;
+        match self.operations.append(&mut more) {
+            Ok(()) => Ok(()),
+            Err(_) => {
+                self.pending.pop();
+                Err(AllocError)
+            }
+        }
+    }
+
     /// The workspace keeps a model.
     pub(crate) fn keep_model(&mut self, model: Plain)
         ensures same { plain_of self.new ≡ plain_of self.old }
@@ -258,7 +289,7 @@ impl Workspace {
     }
 
     /// The working model, made anew.
-    fn fold_model(
+    pub(crate) fn fold_model(
         &self,
         alloc: Global,
         meta: &Metamodel,
@@ -295,7 +326,7 @@ impl Workspace {
             None => Ok(()),
             Some(composite) => {
                 let steps = composite.steps.as_slice();
-                replay(model, meta, steps)
+                take_steps(model, meta, steps)
             }
         }
     }

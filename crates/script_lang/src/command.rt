@@ -19,47 +19,90 @@ pub enum Command {
     /// `init`: the block behind the line is the metamodel.
     Init,
     /// `import WS`: the elements of the document in the block behind the line come into the workspace's model.
-    Import { ws: u32 },
+    Import {
+        ws: u32,
+    },
     /// `checkout SPEC`: a new workspace at that version.
-    Checkout { spec: Spec },
+    Checkout {
+        spec: Spec,
+    },
     /// An edit of a workspace's model: `create WS CLASS DESTINATION [ID]`, `delete WS ID`, `move WS ID DESTINATION [INDEX]`,
     /// `set WS ID FEATURE VALUE`, `unset WS ID FEATURE`, `add WS ID FEATURE AT VALUE`, `remove WS ID FEATURE INDEX`, `shift WS ID FEATURE FROM TO`,
     /// `link WS ID FEATURE TARGET [INDEX]`, `unlink WS ID FEATURE TARGET` or `reorder WS ID FEATURE TARGET INDEX`. A destination is `/`, the root, or
     /// `PARENT FEATURE`.
-    Edit { ws: u32, edit: Edit },
+    Edit {
+        ws: u32,
+        edit: Edit,
+    },
     /// `begin WS NAME`: a composite of that name is open.
-    Begin { ws: u32, name: Text },
+    Begin {
+        ws: u32,
+        name: Text,
+    },
     /// `end WS`: the open composite is closed.
-    End { ws: u32 },
+    End {
+        ws: u32,
+    },
     /// `undo WS`: the last local operation goes.
-    Undo { ws: u32 },
+    Undo {
+        ws: u32,
+    },
     /// `discard WS`: all that is local goes.
-    Discard { ws: u32 },
+    Discard {
+        ws: u32,
+    },
     /// `tidy WS`: the local operations are tidied.
-    Tidy { ws: u32 },
+    Tidy {
+        ws: u32,
+    },
     /// `apply WS HEX`: the operations of the package with those bytes are recorded. HEX is two hexadecimal digits a byte, of either case.
-    Apply { ws: u32, bytes: Bytes },
+    Apply {
+        ws: u32,
+        bytes: Bytes,
+    },
     /// `changes WS`: what is local is shown.
-    Changes { ws: u32 },
+    Changes {
+        ws: u32,
+    },
     /// `show WS`: the text of the workspace's model.
-    Show { ws: u32 },
+    Show {
+        ws: u32,
+    },
     /// `cat SPEC`: the text of that version.
-    Cat { spec: Spec },
+    Cat {
+        spec: Spec,
+    },
     /// `validate WS`: the features of the workspace's model that are below their lower bounds.
-    Validate { ws: u32 },
+    Validate {
+        ws: u32,
+    },
     /// `commit WS [MESSAGE]`: what is local is a new version.
-    Commit { ws: u32, message: Option<Text> },
+    Commit {
+        ws: u32,
+        message: Option<Text>,
+    },
     /// `branch WS NAME`: a branch that starts at the workspace's base.
-    Branch { ws: u32, name: Text },
+    Branch {
+        ws: u32,
+        name: Text,
+    },
     /// `tag NAME SPEC`: a tag of that version.
-    Tag { name: Text, spec: Spec },
+    Tag {
+        name: Text,
+        spec: Spec,
+    },
     /// `log`: the versions.
     Log,
     /// `package SPEC`: the operations of that version.
-    Package { spec: Spec },
+    Package {
+        spec: Spec,
+    },
     /// `update WS [CHOICES]`: the versions up to the head of the workspace's branch are taken up. CHOICES is a letter for each bucket of
     /// operations in conflict: `m` keeps the workspace's own, `t` those of the versions.
-    Update { ws: u32, choices: Option<Text> },
+    Update {
+        ws: u32,
+        choices: Option<Text>,
+    },
     /// `merge WS BRANCH [CHOICES]`: the versions of that branch are taken up.
     Merge {
         ws: u32,
@@ -67,7 +110,12 @@ pub enum Command {
         choices: Option<Text>,
     },
     /// `revert WS VERSION`: what that version did is undone by operations of the workspace.
-    Revert { ws: u32, version: u32 },
+    Revert {
+        ws: u32,
+        version: u32,
+    },
     /// `drop WS`: the workspace goes.
-    Drop { ws: u32 },
+    Drop {
+        ws: u32,
+    },
 }

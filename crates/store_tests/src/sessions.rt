@@ -5,7 +5,9 @@ mod crowds;
 mod imports;
 mod library;
 mod links;
+mod merging;
 mod stores;
+mod tidying;
 mod trees;
 mod values;
 mod versions;
@@ -225,6 +227,8 @@ fn sessions_are_answered_line_by_line(rt: HostRuntime) -> Result<(), Fail> {
         (LIBRARY, library::SESSIONS),
         (LIBRARY, crowds::SESSIONS),
         (LIBRARY, versions::SESSIONS),
+        (LIBRARY, merging::SESSIONS),
+        (LIBRARY, tidying::SESSIONS),
         (TITLED, library::OF_TITLES),
         (values::NOTES, values::SESSIONS),
         (composites::LACKING, composites::SESSIONS),

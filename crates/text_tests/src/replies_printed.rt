@@ -4,7 +4,7 @@ use script_lang::{Last, Refusal, Reply, print_reply};
 use std::alloc::Global;
 use std::test::Fail;
 
-const REFUSALS: [Refusal; 30] = [
+const REFUSALS: [Refusal; 38] = [
     Refusal::BadLine { column: 10 },
     Refusal::NotInit,
     Refusal::AlreadyInit,
@@ -29,12 +29,22 @@ const REFUSALS: [Refusal; 30] = [
     Refusal::WouldCycle,
     Refusal::NothingLocal,
     Refusal::Stale { base: 1, head: 12 },
+    Refusal::Conflicts { buckets: 2 },
+    Refusal::BadChoice { want: 2, got: 1 },
     Refusal::CompositeOpen,
     Refusal::NoComposite,
     Refusal::BadModel { n: 10 },
+    Refusal::Interferes { version: Some(3) },
+    Refusal::Interferes { version: None },
+    Refusal::SameBranch,
+    Refusal::NotOnPath,
     Refusal::HistoryFull,
     Refusal::TooLarge,
     Refusal::JournalFull,
+    Refusal::NotApplicable { step: 0 },
+    Refusal::NotForm {
+        at: 18446744073709551615,
+    },
 ];
 
 // Their replies, in that order, and those of two commands that are accepted.
@@ -62,12 +72,20 @@ no 21 NoEntry
 no 22 WouldCycle
 no 23 NothingLocal
 no 24 Stale 1 12
+no 25 Conflicts 2
+no 26 BadChoice 2 1
 no 27 CompositeOpen
 no 28 NoComposite
 no 29 BadModel 10
+no 30 Interferes 3
+no 30 Interferes local
+no 31 SameBranch
+no 32 NotOnPath
 no 33 HistoryFull
 no 34 TooLarge
 no 35 JournalFull
+no 36 NotApplicable 0
+no 37 NotForm 18446744073709551615
 []
 ok 1 0 trunk
 ok

@@ -274,6 +274,47 @@ Drop { ws: 1 } |drop 1|
 6 |drop 0|
 8 |drop 1 1|"#;
 
+const MERGING_LINES: &str = r#"Tidy { ws: 1 } |tidy 1|
+5 |tidy|
+6 |tidy 0|
+8 |tidy 1 1|
+Apply { ws: 1, bytes: Bytes { bytes: [0, 171, 255] } } |apply 1 00abff|
+Apply { ws: 1, bytes: Bytes { bytes: [0, 171, 255] } } |apply 1 00ABfF|
+6 |apply|
+7 |apply 0 00|
+8 |apply 1|
+9 |apply 1 |
+9 |apply 1 0|
+9 |apply 1 0g|
+9 |apply 1 000|
+12 |apply 1 00 |
+12 |apply 1 00 00|
+Update { ws: 1, choices: None } |update 1|
+Update { ws: 1, choices: Some("mt") } |update 1 mt|
+Update { ws: 1, choices: Some("any/word") } |update 1 any/word|
+7 |update|
+8 |update x|
+10 |update 1 |
+12 |update 1 m |
+12 |update 1 m t|
+Merge { ws: 1, branch: "dev", choices: None } |merge 1 dev|
+Merge { ws: 2, branch: "dev", choices: Some("m") } |merge 2 dev m|
+6 |merge|
+7 |merge dev|
+8 |merge 1|
+9 |merge 1 0|
+9 |merge 1 @v1|
+13 |merge 1 dev |
+15 |merge 1 dev m t|
+Revert { ws: 1, version: 0 } |revert 1 0|
+Revert { ws: 1, version: 4294967295 } |revert 1 4294967295|
+7 |revert|
+8 |revert 0 1|
+9 |revert 1|
+10 |revert 1 01|
+10 |revert 1 trunk|
+12 |revert 1 1 1|"#;
+
 // What reading a line gives: the command, or the column alone.
 fn read_of(alloc: Global, line: &str) -> Result<String, Fail> {
     if line.len() > 100 {
@@ -311,6 +352,7 @@ fn lines_are_read(rt: HostRuntime) -> Result<(), Fail> {
         REFERENCE_LINES,
         WORKSPACE_LINES,
         VERSION_LINES,
+        MERGING_LINES,
     ] {
         are_read(&rt, alloc, rows)?;
     }

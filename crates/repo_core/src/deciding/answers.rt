@@ -2,7 +2,7 @@
 ghost use Rattle.std.specs.Prelude.{◌≡◌, IfOk, true};
 ghost use Rattle.std.specs.Fmt.{decimal};
 ghost use Rattle.plain_repository.specs.State.{State};
-ghost use Rattle.plain_repository.specs.Answers.{refused, told, with_room};
+ghost use Rattle.plain_repository.specs.Answers.{refused, refused_with, told, with_room};
 ghost use Rattle.plain_repository.specs.Events.{playable_with};
 ghost use Rattle.repo_core.specs.Decisions.{seen, CanMakeIt};
 
@@ -28,18 +28,26 @@ pub struct Decision {
     pub made: Option<Made>,
 }
 
-/// A refusal, which makes no event.
-pub(crate) fn refuse(alloc: Global, refusal: Refusal) -> Decision
-    ensures decision { seen result ≡ refused refusal }
+/// A refusal with data lines, which makes no event.
+pub(crate) fn refuse_with(lines: List<Text>, refusal: Refusal) -> Decision
+    ensures decision { seen result ≡ refused_with lines refusal }
     ensures made { (s : State) → CanMakeIt s result.made }
 {
     Decision {
         reply: Reply {
-            lines: List::new(alloc),
+            lines,
             last: Last::No(refusal),
         },
         made: None,
     }
+}
+
+/// A refusal without any.
+pub(crate) fn refuse(alloc: Global, refusal: Refusal) -> Decision
+    ensures decision { seen result ≡ refused refusal }
+    ensures made { (s : State) → CanMakeIt s result.made }
+{
+    refuse_with(List::new(alloc), refusal)
 }
 
 /// An answer that changes nothing.

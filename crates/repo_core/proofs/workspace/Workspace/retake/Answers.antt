@@ -21,11 +21,11 @@ returns-in-Some-clause-done c =
     let w = plain_of c.args.self.now in
     let same : open_steps w.composite ≡ c.as_slice-steps.result.now = ap (λ (o : Option Composite). open_steps (option_map plain_composite o)) c.in-Some.is ∙ sym c.as_slice-steps.ensures.value in
     let first = subst (λ (os : List Operation). fold_package c.args.meta.now (plain_state c.args.model.now) os ≡ Some (plain_state c.follow.new.model)) c.as_slice-operations.ensures.value c.in_ok-follow.ensures.done in
-    both_done c.args.meta.now (plain_state c.args.model.now) (plain_state c.follow.new.model) (plain_state c.replay.new.model) w.operations (open_steps w.composite) c.as_slice-steps.result.now c.replay.result same first c.replay.ensures.done
+    both_done c.args.meta.now (plain_state c.args.model.now) (plain_state c.follow.new.model) (plain_state c.take_steps.new.model) w.operations (open_steps w.composite) c.as_slice-steps.result.now c.take_steps.result same first c.take_steps.ensures.done
 
 pub returns-in-Some-clause-cannot : goal.returns-in-Some-clause-cannot
 returns-in-Some-clause-cannot c =
     let w = plain_of c.args.self.now in
     let same : open_steps w.composite ≡ c.as_slice-steps.result.now = ap (λ (o : Option Composite). open_steps (option_map plain_composite o)) c.in-Some.is ∙ sym c.as_slice-steps.ensures.value in
     let first = subst (λ (os : List Operation). fold_package c.args.meta.now (plain_state c.args.model.now) os ≡ Some (plain_state c.follow.new.model)) c.as_slice-operations.ensures.value c.in_ok-follow.ensures.done in
-    second_none c.args.meta.now (plain_state c.args.model.now) (plain_state c.follow.new.model) w.operations (open_steps w.composite) c.as_slice-steps.result.now c.replay.result same first c.replay.ensures.cannot
+    second_none c.args.meta.now (plain_state c.args.model.now) (plain_state c.follow.new.model) w.operations (open_steps w.composite) c.as_slice-steps.result.now c.take_steps.result same first c.take_steps.ensures.cannot

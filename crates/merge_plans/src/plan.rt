@@ -1,0 +1,175 @@
+//! The plan of an update and of a merge: two packages that begin at one model, and their buckets.
+ghost use Rattle.std.specs.Prelude.{◌≡◌, ◌<◌, ◌^◌, ◌-◌, All, IfOk, length, map, true};
+ghost use Rattle.footprint.specs.Buckets.{buckets as buckets_of};
+ghost use Rattle.tidy_laws.specs.Tidy.{tidy as tidy_of};
+ghost use Rattle.merge_laws.specs.Merge.{merge_list, update_list};
+ghost use Rattle.merge_plans.specs.Choices.{are_choices, side_of};
+ghost use Rattle.merge_plans.specs.Plans.{incoming, mine_of, theirs_of};
+
+use crate::gathering::{copy_operations, operations_after, push_copies};
+use crate::letters::sides_of;
+use canoniser::tidy;
+use conflict_buckets::buckets;
+use ecore_meta::{List, Metamodel};
+use footprint::Buckets;
+use history_tree::History;
+use merge_choices::{ChoiceFault, merge_package, update_package};
+use model_state::{Operation, Package};
+use op_form::reverse;
+use std::alloc::{AllocError, Global};
+
+/// Two packages that begin at one model, and their buckets.
+#[derive(Drop)]
+pub struct Plan {
+    pub theirs: Package,
+    pub mine: Package,
+    pub buckets: Buckets,
+}
+
+/// The places in the buckets of two packages have numbers of 64 bits, counted from 1 too. It does nothing.
+fn numbered(_meta: &Metamodel, theirs: &Package, mine: &Package, _buckets: &Buckets)
+    requires same { _buckets.now.rows ≡ buckets_of _meta.now theirs.now mine.now }
+    ensures places { All (λ b. All (λ i. i < 2 ^ 64 - 1) b.theirs × All (λ i. i < 2 ^ 64 - 1) b.mine) _buckets.now.rows }
+{
+    // For the bounds of the lengths.
+    let _theirs = theirs.len();
+    let _mine = mine.len();
+}
+
+/// The plan of an update: theirs are the operations of the branch's versions after the base, mine the local ones.
+pub fn plan_update(
+    alloc: Global,
+    meta: &Metamodel,
+    history: &History,
+    branch: u32,
+    base: u32,
+    local: &[Operation],
+) -> Result<Plan, AllocError>
+    requires branch { branch < length history.now.history.branches }
+    ensures theirs { IfOk result (λ p. p.theirs ≡ incoming history.now.history branch base) }
+    ensures mine { IfOk result (λ p. p.mine ≡ local.now) }
+    ensures buckets { IfOk result (λ p. p.buckets.rows ≡ buckets_of meta.now (incoming history.now.history branch base) local.now) }
+    ensures places { IfOk result (λ p. All (λ b. All (λ i. i < 2 ^ 64 - 1) b.theirs × All (λ i. i < 2 ^ 64 - 1) b.mine) p.buckets.rows) }
+{
+    let theirs = operations_after(alloc, history, base, history.head(branch))?;
+    let mine = copy_operations(alloc, local)?;
+    let buckets = buckets(alloc, &theirs, &mine, meta)?;
+    numbered(meta, &theirs, &mine, &buckets);
+    Ok(Plan {
+        theirs,
+        mine,
+        buckets,
+    })
+}
+
+/// The operations that lead from where a merge begins to the working model.
+fn mine_from(
+    alloc: Global,
+    history: &History,
+    base: u32,
+    pending: &List<u32>,
+    local: &[Operation],
+    other: u32,
+) -> Result<Package, AllocError>
+    requires base { base < length history.now.history.versions }
+    requires other { other < length history.now.history.versions }
+    requires pending { All (λ v. v < length history.now.history.versions) pending.now }
+    ensures { IfOk result (λ p. p ≡ mine_of history.now.history base pending.now local.now other) }
+{
+    let start = history.merge_base(alloc, base, pending, other)?;
+    let common = history.last_common(base, other);
+    let taken = operations_after(alloc, history, common, start)?;
+    let mut mine = reverse(alloc, &taken)?;
+    let since = operations_after(alloc, history, common, base)?;
+    push_copies(alloc, &mut mine, since.as_slice())?;
+    push_copies(alloc, &mut mine, local)?;
+    Ok(mine)
+}
+
+/// The plan of a merge of a version: theirs are the operations on its path after the one where the merge begins, mine those that lead from there
+/// to the working model, tidied.
+pub fn plan_merge(
+    alloc: Global,
+    meta: &Metamodel,
+    history: &History,
+    base: u32,
+    pending: &List<u32>,
+    local: &[Operation],
+    other: u32,
+) -> Result<Plan, AllocError>
+    requires base { base < length history.now.history.versions }
+    requires other { other < length history.now.history.versions }
+    requires pending { All (λ v. v < length history.now.history.versions) pending.now }
+    ensures theirs { IfOk result (λ p. p.theirs ≡ theirs_of history.now.history base pending.now other) }
+    ensures mine { IfOk result (λ p. p.mine ≡ tidy_of meta.now (mine_of history.now.history base pending.now local.now other)) }
+    ensures buckets { IfOk result (λ p. p.buckets.rows ≡ buckets_of meta.now (theirs_of history.now.history base pending.now other) (tidy_of meta.now (mine_of history.now.history base pending.now local.now other))) }
+    ensures places { IfOk result (λ p. All (λ b. All (λ i. i < 2 ^ 64 - 1) b.theirs × All (λ i. i < 2 ^ 64 - 1) b.mine) p.buckets.rows) }
+{
+    let start = history.merge_base(alloc, base, pending, other)?;
+    let theirs = operations_after(alloc, history, start, other)?;
+    let mine = mine_from(alloc, history, base, pending, local, other)?;
+    let mine = tidy(alloc, &mine, meta)?;
+    let buckets = buckets(alloc, &theirs, &mine, meta)?;
+    numbered(meta, &theirs, &mine, &buckets);
+    Ok(Plan {
+        theirs,
+        mine,
+        buckets,
+    })
+}
+
+/// The list of choices that fit.
+fn fitting(made: Result<Package, ChoiceFault>) -> Result<Package, AllocError>
+    ensures { IfOk result (λ p. made ≡ Rattle.std.specs.Prelude.Ok p) }
+{
+    match made {
+        Ok(list) => Ok(list),
+        Err(_) => Err(AllocError),
+    }
+}
+
+impl Plan {
+    /// What an update leaves as local operations, by choices that fit.
+    pub fn update_list(
+        &self,
+        alloc: Global,
+        meta: &Metamodel,
+        letters: &str,
+    ) -> Result<Package, AllocError>
+        requires buckets { self.now.buckets.rows ≡ buckets_of meta.now self.now.theirs self.now.mine }
+        requires fit { are_choices letters.now self.now.buckets.rows ≡ true }
+        ensures list { IfOk result (λ p. p ≡ update_list self.now.theirs self.now.mine self.now.buckets.rows (map side_of letters.now)) }
+    {
+        let sides = sides_of(alloc, letters)?;
+        fitting(update_package(
+            alloc,
+            &self.theirs,
+            &self.mine,
+            &self.buckets,
+            sides.as_slice(),
+            meta,
+        ))
+    }
+
+    /// What a merge appends to the local operations, by choices that fit.
+    pub fn merge_list(
+        &self,
+        alloc: Global,
+        meta: &Metamodel,
+        letters: &str,
+    ) -> Result<Package, AllocError>
+        requires buckets { self.now.buckets.rows ≡ buckets_of meta.now self.now.theirs self.now.mine }
+        requires fit { are_choices letters.now self.now.buckets.rows ≡ true }
+        ensures list { IfOk result (λ p. p ≡ merge_list self.now.theirs self.now.mine self.now.buckets.rows (map side_of letters.now)) }
+    {
+        let sides = sides_of(alloc, letters)?;
+        fitting(merge_package(
+            alloc,
+            &self.theirs,
+            &self.mine,
+            &self.buckets,
+            sides.as_slice(),
+            meta,
+        ))
+    }
+}

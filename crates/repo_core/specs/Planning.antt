@@ -1,0 +1,36 @@
+-- The plans of an update and of a merge, and what they make of what is local.
+use Rattle.std.specs.Prelude.{◌≡◌, ℕ, ◌<◌, ◌-◌, ◌^◌, List, [], ◌∷◌, ◌++◌, All}
+use Rattle.ecore_meta.specs.Meta.{Meta}
+use Rattle.model_state.specs.declared.operation.Operation.{Operation}
+use Rattle.footprint.specs.declared.bucket.Bucket.{Bucket}
+use Rattle.history_tree.specs.History.{History}
+use Rattle.merge_plans.specs.declared.plan.Plan.{Plan}
+use Rattle.merge_plans.specs.Plans.{incoming}
+use Rattle.plain_repository.specs.State.{Workspace}
+use Rattle.plain_repository.specs.Merging.{update_buckets, merge_buckets, merge_theirs, merge_mine}
+
+-- the places of operations have numbers of 64 bits, counted from 1 too
+abbrev pub HaveNumbers : List Bucket → Type 0
+HaveNumbers rows = All (λ b. All (λ i. i < 2 ^ 64 - 1) b.theirs × All (λ i. i < 2 ^ 64 - 1) b.mine) rows
+
+-- the plan is that of an update of the workspace
+pub record IsUpdatePlan (meta : Meta) (h : History) (w : Workspace) (p : Plan) : Type 0 where
+  pub theirs : p.theirs ≡ incoming h w.branch w.base
+  pub mine : p.mine ≡ w.operations
+  pub buckets : p.buckets.rows ≡ update_buckets meta h w
+  pub places : HaveNumbers p.buckets.rows
+
+-- the plan is that of a merge of the version into the workspace
+pub record IsMergePlan (meta : Meta) (h : History) (w : Workspace) (other : ℕ) (p : Plan) : Type 0 where
+  pub theirs : p.theirs ≡ merge_theirs h w other
+  pub mine : p.mine ≡ merge_mine meta h w other
+  pub buckets : p.buckets.rows ≡ merge_buckets meta h w other
+  pub places : HaveNumbers p.buckets.rows
+
+-- the workspace stands at the version, with those operations
+abbrev pub restarted : ℕ → List Operation → Workspace → Workspace
+restarted base operations w = record w { base = base; operations = operations }
+
+-- further operations come last, and the version is pending
+abbrev pub taken_up : List Operation → ℕ → Workspace → Workspace
+taken_up more version w = record w { operations = w.operations ++ more; pending = w.pending ++ version ∷ [] }
