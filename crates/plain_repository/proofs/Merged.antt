@@ -1,5 +1,5 @@
 -- What is recorded after a tidying, an update and a merge: a run, which leads to the merged model.
-use Rattle.std.proofs.Common.{◌≡◌, ℕ, ◌<◌, ◌≤◌, nat_eq, ◌&&◌, List, [], ◌∷◌, ◌++◌, Bool, true, length, map, Option, None, Some, refl, sym, ◌∙◌, ap, subst}
+use Rattle.std.proofs.Common.{◌≡◌, ℕ, ◌<◌, nat_eq, List, ◌++◌, true, length, map, Option, Some, refl, sym, ◌∙◌, ap, subst}
 use Rattle.std.specs.Prelude.{Contains, unwrap_or}
 use Rattle.std.specs.List.{AllByRecursion, list_all}
 use Rattle.std.proofs.lemmas.Bool.{eqb-true}
@@ -10,7 +10,7 @@ use Rattle.model_state.specs.State as models
 use Rattle.model_state.specs.State.{nothing}
 use Rattle.model_state.specs.Good.{Good}
 use Rattle.model_state.specs.Steps.{fold}
-use Rattle.model_state.specs.Packages.{fold_package, steps_all, rev_package}
+use Rattle.model_state.specs.Packages.{steps_all, rev_package}
 use Rattle.model_state.specs.declared.step.Step.{Step}
 use Rattle.model_state.specs.declared.operation.Operation.{Operation}
 use Rattle.model_laws.proofs.Start.{starts_good}
@@ -23,24 +23,20 @@ use Rattle.history_tree.specs.Whole.{IsWhole}
 use Rattle.history_tree.proofs.Bases.{common_last, base_last, base_after}
 use Rattle.history_tree.proofs.Heads.{head_within}
 use Rattle.history_tree.proofs.Since.{operations_split, on_path_there, earlier_on_path}
-use Rattle.footprint.specs.Buckets.{buckets}
 use Rattle.footprint.specs.declared.bucket.Bucket.{Bucket}
 use Rattle.footprint.proofs.Runs.{Leads, one_end, cut, join, packages_keep}
-use Rattle.tidy_laws.specs.Tidy.{tidy}
 use Rattle.tidy_laws.proofs.Whole.{tidy_keeps_effect}
-use Rattle.merge_laws.specs.declared.side.Side.{Side}
-use Rattle.merge_laws.specs.Merge.{merged, update_list, merge_list}
+use Rattle.merge_laws.specs.Merge.{merged}
 use Rattle.merge_laws.proofs.Merges.{update_gives_merged, merge_leads_to_merged}
 use Rattle.merge_plans.specs.Choices.{is_choice, are_choices, side_of}
 use Rattle.merge_plans.specs.Plans.{incoming}
 use Rattle.op_form.specs.Laws.{IsStep}
-use Rattle.plain_repository.specs.State.{Workspace, Composite as Open, recorded_steps, open_steps, model_of, is_closed}
+use Rattle.plain_repository.specs.State.{Workspace, recorded_steps, model_of, is_closed}
 use Rattle.plain_repository.specs.Tidying.{tidied}
 use Rattle.plain_repository.specs.Merging.{update_buckets, updated, merge_theirs, merge_mine, merge_buckets, merge_tail, merged_with}
-use Rattle.plain_repository.specs.Orderly.{IsRun, RunsTo, Runs, steps_to, Stands, InOrder}
+use Rattle.plain_repository.specs.Orderly.{RunsTo, Runs, steps_to, InOrder}
 use Rattle.plain_repository.proofs.Forms.{and_right}
 use Rattle.plain_repository.proofs.Places.{both}
-use Rattle.plain_repository.proofs.Recorded.{steps_append}
 use Rattle.plain_repository.proofs.Runs.{version_folded, version_model, workspace_folded, workspace_model, closed_steps_are}
 use Rattle.plain_repository.proofs.Spelled.{AreSpelled, behind, steps_spelled, spelled_steps, package_back, update_spelled, merge_spelled, tidy_spelled}
 

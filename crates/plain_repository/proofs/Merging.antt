@@ -1,5 +1,5 @@
 -- What tidying, updates and merges make of a working model.
-use Rattle.std.proofs.Common.{◌≡◌, ℕ, suc, ◌<◌, ◌≤◌, ◌&&◌, ◌||◌, nat_eq, nat_lt, List, [], ◌∷◌, ◌++◌, Bool, true, false, length, map, Option, None, Some, refl, sym, ◌∙◌, ap, subst, arith, inr}
+use Rattle.std.proofs.Common.{◌≡◌, ℕ, ◌<◌, ◌≤◌, ◌&&◌, ◌||◌, nat_eq, List, [], ◌∷◌, ◌++◌, Bool, true, length, Option, Some, sym, ◌∙◌, ap, subst, arith, inr}
 use Rattle.std.specs.Prelude.{IsTrue, option_map, not}
 use Rattle.std.proofs.lemmas.Option.{same_Some}
 use Rattle.std.proofs.lemmas.List.Elements.{Contains-push}
@@ -21,12 +21,12 @@ use Rattle.op_form.specs.declared.event.Event.{Event}
 use Rattle.op_form.specs.declared.event.Event.TheVariants.{Tidy, Update, Merge}
 use Rattle.plain_repository.specs.State.{State, Workspace, workspace_of, model_of, changed_by_number, is_closed}
 use Rattle.plain_repository.specs.Tidying.{tidied, can_tidy}
-use Rattle.plain_repository.specs.Merging.{update_buckets, updated, can_update, merge_theirs, merge_mine, merge_buckets, merged_with, is_other_branch, has_theirs, can_merge}
+use Rattle.plain_repository.specs.Merging.{update_buckets, updated, can_update, merge_theirs, merge_buckets, merged_with, is_other_branch, has_theirs, can_merge}
 use Rattle.plain_repository.specs.Events.{by_meta, play, playable, playable_with}
 use Rattle.plain_repository.specs.Orderly.{InOrder, Orderly}
 use Rattle.plain_repository.specs.MergeLaws.{Changes, TidyingKeepsModels, UpdatesMerge, MergesMerge, MergesCount}
 use Rattle.plain_repository.proofs.Forms.{and_left, and_right}
-use Rattle.plain_repository.proofs.Merged.{Led, tidied_led, update_leads, updated_led, merge_leads, merged_led}
+use Rattle.plain_repository.proofs.Merged.{tidied_led, update_leads, updated_led, merge_leads, merged_led}
 use Rattle.plain_repository.proofs.Places.{of_number, is_of_number, same_number, at_number}
 use Rattle.plain_repository.proofs.Reached.{kept}
 

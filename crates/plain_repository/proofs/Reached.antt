@@ -1,8 +1,6 @@
 -- What holds in every state that events lead to.
-use Rattle.std.proofs.Common.{◌≡◌, ℕ, List, ◌++◌, true, Option, Some, is_some, sym, ◌∙◌, ap, subst, None, [], ◌∷◌, refl}
-use Rattle.std.specs.Prelude.{IsTrue, Result, Ok, Err}
+use Rattle.std.proofs.Common.{◌≡◌, ℕ, List, ◌++◌, true, Option, Some, is_some, sym, ◌∙◌, ap, subst}
 use Rattle.std.specs.FinMap.{get-empty}
-use Rattle.command_runs.specs.Runs.{played}
 use Rattle.ecore_meta.specs.Meta.{Meta}
 use Rattle.ecore_meta.specs.Sound.{Sound}
 use Rattle.model_state.specs.Good.{Good}
@@ -11,21 +9,13 @@ use Rattle.model_state.specs.Keys.{id_cmp}
 use Rattle.model_state.specs.State.{nothing}
 use Rattle.model_laws.proofs.Start.{starts_good}
 use Rattle.model_laws.proofs.Runs.{steps_keep_good}
-use Rattle.ecore_json.specs.Metamodel.{metamodel_of}
-use Rattle.ecore_json.proofs.ReadSound.{read_sound}
-use Rattle.ecore_json.specs.declared.fault.EcoreFault.{EcoreFault}
-use Rattle.op_form.specs.declared.event.Event.{Event}
-use Rattle.op_form.specs.declared.event.Event.TheVariants.{Init, Checkout, Edit, Begin, End, Undo, Discard, Commit, Branch, Tag, Drop}
-use Rattle.plain_repository.specs.Events.{effect, play, playable, playable_with, are_playable}
-use Rattle.plain_repository.specs.Metamodels.{meta_of_read}
 use Rattle.plain_repository.specs.State.{State, Workspace, empty, recorded_steps}
 use Rattle.plain_repository.specs.Laws.{StaysInOrder, AllIsInOrder, HasMetamodel, IsThere, OfModels, OfVersions, IsGood, HasIds as HaveIds, ModelsAreDefined, VersionsAreDefined, MetamodelsAreSound, HistoriesAreWhole, WorkspacesStand}
 use Rattle.plain_repository.specs.Orderly.{IsRun, RunsTo, Runs, steps_to, InOrder, Orderly, AllOrderly, IsOrderly}
 use Rattle.plain_repository.proofs.Named.{HasIds, steps_named}
 use Rattle.plain_repository.proofs.Places.{at_number}
 use Rattle.plain_repository.proofs.Runs.{version_folded, version_model, workspace_folded, workspace_model}
-use Rattle.plain_repository.proofs.Kept.{played_keeps, play_keeps, empty_kept, same_meta}
-use Rattle.plain_repository.proofs.Forms.{and_left, and_right}
+use Rattle.plain_repository.proofs.Kept.{played_keeps, play_keeps, empty_kept}
 
 pub all_is_in_order : AllIsInOrder
 all_is_in_order s r = subst IsOrderly r.reached (played_keeps empty r.events r.could empty_kept)

@@ -1,5 +1,5 @@
 -- What is shown of a workspace goes by the metamodel, the state of its base and what is recorded in it.
-use Rattle.std.proofs.Common.{◌≡◌, ℕ, List, [], ◌∷◌, ◌++◌, false, Option, None, Some, refl, sym, ◌∙◌, ap, subst}
+use Rattle.std.proofs.Common.{◌≡◌, ℕ, List, [], ◌∷◌, ◌++◌, Option, Some, refl, sym, ◌∙◌, ap, subst}
 use Rattle.std.specs.Prelude.{IsTrue, unwrap_or}
 use Rattle.ecore_meta.specs.Meta.{Meta}
 use Rattle.emfjson_text.specs.Tree.{text}
@@ -11,16 +11,13 @@ use Rattle.model_state.specs.Steps.{fold}
 use Rattle.model_state.specs.Packages.{fold_package, steps_all}
 use Rattle.model_state.specs.declared.operation.Operation.{Operation}
 use Rattle.history_tree.specs.History.{History}
-use Rattle.history_tree.specs.States.{state_of}
-use Rattle.op_form.specs.declared.event.Event.{Event}
-use Rattle.script_lang.specs.declared.command.Command.{Command}
 use Rattle.script_lang.specs.declared.command.Command.TheVariants as commands
 use Rattle.plain_repository.specs.State.{State, Workspace, Composite as Open, workspace_of, open_steps, model_of}
 use Rattle.plain_repository.specs.Answers.{Decision, told}
 use Rattle.plain_repository.specs.Views.{lines_of_open, changes_of, decide_changes, shown, decide_show, validated, decide_validate}
-use Rattle.plain_repository.specs.Events.{effect, play, playable, playable_with}
+use Rattle.plain_repository.specs.Events.{play, playable, playable_with}
 use Rattle.plain_repository.specs.Repository.{decide_with, decide_command}
-use Rattle.plain_repository.specs.Laws.{HasMetamodel, IsThere, is_of, shown_as, LookAlike, ShownByOwn, ShownApart}
+use Rattle.plain_repository.specs.Laws.{IsThere, shown_as, LookAlike, ShownByOwn, ShownApart}
 use Rattle.plain_repository.proofs.Apart.{workspaces_stay_apart, effect_leaves}
 use Rattle.plain_repository.proofs.Forms.{and_right}
 use Rattle.plain_repository.proofs.Kept.{same_meta}
