@@ -17,16 +17,16 @@ use Rattle.history_tree.proofs.Steady.{path_ends}
 
 -- ---- a path and its last version
 -- a path is what comes before its version, and the version
-record Ends (h : History) (v : ℕ) : Type 0 where
-  before : List ℕ
-  is : path h v ≡ before ++ v ∷ []
-  below : All (λ u. u < v) before
+pub record Ends (h : History) (v : ℕ) : Type 0 where
+  pub before : List ℕ
+  pub is : path h v ≡ before ++ v ∷ []
+  pub below : All (λ u. u < v) before
 
 below_parent : (h : History) → IsWhole h → (v : ℕ) → v < length h.versions → (parent : Option ℕ) → ComesBefore parent v → All (λ u. u < v) (path_of_parent h parent)
 below_parent h whole v there None low = All-nil (λ u. u < v)
 below_parent h whole v there (Some p) low = All-weaker (λ u. u < suc p) (λ u. u < v) (λ u within. omega (arith, within, low)) (path h p) (path_upto h whole p (omega (arith, low, there)))
 
-ends : (h : History) → IsWhole h → (v : ℕ) → v < length h.versions → Ends h v
+pub ends : (h : History) → IsWhole h → (v : ℕ) → v < length h.versions → Ends h v
 ends h whole v there =
     let version : Version = slice_index_or h.versions v first_version in
     let at : slice_get h.versions v ≡ Some version = slice_get-get_or h.versions v first_version there in

@@ -2,8 +2,9 @@ pub mod Growing
 pub mod Heads
 pub mod HeadsBeside
 pub mod Paths
+pub mod Since
 pub mod Steady
-mod Bases
+pub mod Bases
 mod Flags
-mod Greatest
+pub mod Greatest
 mod Leading

@@ -6,18 +6,20 @@ use Rattle.model_state.specs.State.{nothing}
 use Rattle.model_state.specs.Steps.{fold}
 use Rattle.model_state.specs.Packages.{fold_package}
 use Rattle.model_state.specs.declared.operation.Operation.{Operation}
-use Rattle.history_tree.specs.History.{History}
+use Rattle.history_tree.specs.History.{History, head}
 use Rattle.history_tree.specs.States.{operations_to}
 use Rattle.history_tree.proofs.Heads as heads
 use Rattle.history_tree.proofs.Steady.{operations_kept}
 use Rattle.op_form.specs.declared.event.Event.{Event}
-use Rattle.op_form.specs.declared.event.Event.TheVariants.{Init, Checkout, Edit, Begin, End, Undo, Discard, Commit, Branch, Tag, Drop}
+use Rattle.op_form.specs.declared.event.Event.TheVariants.{Init, Checkout, Edit, Begin, End, Undo, Discard, Tidy, Commit, Branch, Tag, Update, Merge, Drop}
 use Rattle.plain_repository.specs.State.{State, Workspace, untouched, workspace_of, recorded_steps, model_of, changed_by_number}
 use Rattle.plain_repository.specs.Commits.{version_of, committed, with_commit, moved_onto, with_new_branch}
 use Rattle.plain_repository.specs.Edits.{with_more}
 use Rattle.plain_repository.specs.Composites.{with_open, with_closed}
 use Rattle.plain_repository.specs.Local.{without_last, without_any}
-use Rattle.plain_repository.specs.Events.{effect, play, playable, playable_with}
+use Rattle.plain_repository.specs.Tidying.{tidied}
+use Rattle.plain_repository.specs.Merging.{updated, merged_with}
+use Rattle.plain_repository.specs.Events.{by_meta, effect, play, playable, playable_with}
 use Rattle.plain_repository.specs.Laws.{is_of, WorkspacesStayApart, ModelsStayApart}
 use Rattle.plain_repository.proofs.Forms.{and_right}
 use Rattle.plain_repository.proofs.Places.{of_number, is_of_number, other_number, more_number}
@@ -39,6 +41,7 @@ module _ (s : State) (ws : ℕ) (w : Workspace) (there : of_number s.workspaces 
   effect_apart (End k) apart = left (option_map with_closed) k apart
   effect_apart (Undo k) apart = left (option_map without_last) k apart
   effect_apart (Discard k) apart = left (option_map without_any) k apart
+  effect_apart (Tidy k) apart = left (option_map (by_meta s.meta tidied)) k apart
   effect_apart (Commit k message) apart = by (workspace_of s k)
     where
       by : (o : Option Workspace) → of_number (with_commit k message o s).workspaces ws ≡ Some w
@@ -50,6 +53,8 @@ module _ (s : State) (ws : ℕ) (w : Workspace) (there : of_number s.workspaces 
       by None = there
       by (Some v) = left (option_map (moved_onto (length s.history.branches))) k apart
   effect_apart (Tag name version) apart = there
+  effect_apart (Update k letters) apart = left (option_map (by_meta s.meta (λ meta. updated meta s.history letters))) k apart
+  effect_apart (Merge k branch letters) apart = left (option_map (by_meta s.meta (λ meta. merged_with meta s.history (head s.history branch) letters))) k apart
   effect_apart (Drop k) apart = left (λ o. None) k apart
 
 pub workspaces_stay_apart : WorkspacesStayApart
@@ -62,7 +67,7 @@ workspaces_stay_apart s ws w there e apart =
 pub same_model : (meta : Meta) (g h : History) (w : Workspace) → operations_to g w.base ≡ operations_to h w.base → model_of meta g w ≡ model_of meta h w
 same_model meta g h w same = ap (λ (os : List Operation). unwrap_or (fold meta (unwrap_or (fold_package meta nothing os) nothing) (recorded_steps w)) nothing) same
 
-effect_leaves : (meta : Meta) (s : State) (w : Workspace) → w.base < length s.history.versions → (e : Event) → IsTrue (playable_with s (Some meta) e) → operations_to (effect s e).history w.base ≡ operations_to s.history w.base
+pub effect_leaves : (meta : Meta) (s : State) (w : Workspace) → w.base < length s.history.versions → (e : Event) → IsTrue (playable_with s (Some meta) e) → operations_to (effect s e).history w.base ≡ operations_to s.history w.base
 effect_leaves meta s w within (Init text) could = absurd cc
 effect_leaves meta s w within (Checkout version branch) could = refl
 effect_leaves meta s w within (Edit k operations) could = refl
@@ -70,6 +75,7 @@ effect_leaves meta s w within (Begin k name) could = refl
 effect_leaves meta s w within (End k) could = refl
 effect_leaves meta s w within (Undo k) could = refl
 effect_leaves meta s w within (Discard k) could = refl
+effect_leaves meta s w within (Tidy k) could = refl
 effect_leaves meta s w within (Commit k message) could = by (workspace_of s k)
   where
     by : (o : Option Workspace) → operations_to (with_commit k message o s).history w.base ≡ operations_to s.history w.base
@@ -81,6 +87,8 @@ effect_leaves meta s w within (Branch k name) could = by (workspace_of s k)
     by None = refl
     by (Some v) = refl
 effect_leaves meta s w within (Tag name version) could = refl
+effect_leaves meta s w within (Update k letters) could = refl
+effect_leaves meta s w within (Merge k branch letters) could = refl
 effect_leaves meta s w within (Drop k) could = refl
 
 pub models_stay_apart : ModelsStayApart

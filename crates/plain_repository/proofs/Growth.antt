@@ -4,7 +4,7 @@ use Rattle.std.specs.Prelude.{IsTrue}
 use Rattle.ecore_meta.specs.Meta.{Meta}
 use Rattle.history_tree.specs.History.{History, first_history}
 use Rattle.op_form.specs.declared.event.Event.{Event}
-use Rattle.op_form.specs.declared.event.Event.TheVariants.{Init, Checkout, Edit, Begin, End, Undo, Discard, Commit, Branch, Tag, Drop}
+use Rattle.op_form.specs.declared.event.Event.TheVariants.{Init, Checkout, Edit, Begin, End, Undo, Discard, Tidy, Commit, Branch, Tag, Update, Merge, Drop}
 use Rattle.plain_repository.specs.State.{State, Workspace, workspace_of}
 use Rattle.plain_repository.specs.Commits.{version_of, with_commit, with_new_branch}
 use Rattle.plain_repository.specs.Events.{effect, play, playable, playable_with}
@@ -29,9 +29,12 @@ effect_grows s None (Begin k name) is kept could = absurd cc
 effect_grows s None (End k) is kept could = absurd cc
 effect_grows s None (Undo k) is kept could = absurd cc
 effect_grows s None (Discard k) is kept could = absurd cc
+effect_grows s None (Tidy k) is kept could = absurd cc
 effect_grows s None (Commit k message) is kept could = absurd cc
 effect_grows s None (Branch k name) is kept could = absurd cc
 effect_grows s None (Tag name version) is kept could = absurd cc
+effect_grows s None (Update k letters) is kept could = absurd cc
+effect_grows s None (Merge k branch letters) is kept could = absurd cc
 effect_grows s None (Drop k) is kept could = absurd cc
 effect_grows s (Some meta) (Init text) is kept could = absurd cc
 effect_grows s (Some meta) (Checkout version branch) is kept could = same_history s.history
@@ -40,6 +43,7 @@ effect_grows s (Some meta) (Begin k name) is kept could = same_history s.history
 effect_grows s (Some meta) (End k) is kept could = same_history s.history
 effect_grows s (Some meta) (Undo k) is kept could = same_history s.history
 effect_grows s (Some meta) (Discard k) is kept could = same_history s.history
+effect_grows s (Some meta) (Tidy k) is kept could = same_history s.history
 effect_grows s (Some meta) (Commit k message) is kept could = by (workspace_of s k)
   where
     by : (o : Option Workspace) → Grows s.history (with_commit k message o s).history
@@ -51,6 +55,8 @@ effect_grows s (Some meta) (Branch k name) is kept could = by (workspace_of s k)
     by None = same_history s.history
     by (Some w) = record { versions = same_list s.history.versions; branches = one_more s.history.branches (record { name = name; start = w.base }); tags = same_list s.history.tags }
 effect_grows s (Some meta) (Tag name version) is kept could = record { versions = same_list s.history.versions; branches = same_list s.history.branches; tags = one_more s.history.tags (record { name = name; version = version }) }
+effect_grows s (Some meta) (Update k letters) is kept could = same_history s.history
+effect_grows s (Some meta) (Merge k branch letters) is kept could = same_history s.history
 effect_grows s (Some meta) (Drop k) is kept could = same_history s.history
 
 pub history_only_grows : HistoryOnlyGrows

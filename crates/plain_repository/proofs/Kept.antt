@@ -4,11 +4,12 @@ use Rattle.std.specs.Prelude.{All, Contains, IsTrue, slice_get, option_map, not}
 use Rattle.std.specs.List.{AllByRecursion}
 use Rattle.std.specs.Option.{option_map_or}
 use Rattle.std.proofs.lemmas.Bool.{eqb-true, ltb-true, ltb-false}
-use Rattle.std.proofs.lemmas.List.Elements.{All-weaker, recursion_from_All}
+use Rattle.std.proofs.lemmas.List.Elements.{All-push, All-weaker, recursion_from_All}
 use Rattle.std.proofs.lemmas.Option.{slice_get_within, get_or_from_slice_get, same_Some}
 use Rattle.command_runs.specs.Runs.{played}
 use Rattle.ecore_meta.specs.Meta.{Meta}
 use Rattle.ecore_json.specs.Metamodel.{metamodel_of}
+use Rattle.ecore_json.proofs.ReadSound.{read_sound}
 use Rattle.ecore_json.specs.declared.fault.EcoreFault.{EcoreFault}
 use Rattle.model_state.specs.Names.{is_name}
 use Rattle.model_state.specs.State.{nothing}
@@ -21,11 +22,11 @@ use Rattle.history_tree.specs.Found.{has_tag}
 use Rattle.history_tree.specs.States.{operations_to}
 use Rattle.history_tree.specs.Whole.{IsWhole}
 use Rattle.history_tree.proofs.Growing.{whole_more}
-use Rattle.history_tree.proofs.Heads.{head_more}
+use Rattle.history_tree.proofs.Heads.{head_more, head_within}
 use Rattle.history_tree.proofs.Steady.{operations_kept, operations_more, path_ends, on_path_more, head_kept, head_new, whole_branch, whole_tag, whole_first}
 use Rattle.op_form.specs.Laws.{IsOperation, IsEvent}
 use Rattle.op_form.specs.declared.event.Event.{Event}
-use Rattle.op_form.specs.declared.event.Event.TheVariants.{Init, Checkout, Edit, Begin, End, Undo, Discard, Commit, Branch, Tag, Drop}
+use Rattle.op_form.specs.declared.event.Event.TheVariants.{Init, Checkout, Edit, Begin, End, Undo, Discard, Tidy, Commit, Branch, Tag, Update, Merge, Drop}
 use Rattle.plain_repository.specs.State.{State, Workspace, Composite as Open, empty, untouched, workspace_of, recorded_steps, open_steps, with_changed, changed_by_number, is_closed, has_operations, has_local}
 use Rattle.plain_repository.specs.Metamodels.{meta_of_read}
 use Rattle.plain_repository.specs.Checkouts.{checked_out, can_check_out}
@@ -33,9 +34,14 @@ use Rattle.plain_repository.specs.Commits.{version_of, committed, with_commit, c
 use Rattle.plain_repository.specs.Edits.{added, with_more, can_follow}
 use Rattle.plain_repository.specs.Composites.{with_open, with_closed}
 use Rattle.plain_repository.specs.Local.{without_last, without_any}
-use Rattle.plain_repository.specs.Events.{effect, play, playable, playable_with, are_playable}
+use Rattle.tidy_laws.specs.Tidy.{is_tidy}
+use Rattle.merge_plans.specs.Choices.{are_choices}
+use Rattle.plain_repository.specs.Tidying.{tidied, can_tidy}
+use Rattle.plain_repository.specs.Merging.{update_buckets, updated, can_update, merge_buckets, merged_with, is_other_branch, has_theirs, can_merge}
+use Rattle.plain_repository.specs.Events.{by_meta, effect, play, playable, playable_with, are_playable}
 use Rattle.plain_repository.specs.Orderly.{RunsTo, Runs, steps_to, Stands, InOrder, HeadsLead, IfThere, Orderly, AllOrderly, IsOrderly}
 use Rattle.plain_repository.proofs.Forms.{and_left, and_right, playable_is_event}
+use Rattle.plain_repository.proofs.Merged.{tidied_led, updated_led, merged_led}
 use Rattle.plain_repository.proofs.Places.{both, at_number, all_weaker, number_changed, number_dropped}
 use Rattle.plain_repository.proofs.Recorded.{steps_append}
 use Rattle.plain_repository.proofs.Runs.{same_run, untouched_runs, more_runs, open_runs, closed_runs, last_runs, closed_steps_are}
@@ -72,7 +78,7 @@ more_in_order meta h more spelled w can r = by w.composite refl
 -- ---- events that leave the history
 -- what holds of the workspaces, with the history and the metamodel as they are
 with_workspaces : (meta : Meta) (s : State) (ws : List (Option Workspace)) → Orderly meta s → AllByRecursion (IfThere (InOrder meta s.history)) ws → Orderly meta (record s { workspaces = ws })
-with_workspaces meta s ws kept all = record { whole = kept.whole; heads = kept.heads; versions = kept.versions; workspaces = all }
+with_workspaces meta s ws kept all = record { sound = kept.sound; whole = kept.whole; heads = kept.heads; versions = kept.versions; workspaces = all }
 
 changed_kept : (meta : Meta) (s : State) (change : Workspace → Workspace) (k : ℕ) → Orderly meta s
     → ((w : Workspace) → workspace_of s k ≡ Some w → InOrder meta s.history w → InOrder meta s.history (change w)) → Orderly meta (with_changed change k s)
@@ -211,6 +217,7 @@ module _ (meta : Meta) (s : State) (kept : Orderly meta s) (message : List ℕ) 
 
   commit_kept : (k : ℕ) → workspace_of s k ≡ Some w → Orderly meta (with_commit k message (Some w) s)
   commit_kept k there = record {
+    sound = kept.sound;
     whole = commit_whole;
     heads = commit_heads;
     versions = commit_versions;
@@ -227,6 +234,7 @@ branch_kept meta s kept name w r k there =
     let new_head : head more (length h.branches) ≡ w.base = head_new h kept.whole name w.base in
     let branches = recursion_from_All (λ (v : Version). v.branch < length h.branches) h.versions kept.whole.branches in
     record {
+      sound = kept.sound;
       whole = whole_branch h kept.whole name w.base r.stands.base;
       heads = λ v version at. subst (λ k. Contains (path h k) v) (sym (head_kept h name w.base version.branch (All-at (λ (v : Version). v.branch < length h.branches) h.versions v version at kept.whole.branches))) (kept.heads v version at);
       versions = kept.versions;
@@ -258,6 +266,7 @@ branch_kept meta s kept name w r k there =
 -- ---- Tag
 tag_kept : (meta : Meta) (s : State) → Orderly meta s → (name : List ℕ) (version : ℕ) → version < length s.history.versions → Orderly meta (with_new_tag name version s)
 tag_kept meta s kept name version within = record {
+  sound = kept.sound;
   whole = whole_tag s.history kept.whole name version within;
   heads = kept.heads;
   versions = kept.versions;
@@ -274,6 +283,7 @@ first_heads (suc v) version there = absurd cc
 
 first_kept : (meta : Meta) (s : State) (text : List ℕ) → metamodel_of text ≡ Ok meta → s.workspaces ≡ [] → Orderly meta (record s { meta = Some meta; history = first_history })
 first_kept meta s text is none = record {
+  sound = read_sound text meta is;
   whole = whole_first;
   heads = first_heads;
   versions = λ v within. let is_zero : 0 ≡ v = omega (arith, within) in subst (λ k. RunsTo meta first_history k) is_zero (record { model = nothing; run = refl; spelled = tt });
@@ -283,6 +293,38 @@ first_kept meta s text is none = record {
 init_kept : (s : State) (text : List ℕ) (r : Result Meta EcoreFault) → metamodel_of text ≡ r → is_ok r ≡ true → s.workspaces ≡ [] → AllOrderly (meta_of_read r) (record s { meta = meta_of_read r; history = first_history })
 init_kept s text (Ok meta) is ok none = first_kept meta s text is none
 init_kept s text (Err e) is ok none = absurd cc
+
+-- ---- Tidy, Update and Merge
+tidied_in_order : (meta : Meta) (s : State) → Orderly meta s → (w : Workspace) → can_tidy meta (Some w) ≡ true → InOrder meta s.history w → InOrder meta s.history (tidied meta w)
+tidied_in_order meta s kept w can q =
+    in_order meta s.history (tidied meta w) w refl refl refl q.stands
+    (tidied_led meta kept.sound s.history kept.whole kept.versions w q (and_left (is_closed (Some w)) (not (is_tidy meta w.operations)) can)).runs_to
+
+updated_in_order : (meta : Meta) (s : State) → Orderly meta s → (letters : List ℕ) (w : Workspace) → can_update meta s.history letters (Some w) ≡ true → InOrder meta s.history w → InOrder meta s.history (updated meta s.history letters w)
+updated_in_order meta s kept letters w can q =
+    let h : History = s.history in
+    let apart : Bool = not (nat_eq w.base (head h w.branch)) in
+    let fit : Bool = are_choices letters (update_buckets meta h w) in
+    let there : head h w.branch < length h.versions = head_within h w.branch kept.whole in
+    record {
+      stands = record { branch = q.stands.branch; base = there; on_path = path_ends h kept.whole (head h w.branch) there; pending = q.stands.pending };
+      runs = (updated_led meta kept.sound h kept.whole kept.versions w q (and_left (is_closed (Some w)) apart (and_left (is_closed (Some w) && apart) fit can)) letters (and_right (is_closed (Some w) && apart) fit can)).runs_to;
+    }
+
+merged_in_order : (meta : Meta) (s : State) → Orderly meta s → (branch : ℕ) (letters : List ℕ) (w : Workspace) → can_merge meta s.history branch letters (Some w) ≡ true → InOrder meta s.history w
+    → InOrder meta s.history (merged_with meta s.history (head s.history branch) letters w)
+merged_in_order meta s kept branch letters w can q =
+    let h : History = s.history in
+    let other : ℕ = head h branch in
+    let closed : Bool = is_closed (Some w) in
+    let apart : Bool = is_other_branch h w branch in
+    let some : Bool = has_theirs h w other in
+    let fit : Bool = are_choices letters (merge_buckets meta h w other) in
+    let there : other < length h.versions = head_within h branch kept.whole in
+    record {
+      stands = record { branch = q.stands.branch; base = q.stands.base; on_path = q.stands.on_path; pending = All-push (λ v. v < length h.versions) w.pending other q.stands.pending there };
+      runs = (merged_led meta kept.sound h kept.whole kept.versions w q (and_left closed apart (and_left (closed && apart) some (and_left (closed && apart && some) fit can))) other there letters (and_right (closed && apart && some) fit can)).runs_to;
+    }
 
 -- ---- each event
 commit_by : (meta : Meta) (s : State) (k : ℕ) (message : List ℕ) (o : Option Workspace) → workspace_of s k ≡ o → can_commit s.history o ≡ true → Orderly meta s → Orderly meta (with_commit k message o s)
@@ -297,28 +339,38 @@ branch_by meta s k name None there closed kept = absurd cc
 branch_by meta s k name (Some w) there closed kept = branch_kept meta s kept name w (at_number (InOrder meta s.history) s k w there kept.workspaces) k there
 
 -- an event that could be made keeps all of it
-pub event_kept : (meta : Meta) (s : State) (e : Event) → IsTrue (playable_with s (Some meta) e) → IsEvent e → Orderly meta s → Orderly meta (effect s e)
-event_kept meta s (Init text) could spelled kept = absurd cc
-event_kept meta s (Checkout version branch) could spelled kept = checkout_kept meta s version branch could kept
-event_kept meta s (Edit k operations) could spelled kept =
+pub event_kept : (meta : Meta) (s : State) (e : Event) → s.meta ≡ Some meta → IsTrue (playable_with s (Some meta) e) → IsEvent e → Orderly meta s → Orderly meta (effect s e)
+event_kept meta s (Init text) begun could spelled kept = absurd cc
+event_kept meta s (Checkout version branch) begun could spelled kept = checkout_kept meta s version branch could kept
+event_kept meta s (Edit k operations) begun could spelled kept =
     changed_kept meta s (with_more operations) k kept
     (λ w at q. more_in_order meta s.history operations (recursion_from_All IsOperation operations spelled.1.1) w (found s k (λ o. can_follow meta s.history o operations ≡ true) could w at) q)
-event_kept meta s (Begin k name) could spelled kept =
+event_kept meta s (Begin k name) begun could spelled kept =
     changed_kept meta s (with_open name) k kept
     (λ w at q. in_order meta s.history (with_open name w) w refl refl refl q.stands (open_runs meta s.history name w (found s k (λ o. is_closed o ≡ true) (and_right (is_name name) (is_closed (workspace_of s k)) could) w at) q.runs))
-event_kept meta s (End k) could spelled kept =
+event_kept meta s (End k) begun could spelled kept =
     changed_kept meta s with_closed k kept (λ w at q. in_order meta s.history (with_closed w) w refl refl refl q.stands (closed_runs meta s.history w q.runs))
-event_kept meta s (Undo k) could spelled kept =
+event_kept meta s (Undo k) begun could spelled kept =
     changed_kept meta s without_last k kept
     (λ w at q. in_order meta s.history (without_last w) w refl refl refl q.stands (last_runs meta s.history w (found s k (λ o. is_closed o ≡ true) (and_left (is_closed (workspace_of s k)) (has_operations (workspace_of s k)) could) w at) q.runs))
-event_kept meta s (Discard k) could spelled kept =
+event_kept meta s (Discard k) begun could spelled kept =
     changed_kept meta s without_any k kept
     (λ w at q. untouched_in_order meta s.history w.branch w.base q.stands.branch q.stands.base q.stands.on_path (kept.versions w.base q.stands.base))
-event_kept meta s (Commit k message) could spelled kept = commit_by meta s k message (workspace_of s k) refl could kept
-event_kept meta s (Branch k name) could spelled kept = branch_by meta s k name (workspace_of s k) refl (and_right (is_name name && is_new_branch s.history name) (is_closed (workspace_of s k)) could) kept
-event_kept meta s (Tag name version) could spelled kept =
+event_kept meta s (Tidy k) begun could spelled kept =
+    subst (λ (m : Option Meta). Orderly meta (with_changed (by_meta m tidied) k s)) (sym begun)
+    (changed_kept meta s (tidied meta) k kept (λ w at q. tidied_in_order meta s kept w (found s k (λ o. can_tidy meta o ≡ true) could w at) q))
+event_kept meta s (Commit k message) begun could spelled kept = commit_by meta s k message (workspace_of s k) refl could kept
+event_kept meta s (Branch k name) begun could spelled kept = branch_by meta s k name (workspace_of s k) refl (and_right (is_name name && is_new_branch s.history name) (is_closed (workspace_of s k)) could) kept
+event_kept meta s (Tag name version) begun could spelled kept =
     tag_kept meta s kept name version (ltb-true version (length s.history.versions) (and_right (is_name name && not (has_tag s.history name)) (nat_lt version (length s.history.versions)) could))
-event_kept meta s (Drop k) could spelled kept =
+event_kept meta s (Update k letters) begun could spelled kept =
+    subst (λ (m : Option Meta). Orderly meta (with_changed (by_meta m (λ n. updated n s.history letters)) k s)) (sym begun)
+    (changed_kept meta s (updated meta s.history letters) k kept (λ w at q. updated_in_order meta s kept letters w (found s k (λ o. can_update meta s.history letters o ≡ true) could w at) q))
+event_kept meta s (Merge k branch letters) begun could spelled kept =
+    subst (λ (m : Option Meta). Orderly meta (with_changed (by_meta m (λ n. merged_with n s.history (head s.history branch) letters)) k s)) (sym begun)
+    (changed_kept meta s (merged_with meta s.history (head s.history branch) letters) k kept
+    (λ w at q. merged_in_order meta s kept branch letters w (found s k (λ o. can_merge meta s.history branch letters o ≡ true) could w at) q))
+event_kept meta s (Drop k) begun could spelled kept =
     with_workspaces meta s (changed_by_number (λ o. None) s.workspaces k) kept (number_dropped (InOrder meta s.history) s.workspaces k kept.workspaces)
 
 -- an event leaves the metamodel that is there
@@ -330,6 +382,7 @@ same_meta s meta (Begin k name) could = refl
 same_meta s meta (End k) could = refl
 same_meta s meta (Undo k) could = refl
 same_meta s meta (Discard k) could = refl
+same_meta s meta (Tidy k) could = refl
 same_meta s meta (Commit k message) could = by (workspace_of s k)
   where
     by : (o : Option Workspace) → (with_commit k message o s).meta ≡ s.meta
@@ -341,6 +394,8 @@ same_meta s meta (Branch k name) could = by (workspace_of s k)
     by None = refl
     by (Some w) = refl
 same_meta s meta (Tag name version) could = refl
+same_meta s meta (Update k letters) could = refl
+same_meta s meta (Merge k branch letters) could = refl
 same_meta s meta (Drop k) could = refl
 
 -- so does one where no metamodel is there yet
@@ -352,17 +407,20 @@ effect_keeps s None (Begin k name) is could spelled all = absurd cc
 effect_keeps s None (End k) is could spelled all = absurd cc
 effect_keeps s None (Undo k) is could spelled all = absurd cc
 effect_keeps s None (Discard k) is could spelled all = absurd cc
+effect_keeps s None (Tidy k) is could spelled all = absurd cc
 effect_keeps s None (Commit k message) is could spelled all = absurd cc
 effect_keeps s None (Branch k name) is could spelled all = absurd cc
 effect_keeps s None (Tag name version) is could spelled all = absurd cc
+effect_keeps s None (Update k letters) is could spelled all = absurd cc
+effect_keeps s None (Merge k branch letters) is could spelled all = absurd cc
 effect_keeps s None (Drop k) is could spelled all = absurd cc
 effect_keeps s (Some meta) e is could spelled all =
-    subst (λ (m : Option Meta). AllOrderly m (effect s e)) (sym (same_meta s meta e could ∙ is)) (event_kept meta s e could spelled all)
+    subst (λ (m : Option Meta). AllOrderly m (effect s e)) (sym (same_meta s meta e could ∙ is)) (event_kept meta s e is could spelled all)
 
 -- the numbers that every event raises are no part of it
 numbers_kept : (m : Option Meta) (s : State) (events end : ℕ) → AllOrderly m s → AllOrderly m (record s { events = events; end = end })
 numbers_kept None s events end all = all
-numbers_kept (Some meta) s events end all = record { whole = all.whole; heads = all.heads; versions = all.versions; workspaces = all.workspaces }
+numbers_kept (Some meta) s events end all = record { sound = all.sound; whole = all.whole; heads = all.heads; versions = all.versions; workspaces = all.workspaces }
 
 -- an event that could be made keeps all in order
 pub play_keeps : (s : State) (e : Event) → IsTrue (playable s e) → IsOrderly s → IsOrderly (play s e)

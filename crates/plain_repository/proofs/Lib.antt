@@ -3,12 +3,17 @@ pub mod Commits
 pub mod Forms
 pub mod Growth
 pub mod Kept
+pub mod Merged
+pub mod Merging
 pub mod Named
 pub mod Numbers
 pub mod Places
 pub mod Reached
 pub mod Recorded
+pub mod Reverting
 pub mod Rows
 pub mod Runs
+pub mod Shown
+pub mod Spelled
 pub mod Stores
 pub mod Undoing

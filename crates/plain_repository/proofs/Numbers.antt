@@ -2,15 +2,18 @@
 use Rattle.std.proofs.Common.{◌≡◌, ℕ, zero, suc, ◌≤◌, List, [], ◌∷◌, ◌++◌, length, Option, None, Some, refl, ◌∙◌, ap, arith, length-append}
 use Rattle.std.specs.Prelude.{slice_get, option_map}
 use Rattle.std.proofs.lemmas.Option.{slice_get_within}
+use Rattle.history_tree.specs.History.{head}
 use Rattle.history_tree.proofs.Paths.{get_left}
 use Rattle.op_form.specs.declared.event.Event.{Event}
-use Rattle.op_form.specs.declared.event.Event.TheVariants.{Init, Checkout, Edit, Begin, End, Undo, Discard, Commit, Branch, Tag, Drop}
+use Rattle.op_form.specs.declared.event.Event.TheVariants.{Init, Checkout, Edit, Begin, End, Undo, Discard, Tidy, Commit, Branch, Tag, Update, Merge, Drop}
 use Rattle.plain_repository.specs.State.{State, Workspace, untouched, workspace_of, changed_at, changed_by_number}
 use Rattle.plain_repository.specs.Commits.{committed, with_commit, moved_onto, with_new_branch}
 use Rattle.plain_repository.specs.Edits.{with_more}
 use Rattle.plain_repository.specs.Composites.{with_open, with_closed}
 use Rattle.plain_repository.specs.Local.{without_last, without_any}
-use Rattle.plain_repository.specs.Events.{effect, play}
+use Rattle.plain_repository.specs.Tidying.{tidied}
+use Rattle.plain_repository.specs.Merging.{updated, merged_with}
+use Rattle.plain_repository.specs.Events.{by_meta, effect, play}
 use Rattle.plain_repository.specs.Laws.{NumbersOnlyGrow, DroppedStayDropped}
 
 -- the places of the second list are those of the first or more, and where the first has none at a place, so has the second
@@ -48,6 +51,7 @@ effect_keeps_numbers s (Begin k name) = changed (option_map (with_open name)) re
 effect_keeps_numbers s (End k) = changed (option_map with_closed) refl s.workspaces k
 effect_keeps_numbers s (Undo k) = changed (option_map without_last) refl s.workspaces k
 effect_keeps_numbers s (Discard k) = changed (option_map without_any) refl s.workspaces k
+effect_keeps_numbers s (Tidy k) = changed (option_map (by_meta s.meta tidied)) refl s.workspaces k
 effect_keeps_numbers s (Commit k message) = by (workspace_of s k)
   where
     by : (o : Option Workspace) → Keeps s.workspaces (with_commit k message o s).workspaces
@@ -59,6 +63,8 @@ effect_keeps_numbers s (Branch k name) = by (workspace_of s k)
     by None = same s.workspaces
     by (Some w) = changed (option_map (moved_onto (length s.history.branches))) refl s.workspaces k
 effect_keeps_numbers s (Tag name version) = same s.workspaces
+effect_keeps_numbers s (Update k letters) = changed (option_map (by_meta s.meta (λ meta. updated meta s.history letters))) refl s.workspaces k
+effect_keeps_numbers s (Merge k branch letters) = changed (option_map (by_meta s.meta (λ meta. merged_with meta s.history (head s.history branch) letters))) refl s.workspaces k
 effect_keeps_numbers s (Drop k) = changed (λ o. None) refl s.workspaces k
 
 pub numbers_only_grow : NumbersOnlyGrow

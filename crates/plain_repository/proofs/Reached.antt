@@ -1,8 +1,6 @@
 -- What holds in every state that events lead to.
-use Rattle.std.proofs.Common.{◌≡◌, ℕ, List, ◌++◌, true, Option, Some, is_some, sym, ◌∙◌, ap, subst, None, [], ◌∷◌, refl}
-use Rattle.std.specs.Prelude.{IsTrue, Result, Ok, Err}
+use Rattle.std.proofs.Common.{◌≡◌, ℕ, List, ◌++◌, true, Option, Some, is_some, sym, ◌∙◌, ap, subst}
 use Rattle.std.specs.FinMap.{get-empty}
-use Rattle.command_runs.specs.Runs.{played}
 use Rattle.ecore_meta.specs.Meta.{Meta}
 use Rattle.ecore_meta.specs.Sound.{Sound}
 use Rattle.model_state.specs.Good.{Good}
@@ -11,21 +9,13 @@ use Rattle.model_state.specs.Keys.{id_cmp}
 use Rattle.model_state.specs.State.{nothing}
 use Rattle.model_laws.proofs.Start.{starts_good}
 use Rattle.model_laws.proofs.Runs.{steps_keep_good}
-use Rattle.ecore_json.specs.Metamodel.{metamodel_of}
-use Rattle.ecore_json.proofs.ReadSound.{read_sound}
-use Rattle.ecore_json.specs.declared.fault.EcoreFault.{EcoreFault}
-use Rattle.op_form.specs.declared.event.Event.{Event}
-use Rattle.op_form.specs.declared.event.Event.TheVariants.{Init, Checkout, Edit, Begin, End, Undo, Discard, Commit, Branch, Tag, Drop}
-use Rattle.plain_repository.specs.Events.{effect, play, playable, playable_with, are_playable}
-use Rattle.plain_repository.specs.Metamodels.{meta_of_read}
 use Rattle.plain_repository.specs.State.{State, Workspace, empty, recorded_steps}
 use Rattle.plain_repository.specs.Laws.{StaysInOrder, AllIsInOrder, HasMetamodel, IsThere, OfModels, OfVersions, IsGood, HasIds as HaveIds, ModelsAreDefined, VersionsAreDefined, MetamodelsAreSound, HistoriesAreWhole, WorkspacesStand}
 use Rattle.plain_repository.specs.Orderly.{IsRun, RunsTo, Runs, steps_to, InOrder, Orderly, AllOrderly, IsOrderly}
 use Rattle.plain_repository.proofs.Named.{HasIds, steps_named}
 use Rattle.plain_repository.proofs.Places.{at_number}
 use Rattle.plain_repository.proofs.Runs.{version_folded, version_model, workspace_folded, workspace_model}
-use Rattle.plain_repository.proofs.Kept.{played_keeps, play_keeps, empty_kept, same_meta}
-use Rattle.plain_repository.proofs.Forms.{and_left, and_right}
+use Rattle.plain_repository.proofs.Kept.{played_keeps, play_keeps, empty_kept}
 
 pub all_is_in_order : AllIsInOrder
 all_is_in_order s r = subst IsOrderly r.reached (played_keeps empty r.events r.could empty_kept)
@@ -80,40 +70,8 @@ versions_have_ids s meta has v within =
     let r : RunsTo meta s.history v = (kept s meta has).versions v within in
     subst HasIds (sym (version_model meta s.history v r)) (run_named meta (steps_to s.history v) r)
 
--- the metamodel, once there is one, is sound
-abbrev IsSound : Option Meta → Type 0
-IsSound None = Unit {0}
-IsSound (Some meta) = Sound meta
-
-text_sound : (text : List ℕ) (r : Result Meta EcoreFault) → metamodel_of text ≡ r → IsSound (meta_of_read r)
-text_sound text (Ok meta) is = read_sound text meta is
-text_sound text (Err e) is = tt
-
-effect_sound : (s : State) (m : Option Meta) (e : Event) → s.meta ≡ m → IsTrue (playable_with s m e) → IsSound m → IsSound (effect s e).meta
-effect_sound s None (Init text) is could kept = text_sound text (metamodel_of text) refl
-effect_sound s None (Checkout version branch) is could kept = absurd cc
-effect_sound s None (Edit k operations) is could kept = absurd cc
-effect_sound s None (Begin k name) is could kept = absurd cc
-effect_sound s None (End k) is could kept = absurd cc
-effect_sound s None (Undo k) is could kept = absurd cc
-effect_sound s None (Discard k) is could kept = absurd cc
-effect_sound s None (Commit k message) is could kept = absurd cc
-effect_sound s None (Branch k name) is could kept = absurd cc
-effect_sound s None (Tag name version) is could kept = absurd cc
-effect_sound s None (Drop k) is could kept = absurd cc
-effect_sound s (Some meta) e is could kept = subst IsSound (sym (same_meta s meta e could ∙ is)) kept
-
-play_sound : (s : State) (e : Event) → IsTrue (playable s e) → IsSound s.meta → IsSound (play s e).meta
-unfolding play playable
-play_sound s e could kept = effect_sound s s.meta e refl (and_right _ (playable_with s s.meta e) could) kept
-
-played_sound : (s : State) (events : List Event) → IsTrue (are_playable s events) → IsSound s.meta → IsSound (played play s events).meta
-played_sound s [] could kept = kept
-played_sound s (e ∷ events) could kept = played_sound (play s e) events (and_right (playable s e) (are_playable (play s e) events) could) (play_sound s e (and_left (playable s e) (are_playable (play s e) events) could) kept)
-
 pub metamodels_are_sound : MetamodelsAreSound
-metamodels_are_sound s r meta begun =
-    subst IsSound begun (subst (λ (t : State). IsSound t.meta) r.reached (played_sound empty r.events r.could tt))
+metamodels_are_sound s r meta begun = (kept s meta (record { orderly = all_is_in_order s r; begun = begun })).sound
 
 pub histories_are_whole : HistoriesAreWhole
 histories_are_whole s meta has = (kept s meta has).whole

@@ -15,6 +15,7 @@ use Rattle.model_state.specs.declared.operation.OpKind.TheVariants.{Move}
 use Rattle.model_state.specs.declared.operation.Operation.{Operation}
 use Rattle.model_state.specs.declared.operation.Operation.TheVariants.{Simple}
 use Rattle.history_tree.specs.History.{first_history, path, head}
+use Rattle.footprint.specs.Buckets.{labels, buckets}
 use Rattle.op_form.specs.declared.event.Event.TheVariants.{Checkout, Edit, Commit, Branch, Tag, Drop}
 use Rattle.script_lang.specs.declared.command.Spec.TheVariants as specs
 use Rattle.script_lang.specs.declared.command.Command.{Command}
@@ -26,6 +27,8 @@ use Rattle.plain_repository.specs.State.{State}
 use Rattle.plain_repository.specs.Answers.{with_room}
 use Rattle.plain_repository.specs.Checkouts.{decide_checkout}
 use Rattle.plain_repository.specs.Commits.{decide_commit, decide_branch, decide_tag}
+use Rattle.plain_repository.specs.Applying.{decide_revert}
+use Rattle.plain_repository.specs.Merging.{decide_update, decide_merge}
 use Rattle.plain_repository.specs.Events.{play}
 use Rattle.plain_repository.specs.Repository.{decide_command}
 
@@ -49,6 +52,19 @@ nothing_local : (meta : Meta) → said (two meta) (commands.Commit 2 (Some (code
 unfolding decide_command play decide_commit
 nothing_local meta = refl
 
+-- at the head there is no bucket, so no letter fits, and without one nothing changes
+no_letter_fits : (meta : Meta) → said (two meta) (commands.Update 2 (Some (codes "m"))) ≡ last.No (refusals.BadChoice 0 1)
+unfolding decide_command play decide_update buckets labels
+no_letter_fits meta = refl
+
+up_to_date : (meta : Meta) → said (two meta) (commands.Update 2 None) ≡ last.Ok (codes "1")
+unfolding decide_command play decide_update buckets labels digits
+up_to_date meta = refl
+
+own_branch : (meta : Meta) → said (two meta) (commands.Merge 2 (codes "trunk") None) ≡ last.No refusals.SameBranch
+unfolding decide_command play decide_merge
+own_branch meta = refl
+
 -- then workspace 1 makes version 2
 abbrev three : Meta → State
 three meta = played play (two meta) (Edit 1 (some_operation ∷ []) ∷ Commit 1 (codes "m") ∷ [])
@@ -60,6 +76,14 @@ is_stale meta = refl
 -- and workspace 2 makes version 3 on a branch of its own
 abbrev four : Meta → State
 four meta = played play (three meta) (Branch 2 (codes "dev") ∷ Edit 2 (some_operation ∷ []) ∷ [])
+
+off_path : (meta : Meta) → said (four meta) (commands.Revert 2 2) ≡ last.No refusals.NotOnPath
+unfolding decide_command play decide_revert
+off_path meta = refl
+
+no_version : (meta : Meta) → said (four meta) (commands.Revert 2 9) ≡ last.No refusals.NoVersion
+unfolding decide_command play decide_revert
+no_version meta = refl
 
 third : (meta : Meta) → said (four meta) (commands.Commit 2 (Some (codes "k"))) ≡ last.Ok (codes "3")
 unfolding decide_command play decide_commit with_room is_event is_utf8 chars event_form u32_form u64_form text_form package_form operation_form step_form digits encode

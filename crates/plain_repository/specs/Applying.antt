@@ -1,5 +1,5 @@
 -- Packages are applied and reverted: the commands `apply` and `revert`, which make the event Edit.
-use Rattle.std.specs.Prelude.{ℕ, nat_eq, List, [], ◌∷◌, Bool, Option, Some, None, Result, Ok, Err, if◌then◌else◌}
+use Rattle.std.specs.Prelude.{ℕ, List, [], ◌∷◌, Option, Some, None, Result, Ok, Err, if◌then◌else◌}
 use Rattle.ecore_meta.specs.Meta.{Meta}
 use Rattle.model_state.specs.Packages.{rev_package, steps_all}
 use Rattle.model_state.specs.Steps.{first_stop}
@@ -7,7 +7,7 @@ use Rattle.model_state.specs.declared.operation.Operation.{Operation}
 use Rattle.model_state.specs.declared.step.ApplyFault.{ApplyFault}
 use Rattle.history_tree.specs.declared.found.Found.{Found}
 use Rattle.history_tree.specs.declared.found.FindFault.{FindFault}
-use Rattle.history_tree.specs.History.{History, path}
+use Rattle.history_tree.specs.History.{path}
 use Rattle.history_tree.specs.Found.{found_by_number}
 use Rattle.history_tree.specs.MergeBase.{is_among}
 use Rattle.history_tree.specs.Since.{path_after}

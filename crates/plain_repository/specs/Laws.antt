@@ -1,5 +1,5 @@
 -- What holds in every repository that events make.
-use Rattle.std.specs.Prelude.{◌≡◌, ◌≢◌, ◌↔◌, ℕ, ◌<◌, ◌≤◌, ◌==◌, List, [], ◌∷◌, ◌++◌, Bool, true, false, Option, Some, None, IsTrue, length, slice_get}
+use Rattle.std.specs.Prelude.{◌≡◌, ◌≢◌, ◌↔◌, ℕ, ◌<◌, ◌≤◌, ◌==◌, List, [], ◌∷◌, ◌++◌, map, Bool, true, false, Option, Some, None, IsTrue, length, slice_get}
 use Rattle.command_runs.specs.Runs.{played}
 use Rattle.ecore_meta.specs.Meta.{Meta}
 use Rattle.ecore_meta.specs.Sound.{Sound}
@@ -19,6 +19,7 @@ use Rattle.script_lang.specs.declared.reply.Refusal.TheVariants as refusals
 use Rattle.script_lang.specs.declared.reply.Last.TheVariants as last
 use Rattle.plain_repository.specs.State.{State, Workspace, empty, workspace_of, folded, model_of}
 use Rattle.plain_repository.specs.Orderly.{IsOrderly, Stands}
+use Rattle.plain_repository.specs.Answers.{Decision}
 use Rattle.plain_repository.specs.Events.{play, playable, are_playable}
 use Rattle.plain_repository.specs.Repository.{decide_command}
 
@@ -129,6 +130,26 @@ WorkspacesStayApart = (s : State) (ws : ℕ) (workspace : Workspace) → workspa
 -- and no event changes the model of a workspace that stays as it is
 abbrev pub ModelsStayApart : Type 0
 ModelsStayApart = (s : State) (meta : Meta) (workspace : Workspace) → IsThere s meta workspace → (event : Event) → IsTrue (playable s event) → model_of meta (play s event).history workspace ≡ model_of meta s.history workspace
+
+-- the replies to the commands that show a workspace
+abbrev pub shown_as : State → Option (List ℕ) → ℕ → List Decision
+shown_as s block ws = map (decide_command s block) (commands.Show ws ∷ commands.Changes ws ∷ commands.Validate ws ∷ [])
+
+-- two workspaces look alike: the same is recorded in both, and their bases have the same state
+pub record LookAlike (meta : Meta) (h g : History) (w v : Workspace) : Type 0 where
+  pub operations : w.operations ≡ v.operations
+  pub composite : w.composite ≡ v.composite
+  pub state : state_of meta h w.base ≡ state_of meta g v.base
+
+-- such are shown alike, whatever else there is: what is shown of a workspace goes by the metamodel, the state of its base and what is recorded in it
+abbrev pub ShownByOwn : Type 0
+ShownByOwn = (s t : State) (meta : Meta) → s.meta ≡ Some meta → t.meta ≡ Some meta → (ws k : ℕ) (w v : Workspace) → workspace_of s ws ≡ Some w → workspace_of t k ≡ Some v → LookAlike meta s.history t.history w v
+    → (block more : Option (List ℕ)) → shown_as s block ws ≡ shown_as t more k
+
+-- so an event that is not of a workspace leaves what is shown of it
+abbrev pub ShownApart : Type 0
+ShownApart = (s : State) (meta : Meta) → HasMetamodel s meta → (ws : ℕ) (w : Workspace) → workspace_of s ws ≡ Some w → (event : Event) → IsTrue (playable s event) → is_of ws event ≡ false
+    → (block : Option (List ℕ)) → shown_as (play s event) block ws ≡ shown_as s block ws
 
 -- no event takes a place of the list of workspaces away, so each checkout makes a new number
 abbrev pub NumbersOnlyGrow : Type 0

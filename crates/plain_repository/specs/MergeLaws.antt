@@ -1,5 +1,5 @@
 -- What tidying, updates, merges and reverts make of a working model.
-use Rattle.std.specs.Prelude.{◌≡◌, ℕ, ◌==◌, not, List, ◌++◌, map, Option, Some, IsTrue}
+use Rattle.std.specs.Prelude.{◌≡◌, ℕ, ◌==◌, not, List, [], ◌++◌, map, Option, Some, IsTrue}
 use Rattle.std.specs.List.{filter}
 use Rattle.ecore_meta.specs.Meta.{Meta}
 use Rattle.model_state.specs.State.{nothing}
@@ -43,6 +43,11 @@ MergesMerge = (s : State) (meta : Meta) (ws branch : ℕ) (letters : List ℕ) (
     → let other = head s.history branch in
       merged meta (state_of meta s.history (merge_base s.history before.base before.pending other)) (merge_theirs s.history before other) (merge_mine meta s.history before other) (merge_buckets meta s.history before other) (map side_of letters)
       ≡ Some (model_of meta (play s (Merge ws branch letters)).history after)
+
+-- a merge counts the version as merged: the next merge of it finds nothing
+abbrev pub MergesCount : Type 0
+MergesCount = (s : State) (meta : Meta) (ws branch : ℕ) (letters : List ℕ) (before after : Workspace) → Changes s meta ws (Merge ws branch letters) before after
+    → merge_theirs (play s (Merge ws branch letters)).history after (head (play s (Merge ws branch letters)).history branch) ≡ []
 
 -- the versions on a version's path but for one
 abbrev pub path_without : History → ℕ → ℕ → List ℕ

@@ -1,5 +1,6 @@
 //! The laws of the plain repository: each is a function without a body, whose contract is the law.
-ghost use Rattle.plain_repository.specs.Laws.{StartsInOrder, StaysInOrder, AllIsInOrder, OfModels, OfVersions, IsGood, HasIds, ModelsAreDefined, VersionsAreDefined, MetamodelsAreSound, HistoriesAreWhole, WorkspacesStand, HistoryOnlyGrows, WorkspacesStayApart, ModelsStayApart, NumbersOnlyGrow, DroppedStayDropped, CommitsAreStale, UndoGivesBack, CommitsKeepModels};
+ghost use Rattle.plain_repository.specs.Laws.{StartsInOrder, StaysInOrder, AllIsInOrder, OfModels, OfVersions, IsGood, HasIds, ModelsAreDefined, VersionsAreDefined, MetamodelsAreSound, HistoriesAreWhole, WorkspacesStand, HistoryOnlyGrows, WorkspacesStayApart, ModelsStayApart, NumbersOnlyGrow, DroppedStayDropped, CommitsAreStale, UndoGivesBack, CommitsKeepModels, ShownByOwn, ShownApart};
+ghost use Rattle.plain_repository.specs.MergeLaws.{TidyingKeepsModels, UpdatesMerge, MergesMerge, MergesCount, RevertsTakeOut};
 
 /// The law of order: all is in order in the empty repository, and each event that could be made keeps it so. The other laws speak of such a state, so a
 /// holder of one that keeps order has them all.
@@ -34,11 +35,14 @@ pub fn law_of_growth()
     ensures stand { WorkspacesStand }
 {}
 
-/// The law of workspaces apart: an event of another workspace leaves what is recorded in this one, and its model. No number of a workspace is used
-/// again.
+/// The law of workspaces apart: an event of another workspace leaves what is recorded in this one, and its model. The replies to `show`, `changes` and
+/// `validate` go by the metamodel, the state of the base and what is recorded in the workspace, so such an event leaves them. No number of a workspace
+/// is used again.
 pub fn law_of_workspaces_apart()
     ensures workspaces { WorkspacesStayApart }
     ensures models { ModelsStayApart }
+    ensures shown { ShownByOwn }
+    ensures replies { ShownApart }
     ensures numbers { NumbersOnlyGrow }
     ensures dropped { DroppedStayDropped }
 {}
@@ -53,4 +57,15 @@ pub fn law_of_commits()
 /// The law of undoing: an operation that is recorded and undone leaves the workspace as it was.
 pub fn law_of_undoing()
     ensures back { UndoGivesBack }
+{}
+
+/// The law of merging: tidying leaves the working model; an update and a merge lead to the merged model, which is what the choices keep of theirs and
+/// then of mine, from the state where both begin; and a merge counts the version as merged. A revert leads to what the versions on the path
+/// but for the one that is reverted, and then the local operations, lead to.
+pub fn law_of_merging()
+    ensures tidying { TidyingKeepsModels }
+    ensures updates { UpdatesMerge }
+    ensures merges { MergesMerge }
+    ensures counted { MergesCount }
+    ensures reverts { RevertsTakeOut }
 {}

@@ -1,6 +1,7 @@
 -- By cases on the event.
 use Rattle.plain_repository.proofs.Apart.{workspaces_stay_apart, models_stay_apart}
 use Rattle.plain_repository.proofs.Numbers.{numbers_only_grow, dropped_stay_dropped}
+use Rattle.plain_repository.proofs.Shown.{shown_by_own, shown_apart}
 use Rattle.plain_repository.proofs.laws.law_of_workspaces_apart.Goals as goal
 
 pub returns-clause-workspaces : goal.returns-clause-workspaces
@@ -8,6 +9,12 @@ returns-clause-workspaces c = workspaces_stay_apart
 
 pub returns-clause-models : goal.returns-clause-models
 returns-clause-models c = models_stay_apart
+
+pub returns-clause-shown : goal.returns-clause-shown
+returns-clause-shown c = shown_by_own
+
+pub returns-clause-replies : goal.returns-clause-replies
+returns-clause-replies c = shown_apart
 
 pub returns-clause-numbers : goal.returns-clause-numbers
 returns-clause-numbers c = numbers_only_grow
