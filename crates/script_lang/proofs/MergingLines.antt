@@ -1,5 +1,5 @@
 -- The lines of packages that come into a workspace or go from it: what stands behind the first word is read as the command, and is the command's words where it is read.
-use Rattle.std.proofs.Common.{ap, ◌≡◌, ℕ, ◌+◌, List, [], ◌∷◌, length, refl, Option, Some, None, Result, Ok, Err, codes, true, arith}
+use Rattle.std.proofs.Common.{ap, ◌≡◌, ◌∙◌, ℕ, ◌+◌, List, [], ◌∷◌, length, refl, Option, Some, None, Result, Ok, Err, codes, true, arith}
 use Rattle.std.specs.Fmt.{decimal}
 use Rattle.hex.specs.Hex.{decode_of}
 use Rattle.hex.specs.declared.error.FromHexError.{FromHexError}
