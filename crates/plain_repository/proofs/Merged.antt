@@ -35,14 +35,14 @@ use Rattle.plain_repository.specs.State.{Workspace, recorded_steps, model_of, is
 use Rattle.plain_repository.specs.Tidying.{tidied}
 use Rattle.plain_repository.specs.Merging.{update_buckets, updated, merge_theirs, merge_mine, merge_buckets, merge_tail, merged_with}
 use Rattle.plain_repository.specs.Orderly.{RunsTo, Runs, steps_to, InOrder}
-use Rattle.plain_repository.proofs.Forms.{and_right}
+use Rattle.plain_repository.proofs.Forms.{and_left}
 use Rattle.plain_repository.proofs.Places.{both}
 use Rattle.plain_repository.proofs.Runs.{version_folded, version_model, workspace_folded, workspace_model, closed_steps_are}
 use Rattle.plain_repository.proofs.Spelled.{AreSpelled, behind, steps_spelled, spelled_steps, package_back, update_spelled, merge_spelled, tidy_spelled}
 
 -- a letter for each bucket, so a side for each
 pub sides_fit : (letters : List ℕ) (rows : List Bucket) → are_choices letters rows ≡ true → length (map side_of letters) ≡ length rows
-sides_fit letters rows fit = length-map letters side_of ∙ eqb-true (length letters) (length rows) (and_right (list_all is_choice letters) (nat_eq (length letters) (length rows)) fit)
+sides_fit letters rows fit = length-map letters side_of ∙ eqb-true (length letters) (length rows) (and_left (nat_eq (length letters) (length rows)) (list_all is_choice letters) fit)
 
 module _ (meta : Meta) (sound : Sound meta) (h : History) (whole : IsWhole h) (runs : (v : ℕ) → v < length h.versions → RunsTo meta h v) where
   -- ---- versions
