@@ -19,13 +19,13 @@ use Rattle.tidy_laws.proofs.Whole.{tidy_follows_rules, tidy_is_normal}
 use Rattle.tidy_laws.proofs.Choice.{rules_leave_no_choice}
 
 -- a composite, or a simple operation of one step and of its kind
-abbrev Own : Operation → Type 0
+abbrev pub Own : Operation → Type 0
 Own (Simple kind []) = ⊥
 Own (Simple kind (s ∷ [])) = kind ≡ own_kind s
 Own (Simple kind (s ∷ t ∷ ss)) = ⊥
 Own (Composite name steps) = Unit {0}
 
-abbrev EachOwn : List Operation → Type 0
+abbrev pub EachOwn : List Operation → Type 0
 EachOwn [] = Unit {0}
 EachOwn (o ∷ os) = Own o × EachOwn os
 
@@ -51,7 +51,7 @@ split_own [] = tt
 split_own (Simple kind steps ∷ os) = own_join (singles steps) (split os) (singles_own steps) (split_own os)
 split_own (Composite name steps ∷ os) = (tt, split_own os)
 
-own_split : (p : List Operation) → EachOwn p → split p ≡ p
+pub own_split : (p : List Operation) → EachOwn p → split p ≡ p
 own_split [] h = refl
 own_split (Simple kind [] ∷ os) h = absurd h.0
 own_split (Simple kind (s ∷ []) ∷ os) h = let rest = own_split os h.1 in λ i. Simple (sym h.0 i) (s ∷ []) ∷ rest i
@@ -106,8 +106,11 @@ settled_own : (meta : Meta) (p q : List Operation) → Settles meta p q → Each
 settled_own meta p q (done none) h = h
 settled_own meta p q (more {q = mid} r rest) h = settled_own meta mid q rest (rule_own meta p mid r h)
 
+pub tidy_own : (meta : Meta) (p : List Operation) → EachOwn (tidy meta p)
+tidy_own meta p = settled_own meta (split p) (tidy meta p) (tidy_follows_rules meta p) (split_own p)
+
 pub tidy_is_idempotent : TidyIsIdempotent
 tidy_is_idempotent meta p =
     let q = tidy meta p in
-    let same : split q ≡ q = own_split q (settled_own meta (split p) q (tidy_follows_rules meta p) (split_own p)) in
+    let same : split q ≡ q = own_split q (tidy_own meta p) in
     sym ((rules_leave_no_choice meta q q).2 (subst (λ l. Settles meta l q) (sym same) (done (tidy_is_normal meta p).settled)))

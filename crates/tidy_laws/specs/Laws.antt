@@ -1,5 +1,5 @@
 -- What tidy promises.
-use Rattle.std.specs.Prelude.{◌≡◌, List, [], Some, None}
+use Rattle.std.specs.Prelude.{◌≡◌, true, List, [], Some, None}
 use Rattle.ecore_meta.specs.Meta.{Meta}
 use Rattle.model_state.specs.State.{State}
 use Rattle.model_state.specs.Good.{Good, Sound}
@@ -7,7 +7,7 @@ use Rattle.model_state.specs.declared.operation.Operation.{Operation}
 use Rattle.model_state.specs.Packages.{fold_package}
 use Rattle.tidy_laws.specs.Split.{split}
 use Rattle.tidy_laws.specs.Rules.{NoRule, OneRule, Settles}
-use Rattle.tidy_laws.specs.Tidy.{once, tidy, Normal}
+use Rattle.tidy_laws.specs.Tidy.{once, tidy, is_tidy, Normal}
 
 -- it splits, and then takes its rules in order until none applies
 abbrev pub TidyFollowsRules : Type 0
@@ -20,6 +20,10 @@ TidyIsNormal = (meta : Meta) (p : List Operation) → Normal meta (tidy meta p)
 -- what it leaves, it leaves as it is
 abbrev pub TidyIsIdempotent : Type 0
 TidyIsIdempotent = (meta : Meta) (p : List Operation) → tidy meta (tidy meta p) ≡ tidy meta p
+
+-- the test whether a package is tidy holds of those that tidying leaves as they are, and of no others
+abbrev pub TidyTestIsExact : Type 0
+TidyTestIsExact = (meta : Meta) (p : List Operation) → (is_tidy meta p ≡ true → tidy meta p ≡ p) × (tidy meta p ≡ p → is_tidy meta p ≡ true)
 
 -- where the package can be applied, so can the tidied one, with the same result
 abbrev pub TidyKeepsEffect : Type 0

@@ -1,11 +1,12 @@
 -- Simple operations cut into their steps.
-use Rattle.std.specs.Prelude.{List, [], ◌∷◌, ◌++◌}
+use Rattle.std.specs.Prelude.{Bool, true, false, List, [], ◌∷◌, ◌++◌}
 use Rattle.model_state.specs.declared.step.Step.{Step}
 use Rattle.model_state.specs.declared.step.Step.TheVariants.{Put, Ins, Del, Shift, Link, Unlink, RerankRow, New, Gone, Move, RerankPlace}
 use Rattle.model_state.specs.declared.operation.OpKind.{OpKind}
 use Rattle.model_state.specs.declared.operation.OpKind.TheVariants.{Create, Delete, Attribute, ManyAttribute, Reference, Move as MoveKind}
 use Rattle.model_state.specs.declared.operation.Operation.{Operation}
 use Rattle.model_state.specs.declared.operation.Operation.TheVariants.{Simple, Composite}
+use Rattle.tidy_laws.specs.Equal.{kind_eq}
 
 -- the kind of an operation of this step alone
 abbrev pub own_kind : Step → OpKind
@@ -43,3 +44,10 @@ Alone (Composite name steps) = Unit {0}
 abbrev pub EachAlone : List Operation → Type 0
 EachAlone [] = Unit {0}
 EachAlone (o ∷ os) = Alone o × EachAlone os
+
+-- is the operation a composite, or a simple one of one step and of the kind of that step
+abbrev pub is_single : Operation → Bool
+is_single (Simple kind []) = false
+is_single (Simple kind (s ∷ [])) = kind_eq kind (own_kind s)
+is_single (Simple kind (s ∷ t ∷ ss)) = false
+is_single (Composite name steps) = true

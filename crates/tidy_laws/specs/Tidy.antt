@@ -6,6 +6,7 @@ use Rattle.model_state.specs.declared.operation.Operation.{Operation}
 use Rattle.footprint.specs.Interference.{interferes}
 use Rattle.tidy_laws.specs.Split.{split, EachAlone}
 use Rattle.tidy_laws.specs.Rules.{met, NoRule}
+use Rattle.tidy_laws.specs.Equal.{package_eq}
 
 -- the first list, which stands nearest first, put back before the second
 abbrev pub onto : List Operation → List Operation → List Operation
@@ -41,6 +42,10 @@ settle meta (suc n) p = elim (once meta [] p) [ None ↦ p | Some q ↦ settle m
 -- each rule takes an operation away, so there are no more rules than operations
 unfoldable pub tidy : Meta → List Operation → List Operation
 tidy meta p = settle meta (length (split p)) (split p)
+
+-- is the package such that tidying leaves it as it is
+unfoldable pub is_tidy : Meta → List Operation → Bool
+is_tidy meta p = package_eq (tidy meta p) p
 
 -- each simple operation has one step, and no rule applies at any two places
 pub record Normal (meta : Meta) (p : List Operation) : Type 0 where

@@ -1,12 +1,14 @@
 //! The laws of tidying. A law is the contract of a function that does nothing.
-ghost use Rattle.tidy_laws.specs.Laws.{TidyFollowsRules, TidyIsNormal, TidyIsIdempotent, TidyKeepsEffect, RulesLeaveNoChoice};
+ghost use Rattle.tidy_laws.specs.Laws.{TidyFollowsRules, TidyIsNormal, TidyIsIdempotent, TidyTestIsExact, TidyKeepsEffect, RulesLeaveNoChoice};
 
 /// Tidying cuts simple operations into their steps and then takes its rules in order until none applies; no rule applies to what it leaves,
-/// which tidying leaves as it is and which does what the package did; and the rules leave no choice.
+/// which tidying leaves as it is and which does what the package did; and the rules leave no choice. The test whether a package is tidy is
+/// exact.
 pub fn law_of_tidy()
     ensures rules { TidyFollowsRules }
     ensures normal { TidyIsNormal }
     ensures idempotent { TidyIsIdempotent }
+    ensures test { TidyTestIsExact }
     ensures effect { TidyKeepsEffect }
     ensures one { RulesLeaveNoChoice }
 {}

@@ -2,6 +2,7 @@
 use Rattle.tidy_laws.proofs.Whole.{tidy_follows_rules, tidy_is_normal, tidy_keeps_effect}
 use Rattle.tidy_laws.proofs.Choice.{rules_leave_no_choice}
 use Rattle.tidy_laws.proofs.Again.{tidy_is_idempotent}
+use Rattle.tidy_laws.proofs.Equal.{tidy_test_is_exact}
 use Rattle.tidy_laws.proofs.laws.law_of_tidy.Goals as goal
 
 pub returns-clause-rules : goal.returns-clause-rules
@@ -18,3 +19,6 @@ returns-clause-one c = rules_leave_no_choice
 
 pub returns-clause-idempotent : goal.returns-clause-idempotent
 returns-clause-idempotent c = tidy_is_idempotent
+
+pub returns-clause-test : goal.returns-clause-test
+returns-clause-test c = tidy_test_is_exact
