@@ -4,3 +4,4 @@ pub mod Cells
 pub mod Marked
 pub mod Rounds
 pub mod Leaving
+pub mod Tidied

@@ -8,4 +8,4 @@ mod tidying;
 mod turns;
 mod undoing;
 
-pub use tidying::tidy;
+pub use tidying::{is_tidy, tidy};

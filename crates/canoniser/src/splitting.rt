@@ -1,7 +1,9 @@
 //! Simple operations cut into their steps.
 ghost use Rattle.std.specs.Prelude.{◌≡◌, ◌++◌, ◌∷◌, [], IfOk, OnOk};
 ghost use Rattle.model_state.specs.declared.operation.Operation.TheVariants.{Simple, Composite};
-ghost use Rattle.tidy_laws.specs.Split.{own_kind, singles, split};
+ghost use Rattle.std.specs.List.{list_all};
+ghost use Rattle.tidy_laws.specs.Equal.{kind_eq};
+ghost use Rattle.tidy_laws.specs.Split.{own_kind, singles, split, is_single};
 
 use crate::joining::single;
 use model_state::{OpKind, Operation, Step};
@@ -23,6 +25,38 @@ fn own_kind(step: &Step) -> OpKind
         Step::Move { .. } => OpKind::Move,
         Step::RerankPlace { .. } => OpKind::Move,
     }
+}
+
+fn is_same_kind(kind: OpKind, other: OpKind) -> bool
+    ensures { result ≡ kind_eq kind other }
+{
+    match kind {
+        OpKind::Create => matches!(other, OpKind::Create),
+        OpKind::Delete => matches!(other, OpKind::Delete),
+        OpKind::Attribute => matches!(other, OpKind::Attribute),
+        OpKind::ManyAttribute => matches!(other, OpKind::ManyAttribute),
+        OpKind::Reference => matches!(other, OpKind::Reference),
+        OpKind::Move => matches!(other, OpKind::Move),
+    }
+}
+
+fn is_single(op: &Operation) -> bool
+    ensures { result ≡ is_single op.now }
+{
+    match op {
+        Operation::Simple { kind, steps } => match steps.as_slice() {
+            [step] => is_same_kind(*kind, own_kind(step)),
+            _ => false,
+        },
+        Operation::Composite { .. } => true,
+    }
+}
+
+/// Whether each operation is a composite, or a simple one of one step and of the kind of that step.
+pub(crate) fn are_single(ops: &[Operation]) -> bool
+    ensures { result ≡ list_all is_single ops.now }
+{
+    ops.iter().all(|op| is_single(op))
 }
 
 fn put_singles(alloc: Global, list: &mut Vec<Operation>, steps: &[Step]) -> Result<(), AllocError>

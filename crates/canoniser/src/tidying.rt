@@ -2,9 +2,9 @@
 ghost use Rattle.std.specs.Prelude.{◌≡◌, IfOk};
 ghost use Rattle.tidy_laws.specs.Split.{split as split_of};
 ghost use Rattle.tidy_laws.specs.Rules.{Settles};
-ghost use Rattle.tidy_laws.specs.Tidy.{tidy, Normal};
+ghost use Rattle.tidy_laws.specs.Tidy.{tidy, is_tidy, Normal};
 
-use crate::splitting::split;
+use crate::splitting::{are_single, split};
 use crate::turns::settle;
 use ecore_meta::{List, Metamodel};
 use footprint::prints_of;
@@ -23,4 +23,15 @@ pub fn tidy(alloc: Global, package: &Package, meta: &Metamodel) -> Result<Packag
     let mut prints = prints_of(alloc, &list, meta)?;
     settle(alloc, meta, &mut list, &mut prints)?;
     Ok(List::from_vec(list))
+}
+
+/// Whether tidying leaves the package as it is, which `law_of_tidy` says of no other. It tidies a copy, and takes the time of that.
+pub fn is_tidy(alloc: Global, package: &Package, meta: &Metamodel) -> Result<bool, AllocError>
+    ensures { IfOk result (λ b. b ≡ is_tidy meta.now «package».now) }
+{
+    if !are_single(package.as_slice()) {
+        return Ok(false);
+    }
+    let tidied = tidy(alloc, package, meta)?;
+    Ok(tidied.len() == package.len())
 }

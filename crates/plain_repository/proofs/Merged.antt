@@ -35,14 +35,14 @@ use Rattle.plain_repository.specs.State.{Workspace, recorded_steps, model_of, is
 use Rattle.plain_repository.specs.Tidying.{tidied}
 use Rattle.plain_repository.specs.Merging.{update_buckets, updated, merge_theirs, merge_mine, merge_buckets, merge_tail, merged_with}
 use Rattle.plain_repository.specs.Orderly.{RunsTo, Runs, steps_to, InOrder}
-use Rattle.plain_repository.proofs.Forms.{and_right}
+use Rattle.plain_repository.proofs.Forms.{and_left}
 use Rattle.plain_repository.proofs.Places.{both}
 use Rattle.plain_repository.proofs.Runs.{version_folded, version_model, workspace_folded, workspace_model, closed_steps_are}
 use Rattle.plain_repository.proofs.Spelled.{AreSpelled, behind, steps_spelled, spelled_steps, package_back, update_spelled, merge_spelled, tidy_spelled}
 
 -- a letter for each bucket, so a side for each
 pub sides_fit : (letters : List ℕ) (rows : List Bucket) → are_choices letters rows ≡ true → length (map side_of letters) ≡ length rows
-sides_fit letters rows fit = length-map letters side_of ∙ eqb-true (length letters) (length rows) (and_right (list_all is_choice letters) (nat_eq (length letters) (length rows)) fit)
+sides_fit letters rows fit = length-map letters side_of ∙ eqb-true (length letters) (length rows) (and_left (nat_eq (length letters) (length rows)) (list_all is_choice letters) fit)
 
 module _ (meta : Meta) (sound : Sound meta) (h : History) (whole : IsWhole h) (runs : (v : ℕ) → v < length h.versions → RunsTo meta h v) where
   -- ---- versions
@@ -116,7 +116,7 @@ module _ (meta : Meta) (sound : Sound meta) (h : History) (whole : IsWhole h) (r
 
     pub update_leads : (letters : List ℕ) → are_choices letters (update_buckets meta h w) ≡ true
         → (n : models.State) × Leads meta (state_of meta h (head h w.branch)) (updated meta h letters w).operations n
-          × (merged meta (state_of meta h w.base) (incoming h w.branch w.base) w.operations (update_buckets meta h w) (map side_of letters) ≡ Some n)
+        × (merged meta (state_of meta h w.base) (incoming h w.branch w.base) w.operations (update_buckets meta h w) (map side_of letters) ≡ Some n)
     update_leads letters fit =
         update_gives_merged meta sound (state_of meta h w.base) (state_of meta h (head h w.branch)) (model_of meta h w) (version_good w.base r.stands.base)
         (incoming h w.branch w.base) w.operations (after_leads w.base (head h w.branch) at_head r.stands.on_path) (local_leads w closed r.runs)
@@ -155,7 +155,7 @@ module _ (meta : Meta) (sound : Sound meta) (h : History) (whole : IsWhole h) (r
 
       pub merge_leads : (letters : List ℕ) → are_choices letters (merge_buckets meta h w other) ≡ true
           → (n : models.State) × Leads meta (model_of meta h w) (merge_tail meta h w other letters) n
-            × (merged meta (state_of meta h start) (merge_theirs h w other) (merge_mine meta h w other) (merge_buckets meta h w other) (map side_of letters) ≡ Some n)
+          × (merged meta (state_of meta h start) (merge_theirs h w other) (merge_mine meta h w other) (merge_buckets meta h w other) (map side_of letters) ≡ Some n)
       merge_leads letters fit =
           merge_leads_to_merged meta sound (state_of meta h common) (state_of meta h start) (state_of meta h w.base) (state_of meta h other) (model_of meta h w) (version_good common common_there)
           (operations_after h common start) (operations_after h common w.base) w.operations (operations_after h start other)

@@ -104,7 +104,7 @@ without_is h whole v last there on before is below =
 
 -- ---- the package is taken out
 module _ (meta : Meta) (sound : Sound meta) (h : History) (whole : IsWhole h) (runs : (v : ℕ) → v < length h.versions → RunsTo meta h v) (w : Workspace) (r : InOrder meta h w) (closed : is_closed (Some w) ≡ true) (v : ℕ) (on : Contains (path h w.base) v)
-  (free : first_interfering meta h.versions (package_at h.versions v) (path_after h v w.base) ≡ None) (apart : have_pair meta (package_at h.versions v) w.operations ≡ false) where
+    (free : first_interfering meta h.versions (package_at h.versions v) (path_after h v w.base) ≡ None) (apart : have_pair meta (package_at h.versions v) w.operations ≡ false) where
   abbrev taken : List Operation
   taken = package_at h.versions v
 

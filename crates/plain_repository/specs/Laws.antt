@@ -3,7 +3,6 @@ use Rattle.std.specs.Prelude.{◌≡◌, ◌≢◌, ◌↔◌, ℕ, ◌<◌, ◌
 use Rattle.command_runs.specs.Runs.{played}
 use Rattle.ecore_meta.specs.Meta.{Meta}
 use Rattle.ecore_meta.specs.Sound.{Sound}
-use Rattle.model_state.specs.Good.{Good}
 use Rattle.model_state.specs.Ident.{is_id}
 use Rattle.model_state.specs.Keys.{Name}
 use Rattle.model_state.specs.State as models
@@ -61,10 +60,6 @@ OfModels Holds = (s : State) (meta : Meta) (workspace : Workspace) → IsThere s
 -- what holds of the state of each version
 abbrev pub OfVersions : (Meta → models.State → Type 0) → Type 0
 OfVersions Holds = (s : State) (meta : Meta) → HasMetamodel s meta → (v : ℕ) → v < length s.history.versions → Holds meta (state_of meta s.history v)
-
--- the model is good, where the metamodel is sound, as each that is built is
-abbrev pub IsGood : Meta → models.State → Type 0
-IsGood meta m = Sound meta → Good meta m
 
 -- the id of each element has the form of an id
 abbrev pub HasIds : Meta → models.State → Type 0

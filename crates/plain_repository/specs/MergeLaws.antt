@@ -35,14 +35,14 @@ TidyingKeepsModels = (s : State) (meta : Meta) (ws : ℕ) (before after : Worksp
 abbrev pub UpdatesMerge : Type 0
 UpdatesMerge = (s : State) (meta : Meta) (ws : ℕ) (letters : List ℕ) (before after : Workspace) → Changes s meta ws (Update ws letters) before after
     → merged meta (state_of meta s.history before.base) (incoming s.history before.branch before.base) before.operations (update_buckets meta s.history before) (map side_of letters)
-      ≡ Some (model_of meta (play s (Update ws letters)).history after)
+    ≡ Some (model_of meta (play s (Update ws letters)).history after)
 
 -- a merge leads to the merged model: from the state of the version where it begins, what the choices keep of theirs, and then what they keep of mine
 abbrev pub MergesMerge : Type 0
 MergesMerge = (s : State) (meta : Meta) (ws branch : ℕ) (letters : List ℕ) (before after : Workspace) → Changes s meta ws (Merge ws branch letters) before after
     → let other = head s.history branch in
-      merged meta (state_of meta s.history (merge_base s.history before.base before.pending other)) (merge_theirs s.history before other) (merge_mine meta s.history before other) (merge_buckets meta s.history before other) (map side_of letters)
-      ≡ Some (model_of meta (play s (Merge ws branch letters)).history after)
+    merged meta (state_of meta s.history (merge_base s.history before.base before.pending other)) (merge_theirs s.history before other) (merge_mine meta s.history before other) (merge_buckets meta s.history before other) (map side_of letters)
+    ≡ Some (model_of meta (play s (Merge ws branch letters)).history after)
 
 -- a merge counts the version as merged: the next merge of it finds nothing
 abbrev pub MergesCount : Type 0

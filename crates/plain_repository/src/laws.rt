@@ -1,5 +1,6 @@
 //! The laws of the plain repository: each is a function without a body, whose contract is the law.
-ghost use Rattle.plain_repository.specs.Laws.{StartsInOrder, StaysInOrder, AllIsInOrder, OfModels, OfVersions, IsGood, HasIds, ModelsAreDefined, VersionsAreDefined, MetamodelsAreSound, HistoriesAreWhole, WorkspacesStand, HistoryOnlyGrows, WorkspacesStayApart, ModelsStayApart, NumbersOnlyGrow, DroppedStayDropped, CommitsAreStale, UndoGivesBack, CommitsKeepModels, ShownByOwn, ShownApart};
+ghost use Rattle.model_state.specs.Good.{Good};
+ghost use Rattle.plain_repository.specs.Laws.{StartsInOrder, StaysInOrder, AllIsInOrder, OfModels, OfVersions, HasIds, ModelsAreDefined, VersionsAreDefined, MetamodelsAreSound, HistoriesAreWhole, WorkspacesStand, HistoryOnlyGrows, WorkspacesStayApart, ModelsStayApart, NumbersOnlyGrow, DroppedStayDropped, CommitsAreStale, UndoGivesBack, CommitsKeepModels, ShownByOwn, ShownApart};
 ghost use Rattle.plain_repository.specs.MergeLaws.{TidyingKeepsModels, UpdatesMerge, MergesMerge, MergesCount, RevertsTakeOut};
 
 /// The law of order: all is in order in the empty repository, and each event that could be made keeps it so. The other laws speak of such a state, so a
@@ -15,7 +16,7 @@ pub fn law_of_order()
 /// made the metamodel is sound, as each that is read is.
 pub fn law_of_working_models()
     ensures defined { ModelsAreDefined }
-    ensures good { OfModels IsGood }
+    ensures good { OfModels Good }
     ensures ids { OfModels HasIds }
     ensures sound { MetamodelsAreSound }
 {}
@@ -24,7 +25,7 @@ pub fn law_of_working_models()
 /// state; it is good, and its elements have ids of the form of ids; and each number in the history names something.
 pub fn law_of_versions()
     ensures defined { VersionsAreDefined }
-    ensures good { OfVersions IsGood }
+    ensures good { OfVersions Good }
     ensures ids { OfVersions HasIds }
     ensures whole { HistoriesAreWhole }
 {}
