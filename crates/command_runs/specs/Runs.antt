@@ -22,25 +22,28 @@ played play s (e ∷ es) = played play (play s e) es
 abbrev pub after : {S E : Type 0} → (S → E → S) → S → Option E → S
 after play s event = played play s (listed event)
 
--- what is said in reply to the items
-abbrev pub replies : {S E : Type 0} → (S → Item → Answer E) → (S → E → S) → S → List Item → List ℕ
-replies decide play s [] = []
-replies decide play s (item ∷ items) = (decide s item).reply ++ replies decide play (after play s (decide s item).event) items
+-- what the items are answered with
+abbrev pub answers : {S E : Type 0} → (S → Item → Answer E) → (S → E → S) → S → List Item → List (Answer E)
+answers decide play s [] = []
+answers decide play s (item ∷ items) = decide s item ∷ answers decide play (after play s (decide s item).event) items
 
--- the events that the items make
-abbrev pub events : {S E : Type 0} → (S → Item → Answer E) → (S → E → S) → S → List Item → List E
-events decide play s [] = []
-events decide play s (item ∷ items) = listed (decide s item).event ++ events decide play (after play s (decide s item).event) items
+-- what is printed with some answers
+abbrev pub replies : {E : Type 0} → List (Answer E) → List ℕ
+replies [] = []
+replies (answer ∷ answers) = answer.reply ++ replies answers
 
--- is a reply a refusal
-abbrev pub refuses : {S E : Type 0} → (S → Item → Answer E) → (S → E → S) → S → List Item → Bool
-refuses decide play s [] = false
-refuses decide play s (item ∷ items) = (decide s item).refused || refuses decide play (after play s (decide s item).event) items
+-- which events some answers make
+abbrev pub events : {E : Type 0} → List (Answer E) → List E
+events [] = []
+events (answer ∷ answers) = listed answer.event ++ events answers
 
--- How many events have the items of whose reply a byte is among the first n bytes said. Every reply that goes with an
--- event has a byte.
-abbrev pub answered : {S E : Type 0} → (S → Item → Answer E) → (S → E → S) → S → List Item → ℕ → ℕ
-answered decide play s [] n = 0
-answered decide play s (item ∷ items) n =
-    if n == 0 then 0
-    else length (listed (decide s item).event) + answered decide play (after play s (decide s item).event) items (n - length (decide s item).reply)
+-- is one of some answers a refusal
+abbrev pub refuses : {E : Type 0} → List (Answer E) → Bool
+refuses [] = false
+refuses (answer ∷ answers) = answer.refused || refuses answers
+
+-- How many events must be kept once n bytes are printed: those of each answer that was begun by then. An answer without a
+-- reply is begun with the next that has one.
+abbrev pub answered : {E : Type 0} → List (Answer E) → ℕ → ℕ
+answered [] n = 0
+answered (answer ∷ answers) n = if n == 0 then 0 else length (listed answer.event) + answered answers (n - length answer.reply)

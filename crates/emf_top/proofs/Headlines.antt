@@ -1,12 +1,11 @@
 -- A whole run: the opening, and then the lines.
-use Rattle.std.proofs.Common.{◌≡◌, ◌⊎◌, inl, inr, ⊎_elim, ℕ, ◌-◌, ◌≤◌, List, [], ◌++◌, length, refl, sym, ◌∙◌, ap, subst, arith}
+use Rattle.std.proofs.Common.{◌≡◌, ◌⊎◌, inl, inr, ⊎_elim, ℕ, ◌-◌, ◌<◌, ◌≤◌, List, [], ◌∷◌, ◌++◌, Some, None, length, refl, sym, ◌∙◌, ap, subst, arith}
 use Rattle.std.specs.Prelude.{IsTrue, map}
 use Rattle.std.proofs.lemmas.List.{append-nil}
 use Rattle.host_port.specs.Host.{Told, MayLeave, GoesOn, Throughout, KeepsSaid, KeepsInput, AddsPart, Rose, disk_now, said_now}
-use Rattle.host_port.specs.Cut.{Script, script_from}
-use Rattle.host_port.proofs.Course.{at_last, carry_on, told_next, adds_none, said_kept_now}
-use Rattle.commit_journal.proofs.Unique.{one_meaning}
-use Rattle.command_runs.specs.Runs.{played, replies, events}
+use Rattle.host_port.specs.Cut.{script_from}
+use Rattle.host_port.proofs.Course.{at_last, carry_on, told_next, adds_none, said_kept_now, still_disk}
+use Rattle.command_runs.specs.Runs.{played, replies, events, answered}
 use Rattle.command_runs.specs.Stops.{IsRunning, IsOpenedRunning}
 use Rattle.command_runs.proofs.Going.{among}
 use Rattle.op_form.specs.declared.event.Event.{Event}
@@ -14,71 +13,94 @@ use Rattle.op_form.specs.Events.{event_form}
 use Rattle.plain_repository.specs.Lines.{takes_block}
 use Rattle.plain_repository.specs.State.{State, empty}
 use Rattle.plain_repository.specs.Events.{play}
-use Rattle.plain_repository.specs.Repository.{decide}
 use Rattle.plain_repository.specs.Store.{Stands, StandsForNoEvents, IsDamaged}
-use Rattle.plain_repository.proofs.Forms.{forms_are}
+use Rattle.plain_repository.proofs.Stores.{same_events}
+use Rattle.emf_session.specs.declared.answered.SessionFault.{SessionFault}
+use Rattle.emf_session.specs.declared.answered.SessionFault.TheVariants as session
+use Rattle.emf_session.specs.Session.{IsStoreOf, AtDamage}
+use Rattle.emf_session.proofs.Opening.{IsMounting, is_long}
 use Rattle.emf_top.specs.declared.top.Status.{Status}
 use Rattle.emf_top.specs.declared.top.Status.TheVariants.{Accepted, Refused, BadWords, ReadFault, WriteFault, DiskFault, Damaged, Memory, Input}
-use Rattle.emf_top.specs.declared.session.SessionFault.{SessionFault}
-use Rattle.emf_top.specs.declared.session.SessionFault.TheVariants as session
-use Rattle.emf_top.specs.Session.{Holds, IfDamaged}
-use Rattle.emf_top.specs.Headline.{script, said_by, made_by, least_of, outcome, Ends, NothingRose, IsFoundDamaged, IsUnsaid, IsUnopened, IsUnanswered, IsHalted, IsKept, session_status}
-use Rattle.emf_top.proofs.Opening.{IsMounting}
+use Rattle.emf_top.specs.Headline.{Task, script, serving, Asks, AreBad, Ends, NothingRose, KeepsFile, IsFoundDamaged, IsUnsaid, IsUnopened, IsUnanswered, IsHalted, IsKept, session_status}
 
-pub same_events : (file : List ℕ) (first made : List Event) → Stands file first → Stands file made → first ≡ made
-same_events file first made one two = forms_are empty first made one.playable two.playable (elim two.forms [
-  | inl few ↦ elim one.forms [ inl x ↦ x.1 ∙ sym few.1 | inr x ↦ absurd (omega (arith, few.0, x.0)) ]
-  | inr many ↦ one_meaning file (map event_form first) (map event_form made) many.1.0 one.forms many.1.1
-])
+-- without words the script is served
+pub asked : (words : List (List ℕ)) (before : Told) (s : State) (task : Task) → words ≡ [] → Asks words before s task → serving s (script before.left) ≡ task
+asked [] before s task none asks = some_same (serving s (script before.left)) task asks
+  where
+    some_same : (x y : Task) → Some x ≡ Some y → x ≡ y
+    some_same x y is = cc
+asked (word ∷ words) before s task none asks = absurd cc
 
-halted_from : (s : State) (c : Script) (first : List Event) (entry a b : Told) → said_now a ≡ said_now entry → IsHalted s c first a b → IsHalted s c first entry b
-halted_from s c first entry a b same e = record { done = e.done; left = e.left; items = e.items; said = e.said ∙ ap (λ (l : List ℕ). l ++ replies decide play s e.done) same; stands = e.stands }
+-- words that are bad ask for nothing
+pub asked_nothing : (words : List (List ℕ)) (before : Told) (s : State) (task : Task) → AreBad words → Asks words before s task → ⊥
+asked_nothing words before s task bad asks = let none : None ≡ Some task = sym (bad s before.left) ∙ asks in absurd cc
 
-unsaid_from : (s : State) (c : Script) (first : List Event) (entry a b : Told) → said_now a ≡ said_now entry → IsUnsaid s c first a b → IsUnsaid s c first entry b
-unsaid_from s c first entry a b same e = record {
+-- words that are none are not bad
+pub none_not_bad : (words : List (List ℕ)) → words ≡ [] → AreBad words → ⊥
+none_not_bad [] none bad = let some : Some (serving empty (script [])) ≡ None = bad empty [] in absurd cc
+none_not_bad (word ∷ words) none bad = absurd cc
+
+-- a list of no words, and one of some
+pub bare_words : {W : Type 0} (bytes : W → List ℕ) (words : List W) → length words ≡ 0 → map bytes words ≡ []
+bare_words bytes [] none = refl
+bare_words bytes (word ∷ words) none = absurd (omega (arith, none))
+
+pub some_words : {W : Type 0} (bytes : W → List ℕ) (words : List W) → (length words ≡ 0 → ⊥) → AreBad (map bytes words)
+some_words bytes [] some s input = absurd (some refl)
+some_words bytes (word ∷ words) some s input = refl
+
+-- no call at all leaves the file
+pub file_still : (a : Told) → KeepsFile a a
+file_still a told t low high = ap (λ d. d.now) (still_disk a told t low high)
+
+halted_from : (task : Task) (first : List Event) (entry a b : Told) → said_now a ≡ said_now entry → IsHalted task first a b → IsHalted task first entry b
+halted_from task first entry a b same e = record { done = e.done; left = e.left; whole = e.whole; said = e.said ∙ ap (λ (l : List ℕ). l ++ replies e.done) same; stands = e.stands }
+
+unsaid_from : (task : Task) (first : List Event) (entry a b : Told) → said_now a ≡ said_now entry → IsUnsaid task first a b → IsUnsaid task first entry b
+unsaid_from task first entry a b same e = record {
   done = e.done;
-  item = e.item;
+  answer = e.answer;
   left = e.left;
-  items = e.items;
-  said = subst (λ (l : List ℕ). AddsPart (l ++ replies decide play s e.done) (decide (played play s (events decide play s e.done)) e.item).reply (said_now b)) same e.said;
+  whole = e.whole;
+  said = subst (λ (l : List ℕ). AddsPart (l ++ replies e.done) e.answer.reply (said_now b)) same e.said;
   stands = e.stands;
 }
 
-unanswered_from : (s : State) (c : Script) (first : List Event) (entry a b : Told) → said_now a ≡ said_now entry → IsUnanswered s c first a b → IsUnanswered s c first entry b
-unanswered_from s c first entry a b same e = record { done = e.done; item = e.item; left = e.left; items = e.items; event = e.event; said = e.said ∙ ap (λ (l : List ℕ). l ++ replies decide play s e.done) same; stands = e.stands }
+unanswered_from : (task : Task) (first : List Event) (entry a b : Told) → said_now a ≡ said_now entry → IsUnanswered task first a b → IsUnanswered task first entry b
+unanswered_from task first entry a b same e = record { done = e.done; answer = e.answer; left = e.left; whole = e.whole; event = e.event; said = e.said ∙ ap (λ (l : List ℕ). l ++ replies e.done) same; stands = e.stands }
 
-ends_from : (s : State) (c : Script) (first : List Event) (entry a b : Told) → said_now a ≡ said_now entry → (status : Status) → Ends s c first a b status → Ends s c first entry b status
-ends_from s c first entry a b same Accepted e = (record { said = e.0.said ∙ ap (λ (l : List ℕ). l ++ said_by s c) same; stands = e.0.stands }, e.1, e.2)
-ends_from s c first entry a b same Refused e = (record { said = e.0.said ∙ ap (λ (l : List ℕ). l ++ said_by s c) same; stands = e.0.stands }, e.1, e.2)
-ends_from s c first entry a b same (Input fault at) e = (record { said = e.0.said ∙ ap (λ (l : List ℕ). l ++ said_by s c) same; stands = e.0.stands }, e.1)
-ends_from s c first entry a b same WriteFault e = unsaid_from s c first entry a b same e
-ends_from s c first entry a b same (Damaged at) e = e
-ends_from s c first entry a b same BadWords e = e
-ends_from s c first entry a b same ReadFault e = halted_from s c first entry a b same e
-ends_from s c first entry a b same DiskFault e = ⊎_elim (λ h. inl (record { said = h.said ∙ same; stands = h.stands })) (λ u. inr (unanswered_from s c first entry a b same u)) e
-ends_from s c first entry a b same Memory e = halted_from s c first entry a b same e
+ends_from : (task : Task) (first : List Event) (entry a b : Told) → said_now a ≡ said_now entry → (status : Status) → Ends task first a b status → Ends task first entry b status
+ends_from task first entry a b same Accepted e = (record { said = e.0.said ∙ ap (λ (l : List ℕ). l ++ replies task.answers) same; stands = e.0.stands }, e.1, e.2)
+ends_from task first entry a b same Refused e = (record { said = e.0.said ∙ ap (λ (l : List ℕ). l ++ replies task.answers) same; stands = e.0.stands }, e.1, e.2)
+ends_from task first entry a b same (Input fault at) e = (record { said = e.0.said ∙ ap (λ (l : List ℕ). l ++ replies task.answers) same; stands = e.0.stands }, e.1)
+ends_from task first entry a b same WriteFault e = unsaid_from task first entry a b same e
+ends_from task first entry a b same (Damaged at) e = e
+ends_from task first entry a b same BadWords e = e
+ends_from task first entry a b same ReadFault e = halted_from task first entry a b same e
+ends_from task first entry a b same DiskFault e = ⊎_elim (λ h. inl (record { said = h.said ∙ same; stands = h.stands })) (λ u. inr (unanswered_from task first entry a b same u)) e
+ends_from task first entry a b same Memory e = halted_from task first entry a b same e
 
--- no command was answered
-pub none_answered : (s : State) (c : Script) (first : List Event) (entry a : Told) → IsUnopened first entry a → IsHalted s c first entry a
-none_answered s c first entry a e = record {
+-- nothing was answered
+pub none_answered : (task : Task) (first : List Event) (entry a : Told) → IsUnopened first entry a → IsHalted task first entry a
+none_answered task first entry a e = record {
   done = [];
-  left = c.items;
-  items = refl;
+  left = task.answers;
+  whole = refl;
   said = e.said ∙ sym (append-nil (said_now entry));
   stands = subst (λ (l : List Event). Stands (disk_now a).now l) (sym (append-nil first)) e.stands;
 }
 
 -- the opening
-module _ (entry a : Told) (course : GoesOn entry a) (said : KeepsSaid entry a) (mounting : Throughout entry a (λ disk said. IsMounting (disk_now entry) disk)) (first : List Event) (stood : Stands (disk_now entry).now first) (s : State) (c : Script) where
-  pub opening_part : Throughout entry a (λ disk said. AddsPart (said_now entry) (said_by s c) said)
-  opening_part = adds_none entry a (said_by s c) said
+module _ (entry a : Told) (course : GoesOn entry a) (said : KeepsSaid entry a) (mounting : Throughout entry a (λ disk said. IsMounting (disk_now entry) disk)) (first : List Event) (stood : Stands (disk_now entry).now first) (task : Task) where
+  pub opening_part : Throughout entry a (λ disk said. AddsPart (said_now entry) (replies task.answers) said)
+  opening_part = adds_none entry a (replies task.answers) said
 
-  pub opening_moments : Throughout entry a (IsOpenedRunning (disk_now entry) Stands first (made_by s c) (least_of s c) (said_now entry))
+  pub opening_moments : Throughout entry a (IsOpenedRunning (disk_now entry) Stands first (events task.answers) (answered task.answers) (said_now entry))
   opening_moments told t low high =
       let none : length (a.said t) - length (said_now entry) ≤ 0 = omega (arith, ap length (said told t low high)) in
       ⊎_elim
       (λ before. inl (before, said told t low high))
-      (λ same. inr (λ x left. among decide play Stands s first c.items [] c.items x (length (a.said t) - length (said_now entry)) refl none
+      (λ same. inr (λ x left. among Stands first task.answers [] task.answers x (length (a.said t) - length (said_now entry)) refl none
       (subst (λ (l : List Event). Stands x l) (sym (append-nil first)) (record { forms = same x left (map event_form first) stood.forms; playable = stood.playable }))))
       (mounting told t low high)
 
@@ -92,89 +114,90 @@ module _ (entry a : Told) (course : GoesOn entry a) (said : KeepsSaid entry a) (
         (at_last entry a (λ disk said. IsMounting (disk_now entry) disk) course mounting told);
   }
 
-  -- and then the lines
-  module _ (b : Told) (input : KeepsInput entry a) (on : GoesOn a b) (now : State) (end place : ℕ) (pending : List ℕ) (place_is : place ≡ 0) (pending_is : pending ≡ [])
-      (s_is : s ≡ played play empty first) (c_is : c ≡ script entry.left)
-      (opened : IsTrue entry.tells → (made : List Event) × Holds (disk_now a) now end made × Stands (disk_now entry).now made) where
-    holds_first : IsTrue entry.tells → Holds (disk_now a) now end first
-    holds_first told =
-        let had = opened told in
-        subst (λ (l : List Event). Holds (disk_now a) now end l) (sym (same_events (disk_now entry).now first had.0 stood had.2)) had.1
+-- the opening, and then the lines
+module _ (entry a : Told) (course : GoesOn entry a) (said : KeepsSaid entry a) (mounting : Throughout entry a (λ disk said. IsMounting (disk_now entry) disk)) (first : List Event) (stood : Stands (disk_now entry).now first)
+    (b : Told) (input : KeepsInput entry a) (on : GoesOn a b) (now : State) (place : ℕ) (pending : List ℕ) (place_is : place ≡ 0) (pending_is : pending ≡ [])
+    (opened : IsTrue entry.tells → (made : List Event) × IsStoreOf (disk_now a) now made × Stands (disk_now entry).now made) where
+  holds_first : IsTrue entry.tells → IsStoreOf (disk_now a) now first
+  holds_first told =
+      let had = opened told in
+      subst (λ (l : List Event). IsStoreOf (disk_now a) now l) (sym (same_events (disk_now entry).now first had.0 stood had.2)) had.1
 
-    now_is : IsTrue entry.tells → now ≡ s
-    now_is told = (holds_first told).state_is ∙ sym s_is
+  task_is : IsTrue entry.tells → serving now (script_from takes_block place (pending ++ a.left)) ≡ serving (played play empty first) (script entry.left)
+  task_is told = ap (λ (s : State). serving s (script_from takes_block place (pending ++ a.left))) (holds_first told).state_is
+      ∙ ap (λ (n : ℕ). serving (played play empty first) (script_from takes_block n (pending ++ a.left))) place_is
+      ∙ ap (λ (l : List ℕ). serving (played play empty first) (script_from takes_block 0 (l ++ a.left))) pending_is
+      ∙ ap (λ (l : List ℕ). serving (played play empty first) (script_from takes_block 0 l)) input.left
 
-    script_is : script_from takes_block place (pending ++ a.left) ≡ c
-    script_is = ap (λ (n : ℕ). script_from takes_block n (pending ++ a.left)) place_is ∙ ap (λ (l : List ℕ). script_from takes_block 0 (l ++ a.left)) pending_is ∙ ap (λ (l : List ℕ). script_from takes_block 0 l) input.left ∙ sym c_is
+  said_is : IsTrue entry.tells → said_now a ≡ said_now entry
+  said_is told = said_kept_now entry a course said told
 
-    said_is : IsTrue entry.tells → said_now a ≡ said_now entry
-    said_is told = said_kept_now entry a course said told
+  pub whole_ends : (status : Status) → (IsTrue a.tells → (made : List Event) → IsStoreOf (disk_now a) now made → Ends (serving now (script_from takes_block place (pending ++ a.left))) made a b status)
+      → IsTrue entry.tells → Ends (serving (played play empty first) (script entry.left)) first entry b status
+  whole_ends status ends told = ends_from (serving (played play empty first) (script entry.left)) first entry a b (said_is told) status
+      (subst (λ (t : Task). Ends t first a b status) (task_is told) (ends (told_next entry a course told) first (holds_first told)))
 
-    pub whole_ends : (status : Status) → (IsTrue a.tells → (made : List Event) → Holds (disk_now a) now end made → Ends now (script_from takes_block place (pending ++ a.left)) made a b status)
-        → IsTrue entry.tells → Ends s c first entry b status
-    whole_ends status ends told = ends_from s c first entry a b (said_is told) status
-        (subst (λ (t : State). Ends t c first a b status) (now_is told) (subst (λ (k : Script). Ends now k first a b status) script_is (ends (told_next entry a course told) first (holds_first told))))
+  pub whole_part : ((made : List Event) → IsStoreOf (disk_now a) now made → Throughout a b (λ disk said. AddsPart (said_now a) (replies (serving now (script_from takes_block place (pending ++ a.left))).answers) said))
+      → Throughout entry b (λ disk said. AddsPart (said_now entry) (replies (serving (played play empty first) (script entry.left)).answers) said)
+  whole_part part told = carry_on entry a b (λ disk said. AddsPart (said_now entry) (replies (serving (played play empty first) (script entry.left)).answers) said) course on
+      (opening_part entry a course said mounting first stood (serving (played play empty first) (script entry.left)))
+      (subst (λ (l : List ℕ). Throughout a b (λ disk said. AddsPart l (replies (serving (played play empty first) (script entry.left)).answers) said)) (said_is told)
+      (subst (λ (t : Task). Throughout a b (λ disk said. AddsPart (said_now a) (replies t.answers) said)) (task_is told) (part first (holds_first told)))) told
 
-    pub whole_part : ((made : List Event) → Holds (disk_now a) now end made → Throughout a b (λ disk said. AddsPart (said_now a) (said_by now (script_from takes_block place (pending ++ a.left))) said))
-        → Throughout entry b (λ disk said. AddsPart (said_now entry) (said_by s c) said)
-    whole_part part told = carry_on entry a b (λ disk said. AddsPart (said_now entry) (said_by s c) said) course on opening_part
-        (subst (λ (l : List ℕ). Throughout a b (λ disk said. AddsPart l (said_by s c) said)) (said_is told)
-        (subst (λ (t : State). Throughout a b (λ disk said. AddsPart (said_now a) (said_by t c) said)) (now_is told)
-        (subst (λ (k : Script). Throughout a b (λ disk said. AddsPart (said_now a) (said_by now k) said)) script_is (part first (holds_first told))))) told
-
-    pub whole_moments : ((made : List Event) → Holds (disk_now a) now end made
-        → Throughout a b (IsRunning Stands made (made_by now (script_from takes_block place (pending ++ a.left))) (least_of now (script_from takes_block place (pending ++ a.left))) (said_now a)))
-        → Throughout entry b (IsOpenedRunning (disk_now entry) Stands first (made_by s c) (least_of s c) (said_now entry))
-    whole_moments moments told = carry_on entry a b (IsOpenedRunning (disk_now entry) Stands first (made_by s c) (least_of s c) (said_now entry)) course on opening_moments
-        (λ told_a t low high. inr (
-        subst (λ (l : List ℕ). Throughout a b (IsRunning Stands first (made_by s c) (least_of s c) l)) (said_is told)
-        (subst (λ (t : State). Throughout a b (IsRunning Stands first (made_by t c) (least_of t c) (said_now a))) (now_is told)
-        (subst (λ (k : Script). Throughout a b (IsRunning Stands first (made_by now k) (least_of now k) (said_now a))) script_is (moments first (holds_first told)))) told_a t low high)) told
+  pub whole_moments : ((made : List Event) → IsStoreOf (disk_now a) now made
+      → Throughout a b (IsRunning Stands made (events (serving now (script_from takes_block place (pending ++ a.left))).answers) (answered (serving now (script_from takes_block place (pending ++ a.left))).answers) (said_now a)))
+      → Throughout entry b (IsOpenedRunning (disk_now entry) Stands first (events (serving (played play empty first) (script entry.left)).answers) (answered (serving (played play empty first) (script entry.left)).answers) (said_now entry))
+  whole_moments moments told = carry_on entry a b
+      (IsOpenedRunning (disk_now entry) Stands first (events (serving (played play empty first) (script entry.left)).answers) (answered (serving (played play empty first) (script entry.left)).answers) (said_now entry)) course on
+      (opening_moments entry a course said mounting first stood (serving (played play empty first) (script entry.left)))
+      (λ told_a t low high. inr (
+      subst (λ (l : List ℕ). Throughout a b (IsRunning Stands first (events (serving (played play empty first) (script entry.left)).answers) (answered (serving (played play empty first) (script entry.left)).answers) l)) (said_is told)
+      (subst (λ (t : Task). Throughout a b (IsRunning Stands first (events t.answers) (answered t.answers) (said_now a))) (task_is told) (moments first (holds_first told))) told_a t low high)) told
 
 -- what stands in the file at the end of a run
-pub stopped : (entry b : Told) (first : List Event) (s : State) (c : Script) → GoesOn entry b → Throughout entry b (IsOpenedRunning (disk_now entry) Stands first (made_by s c) (least_of s c) (said_now entry))
-    → Stands (disk_now entry).now first → MayLeave (disk_now b) (disk_now b).now → IsTrue entry.tells → IsKept s c first entry b
-stopped entry b first s c course moments stood left told = ⊎_elim
-    (λ before. among decide play Stands s first c.items [] c.items (disk_now b).now (length (said_now b) - length (said_now entry)) refl (omega (arith, ap length before.1))
+pub stopped : (entry b : Told) (first : List Event) (task : Task) → GoesOn entry b → Throughout entry b (IsOpenedRunning (disk_now entry) Stands first (events task.answers) (answered task.answers) (said_now entry))
+    → Stands (disk_now entry).now first → MayLeave (disk_now b) (disk_now b).now → IsTrue entry.tells → IsKept task first entry b
+stopped entry b first task course moments stood left told = ⊎_elim
+    (λ before. among Stands first task.answers [] task.answers (disk_now b).now (length (said_now b) - length (said_now entry)) refl (omega (arith, ap length before.1))
     (subst (λ (l : List Event). Stands (disk_now b).now l) (sym (append-nil first)) (subst (λ d. Stands d.now first) (sym before.0) stood)))
     (λ running. running (disk_now b).now left)
-    (at_last entry b (IsOpenedRunning (disk_now entry) Stands first (made_by s c) (least_of s c) (said_now entry)) course moments told)
+    (at_last entry b (IsOpenedRunning (disk_now entry) Stands first (events task.answers) (answered task.answers) (said_now entry)) course moments told)
 
--- where nothing rose, the run comes to what its script comes to
-pub complete : (s : State) (c : Script) (first : List Event) (entry b : Told) (status : Status) → Ends s c first entry b status → NothingRose entry b
+-- where nothing rose, the run comes to what its task comes to
+pub complete : (task : Task) (first : List Event) (entry b : Told) (status : Status) → Ends task first entry b status → NothingRose entry b
     → (status ≡ ReadFault → Rose entry.take_faults b.take_faults) → (status ≡ WriteFault → Rose entry.say_faults b.say_faults) → (status ≡ DiskFault → Rose entry.disk_faults b.disk_faults)
-    → (status ≡ outcome s c) ⊎ (status ≡ Memory)
-complete s c first entry b Accepted e none read write disk = inl (sym e.1)
-complete s c first entry b Refused e none read write disk = inl (sym e.1)
-complete s c first entry b (Input fault at) e none read write disk = inl (sym e.1)
-complete s c first entry b WriteFault e none read write disk = absurd (none.say_faults (write refl))
-complete s c first entry b (Damaged at) e none read write disk = absurd e
-complete s c first entry b BadWords e none read write disk = absurd e
-complete s c first entry b ReadFault e none read write disk = absurd (none.take_faults (read refl))
-complete s c first entry b DiskFault e none read write disk = absurd (none.disk_faults (disk refl))
-complete s c first entry b Memory e none read write disk = inr refl
+    → (status ≡ task.end) ⊎ (status ≡ Memory)
+complete task first entry b Accepted e none read write disk = inl (sym e.1)
+complete task first entry b Refused e none read write disk = inl (sym e.1)
+complete task first entry b (Input fault at) e none read write disk = inl (sym e.1)
+complete task first entry b WriteFault e none read write disk = absurd (none.say_faults (write refl))
+complete task first entry b (Damaged at) e none read write disk = absurd e
+complete task first entry b BadWords e none read write disk = absurd e
+complete task first entry b ReadFault e none read write disk = absurd (none.take_faults (read refl))
+complete task first entry b DiskFault e none read write disk = absurd (none.disk_faults (disk refl))
+complete task first entry b Memory e none read write disk = inr refl
 
 -- a store that was not opened
 module _ (entry a : Told) (fault : SessionFault) (never : fault ≡ session.SayFault → ⊥)
-    (damage : IfDamaged fault (λ at. IsTrue entry.tells → IsDamaged (disk_now entry).now at × StandsForNoEvents (disk_now entry).now × ((disk_now a).now ≡ (disk_now entry).now))) where
-  pub unopened_ends : (s : State) (c : Script) (first : List Event) → IsTrue entry.tells → Stands (disk_now entry).now first → IsUnopened first entry a → Ends s c first entry a (session_status fault)
-  unopened_ends s c first told stood ended = go fault never damage
+    (damage : AtDamage fault (λ at. IsTrue entry.tells → IsDamaged (disk_now entry).now at × StandsForNoEvents (disk_now entry).now)) where
+  pub unopened_ends : (task : Task) (first : List Event) → IsTrue entry.tells → Stands (disk_now entry).now first → IsUnopened first entry a → Ends task first entry a (session_status fault)
+  unopened_ends task first told stood ended = go fault never damage
     where
-      go : (f : SessionFault) → (f ≡ session.SayFault → ⊥) → IfDamaged f (λ at. IsTrue entry.tells → IsDamaged (disk_now entry).now at × StandsForNoEvents (disk_now entry).now × ((disk_now a).now ≡ (disk_now entry).now)) → Ends s c first entry a (session_status f)
+      go : (f : SessionFault) → (f ≡ session.SayFault → ⊥) → AtDamage f (λ at. IsTrue entry.tells → IsDamaged (disk_now entry).now at × StandsForNoEvents (disk_now entry).now) → Ends task first entry a (session_status f)
       go session.DiskFault n d = inl ended
       go session.SayFault n d = absurd (n refl)
       go (session.Damaged at) n d = (d told).1 first stood
-      go session.Memory n d = none_answered s c first entry a ended
+      go session.Memory n d = none_answered task first entry a ended
 
-  pub unopened_damaged : KeepsSaid entry a → (at : ℕ) → session_status fault ≡ Damaged at → IsFoundDamaged entry a at
-  unopened_damaged said at is = go fault damage is
+  pub unopened_damaged : (17 < length (disk_now entry).now → Throughout entry a (λ disk said. disk.now ≡ (disk_now entry).now)) → KeepsSaid entry a → (at : ℕ) → session_status fault ≡ Damaged at → IsFoundDamaged entry a at
+  unopened_damaged long said at is = go fault damage is
     where
-      go : (f : SessionFault) → IfDamaged f (λ at. IsTrue entry.tells → IsDamaged (disk_now entry).now at × StandsForNoEvents (disk_now entry).now × ((disk_now a).now ≡ (disk_now entry).now)) → session_status f ≡ Damaged at → IsFoundDamaged entry a at
+      go : (f : SessionFault) → AtDamage f (λ at. IsTrue entry.tells → IsDamaged (disk_now entry).now at × StandsForNoEvents (disk_now entry).now) → session_status f ≡ Damaged at → IsFoundDamaged entry a at
       go session.DiskFault d e = absurd cc
       go session.SayFault d e = absurd cc
       go (session.Damaged b) d e =
           let same : b ≡ at = cc in
-          record { place = λ told. subst (λ (n : ℕ). IsDamaged (disk_now entry).now n) same (d told).0; no_events = λ told. (d told).1; file = λ told. (d told).2; said = said }
+          record { place = λ told. subst (λ (n : ℕ). IsDamaged (disk_now entry).now n) same (d told).0; no_events = λ told. (d told).1; file = λ told. long (is_long (disk_now entry).now (d told).1) told; said = said }
       go session.Memory d e = absurd cc
 
   pub unopened_damages : ((at : ℕ) × (session_status fault ≡ Damaged at)) ⊎ (session_status fault ≡ DiskFault) ⊎ (session_status fault ≡ Memory)

@@ -11,7 +11,7 @@ use Rattle.host_port.specs.declared.lines.Got.TheVariants.{Line, End}
 use Rattle.host_port.proofs.ScriptItems.{script_line, script_fault}
 use Rattle.host_port.proofs.ScriptHeads.{script_block}
 use Rattle.plain_repository.specs.Lines.{takes_block}
-use Rattle.emf_top.specs.Session.{GotItem}
+use Rattle.emf_top.specs.Items.{GotItem}
 
 -- a fault of the line ends the script
 pub fault_ends_it : (fault : LineFault) (place : ℕ) (unread : List ℕ) → IsFault fault (next_line_of place unread) → EndsScript fault (script_from takes_block place unread)

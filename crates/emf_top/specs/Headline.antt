@@ -1,10 +1,10 @@
--- What a run says and makes, and how it ends.
+-- What a run has to do, and how it ends.
 use Rattle.std.specs.Prelude.{◌≡◌, ◌⊎◌, ℕ, ◌-◌, List, [], ◌∷◌, ◌++◌, Bool, true, false, length, Option, Some, None, IsSome, IsTrue}
-use Rattle.host_port.specs.Host.{Told, disk_now, said_now, Rose, KeepsSaid, AddsPart}
-use Rattle.host_port.specs.Cut.{Item, Script, script_of}
+use Rattle.host_port.specs.Host.{Told, disk_now, said_now, Rose, Throughout, KeepsSaid, AddsPart}
+use Rattle.host_port.specs.Cut.{Script, script_of}
 use Rattle.host_port.specs.declared.lines.LineFault.{LineFault}
 use Rattle.host_port.specs.declared.lines.LineFault.TheVariants as faults
-use Rattle.command_runs.specs.Runs.{played, replies, events, refuses, answered}
+use Rattle.command_runs.specs.Runs.{Answer, answers, replies, events, refuses, answered}
 use Rattle.command_runs.specs.Stops.{IsAmong}
 use Rattle.op_form.specs.declared.event.Event.{Event}
 use Rattle.plain_repository.specs.Lines.{takes_block}
@@ -12,32 +12,16 @@ use Rattle.plain_repository.specs.State.{State}
 use Rattle.plain_repository.specs.Events.{play}
 use Rattle.plain_repository.specs.Repository.{decide}
 use Rattle.plain_repository.specs.Store.{Stands, StandsForNoEvents, IsDamaged}
+use Rattle.emf_session.specs.declared.answered.SessionFault.{SessionFault}
+use Rattle.emf_session.specs.declared.answered.SessionFault.TheVariants as session
 use Rattle.emf_top.specs.declared.top.Status.{Status}
 use Rattle.emf_top.specs.declared.top.Status.TheVariants.{Accepted, Refused, BadWords, ReadFault, WriteFault, DiskFault, Damaged, Memory, Input}
-use Rattle.emf_top.specs.declared.session.SessionFault.{SessionFault}
-use Rattle.emf_top.specs.declared.session.SessionFault.TheVariants as session
 
 -- the script that an input is
 abbrev pub script : List ℕ → Script
 script input = script_of takes_block input
 
--- what is said in reply to a script
-abbrev pub said_by : State → Script → List ℕ
-said_by s commands = replies decide play s commands.items
-
--- which events a script makes
-abbrev pub made_by : State → Script → List Event
-made_by s commands = events decide play s commands.items
-
--- whether some reply to a script is a refusal
-abbrev pub refused_in : State → Script → Bool
-refused_in s commands = refuses decide play s commands.items
-
--- how many events are answered once so many bytes were said
-abbrev pub least_of : State → Script → ℕ → ℕ
-least_of s commands = answered decide play s commands.items
-
--- the answer to a fault of the input
+-- the status of a fault of the input
 abbrev pub input_status : LineFault → Status
 input_status (faults.LineTooLong at) = Input 1 at
 input_status (faults.BlockTooLong at) = Input 2 at
@@ -47,72 +31,93 @@ input_status (faults.InputTooLong at) = Input 5 at
 input_status faults.Failed = ReadFault
 input_status faults.Memory = Memory
 
--- the answer to a script that is served to its end
+-- the status of a script that is served to its end
 abbrev pub end_of : Option LineFault → Bool → Status
 end_of (Some fault) refused = input_status fault
 end_of None true = Refused
 end_of None false = Accepted
 
--- the answer to a script, by its fault and its refusals
-abbrev pub outcome : State → Script → Status
-outcome s commands = end_of commands.fault (refused_in s commands)
+-- What a run has to do: the answers that it gives, one after the other, each printed once its event is kept; how it ends
+-- where nothing fails; and whether it reads its input.
+pub record Task : Type 0 where
+  pub answers : List (Answer Event)
+  pub end : Status
+  pub reads : Bool
 
--- all of the replies were said, and the file stands for all of the events
-pub record IsServed (s : State) (commands : Script) (first : List Event) (before now : Told) : Type 0 where
-  pub said : said_now now ≡ said_now before ++ said_by s commands
-  pub stands : Stands (disk_now now).now (first ++ made_by s commands)
+-- a script is served: each of its items is answered
+abbrev pub serving : State → Script → Task
+serving s commands = record { answers = answers decide play s commands.items; end = end_of commands.fault (refuses (answers decide play s commands.items)); reads = true }
 
--- the command whose reply was not said whole is kept, and so is each before it, whose replies were
-pub record IsUnsaid (s : State) (commands : Script) (first : List Event) (before now : Told) : Type 0 where
-  pub done : List Item
-  pub item : Item
-  pub left : List Item
-  pub items : commands.items ≡ (done ++ item ∷ []) ++ left
-  pub said : AddsPart (said_now before ++ replies decide play s done) (decide (played play s (events decide play s done)) item).reply (said_now now)
-  pub stands : Stands (disk_now now).now (first ++ events decide play s (done ++ item ∷ []))
+-- What the words ask for, on the state of the store and the input; None where they are of no form. Without words the
+-- input's script is served.
+abbrev pub task_of : List (List ℕ) → State → List ℕ → Option Task
+task_of [] s input = Some (serving s (script input))
+task_of (word ∷ words) s input = None
 
--- nothing was said, and the file stands for the first events alone
+-- the words ask for this, where the file stood for these events
+abbrev pub Asks : List (List ℕ) → Told → State → Task → Type 0
+Asks words before s task = task_of words s before.left ≡ Some task
+
+-- the words are of no form
+abbrev pub AreBad : List (List ℕ) → Type 0
+AreBad words = (s : State) (input : List ℕ) → task_of words s input ≡ None
+
+-- all of the replies were printed, and the file stands for all of the events
+pub record IsServed (task : Task) (first : List Event) (before now : Told) : Type 0 where
+  pub said : said_now now ≡ said_now before ++ replies task.answers
+  pub stands : Stands (disk_now now).now (first ++ events task.answers)
+
+-- the answer whose reply was not printed whole is kept, and so is each before it, whose replies were
+pub record IsUnsaid (task : Task) (first : List Event) (before now : Told) : Type 0 where
+  pub done : List (Answer Event)
+  pub answer : Answer Event
+  pub left : List (Answer Event)
+  pub whole : task.answers ≡ (done ++ answer ∷ []) ++ left
+  pub said : AddsPart (said_now before ++ replies done) answer.reply (said_now now)
+  pub stands : Stands (disk_now now).now (first ++ events (done ++ answer ∷ []))
+
+-- nothing was printed, and the file stands for the first events alone
 pub record IsUnopened (first : List Event) (before now : Told) : Type 0 where
   pub said : said_now now ≡ said_now before
   pub stands : Stands (disk_now now).now first
 
--- A command that makes an event was on its way: nothing of its reply was said, and its event is kept whole or not at all.
--- Each command before it is kept, and its reply was said.
-pub record IsUnanswered (s : State) (commands : Script) (first : List Event) (before now : Told) : Type 0 where
-  pub done : List Item
-  pub item : Item
-  pub left : List Item
-  pub items : commands.items ≡ (done ++ item ∷ []) ++ left
-  pub event : IsSome (decide (played play s (events decide play s done)) item).event
-  pub said : said_now now ≡ said_now before ++ replies decide play s done
-  pub stands : Stands (disk_now now).now (first ++ events decide play s done) ⊎ Stands (disk_now now).now (first ++ events decide play s (done ++ item ∷ []))
+-- An answer that makes an event was on its way: nothing of its reply was printed, and its event is kept whole or not at
+-- all. Each answer before it is kept, and its reply was printed.
+pub record IsUnanswered (task : Task) (first : List Event) (before now : Told) : Type 0 where
+  pub done : List (Answer Event)
+  pub answer : Answer Event
+  pub left : List (Answer Event)
+  pub whole : task.answers ≡ (done ++ answer ∷ []) ++ left
+  pub event : IsSome answer.event
+  pub said : said_now now ≡ said_now before ++ replies done
+  pub stands : Stands (disk_now now).now (first ++ events done) ⊎ Stands (disk_now now).now (first ++ events (done ++ answer ∷ []))
 
--- the first commands are answered and their events kept, and of the others nothing is said and nothing kept
-pub record IsHalted (s : State) (commands : Script) (first : List Event) (before now : Told) : Type 0 where
-  pub done : List Item
-  pub left : List Item
-  pub items : commands.items ≡ done ++ left
-  pub said : said_now now ≡ said_now before ++ replies decide play s done
-  pub stands : Stands (disk_now now).now (first ++ events decide play s done)
+-- the first answers are given and their events kept, and of the others nothing is printed and nothing kept
+pub record IsHalted (task : Task) (first : List Event) (before now : Told) : Type 0 where
+  pub done : List (Answer Event)
+  pub left : List (Answer Event)
+  pub whole : task.answers ≡ done ++ left
+  pub said : said_now now ≡ said_now before ++ replies done
+  pub stands : Stands (disk_now now).now (first ++ events done)
 
--- the file stands for the first events and some of those of the script, none in part, with all whose reply was begun
-abbrev pub IsKept : State → Script → List Event → Told → Told → Type 0
-IsKept s commands first before now = IsAmong Stands first (made_by s commands) (least_of s commands (length (said_now now) - length (said_now before))) (disk_now now).now
+-- the file stands for the first events and some of those of the task, none in part, with all whose reply was begun
+abbrev pub IsKept : Task → List Event → Told → Told → Type 0
+IsKept task first before now = IsAmong Stands first (events task.answers) (answered task.answers (length (said_now now) - length (said_now before))) (disk_now now).now
 
--- A run ends so, where the file stood for the first events. A disk fault comes while the store is opened, or while a
--- command's event is on its way.
-abbrev pub Ends : State → Script → List Event → Told → Told → Status → Type 0
-Ends s commands first before now Accepted = IsServed s commands first before now × (outcome s commands ≡ Accepted) × (now.left ≡ [])
-Ends s commands first before now Refused = IsServed s commands first before now × (outcome s commands ≡ Refused) × (now.left ≡ [])
-Ends s commands first before now (Input fault at) = IsServed s commands first before now × (outcome s commands ≡ Input fault at)
-Ends s commands first before now WriteFault = IsUnsaid s commands first before now
-Ends s commands first before now (Damaged at) = ⊥
-Ends s commands first before now BadWords = ⊥
-Ends s commands first before now ReadFault = IsHalted s commands first before now
-Ends s commands first before now DiskFault = IsUnopened first before now ⊎ IsUnanswered s commands first before now
-Ends s commands first before now Memory = IsHalted s commands first before now
+-- A run ends so, where the file stood for the first events. A disk fault comes while the store is opened, or while an
+-- answer's event is on its way.
+abbrev pub Ends : Task → List Event → Told → Told → Status → Type 0
+Ends task first before now Accepted = IsServed task first before now × (task.end ≡ Accepted) × (IsTrue task.reads → now.left ≡ [])
+Ends task first before now Refused = IsServed task first before now × (task.end ≡ Refused) × (IsTrue task.reads → now.left ≡ [])
+Ends task first before now (Input fault at) = IsServed task first before now × (task.end ≡ Input fault at)
+Ends task first before now WriteFault = IsUnsaid task first before now
+Ends task first before now (Damaged at) = ⊥
+Ends task first before now BadWords = ⊥
+Ends task first before now ReadFault = IsHalted task first before now
+Ends task first before now DiskFault = IsUnopened first before now ⊎ IsUnanswered task first before now
+Ends task first before now Memory = IsHalted task first before now
 
--- the answer to a fault of the session
+-- the status of a fault of the session
 abbrev pub session_status : SessionFault → Status
 session_status session.DiskFault = DiskFault
 session_status session.SayFault = WriteFault
@@ -137,9 +142,14 @@ pub record NothingRose (before now : Told) : Type 0 where
   pub say_faults : Rose before.say_faults now.say_faults → ⊥
   pub disk_faults : Rose before.disk_faults now.disk_faults → ⊥
 
--- a host that tells has a file that is damaged at a place and stands for no list of events; it stays so, and nothing is said
+-- the file reads as it was at each moment
+abbrev pub KeepsFile : Told → Told → Type 0
+KeepsFile before now = Throughout before now (λ disk said. disk.now ≡ (disk_now before).now)
+
+-- a host that tells has a file that is damaged at a place and stands for no list of events; at each moment the file reads as
+-- it was, and nothing is printed
 pub record IsFoundDamaged (before now : Told) (at : ℕ) : Type 0 where
   pub place : IsTrue before.tells → IsDamaged (disk_now before).now at
   pub no_events : IsTrue before.tells → StandsForNoEvents (disk_now before).now
-  pub file : IsTrue before.tells → (disk_now now).now ≡ (disk_now before).now
+  pub file : KeepsFile before now
   pub said : KeepsSaid before now

@@ -3,7 +3,7 @@ ghost use Rattle.std.specs.Prelude.{◌≡◌, ◌++◌, ◌^◌, ◌<◌, ◌�
 ghost use Rattle.host_port.specs.Host.{GoesOn, KeepsDisk, KeepsSaid, RaisesTakesAlone, Rose};
 ghost use Rattle.host_port.specs.Cut.{script_from};
 ghost use Rattle.plain_repository.specs.Lines.{is_skipped, takes_block};
-ghost use Rattle.emf_top.specs.Session.{IsShortItem, GotItem};
+ghost use Rattle.emf_top.specs.Items.{IsShortItem, GotItem};
 
 use ecore_meta::Text;
 use host_port::{Got, Host, LineFault, Lines};

@@ -2,7 +2,6 @@
 #![tactic(auto)]
 
 mod item;
-mod session;
 mod top;
 
 pub use top::{Status, run};

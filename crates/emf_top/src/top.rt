@@ -1,19 +1,19 @@
 //! The top call.
-ghost use Rattle.std.specs.Prelude.{◌≡◌, ◌≢◌, ◌⊎◌, ◌+◌, ◌↔◌, ◌++◌, ◌||◌, false, Bool, ℕ, List, IsTrue, length, None};
+ghost use Rattle.std.specs.Prelude.{◌≡◌, ◌≢◌, ◌⊎◌, ◌+◌, ◌↔◌, ◌++◌, ◌||◌, true, false, Bool, ℕ, List, [], map, string_bytes, IsTrue};
 ghost use Rattle.host_port.specs.Host.{disk_now, said_now, Rose, GoesOn, Throughout, AddsPart};
 ghost use Rattle.host_port.specs.Cut.{script_from};
-ghost use Rattle.command_runs.specs.Runs.{played};
+ghost use Rattle.command_runs.specs.Runs.{played, replies, events, answered};
 ghost use Rattle.command_runs.specs.Stops.{IsRunning, IsOpenedRunning};
 ghost use Rattle.op_form.specs.declared.event.Event.{Event};
 ghost use Rattle.plain_repository.specs.Lines.{takes_block};
 ghost use Rattle.plain_repository.specs.State.{empty};
 ghost use Rattle.plain_repository.specs.Events.{play};
 ghost use Rattle.plain_repository.specs.Store.{Stands, StandsForNoEvents};
-ghost use Rattle.emf_top.specs.Session.{Holds, answered_as};
-ghost use Rattle.emf_top.specs.Headline.{script, said_by, made_by, least_of, outcome, code_of, Ends, input_status, session_status, NothingRose, IsKept, IsFoundDamaged};
+ghost use Rattle.emf_session.specs.Session.{IsStoreOf, answered_as};
+ghost use Rattle.emf_top.specs.Headline.{Task, script, serving, Asks, AreBad, code_of, Ends, input_status, session_status, NothingRose, IsKept, KeepsFile, IsFoundDamaged};
 
 use crate::item::next_item;
-use crate::session::{Answered, Session, SessionFault};
+use emf_session::{Answered, Session, SessionFault};
 use host_port::{Host, LineFault, Lines};
 use std::alloc::Global;
 
@@ -84,59 +84,69 @@ fn status_of_input(fault: LineFault) -> Status
     }
 }
 
+/// Whether there are no words.
+fn is_bare(words: &[String]) -> bool
+    ensures bare { result ≡ true → map string_bytes words.now ≡ [] }
+    ensures bad { result ≡ false → AreBad (map string_bytes words.now) }
+{
+    words.is_empty()
+}
+
 /// All that the program does: it opens the store and answers the lines of the input, one after the other.
 pub fn run<H: Host>(alloc: Global, words: &[String], host: &mut H) -> Status
-    // What is said and kept, where the file stands for a list of events: with Accepted, Refused and Input all of the plain
-    // repository's replies to the input, and all of its events; with WriteFault the event whose reply failed; with the other
-    // answers the replies to the first commands and their events, and at a disk fault the one event more or not.
-    ensures ends { IsTrue (H.told host.old).tells → length words.now ≡ 0 → (first : List Event) → Stands (disk_now (H.told host.old)).now first
-        → Ends (played play empty first) (script (H.told host.old).left) first (H.told host.old) (H.told host.new) result }
-    // At each moment a front of the replies is said.
-    ensures part { length words.now ≡ 0 → (first : List Event) → Stands (disk_now (H.told host.old)).now first
-        → Throughout (H.told host.old) (H.told host.new) (λ _ said. AddsPart (said_now (H.told host.old)) (said_by (played play empty first) (script (H.told host.old).left)) said) }
-    // At each moment whatever a stop leaves stands for the first events and some of the new ones, none in part, with all
-    // whose reply is begun; until the first sync has succeeded the disk is that of the entry, and nothing is said.
-    ensures moments { length words.now ≡ 0 → (first : List Event) → Stands (disk_now (H.told host.old)).now first
-        → Throughout (H.told host.old) (H.told host.new) (IsOpenedRunning (disk_now (H.told host.old)) Stands first (made_by (played play empty first) (script (H.told host.old).left))
-        (least_of (played play empty first) (script (H.told host.old).left)) (said_now (H.told host.old))) }
+    // What is printed and kept, where the file stands for a list of events: with Accepted, Refused and Input all of the
+    // task's replies, and all of its events; with WriteFault the event whose reply failed; with the other statuses the first
+    // replies and their events, and at a disk fault the one event more or not.
+    ensures ends { IsTrue (H.told host.old).tells → (task : Task) (first : List Event) → Stands (disk_now (H.told host.old)).now first → Asks (map string_bytes words.now) (H.told host.old) (played play empty first) task
+        → Ends task first (H.told host.old) (H.told host.new) result }
+    // At each moment a prefix of the replies is printed.
+    ensures part { (task : Task) (first : List Event) → Stands (disk_now (H.told host.old)).now first → Asks (map string_bytes words.now) (H.told host.old) (played play empty first) task
+        → Throughout (H.told host.old) (H.told host.new) (λ _ said. AddsPart (said_now (H.told host.old)) (replies task.answers) said) }
+    // At each moment whatever a crash leaves stands for the first events and some of the new ones, none in part, with all
+    // whose reply is begun; until the first sync has succeeded the disk is that of the entry, and nothing is printed.
+    ensures moments { (task : Task) (first : List Event) → Stands (disk_now (H.told host.old)).now first → Asks (map string_bytes words.now) (H.told host.old) (played play empty first) task
+        → Throughout (H.told host.old) (H.told host.new) (IsOpenedRunning (disk_now (H.told host.old)) Stands first (events task.answers) (answered task.answers) (said_now (H.told host.old))) }
     // However it ends, the file stands for the first events and some of the new ones, none in part, with all whose reply is
     // begun: the command that was being written at a disk fault is kept whole or not at all.
-    ensures stopped { IsTrue (H.told host.old).tells → length words.now ≡ 0 → (first : List Event) → Stands (disk_now (H.told host.old)).now first
-        → IsKept (played play empty first) (script (H.told host.old).left) first (H.told host.old) (H.told host.new) }
-    // Where no count rises, it answers what the script comes to, or memory ran out.
-    ensures complete { IsTrue (H.told host.old).tells → length words.now ≡ 0 → (first : List Event) → Stands (disk_now (H.told host.old)).now first
-        → NothingRose (H.told host.old) (H.told host.new) → (result ≡ outcome (played play empty first) (script (H.told host.old).left)) ⊎ (result ≡ Status.Memory) }
-    ensures words { result ≡ Status.BadWords ↔ (length words.now ≢ 0) }
+    ensures stopped { IsTrue (H.told host.old).tells → (task : Task) (first : List Event) → Stands (disk_now (H.told host.old)).now first → Asks (map string_bytes words.now) (H.told host.old) (played play empty first) task
+        → IsKept task first (H.told host.old) (H.told host.new) }
+    // Where no count rises, it ends as the task does, or memory ran out.
+    ensures complete { IsTrue (H.told host.old).tells → (task : Task) (first : List Event) → Stands (disk_now (H.told host.old)).now first → Asks (map string_bytes words.now) (H.told host.old) (played play empty first) task
+        → NothingRose (H.told host.old) (H.told host.new) → (result ≡ task.end) ⊎ (result ≡ Status.Memory) }
+    ensures words { result ≡ Status.BadWords ↔ AreBad (map string_bytes words.now) }
     ensures untouched { result ≡ Status.BadWords → H.told host.new ≡ H.told host.old }
     ensures read { result ≡ Status.ReadFault → Rose (H.told host.old).take_faults (H.told host.new).take_faults }
     ensures write { result ≡ Status.WriteFault → Rose (H.told host.old).say_faults (H.told host.new).say_faults }
     ensures disk { result ≡ Status.DiskFault → Rose (H.told host.old).disk_faults (H.told host.new).disk_faults }
-    // Damaged comes where the file stands for no list of events, with the exact place, and leaves all as it was.
+    // Damaged comes where the file stands for no list of events, with the exact place. Such a file reads as it was at each
+    // moment, whatever the status.
     ensures damaged { (at : ℕ) → result ≡ Status.Damaged at → IsFoundDamaged (H.told host.old) (H.told host.new) at }
-    ensures damages { IsTrue (H.told host.old).tells → length words.now ≡ 0 → StandsForNoEvents (disk_now (H.told host.old)).now
-        → ((at : ℕ) × (result ≡ Status.Damaged at)) ⊎ (result ≡ Status.DiskFault) ⊎ (result ≡ Status.Memory) }
+    ensures kept { StandsForNoEvents (disk_now (H.told host.old)).now → KeepsFile (H.told host.old) (H.told host.new) }
+    ensures damages { IsTrue (H.told host.old).tells → StandsForNoEvents (disk_now (H.told host.old)).now
+        → AreBad (map string_bytes words.now) ⊎ ((at : ℕ) × (result ≡ Status.Damaged at)) ⊎ (result ≡ Status.DiskFault) ⊎ (result ≡ Status.Memory) }
     ensures course { GoesOn (H.told host.old) (H.told host.new) }
 {
-    if !words.is_empty() {
-        return Status::BadWords;
+    if is_bare(words) {
+        return run_script(alloc, host);
     }
-    run_store(alloc, host)
+    Status::BadWords
 }
 
-/// The run, once its words are read.
-fn run_store<H: Host>(alloc: Global, host: &mut H) -> Status
+/// The run that serves the input's script.
+fn run_script<H: Host>(alloc: Global, host: &mut H) -> Status
     ensures ends { IsTrue (H.told host.old).tells → (first : List Event) → Stands (disk_now (H.told host.old)).now first
-        → Ends (played play empty first) (script (H.told host.old).left) first (H.told host.old) (H.told host.new) result }
+        → Ends (serving (played play empty first) (script (H.told host.old).left)) first (H.told host.old) (H.told host.new) result }
     ensures part { (first : List Event) → Stands (disk_now (H.told host.old)).now first
-        → Throughout (H.told host.old) (H.told host.new) (λ _ said. AddsPart (said_now (H.told host.old)) (said_by (played play empty first) (script (H.told host.old).left)) said) }
+        → Throughout (H.told host.old) (H.told host.new) (λ _ said. AddsPart (said_now (H.told host.old)) (replies (serving (played play empty first) (script (H.told host.old).left)).answers) said) }
     ensures moments { (first : List Event) → Stands (disk_now (H.told host.old)).now first
-        → Throughout (H.told host.old) (H.told host.new) (IsOpenedRunning (disk_now (H.told host.old)) Stands first (made_by (played play empty first) (script (H.told host.old).left))
-        (least_of (played play empty first) (script (H.told host.old).left)) (said_now (H.told host.old))) }
+        → Throughout (H.told host.old) (H.told host.new) (IsOpenedRunning (disk_now (H.told host.old)) Stands first (events (serving (played play empty first) (script (H.told host.old).left)).answers)
+        (answered (serving (played play empty first) (script (H.told host.old).left)).answers) (said_now (H.told host.old))) }
     ensures words { result ≢ Status.BadWords }
     ensures read { result ≡ Status.ReadFault → Rose (H.told host.old).take_faults (H.told host.new).take_faults }
     ensures write { result ≡ Status.WriteFault → Rose (H.told host.old).say_faults (H.told host.new).say_faults }
     ensures disk { result ≡ Status.DiskFault → Rose (H.told host.old).disk_faults (H.told host.new).disk_faults }
     ensures damaged { (at : ℕ) → result ≡ Status.Damaged at → IsFoundDamaged (H.told host.old) (H.told host.new) at }
+    ensures kept { StandsForNoEvents (disk_now (H.told host.old)).now → KeepsFile (H.told host.old) (H.told host.new) }
     ensures damages { IsTrue (H.told host.old).tells → StandsForNoEvents (disk_now (H.told host.old)).now
         → ((at : ℕ) × (result ≡ Status.Damaged at)) ⊎ (result ≡ Status.DiskFault) ⊎ (result ≡ Status.Memory) }
     ensures course { GoesOn (H.told host.old) (H.told host.new) }
@@ -158,19 +168,18 @@ fn refused_so_far(refused: bool, answered: Answered) -> bool
     refused || answered == Answered::Refused
 }
 
-/// Answers the lines that are left.
+/// Answers the lines that are left; a line that gets no reply is skipped.
 fn serve<H: Host>(alloc: Global, host: &mut H, session: &mut Session, lines: &mut Lines) -> Status
     requires fresh { lines.old.failed ≡ false }
-    requires whole { session.old.journal.broken ≡ false }
-    requires end { session.old.repo.end ≡ session.old.journal.end }
-    requires holds { IsTrue (H.told host.old).tells → ((made : List Event) × Holds (disk_now (H.told host.old)) session.old.repo session.old.journal.end made) }
-    ensures ends { IsTrue (H.told host.old).tells → (made : List Event) → Holds (disk_now (H.told host.old)) session.old.repo session.old.journal.end made
-        → Ends session.old.repo (script_from takes_block lines.old.place (lines.old.pending ++ (H.told host.old).left)) made (H.told host.old) (H.told host.new) result }
-    ensures part { (made : List Event) → Holds (disk_now (H.told host.old)) session.old.repo session.old.journal.end made
-        → Throughout (H.told host.old) (H.told host.new) (λ _ said. AddsPart (said_now (H.told host.old)) (said_by session.old.repo (script_from takes_block lines.old.place (lines.old.pending ++ (H.told host.old).left))) said) }
-    ensures moments { (made : List Event) → Holds (disk_now (H.told host.old)) session.old.repo session.old.journal.end made
-        → Throughout (H.told host.old) (H.told host.new) (IsRunning Stands made (made_by session.old.repo (script_from takes_block lines.old.place (lines.old.pending ++ (H.told host.old).left)))
-        (least_of session.old.repo (script_from takes_block lines.old.place (lines.old.pending ++ (H.told host.old).left))) (said_now (H.told host.old))) }
+    requires whole { session.old.broken ≡ false }
+    requires open { IsTrue (H.told host.old).tells → ((made : List Event) × IsStoreOf (disk_now (H.told host.old)) session.old.state made) }
+    ensures ends { IsTrue (H.told host.old).tells → (made : List Event) → IsStoreOf (disk_now (H.told host.old)) session.old.state made
+        → Ends (serving session.old.state (script_from takes_block lines.old.place (lines.old.pending ++ (H.told host.old).left))) made (H.told host.old) (H.told host.new) result }
+    ensures part { (made : List Event) → IsStoreOf (disk_now (H.told host.old)) session.old.state made
+        → Throughout (H.told host.old) (H.told host.new) (λ _ said. AddsPart (said_now (H.told host.old)) (replies (serving session.old.state (script_from takes_block lines.old.place (lines.old.pending ++ (H.told host.old).left))).answers) said) }
+    ensures moments { (made : List Event) → IsStoreOf (disk_now (H.told host.old)) session.old.state made
+        → Throughout (H.told host.old) (H.told host.new) (IsRunning Stands made (events (serving session.old.state (script_from takes_block lines.old.place (lines.old.pending ++ (H.told host.old).left))).answers)
+        (answered (serving session.old.state (script_from takes_block lines.old.place (lines.old.pending ++ (H.told host.old).left))).answers) (said_now (H.told host.old))) }
     ensures words { result ≢ Status.BadWords }
     ensures read { result ≡ Status.ReadFault → Rose (H.told host.old).take_faults (H.told host.new).take_faults }
     ensures write { result ≡ Status.WriteFault → Rose (H.told host.old).say_faults (H.told host.new).say_faults }
@@ -188,10 +197,15 @@ fn serve<H: Host>(alloc: Global, host: &mut H, session: &mut Session, lines: &mu
                 }
                 return Status::Accepted;
             }
-            Ok(Some(item)) => match session.step(alloc, host, &item) {
-                Ok(answered) => refused = refused_so_far(refused, answered),
-                Err(fault) => return status_of(fault),
-            },
+            Ok(Some(item)) => {
+                if item.is_skipped() {
+                    continue;
+                }
+                match session.step(alloc, host, item.line(), item.block()) {
+                    Ok(answered) => refused = refused_so_far(refused, answered),
+                    Err(fault) => return status_of(fault),
+                }
+            }
         }
     }
 }

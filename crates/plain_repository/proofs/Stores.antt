@@ -1,16 +1,18 @@
--- A file stands for one list of events at most, and a damaged one for none.
-use Rattle.std.proofs.Common.{◌≡◌, ◌≢◌, inl, inr, ℕ, suc, ◌+◌, List, [], ◌∷◌, ◌++◌, Bool, ◌&&◌, length, drop, get_or, refl, sym, ◌∙◌, ap, subst, arith, append_assoc}
+-- A file stands for one list of events at most, and a damaged one for none; it is damaged at one place at most.
+use Rattle.std.proofs.Common.{◌≡◌, ◌≢◌, inl, inr, ℕ, suc, ◌+◌, ◌^◌, ◌<◌, ◌≤◌, List, [], ◌∷◌, ◌++◌, Bool, true, ◌&&◌, length, take, drop, get_or, refl, sym, ◌∙◌, ap, subst, arith, append_assoc, length-append}
 use Rattle.std.specs.Prelude.{IsTrue, map, All}
-use Rattle.std.proofs.lemmas.List.{get_or-drop}
-use Rattle.commit_journal.specs.Journal.{StandsFor, ReadsTo, EndsAt, IsShort, records, four_bytes, MountedFrom}
-use Rattle.commit_journal.proofs.Unique.{one_meaning, form_same, rest_same, behind_header}
+use Rattle.std.proofs.lemmas.Bool.{cases_order}
+use Rattle.std.proofs.lemmas.List.{get_or-drop, get_or-take, get_or_append_left, take_at}
+use Rattle.commit_journal.specs.Journal.{StandsFor, ReadsTo, EndsAt, IsShort, IsNoHeader, header, record_of, records, four_bytes, MountedFrom}
+use Rattle.commit_journal.proofs.Ends.{length-header, length-record_of}
+use Rattle.commit_journal.proofs.Unique.{one_meaning, form_same, rest_same, behind_header, stuck_for_all}
 use Rattle.commit_journal.proofs.Mounting.{length-new_file}
 use Rattle.command_runs.specs.Runs.{played}
 use Rattle.op_form.specs.declared.event.Event.{Event}
 use Rattle.op_form.specs.Events.{event_form}
 use Rattle.plain_repository.specs.State.{State, empty}
 use Rattle.plain_repository.specs.Events.{play, playable, are_playable}
-use Rattle.plain_repository.specs.Store.{Stands}
+use Rattle.plain_repository.specs.Store.{Stands, StandsForNoEvents, IsBroken, IsDamaged}
 use Rattle.plain_repository.proofs.Forms.{forms_are, and_left, and_right}
 
 -- a file whose records end at a closed gate stands for their events alone
@@ -72,3 +74,156 @@ pub from_mounted : (old new : List ℕ) (forms : List (List ℕ)) → MountedFro
 from_mounted old new forms (inl same) stood = subst (λ (l : List ℕ). StandsFor l forms) same.1 stood
 from_mounted old new forms (inr fresh) (inl few) = inl (fresh.0, few.1)
 from_mounted old new forms (inr fresh) (inr many) = absurd (omega (arith, many.0, ap length fresh.1, length-new_file))
+
+-- one event more
+pub map-more : (events : List Event) (event : Event) → map event_form (events ++ event ∷ []) ≡ map event_form events ++ event_form event ∷ []
+map-more [] event = refl
+map-more (e ∷ events) event = ap (λ (l : List (List ℕ)). event_form e ∷ l) (map-more events event)
+
+pub playable-more : (s : State) (events : List Event) (event : Event) → IsTrue (are_playable s events) → IsTrue (playable (played play s events) event) → IsTrue (are_playable s (events ++ event ∷ []))
+playable-more s [] event could can = subst (λ (b : Bool). IsTrue (b && true)) (sym can) refl
+playable-more s (e ∷ events) event could can = subst (λ (b : Bool). IsTrue (b && are_playable (play s e) (events ++ event ∷ []))) (sym (and_left _ _ could)) (playable-more (play s e) events event (and_right _ _ could) can)
+
+-- a file stands for one list of events
+pub same_events : (file : List ℕ) (first made : List Event) → Stands file first → Stands file made → first ≡ made
+same_events file first made one two = forms_are empty first made one.playable two.playable (elim two.forms [
+  | inl few ↦ elim one.forms [ inl x ↦ x.1 ∙ sym few.1 | inr x ↦ absurd (omega (arith, few.0, x.0)) ]
+  | inr many ↦ one_meaning file (map event_form first) (map event_form made) many.1.0 one.forms many.1.1
+])
+
+-- the record that stands where shorter records end: its form, and the forms behind it
+pub record NextForm (a b : List (List ℕ)) (s t : List ℕ) : Type 0 where
+  pub form : List ℕ
+  pub more : List (List ℕ)
+  pub is : b ≡ a ++ form ∷ more
+  pub short : IsShort form
+  pub stands : s ≡ record_of form ++ (records more ++ t)
+  pub within : length (records a) + (5 + length form) ≤ length (records b)
+
+next_form : (a b : List (List ℕ)) (s t : List ℕ) → records a ++ s ≡ records b ++ t → length (records a) < length (records b) → All IsShort a → All IsShort b → NextForm a b s t
+next_form [] [] s t same longer short_a short_b = absurd (omega (arith, longer))
+next_form [] (h ∷ b) s t same longer short_a short_b = record {
+  form = h;
+  more = b;
+  is = refl;
+  short = first_of b h short_b;
+  stands = same ∙ append_assoc (record_of h) (records b) t;
+  within = omega (arith, length-append (record_of h) (records b), length-record_of h);
+}
+next_form (f ∷ a) [] s t same longer short_a short_b = absurd (omega (arith, longer))
+next_form (f ∷ a) (h ∷ b) s t same longer short_a short_b =
+    let tails : (four_bytes (length f) ++ f) ++ (records a ++ s) ≡ (four_bytes (length h) ++ h) ++ (records b ++ t) =
+    sym (append_assoc (four_bytes (length f) ++ f) (records a) s) ∙ ap (λ (l : List ℕ). drop 1 l) same ∙ append_assoc (four_bytes (length h) ++ h) (records b) t in
+    let short_f = first_of a f short_a in
+    let short_h = first_of b h short_b in
+    let one = form_same f h (records a ++ s) (records b ++ t) short_f short_h tails in
+    let rest = rest_same f h (records a ++ s) (records b ++ t) short_f short_h tails in
+    let size_f : length (records (f ∷ a)) ≡ 5 + length f + length (records a) = omega (arith, length-append (record_of f) (records a), length-record_of f) in
+    let size_h : length (records (h ∷ b)) ≡ 5 + length h + length (records b) = omega (arith, length-append (record_of h) (records b), length-record_of h) in
+    let size_same : length f ≡ length h = ap length one in
+    let next = next_form a b s t rest (omega (arith, longer, size_f, size_h, size_same)) (rest_of a f short_a) (rest_of b h short_b) in
+    let within = next.within in
+    record {
+      form = next.form;
+      more = next.more;
+      is = ap (λ (l : List ℕ). l ∷ b) (sym one) ∙ ap (λ (l : List (List ℕ)). f ∷ l) next.is;
+      short = next.short;
+      stands = next.stands;
+      within = omega (arith, within, size_f, size_h, size_same);
+    }
+
+last_same : (a more : List (List ℕ)) (x y : List ℕ) → a ++ x ∷ [] ≡ a ++ y ∷ more → x ≡ y
+last_same [] more x y is = cc
+last_same (f ∷ a) more x y is = let tail : a ++ x ∷ [] ≡ a ++ y ∷ more = cc in last_same a more x y tail
+
+-- a file whose header differs reads as no records
+no_header_reads : (file : List ℕ) (forms : List (List ℕ)) (place at : ℕ) → ReadsTo file forms place → IsNoHeader file at → ⊥
+no_header_reads file forms place at reads none =
+    let within = none.within in
+    let inside : at < place = omega (arith, within, reads.place_is) in
+    none.differs (sym (get_or-take place file at 0 inside) ∙ ap (λ (l : List ℕ). get_or l at 0) reads.front ∙ get_or_append_left header (records forms) 0 at (omega (arith, within, length-header)))
+
+-- of two places where the header differs neither is the earlier
+no_header_before : (file : List ℕ) (a b : ℕ) → IsNoHeader file a → IsNoHeader file b → a < b → ⊥
+no_header_before file a b one two before =
+    one.differs (sym (get_or-take b file a 0 before) ∙ ap (λ (l : List ℕ). get_or l a 0) two.same ∙ get_or-take b header a 0 before)
+
+-- events whose records go on behind those of others, by one form at least: these and one more have the first of these forms
+one_event_more : (events : List Event) (forms : List (List ℕ)) (form : List ℕ) (more : List (List ℕ)) → IsTrue (are_playable empty events) → map event_form events ≡ forms ++ form ∷ more
+    → (next : List Event) × IsTrue (are_playable empty next) × (map event_form next ≡ forms ++ form ∷ [])
+one_event_more events forms form more could is =
+    let split = split_last events forms form more empty could (is ∙ sym (append_assoc forms (form ∷ []) more)) in (
+      split.0 ++ split.1 ∷ [],
+      playable-more empty split.0 split.1 split.4 split.5,
+      map-more split.0 split.1 ∙ ap (λ (l : List (List ℕ)). l ++ event_form split.1 ∷ []) split.2 ∙ ap (λ (l : List ℕ). forms ++ l ∷ []) split.3,
+    )
+
+-- a reading of events goes on where another is broken
+module _ (file : List ℕ) (p q : ℕ) (events : List Event) (broken : IsBroken file p) (could : IsTrue (are_playable empty events)) (reads : ReadsTo file (map event_form events) q) (before : p < q) (low : q < 2 ^ 40) where
+  sizes : length (records (map event_form broken.events)) < length (records (map event_form events))
+  sizes = let place_p = broken.reads.place_is in let place_q = reads.place_is in omega (arith, before, place_p, place_q)
+
+  next : NextForm (map event_form broken.events) (map event_form events) (drop p file) (drop q file)
+  next = next_form (map event_form broken.events) (map event_form events) (drop p file) (drop q file) (sym (behind_header file (map event_form broken.events) p broken.reads) ∙ behind_header file (map event_form events) q reads)
+      sizes broken.reads.sizes reads.sizes
+
+  room : p + 5 + length next.form < 2 ^ 40
+  room = let place_p = broken.reads.place_is in let place_q = reads.place_is in let within = next.within in omega (arith, low, place_p, place_q, within)
+
+  there : take (5 + length next.form) (drop p file) ≡ record_of next.form
+  there = ap (λ (l : List ℕ). take (5 + length next.form) l) next.stands ∙ take_at (record_of next.form) (records next.more ++ drop q file) (5 + length next.form) (length-record_of next.form)
+
+  pub goes_on : ⊥
+  goes_on = elim broken.stuck [
+    | inl stuck ↦ stuck.no_record next.form next.short room there
+    | inr unplayable ↦
+        let longer : length (records (map event_form broken.events)) < length (records (map event_form broken.events ++ unplayable.bytes ∷ [])) =
+        (let place_p = broken.reads.place_is in let place_u = unplayable.reads.place_is in omega (arith, place_p, place_u)) in
+        let last = next_form (map event_form broken.events) (map event_form broken.events ++ unplayable.bytes ∷ []) (drop p file) (drop (p + 5 + length unplayable.bytes) file)
+        (sym (behind_header file (map event_form broken.events) p broken.reads) ∙ behind_header file (map event_form broken.events ++ unplayable.bytes ∷ []) (p + 5 + length unplayable.bytes) unplayable.reads)
+        longer broken.reads.sizes unplayable.reads.sizes in
+        let tails : (four_bytes (length last.form) ++ last.form) ++ (records last.more ++ drop (p + 5 + length unplayable.bytes) file) ≡ (four_bytes (length next.form) ++ next.form) ++ (records next.more ++ drop q file) =
+        ap (λ (l : List ℕ). drop 1 l) (sym last.stands ∙ next.stands) in
+        let same : unplayable.bytes ≡ next.form = last_same (map event_form broken.events) last.more unplayable.bytes last.form last.is
+        ∙ form_same last.form next.form (records last.more ++ drop (p + 5 + length unplayable.bytes) file) (records next.more ++ drop q file) last.short next.short tails in
+        let more = one_event_more events (map event_form broken.events) next.form next.more could next.is in
+        unplayable.no_event more.0 more.1 (more.2 ∙ ap (λ (l : List ℕ). map event_form broken.events ++ l ∷ []) (sym same))
+  ]
+
+-- a file is damaged at one place
+pub same_damage : (file : List ℕ) (first second : ℕ) → IsDamaged file first → IsDamaged file second → first ≡ second
+same_damage file first second one two = elim (cases_order first second) [
+  | inl same ↦ same
+  | inr other ↦ absurd (elim other [
+    | inl before ↦ earlier first second one two before
+    | inr behind ↦ earlier second first two one behind
+  ])
+]
+  where
+    earlier : (p q : ℕ) → IsDamaged file p → IsDamaged file q → p < q → ⊥
+    earlier p q a b before = elim a.found [
+      | inl none ↦ elim b.found [
+        | inl other ↦ no_header_before file p q none other before
+        | inr broken ↦ no_header_reads file (map event_form broken.events) q p broken.reads none
+      ]
+      | inr broken ↦ elim b.found [
+        | inl none ↦ no_header_reads file (map event_form broken.events) p q broken.reads none
+        | inr other ↦ goes_on file p q other.events broken other.playable other.reads before other.low
+      ]
+    ]
+
+-- a file that is damaged stands for no events
+pub damaged_for_none : (file : List ℕ) (at : ℕ) → IsDamaged file at → StandsForNoEvents file
+damaged_for_none file at damaged events stood = elim stood.forms [
+  | inl few ↦ let long = damaged.long in omega (arith, few.0, long)
+  | inr many ↦ elim damaged.found [
+    | inl none ↦ no_header_reads file (map event_form events) many.1.0 at many.1.1.reads none
+    | inr broken ↦ elim broken.stuck [
+      | inl stuck ↦ stuck_for_all file (map event_form broken.events) (map event_form events) at many.1.0 broken.reads stuck many.1.1
+      | inr unplayable ↦
+          let more = reads_first file (map event_form broken.events ++ unplayable.bytes ∷ []) (map event_form events) (at + 5 + length unplayable.bytes) many.1.0 unplayable.reads many.1.1 in
+          let first = one_event_more events (map event_form broken.events) unplayable.bytes more.0 stood.playable (more.1 ∙ append_assoc (map event_form broken.events) (unplayable.bytes ∷ []) more.0) in
+          unplayable.no_event first.0 first.1 first.2
+    ]
+  ]
+]

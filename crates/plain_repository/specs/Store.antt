@@ -1,5 +1,5 @@
 -- What the bytes of a file stand for.
-use Rattle.std.specs.Prelude.{◌≡◌, ◌⊎◌, ℕ, ◌+◌, List, [], ◌∷◌, ◌++◌, IsTrue, length, map}
+use Rattle.std.specs.Prelude.{◌≡◌, ◌⊎◌, ℕ, ◌+◌, ◌^◌, ◌<◌, List, [], ◌∷◌, ◌++◌, IsTrue, length, map}
 use Rattle.host_port.specs.Host.{Disk}
 use Rattle.commit_journal.specs.Journal.{StandsFor, ReadsTo, IsStuck, IsNoHeader, IsAtRest}
 use Rattle.op_form.specs.declared.event.Event.{Event}
@@ -22,16 +22,31 @@ pub record IsUnplayable (file : List ℕ) (events : List Event) (at : ℕ) : Typ
   pub reads : ReadsTo file (map event_form events ++ bytes ∷ []) (at + 5 + length bytes)
   pub no_event : (more : List Event) → IsTrue (are_playable empty more) → map event_form more ≡ map event_form events ++ bytes ∷ [] → ⊥
 
--- the records up to a place are those of events, and there neither a closed gate nor a record of an event stands
+-- the records up to a place below 2^40 are those of events, and there neither a closed gate nor a record of an event stands
 pub record IsBroken (file : List ℕ) (at : ℕ) : Type 0 where
   pub events : List Event
   pub playable : IsTrue (are_playable empty events)
   pub reads : ReadsTo file (map event_form events) at
+  pub low : at < 2 ^ 40
   pub stuck : IsStuck file at ⊎ IsUnplayable file events at
 
--- where the file is damaged: at the first byte that is not the header's, or where the reading of its records stops
-abbrev pub IsDamaged : List ℕ → ℕ → Type 0
-IsDamaged file at = IsNoHeader file at ⊎ IsBroken file at
+-- Where a file is damaged that is long enough to hold a record: at the first byte that is not the header's, or where the
+-- reading of its records stops.
+pub record IsDamaged (file : List ℕ) (at : ℕ) : Type 0 where
+  pub long : 17 < length file
+  pub found : IsNoHeader file at ⊎ IsBroken file at
+
+-- a file stands for one list of events at most
+abbrev pub StandsForOne : Type 0
+StandsForOne = (file : List ℕ) (first second : List Event) → Stands file first → Stands file second → first ≡ second
+
+-- a file is damaged at one place at most
+abbrev pub IsDamagedOnce : Type 0
+IsDamagedOnce = (file : List ℕ) (first second : ℕ) → IsDamaged file first → IsDamaged file second → first ≡ second
+
+-- a file that is damaged stands for no list of events
+abbrev pub DamagedStandsForNone : Type 0
+DamagedStandsForNone = (file : List ℕ) (at : ℕ) → IsDamaged file at → StandsForNoEvents file
 
 -- a store between two commands: all of it is stable, and it stands for the events up to the closed gate at end
 pub record Rests (disk : Disk) (end : ℕ) (events : List Event) : Type 0 where

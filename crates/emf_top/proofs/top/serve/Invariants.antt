@@ -5,8 +5,8 @@ use Rattle.emf_top.proofs.Serving.{Serving}
 use Rattle.emf_top.proofs.top.serve.Given as goal
 
 abbrev pub invariant-commands : goal.invariant-commands
-invariant-commands g l = Serving (g.H.Host.told l.fn.host) (g.H.Host.told l.host) l.fn.session.repo l.fn.session.journal.end (script_from takes_block l.fn.lines.place (l.fn.lines.pending ++ (g.H.Host.told l.fn.host).left))
-    l.lines.failed l.lines.place l.lines.pending l.refused l.session.repo l.session.journal.end l.session.journal.broken
+invariant-commands g l = Serving (g.H.Host.told l.fn.host) (g.H.Host.told l.host) l.fn.session.state (script_from takes_block l.fn.lines.place (l.fn.lines.pending ++ (g.H.Host.told l.fn.host).left))
+    l.lines.failed l.lines.place l.lines.pending l.refused l.session.state l.session.broken
 
 abbrev pub decreases-commands : goal.decreases-commands
 decreases-commands g l = 2 ^ 40 - l.lines.place

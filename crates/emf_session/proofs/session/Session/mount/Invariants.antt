@@ -1,6 +1,6 @@
 use Rattle.std.proofs.Common.{◌-◌, ◌^◌}
-use Rattle.emf_top.proofs.Opening.{Replays}
-use Rattle.emf_top.proofs.session.Session.mount.Given as goal
+use Rattle.emf_session.proofs.Opening.{Replays}
+use Rattle.emf_session.proofs.session.Session.mount.Given as goal
 
 abbrev pub invariant-records : goal.invariant-records
 invariant-records g l = Replays (g.H.Host.told l.fn.host) (g.H.Host.told l.host) l.walk l.repo

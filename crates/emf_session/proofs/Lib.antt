@@ -1,0 +1,5 @@
+pub mod Answering
+pub mod Entering
+pub mod Faults
+pub mod Opening
+pub mod Playing

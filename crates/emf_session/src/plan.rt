@@ -1,0 +1,195 @@
+//! The parts of a command: all that it takes is made ready, its event enters the store, and its reply is printed.
+ghost use Rattle.std.specs.Prelude.{◌≡◌, ◌⊎◌, ◌++◌, ◌^◌, ◌-◌, ◌<◌, ℕ, length, List, Option, IsTrue, IfOk, OnOk, IfErr, OnErr, IsErrOf, IsSome, true, false};
+ghost use Rattle.host_port.specs.Host.{disk_now, said_now, Rose, GoesOn, Throughout, KeepsDisk, KeepsSaid, KeepsInput, AddsPart};
+ghost use Rattle.command_runs.specs.Runs.{listed, after};
+ghost use Rattle.command_runs.specs.Stops.{IsStepping};
+ghost use Rattle.op_form.specs.declared.event.Event.{Event};
+ghost use Rattle.plain_repository.specs.State.{State};
+ghost use Rattle.plain_repository.specs.Events.{play};
+ghost use Rattle.plain_repository.specs.Repository.{decide_line};
+ghost use Rattle.plain_repository.specs.Store.{Stands};
+ghost use Rattle.repo_core.specs.Decisions.{IsShortBlock};
+ghost use Rattle.emf_session.specs.Session.{answer_to, answered_as, IsStoreOf, IsEntering, IfMade, IsPlan, IsRecordOf};
+ghost use Rattle.emf_session.specs.declared.answered.SessionFault.TheVariants.{DiskFault};
+
+use crate::answered::{Answered, SessionFault, kind_of};
+use commit_journal::{Journal, Prepared};
+use ecore_meta::Text;
+use host_port::Host;
+use repo_core::{Decision, Made, Repo};
+use script_lang::print_reply;
+use std::alloc::{AllocError, Global};
+
+/// All that answering a command takes: the bytes of the reply, and the record of the event. No memory is wanted any more.
+#[derive(Drop)]
+pub struct Plan {
+    pub reply: Vec<u8>,
+    pub answered: Answered,
+    pub ready: Option<Prepared>,
+}
+
+/// Decides a command, with all the memory that it takes; its event is made in memory, and its record is ready.
+pub(crate) fn prepare(
+    alloc: Global,
+    repo: &mut Repo,
+    journal: &Journal,
+    line: &str,
+    block: &Option<Text>,
+) -> Result<Plan, AllocError>
+    requires line { length line.now < 2 ^ 32 - 1 }
+    requires block { IsShortBlock block.now }
+    ensures plan { IfOk result (IsPlan repo.old (decide_line repo.old line.now block.now)) }
+    ensures state { OnOk result (repo.new ≡ after play repo.old (decide_line repo.old line.now block.now).event) }
+    ensures same { OnErr result (repo.new ≡ repo.old) }
+{
+    let Decision { reply, made } = repo.decide(alloc, line, block)?;
+    let answered = kind_of(&reply);
+    let reply = print_reply(alloc, &reply)?;
+    let Some(Made { event, form }) = made else {
+        return Ok(Plan {
+            reply,
+            answered,
+            ready: None,
+        });
+    };
+    let prepared = journal.prepare(alloc, &form)?;
+    repo.play(alloc, event, form.len())?;
+    Ok(Plan {
+        reply,
+        answered,
+        ready: Some(prepared),
+    })
+}
+
+/// Writes an event's record, if there is one.
+pub(crate) fn enter<H: Host>(
+    journal: &mut Journal,
+    host: &mut H,
+    ready: Option<Prepared>,
+) -> Result<(), SessionFault>
+    requires whole { journal.old.broken ≡ false }
+    requires ready { (state : State) × (event : Option Event) × IsRecordOf state event ready × (state.end ≡ journal.old.end) }
+    requires holds { IsTrue (H.told host.old).tells → ((state : State) × (made : List Event) × IsStoreOf (disk_now (H.told host.old)) state made × (state.end ≡ journal.old.end)) }
+    ensures whole { OnOk result (journal.new.broken ≡ false) }
+    ensures end { OnOk result ((state : State) (event : Option Event) → state.end ≡ journal.old.end → IsRecordOf state event ready → (after play state event).end ≡ journal.new.end) }
+    ensures added { OnOk result (IsTrue (H.told host.old).tells → (state : State) (event : Option Event) → state.end ≡ journal.old.end → IsRecordOf state event ready
+        → (made : List Event) → IsStoreOf (disk_now (H.told host.old)) state made → IsStoreOf (disk_now (H.told host.new)) (after play state event) (made ++ listed event)) }
+    ensures entering { (state : State) (event : Option Event) → state.end ≡ journal.old.end → IsRecordOf state event ready
+        → (made : List Event) → IsStoreOf (disk_now (H.told host.old)) state made → Throughout (H.told host.old) (H.told host.new) (λ disk _. IsEntering made event disk) }
+    ensures fault { IfErr result (λ e. e ≡ DiskFault) }
+    ensures broken { OnErr result (journal.new.broken ≡ true) }
+    ensures event { OnErr result (IsSome ready) }
+    ensures cause { IsErrOf result SessionFault.DiskFault → Rose (H.told host.old).disk_faults (H.told host.new).disk_faults }
+    ensures course { GoesOn (H.told host.old) (H.told host.new) }
+    ensures said { KeepsSaid (H.told host.old) (H.told host.new) }
+    ensures input { KeepsInput (H.told host.old) (H.told host.new) }
+{
+    let Some(prepared) = ready else {
+        return Ok(());
+    };
+    match journal.append(host, prepared) {
+        Ok(()) => Ok(()),
+        Err(_) => Err(SessionFault::DiskFault),
+    }
+}
+
+/// A command that was carried out: the bytes of its reply, which are not printed yet.
+#[derive(Drop)]
+pub(crate) struct Carried {
+    pub(crate) reply: Vec<u8>,
+    pub(crate) answered: Answered,
+}
+
+/// Carries a command out: its event is made in memory and written to the file, and nothing is printed.
+fn carry_out<H: Host>(
+    alloc: Global,
+    host: &mut H,
+    repo: &mut Repo,
+    journal: &mut Journal,
+    line: &str,
+    block: &Option<Text>,
+) -> Result<Carried, SessionFault>
+    requires line { length line.now < 2 ^ 32 - 1 }
+    requires block { IsShortBlock block.now }
+    requires whole { journal.old.broken ≡ false }
+    requires end { repo.old.end ≡ journal.old.end }
+    requires open { IsTrue (H.told host.old).tells → ((made : List Event) × IsStoreOf (disk_now (H.told host.old)) repo.old made) }
+    ensures reply { IfOk result (λ c. c.reply.items ≡ (answer_to repo.old line.now block.now).reply) }
+    ensures refused { IfOk result (λ c. c.answered ≡ answered_as (answer_to repo.old line.now block.now).refused) }
+    ensures state { OnOk result (repo.new ≡ after play repo.old (answer_to repo.old line.now block.now).event) }
+    ensures added { OnOk result (IsTrue (H.told host.old).tells → (made : List Event) → IsStoreOf (disk_now (H.told host.old)) repo.old made
+        → IsStoreOf (disk_now (H.told host.new)) repo.new (made ++ listed (answer_to repo.old line.now block.now).event)) }
+    ensures whole { OnOk result (journal.new.broken ≡ false) }
+    ensures end { OnOk result (repo.new.end ≡ journal.new.end) }
+    ensures faults { IfErr result (λ e. (e ≡ SessionFault.DiskFault) ⊎ (e ≡ SessionFault.Memory)) }
+    ensures event { IsErrOf result SessionFault.DiskFault → IsSome (answer_to repo.old line.now block.now).event }
+    ensures broken { IsErrOf result SessionFault.DiskFault → journal.new.broken ≡ true }
+    ensures cause { IsErrOf result SessionFault.DiskFault → Rose (H.told host.old).disk_faults (H.told host.new).disk_faults }
+    ensures memory { IsErrOf result SessionFault.Memory → KeepsDisk (H.told host.old) (H.told host.new) }
+    ensures same_repo { IsErrOf result SessionFault.Memory → repo.new ≡ repo.old }
+    ensures same_journal { IsErrOf result SessionFault.Memory → journal.new ≡ journal.old }
+    ensures entering { (made : List Event) → IsStoreOf (disk_now (H.told host.old)) repo.old made
+        → Throughout (H.told host.old) (H.told host.new) (λ disk _. IsEntering made (answer_to repo.old line.now block.now).event disk) }
+    ensures course { GoesOn (H.told host.old) (H.told host.new) }
+    ensures said { KeepsSaid (H.told host.old) (H.told host.new) }
+    ensures input { KeepsInput (H.told host.old) (H.told host.new) }
+{
+    let Ok(plan) = prepare(alloc, repo, journal, line, block) else {
+        return Err(SessionFault::Memory);
+    };
+    let Plan {
+        reply,
+        answered,
+        ready,
+    } = plan;
+    match enter(journal, host, ready) {
+        Ok(()) => Ok(Carried { reply, answered }),
+        Err(_) => Err(SessionFault::DiskFault),
+    }
+}
+
+/// Answers a command: its event is in the file before its reply is printed.
+pub(crate) fn answer<H: Host>(
+    alloc: Global,
+    host: &mut H,
+    repo: &mut Repo,
+    journal: &mut Journal,
+    line: &str,
+    block: &Option<Text>,
+) -> Result<Answered, SessionFault>
+    requires line { length line.now < 2 ^ 32 - 1 }
+    requires block { IsShortBlock block.now }
+    requires whole { journal.old.broken ≡ false }
+    requires end { repo.old.end ≡ journal.old.end }
+    requires open { IsTrue (H.told host.old).tells → ((made : List Event) × IsStoreOf (disk_now (H.told host.old)) repo.old made) }
+    ensures refused { IfOk result (λ a. a ≡ answered_as (answer_to repo.old line.now block.now).refused) }
+    ensures replied { OnOk result (IsTrue (H.told host.old).tells → said_now (H.told host.new) ≡ said_now (H.told host.old) ++ (answer_to repo.old line.now block.now).reply) }
+    ensures state { IfMade result (repo.new ≡ after play repo.old (answer_to repo.old line.now block.now).event) }
+    ensures added { IfMade result (IsTrue (H.told host.old).tells → (made : List Event) → IsStoreOf (disk_now (H.told host.old)) repo.old made
+        → IsStoreOf (disk_now (H.told host.new)) repo.new (made ++ listed (answer_to repo.old line.now block.now).event)) }
+    ensures whole { IfMade result (journal.new.broken ≡ false) }
+    ensures end { journal.new.broken ≡ false → repo.new.end ≡ journal.new.end }
+    ensures event { IsErrOf result SessionFault.DiskFault → IsSome (answer_to repo.old line.now block.now).event }
+    ensures unsaid { IsErrOf result SessionFault.DiskFault → KeepsSaid (H.told host.old) (H.told host.new) }
+    ensures broken { IsErrOf result SessionFault.DiskFault → journal.new.broken ≡ true }
+    ensures part { Throughout (H.told host.old) (H.told host.new) (λ _ said. AddsPart (said_now (H.told host.old)) (answer_to repo.old line.now block.now).reply said) }
+    ensures moments { (made : List Event) → IsStoreOf (disk_now (H.told host.old)) repo.old made
+        → Throughout (H.told host.old) (H.told host.new) (IsStepping Stands made (answer_to repo.old line.now block.now).event (said_now (H.told host.old))) }
+    ensures course { GoesOn (H.told host.old) (H.told host.new) }
+    ensures input { KeepsInput (H.told host.old) (H.told host.new) }
+    ensures disk_cause { IsErrOf result SessionFault.DiskFault → Rose (H.told host.old).disk_faults (H.told host.new).disk_faults }
+    ensures say_cause { IsErrOf result SessionFault.SayFault → Rose (H.told host.old).say_faults (H.told host.new).say_faults }
+    ensures memory { IsErrOf result SessionFault.Memory → KeepsDisk (H.told host.old) (H.told host.new) × KeepsSaid (H.told host.old) (H.told host.new) }
+    ensures same_repo { IsErrOf result SessionFault.Memory → repo.new ≡ repo.old }
+    ensures same_journal { IsErrOf result SessionFault.Memory → journal.new ≡ journal.old }
+    ensures never { IfErr result (λ e. (at : ℕ) → e ≡ SessionFault.Damaged at → ⊥) }
+{
+    let carried = match carry_out(alloc, host, repo, journal, line, block) {
+        Ok(carried) => carried,
+        Err(fault) => return Err(fault),
+    };
+    match host.say(&carried.reply) {
+        Ok(()) => Ok(carried.answered),
+        Err(_) => Err(SessionFault::SayFault),
+    }
+}

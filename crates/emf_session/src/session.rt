@@ -1,0 +1,130 @@
+//! One command after another: decided, written, made, and answered.
+ghost use Rattle.std.specs.Prelude.{◌≡◌, ◌≢◌, ◌⊎◌, ◌+◌, ◌-◌, ◌^◌, ◌<◌, ◌++◌, ℕ, List, length, IsTrue, IfOk, OnOk, IfErr, IsErrOf, IsSome, true, false};
+ghost use Rattle.host_port.specs.Host.{disk_now, said_now, Rose, GoesOn, Throughout, KeepsDisk, KeepsSaid, KeepsInput, AddsPart, StopLeaves};
+ghost use Rattle.command_runs.specs.Runs.{listed, after};
+ghost use Rattle.command_runs.specs.Stops.{IsStepping};
+ghost use Rattle.op_form.specs.declared.event.Event.{Event};
+ghost use Rattle.plain_repository.specs.Events.{play};
+ghost use Rattle.plain_repository.specs.Store.{Stands, IsDamaged, StandsForNoEvents};
+ghost use Rattle.commit_journal.specs.Journal.{StandsForSame};
+ghost use Rattle.repo_core.specs.Decisions.{IsShortBlock};
+ghost use Rattle.emf_session.specs.Session.{answer_to, IsStoreOf, IfMade, AtDamage, answered_as};
+
+use crate::answered::{Answered, SessionFault, session_fault};
+use crate::plan::answer;
+use commit_journal::{Journal, Walk};
+use ecore_meta::Text;
+use host_port::Host;
+use repo_core::{ReplayFault, Repo};
+use std::alloc::Global;
+use std::marker::Model;
+
+/// A store that is open, and its repository.
+#[derive(Drop)]
+pub struct Session {
+    repo: Repo,
+    journal: Journal,
+}
+
+impl Model for Session {
+    ghost use Rattle.std.specs.Prelude.{◌≡◌, false};
+    ghost use Rattle.emf_session.specs.State.{SessionState};
+
+    ghost Value = { SessionState };
+
+    ghost view = { λ s. record { state = s.repo; end = s.journal.end; broken = s.journal.broken } };
+
+    ghost invariant = { λ s. s.journal.broken ≡ false → s.repo.end ≡ s.journal.end };
+}
+
+impl Session {
+    /// Opens the store: its records are read, and their events played.
+    pub fn mount<H: Host>(alloc: Global, host: &mut H) -> Result<Session, SessionFault>
+        ensures whole { IfOk result (λ s. s.broken ≡ false) }
+        ensures opened { IfOk result (λ s. IsTrue (H.told host.old).tells → ((made : List Event) × IsStoreOf (disk_now (H.told host.new)) s.state made × Stands (disk_now (H.told host.old)).now made)) }
+        ensures moments { Throughout (H.told host.old) (H.told host.new) (λ disk _. (disk ≡ disk_now (H.told host.old)) ⊎ StopLeaves (StandsForSame (disk_now (H.told host.old)).now) disk) }
+        ensures damaged { IfErr result (λ e. AtDamage e (λ at. IsTrue (H.told host.old).tells → IsDamaged (disk_now (H.told host.old)).now at × StandsForNoEvents (disk_now (H.told host.old)).now)) }
+        // A file that is long enough to hold a record reads as it was at each moment, whatever the answer.
+        ensures long { 17 < length (disk_now (H.told host.old)).now → Throughout (H.told host.old) (H.told host.new) (λ disk _. disk.now ≡ (disk_now (H.told host.old)).now) }
+        ensures never { IfErr result (λ e. e ≢ SessionFault.SayFault) }
+        ensures cause { IsErrOf result SessionFault.DiskFault → Rose (H.told host.old).disk_faults (H.told host.new).disk_faults }
+        ensures course { GoesOn (H.told host.old) (H.told host.new) }
+        ensures said { KeepsSaid (H.told host.old) (H.told host.new) }
+        ensures input { KeepsInput (H.told host.old) (H.told host.new) }
+    {
+        let mut walk = match Walk::mount(host) {
+            Ok(walk) => walk,
+            Err(fault) => return Err(session_fault(fault)),
+        };
+        let mut repo = Repo::new(alloc);
+        'records: loop {
+            match walk.next_bytes(alloc, host) {
+                Err(fault) => return Err(session_fault(fault)),
+                Ok(None) => {
+                    return Ok(Session {
+                        repo,
+                        journal: walk.finish(),
+                    });
+                }
+                Ok(Some(bytes)) => match repo.replay(alloc, &bytes) {
+                    Ok(()) => {}
+                    Err(ReplayFault::NotPlayable) => {
+                        return Err(SessionFault::Damaged { at: walk.place() });
+                    }
+                    Err(ReplayFault::Memory) => return Err(SessionFault::Memory),
+                },
+            }
+        }
+    }
+
+    /// Whether a disk fault has broken the session. Then the store has to be opened again.
+    pub fn broken(&self) -> bool
+        ensures { result ≡ self.now.broken }
+    {
+        self.journal.broken()
+    }
+
+    /// Answers a command: its event is in the file before its reply is printed.
+    ///
+    /// # Errors
+    ///
+    /// `DiskFault` breaks the session, and nothing of the reply is printed. After `SayFault` the command is carried out.
+    /// After `Memory` nothing has changed. `Damaged` is never answered.
+    pub fn step<H: Host>(
+        &mut self,
+        alloc: Global,
+        host: &mut H,
+        line: &str,
+        block: &Option<Text>,
+    ) -> Result<Answered, SessionFault>
+        requires line { length line.now < 2 ^ 32 - 1 }
+        requires block { IsShortBlock block.now }
+        requires whole { self.old.broken ≡ false }
+        requires open { IsTrue (H.told host.old).tells → ((made : List Event) × IsStoreOf (disk_now (H.told host.old)) self.old.state made) }
+        // The answer is the plain repository's.
+        ensures refused { IfOk result (λ a. a ≡ answered_as (answer_to self.old.state line.now block.now).refused) }
+        ensures replied { OnOk result (IsTrue (H.told host.old).tells → said_now (H.told host.new) ≡ said_now (H.told host.old) ++ (answer_to self.old.state line.now block.now).reply) }
+        ensures state { IfMade result (self.new.state ≡ after play self.old.state (answer_to self.old.state line.now block.now).event) }
+        ensures added { IfMade result (IsTrue (H.told host.old).tells → (made : List Event) → IsStoreOf (disk_now (H.told host.old)) self.old.state made
+            → IsStoreOf (disk_now (H.told host.new)) self.new.state (made ++ listed (answer_to self.old.state line.now block.now).event)) }
+        ensures whole { IfMade result (self.new.broken ≡ false) }
+        // A disk fault comes with a command that makes an event, before any byte of the reply is printed, and breaks the session.
+        ensures event { IsErrOf result SessionFault.DiskFault → IsSome (answer_to self.old.state line.now block.now).event }
+        ensures unsaid { IsErrOf result SessionFault.DiskFault → KeepsSaid (H.told host.old) (H.told host.new) }
+        ensures broken { IsErrOf result SessionFault.DiskFault → self.new.broken ≡ true }
+        // At each moment a prefix of the reply is printed, and none of it before a crash leaves the event.
+        ensures part { Throughout (H.told host.old) (H.told host.new) (λ _ said. AddsPart (said_now (H.told host.old)) (answer_to self.old.state line.now block.now).reply said) }
+        ensures moments { (made : List Event) → IsStoreOf (disk_now (H.told host.old)) self.old.state made
+            → Throughout (H.told host.old) (H.told host.new) (IsStepping Stands made (answer_to self.old.state line.now block.now).event (said_now (H.told host.old))) }
+        ensures course { GoesOn (H.told host.old) (H.told host.new) }
+        ensures input { KeepsInput (H.told host.old) (H.told host.new) }
+        ensures disk_cause { IsErrOf result SessionFault.DiskFault → Rose (H.told host.old).disk_faults (H.told host.new).disk_faults }
+        ensures say_cause { IsErrOf result SessionFault.SayFault → Rose (H.told host.old).say_faults (H.told host.new).say_faults }
+        // Out of memory: nothing changed.
+        ensures memory { IsErrOf result SessionFault.Memory → KeepsDisk (H.told host.old) (H.told host.new) × KeepsSaid (H.told host.old) (H.told host.new) }
+        ensures same { IsErrOf result SessionFault.Memory → self.new ≡ self.old }
+        ensures never { IfErr result (λ e. (at : ℕ) → e ≡ SessionFault.Damaged at → ⊥) }
+    {
+        answer(alloc, host, &mut self.repo, &mut self.journal, line, block)
+    }
+}
