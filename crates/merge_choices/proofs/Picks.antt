@@ -2,6 +2,7 @@
 use Rattle.std.proofs.Common.{◌≡◌, ℕ, zero, suc, ◌+◌, ◌<◌, Bool, true, false, cond, List, [], ◌∷◌, ◌++◌, refl, sym, ap, ◌∙◌, drop, length, get_or, arith, append_assoc, drop-cons}
 use Rattle.model_state.specs.declared.operation.Operation.{Operation}
 use Rattle.merge_laws.specs.Merge.{kept, dropped}
+use Rattle.merge_choices.specs.Flags.{is_flagged, AreFlags}
 
 from_zero : (p : ℕ → Bool) (j : ℕ) → p (0 + j) ≡ p j
 from_zero p j = let e : 0 + j ≡ j = omega arith in ap p e
@@ -45,3 +46,25 @@ pub at_index : (ops : List Operation) (i : ℕ) → i < length ops → (a : Oper
 at_index [] i h = absurd (omega (arith, h))
 at_index (o ∷ ops) zero h = (o, refl)
 at_index (o ∷ ops) (suc i) h = at_index ops i (omega (arith, h))
+
+-- ---- tests that agree at each place of the list
+pub dropped_same : (p q : ℕ → Bool) (ops : List Operation) → ((i : ℕ) → i < length ops → p i ≡ q i) → dropped p ops ≡ dropped q ops
+dropped_same p q [] same = refl
+dropped_same p q (o ∷ os) same =
+    let here = same 0 (omega arith) in
+    let more = dropped_same (λ i. p (suc i)) (λ i. q (suc i)) os (λ i low. same (suc i) (omega (arith, low))) in
+    λ t. cond (here t) (o ∷ more t) (more t)
+
+pub kept_same : (p q : ℕ → Bool) (ops : List Operation) → ((i : ℕ) → i < length ops → p i ≡ q i) → kept p ops ≡ kept q ops
+kept_same p q [] same = refl
+kept_same p q (o ∷ os) same =
+    let here = same 0 (omega arith) in
+    let more = kept_same (λ i. p (suc i)) (λ i. q (suc i)) os (λ i low. same (suc i) (omega (arith, low))) in
+    λ t. cond (here t) (more t) (o ∷ more t)
+
+-- by flags for the places
+pub flags_dropped : (flags : List Bool) (count : ℕ) (test : ℕ → Bool) (ops : List Operation) → AreFlags flags count test → count ≡ length ops → dropped (is_flagged flags) ops ≡ dropped test ops
+flags_dropped flags count test ops are size = dropped_same (is_flagged flags) test ops (λ i low. are.flags i (omega (arith, low, size)))
+
+pub flags_kept : (flags : List Bool) (count : ℕ) (test : ℕ → Bool) (ops : List Operation) → AreFlags flags count test → count ≡ length ops → kept (is_flagged flags) ops ≡ kept test ops
+flags_kept flags count test ops are size = kept_same (is_flagged flags) test ops (λ i low. are.flags i (omega (arith, low, size)))

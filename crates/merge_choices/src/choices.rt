@@ -1,91 +1,73 @@
-//! Which operations the choices drop.
-ghost use Rattle.std.specs.Prelude.{◌≡◌};
+//! Which operations the choices drop, as flags for their places.
+ghost use Rattle.std.specs.Prelude.{◌≡◌, length, IfOk};
 ghost use Rattle.bucket_laws.specs.Parts.{is_in};
 ghost use Rattle.merge_laws.specs.Merge.{drops_theirs, drops_mine};
+ghost use Rattle.merge_choices.specs.Flags.{AreFlags, Flagged};
 ghost use Rattle.merge_choices.specs.RowDrops.{row_theirs, row_mine};
 
-use crate::picking::Chooser;
 use footprint::Bucket;
 use merge_laws::Side;
+use std::alloc::{AllocError, Global};
 
-/// What the letters drop of theirs.
-#[derive(Drop)]
-pub(crate) struct TheirsDropped<'a> {
-    pub buckets: &'a [Bucket],
-    pub letters: &'a [Side],
-}
-
-/// What the letters drop of mine.
-#[derive(Drop)]
-pub(crate) struct MineDropped<'a> {
-    pub buckets: &'a [Bucket],
-    pub letters: &'a [Side],
-}
-
-impl<'a> Chooser for TheirsDropped<'a> {
-    ghost test = { λ s. drops_theirs s.buckets.now s.letters.now };
-
-    fn drops(&self, place: u64) -> bool {
-        theirs_dropped(self.buckets, self.letters, place)
-    }
-}
-
-impl<'a> Chooser for MineDropped<'a> {
-    ghost test = { λ s. drops_mine s.buckets.now s.letters.now };
-
-    fn drops(&self, place: u64) -> bool {
-        mine_dropped(self.buckets, self.letters, place)
-    }
-}
-
-fn holds(places: &[u64], place: u64) -> bool
-    ensures { result ≡ is_in place places.now }
+/// Sets the flags of the places.
+fn flag_places(flags: &mut Vec<bool>, places: &[u64])
+    ensures { Flagged flags.old.items flags.new.items (λ i. is_in i places.now) }
 {
-    places.iter().any(|p| place == *p)
+    for place in places {
+        if (*place as usize) < flags.len() {
+            flags[*place as usize] = true;
+        }
+    }
 }
 
-fn row_drops_theirs(bucket: &Bucket, side: Side, place: u64) -> bool
-    ensures { result ≡ row_theirs bucket.now side place }
+fn flag_theirs(flags: &mut Vec<bool>, bucket: &Bucket, side: Side)
+    ensures { Flagged flags.old.items flags.new.items (row_theirs bucket.now side) }
 {
     match side {
-        Side::Mine => holds(bucket.theirs.as_slice(), place),
-        Side::Theirs => false,
+        Side::Mine => flag_places(flags, bucket.theirs.as_slice()),
+        Side::Theirs => {}
     }
 }
 
-fn row_drops_mine(bucket: &Bucket, side: Side, place: u64) -> bool
-    ensures { result ≡ row_mine bucket.now side place }
+fn flag_mine(flags: &mut Vec<bool>, bucket: &Bucket, side: Side)
+    ensures { Flagged flags.old.items flags.new.items (row_mine bucket.now side) }
 {
     match side {
-        Side::Mine => false,
-        Side::Theirs => holds(bucket.mine.as_slice(), place),
+        Side::Mine => {}
+        Side::Theirs => flag_places(flags, bucket.mine.as_slice()),
     }
 }
 
-fn theirs_dropped(buckets: &[Bucket], letters: &[Side], place: u64) -> bool
-    ensures { result ≡ drops_theirs buckets.now letters.now place }
+/// Flags for as many places of theirs, set where the letters drop the operation.
+pub(crate) fn theirs_dropped(
+    alloc: Global,
+    buckets: &[Bucket],
+    letters: &[Side],
+    size: usize,
+) -> Result<Vec<bool>, AllocError>
+    requires { length letters.now ≡ length buckets.now }
+    ensures { IfOk result (λ flags. AreFlags flags.items size (drops_theirs buckets.now letters.now)) }
 {
+    let mut flags = vec![in alloc; false; size]?;
     for k in 0..buckets.len() {
-        if k >= letters.len() {
-            return false;
-        }
-        if row_drops_theirs(&buckets[k], letters[k], place) {
-            return true;
-        }
+        flag_theirs(&mut flags, &buckets[k], letters[k]);
     }
-    false
+    Ok(flags)
 }
 
-fn mine_dropped(buckets: &[Bucket], letters: &[Side], place: u64) -> bool
-    ensures { result ≡ drops_mine buckets.now letters.now place }
+/// Flags for as many places of mine, set where the letters drop the operation.
+pub(crate) fn mine_dropped(
+    alloc: Global,
+    buckets: &[Bucket],
+    letters: &[Side],
+    size: usize,
+) -> Result<Vec<bool>, AllocError>
+    requires { length letters.now ≡ length buckets.now }
+    ensures { IfOk result (λ flags. AreFlags flags.items size (drops_mine buckets.now letters.now)) }
 {
+    let mut flags = vec![in alloc; false; size]?;
     for k in 0..buckets.len() {
-        if k >= letters.len() {
-            return false;
-        }
-        if row_drops_mine(&buckets[k], letters[k], place) {
-            return true;
-        }
+        flag_mine(&mut flags, &buckets[k], letters[k]);
     }
-    false
+    Ok(flags)
 }

@@ -1,25 +1,28 @@
 //! The list of an update or a merge, whichever side comes first.
-ghost use Rattle.std.specs.Prelude.{◌≡◌, ◌++◌, IfOk};
+ghost use Rattle.std.specs.Prelude.{◌≡◌, ◌++◌, ℕ, Bool, IfOk, length};
 ghost use Rattle.model_state.specs.Packages.{rev_package};
 ghost use Rattle.merge_laws.specs.Merge.{kept, dropped};
+ghost use Rattle.merge_choices.specs.Flags.{is_flagged};
 
-use crate::picking::{Chooser, keep, take};
+use crate::picking::{keep, take};
 use model_state::{Operation, Package};
 use op_form::reverse;
 use std::alloc::{AllocError, Global};
 
-/// The reversal of what is dropped of the list that is applied already, and then what is kept of the other.
-pub(crate) fn list_after<C: Chooser, D: Chooser>(
+/// The reversal of what the flags drop of the list that is applied already, and then what they keep of the other.
+pub(crate) fn list_after(
     alloc: Global,
-    drops_behind: &C,
-    behind: &[Operation],
-    drops_ahead: &D,
-    ahead: &[Operation],
+    drops_applied: &[bool],
+    applied: &[Operation],
+    drops_other: &[bool],
+    other: &[Operation],
 ) -> Result<Package, AllocError>
-    ensures { IfOk result (λ p. p ≡ rev_package (dropped (C.test drops_behind.now) behind.now) ++ kept (D.test drops_ahead.now) ahead.now) }
+    requires applied { length drops_applied.now ≡ length applied.now }
+    requires other { length drops_other.now ≡ length other.now }
+    ensures { IfOk result (λ p. p ≡ rev_package (dropped (is_flagged drops_applied.now) applied.now) ++ kept (is_flagged drops_other.now) other.now) }
 {
-    let gone = take(alloc, drops_behind, behind)?;
+    let gone = take(alloc, drops_applied, applied)?;
     let mut out = reverse(alloc, &gone)?;
-    keep(alloc, drops_ahead, ahead, &mut out)?;
+    keep(alloc, drops_other, other, &mut out)?;
     Ok(out)
 }

@@ -5,13 +5,57 @@ ghost use Rattle.merge_laws.specs.Merge.{update_list, merge_list};
 ghost use Rattle.merge_choices.specs.Faults.{IsChoiceFault};
 
 use crate::ChoiceFault;
-use crate::choices::{MineDropped, TheirsDropped};
+use crate::choices::{mine_dropped, theirs_dropped};
 use crate::lists::list_after;
 use ecore_meta::Metamodel;
-use footprint::Buckets;
+use footprint::{Bucket, Buckets};
 use merge_laws::Side;
 use model_state::Package;
-use std::alloc::Global;
+use std::alloc::{AllocError, Global};
+
+fn update_list(
+    alloc: Global,
+    theirs: &Package,
+    mine: &Package,
+    buckets: &[Bucket],
+    letters: &[Side],
+) -> Result<Package, AllocError>
+    requires { length letters.now ≡ length buckets.now }
+    ensures { IfOk result (λ p. p ≡ update_list theirs.now mine.now buckets.now letters.now) }
+{
+    let drops_theirs = theirs_dropped(alloc, buckets, letters, theirs.len())?;
+    let drops_mine = mine_dropped(alloc, buckets, letters, mine.len())?;
+    let list = list_after(
+        alloc,
+        &drops_theirs,
+        theirs.as_slice(),
+        &drops_mine,
+        mine.as_slice(),
+    )?;
+    Ok(list)
+}
+
+fn merge_list(
+    alloc: Global,
+    theirs: &Package,
+    mine: &Package,
+    buckets: &[Bucket],
+    letters: &[Side],
+) -> Result<Package, AllocError>
+    requires { length letters.now ≡ length buckets.now }
+    ensures { IfOk result (λ p. p ≡ merge_list theirs.now mine.now buckets.now letters.now) }
+{
+    let drops_theirs = theirs_dropped(alloc, buckets, letters, theirs.len())?;
+    let drops_mine = mine_dropped(alloc, buckets, letters, mine.len())?;
+    let list = list_after(
+        alloc,
+        &drops_mine,
+        mine.as_slice(),
+        &drops_theirs,
+        theirs.as_slice(),
+    )?;
+    Ok(list)
+}
 
 /// The list that an update appends to theirs: the reversal of what the choices drop of theirs, and then what they keep of mine. The buckets
 /// are those of the two packages, with a choice for each; BadChoice comes exactly where the numbers differ.
@@ -37,15 +81,7 @@ pub fn update_package(
             got: choices.len() as u64,
         });
     }
-    let behind = TheirsDropped {
-        buckets: rows,
-        letters: choices,
-    };
-    let ahead = MineDropped {
-        buckets: rows,
-        letters: choices,
-    };
-    match list_after(alloc, &behind, theirs.as_slice(), &ahead, mine.as_slice()) {
+    match update_list(alloc, theirs, mine, rows, choices) {
         Ok(list) => Ok(list),
         Err(_) => Err(ChoiceFault::Memory),
     }
@@ -75,15 +111,7 @@ pub fn merge_package(
             got: choices.len() as u64,
         });
     }
-    let behind = MineDropped {
-        buckets: rows,
-        letters: choices,
-    };
-    let ahead = TheirsDropped {
-        buckets: rows,
-        letters: choices,
-    };
-    match list_after(alloc, &behind, mine.as_slice(), &ahead, theirs.as_slice()) {
+    match merge_list(alloc, theirs, mine, rows, choices) {
         Ok(list) => Ok(list),
         Err(_) => Err(ChoiceFault::Memory),
     }

@@ -1,49 +1,38 @@
 //! Operations that are kept, and operations that are dropped.
-ghost use Rattle.std.specs.Prelude.{◌≡◌, ◌++◌, ℕ, Bool, IfOk, OnOk};
+ghost use Rattle.std.specs.Prelude.{◌≡◌, ◌++◌, IfOk, OnOk, length};
 ghost use Rattle.merge_laws.specs.Merge.{kept, dropped};
+ghost use Rattle.merge_choices.specs.Flags.{is_flagged};
 
 use ecore_meta::List;
 use model_state::{Operation, Package};
 use std::alloc::{AllocError, Global};
 
-/// A test of the places of a list: which are dropped.
-pub(crate) trait Chooser {
-    /// The test of the places.
-    ghost test: { Self → ℕ → Bool };
-
-    /// Whether the operation at the place is dropped.
-    fn drops(&self, place: u64) -> bool
-        ensures { result ≡ test self.now place };
-}
-
-/// Puts the operations that are kept behind those that stand, in order.
-pub(crate) fn keep<C: Chooser>(
+/// Puts the operations whose flags are not set after those that stand, in order.
+pub(crate) fn keep(
     alloc: Global,
-    chooser: &C,
+    flags: &[bool],
     ops: &[Operation],
     out: &mut Package,
 ) -> Result<(), AllocError>
-    ensures { OnOk result (out.new ≡ out.old ++ kept (C.test chooser.now) ops.now) }
+    requires { length flags.now ≡ length ops.now }
+    ensures { OnOk result (out.new ≡ out.old ++ kept (is_flagged flags.now) ops.now) }
 {
     for i in 0..ops.len() {
-        if !chooser.drops(i as u64) {
+        if !flags[i] {
             out.push(ops[i].copy(alloc)?)?;
         }
     }
     Ok(())
 }
 
-/// The operations that are dropped, in order.
-pub(crate) fn take<C: Chooser>(
-    alloc: Global,
-    chooser: &C,
-    ops: &[Operation],
-) -> Result<Package, AllocError>
-    ensures { IfOk result (λ p. p ≡ dropped (C.test chooser.now) ops.now) }
+/// The operations whose flags are set, in order.
+pub(crate) fn take(alloc: Global, flags: &[bool], ops: &[Operation]) -> Result<Package, AllocError>
+    requires { length flags.now ≡ length ops.now }
+    ensures { IfOk result (λ p. p ≡ dropped (is_flagged flags.now) ops.now) }
 {
     let mut out = List::new(alloc);
     for i in 0..ops.len() {
-        if chooser.drops(i as u64) {
+        if flags[i] {
             out.push(ops[i].copy(alloc)?)?;
         }
     }

@@ -1,6 +1,15 @@
--- no letter is left
-use Rattle.merge_choices.proofs.Drops.{theirs_end}
+-- one bucket more, and none
+use Rattle.std.proofs.Common.{◌<◌, length, get_or, arith}
+use Rattle.merge_laws.specs.declared.side.Side.{Side}
+use Rattle.merge_laws.specs.declared.side.Side.TheVariants.{Mine}
+use Rattle.merge_choices.proofs.Drops.{get_any, theirs_more, theirs_end}
 use Rattle.merge_choices.proofs.choices.theirs_dropped.Goals as goal
 
-pub returns-then-k-letters : goal.returns-then-k-letters
-returns-then-k-letters c = theirs_end c.args.buckets.now c.args.letters.now c.args.place c.loop-k.k c.if-k-letters.true c.loop-k.invariant
+pub loop-k-preserved : goal.loop-k-preserved
+loop-k-preserved c =
+    let low : c.loop-k.k < length c.args.letters.now = omega (arith, c.loop-k-test.true, c.requires) in
+    let letter : Side = get_or c.args.letters.now c.loop-k.k Mine in
+    theirs_more c.args.buckets.now c.args.letters.now c.loop-k.k c.index-buckets-k.result letter c.loop-k-test.true low c.index-buckets-k.is (get_any c.args.letters.now c.loop-k.k Mine letter low) c.loop-k.flags.items c.flag_theirs.new.flags.items c.args.size c.loop-k.invariant c.flag_theirs.ensures
+
+pub returns : goal.returns
+returns c = theirs_end c.args.buckets.now c.args.letters.now c.loop-k.k c.loop-k.flags.items c.args.size c.loop-k-test.false c.loop-k.invariant
