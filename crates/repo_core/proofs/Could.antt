@@ -44,7 +44,7 @@ edit_takes s meta ws w os begun there could = follow_takes meta s.history w os (
 -- the state of a workspace's base is good
 pub base_good : (s : State) (meta : Meta) (h : History) (ws : ℕ) (w : Workspace) → s.meta ≡ Some meta → s.history ≡ h → workspace_of s ws ≡ Some w → IsOrderly s → Sound meta → Good meta (state_of meta h w.base)
 base_good s meta h ws w begun hist there orderly sound =
-    subst (λ (g : History). Good meta (state_of meta g w.base)) hist (versions_are_good s meta (record { orderly = orderly; begun = begun }) w.base (workspaces_stand s meta w (is_there s meta ws w orderly begun there)).base sound)
+    subst (λ (g : History). Good meta (state_of meta g w.base)) hist (versions_are_good s meta (record { orderly = orderly; begun = begun }) w.base (workspaces_stand s meta w (is_there s meta ws w orderly begun there)).base)
 
 -- the model behind operations that are recorded fits
 pub installed_fits : (s : State) (meta : Meta) (h : History) (ws : ℕ) (w new : Kept) (os : List Operation) (m : Plain) → s.meta ≡ Some meta → s.history ≡ h → workspace_of s ws ≡ Some (plain_of w) → IsOrderly s → LeadTo s ws os m

@@ -105,7 +105,7 @@ could_with s meta e begun could = subst (λ (m : Option Meta). playable_with s m
 pub effect_orderly : (s new : State) (meta : Meta) (e : Event) → s.meta ≡ Some meta → playable_with s s.meta e ≡ true → IsEvent e → IsOrderly s → new ≡ effect s e → IsOrderly new
 effect_orderly s new meta e begun could spelled orderly is =
     let can = could_with s meta e begun could in
-    subst IsOrderly (sym is) (subst (λ (m : Option Meta). AllOrderly m (effect s e)) (sym (same_meta s meta e can ∙ begun)) (event_kept meta s e can spelled (subst (λ (m : Option Meta). AllOrderly m s) begun orderly)))
+    subst IsOrderly (sym is) (subst (λ (m : Option Meta). AllOrderly m (effect s e)) (sym (same_meta s meta e can ∙ begun)) (event_kept meta s e begun can spelled (subst (λ (m : Option Meta). AllOrderly m s) begun orderly)))
 
 -- so it is by the result of the call that made it
 pub either_orderly : {T E : Type 0} (r : Result T E) (s new : State) (meta : Meta) (e : Event) → s.meta ≡ Some meta → playable_with s s.meta e ≡ true → IsEvent e → IsOrderly s → OnOk r (new ≡ effect s e) → OnErr r (new ≡ s) → IsOrderly new
