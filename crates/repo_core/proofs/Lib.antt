@@ -1,4 +1,5 @@
 pub mod Changing
+pub mod Chosen
 pub mod Could
 pub mod Effects
 pub mod Folding
