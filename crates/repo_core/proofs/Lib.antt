@@ -11,4 +11,5 @@ pub mod Ordered
 pub mod Playable
 pub mod Putting
 pub mod Replaying
+pub mod Reverted
 pub mod Taking
