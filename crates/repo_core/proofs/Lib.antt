@@ -12,4 +12,5 @@ pub mod Playable
 pub mod Putting
 pub mod Replaying
 pub mod Reverted
+pub mod Stopping
 pub mod Taking
