@@ -1,10 +1,10 @@
 pub mod Changing
-pub mod Chosen
 pub mod Could
 pub mod Effects
 pub mod Folding
 pub mod Grown
 pub mod Initial
+pub mod Merges
 pub mod Models
 pub mod Needed
 pub mod Ordered

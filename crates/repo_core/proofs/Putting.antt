@@ -1,5 +1,5 @@
 -- What the events Tidy, Update and Merge make of a workspace, as other operations that are put into it.
-use Rattle.std.proofs.Common.{◌≡◌, ℕ, zero, suc, List, [], ◌∷◌, ◌++◌, map, true, Option, None, Some, is_some, refl, sym, ◌∙◌, ap, subst}
+use Rattle.std.proofs.Common.{◌≡◌, ℕ, zero, suc, List, [], ◌∷◌, true, Option, None, Some, is_some, refl, sym, ◌∙◌, ap, subst}
 use Rattle.std.specs.Prelude.{slice_get, option_map}
 use Rattle.std.proofs.lemmas.Option.{same_Some}
 use Rattle.ecore_meta.specs.Meta.{Meta}

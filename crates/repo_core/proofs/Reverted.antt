@@ -1,10 +1,10 @@
 -- The reversal of a version's package could be recorded where nothing later interferes with it; and a package that was tried could be.
-use Rattle.std.proofs.Common.{◌≡◌, ◌≢◌, ℕ, ◌<◌, true, false, List, [], ◌∷◌, length, Option, None, Some, is_some, refl, sym, ◌∙◌, ap, subst}
+use Rattle.std.proofs.Common.{◌≡◌, ◌≢◌, ℕ, true, false, List, [], ◌∷◌, length, None, Some, is_some, refl, sym, ap}
 use Rattle.std.specs.Prelude.{not, ◌&&◌}
 use Rattle.ecore_meta.specs.Meta.{Meta}
 use Rattle.model_state.specs.Packages.{fold_package, rev_package}
 use Rattle.model_state.specs.declared.operation.Operation.{Operation}
-use Rattle.history_tree.specs.History.{History, path}
+use Rattle.history_tree.specs.History.{path}
 use Rattle.history_tree.specs.MergeBase.{is_among}
 use Rattle.history_tree.specs.Since.{path_after}
 use Rattle.history_tree.specs.States.{package_at}
@@ -12,7 +12,7 @@ use Rattle.history_tree.proofs.Greatest.{of_among}
 use Rattle.merge_plans.specs.Pairs.{first_interfering, have_pair}
 use Rattle.op_form.specs.declared.event.Event.TheVariants.{Edit}
 use Rattle.plain_repository.specs.State.{State, Workspace, model_of, workspace_of, is_open}
-use Rattle.plain_repository.specs.Edits.{can_follow, takes}
+use Rattle.plain_repository.specs.Edits.{can_follow}
 use Rattle.plain_repository.specs.Events.{playable_with}
 use Rattle.plain_repository.specs.Orderly.{IsOrderly, Orderly, InOrder}
 use Rattle.plain_repository.proofs.Reached.{in_order, kept}

@@ -1,4 +1,4 @@
-use Rattle.std.proofs.Common.{◌≡◌, List, inl, inr, sym, ap, ◌∙◌}
+use Rattle.std.proofs.Common.{List, inl, inr, sym, ap, ◌∙◌}
 use Rattle.std.specs.Option.{option_map}
 use Rattle.ecore_meta.specs.Meta.{Meta}
 use Rattle.model_state.specs.declared.step.ApplyFault.{ApplyFault}
