@@ -160,3 +160,26 @@ fn a_file_is_opened_or_damaged_at_its_place(rt: HostRuntime) -> Result<(), Fail>
     }
     Ok(())
 }
+
+// A store of four events that is cut within its last record is damaged where that record begins, and one without its last
+// gate where that gate stood.
+#[test]
+fn a_store_that_is_cut_is_damaged_where_its_last_whole_record_ends(
+    rt: HostRuntime,
+) -> Result<(), Fail> {
+    let alloc = rt.alloc();
+    for (length, wanted) in [
+        (378, "6 Damaged { at: 378 }\n"),
+        (379, "6 Damaged { at: 378 }\n"),
+        (383, "6 Damaged { at: 378 }\n"),
+        (400, "6 Damaged { at: 378 }\n"),
+        (416, "6 Damaged { at: 378 }\n"),
+        (417, "6 Damaged { at: 417 }\n"),
+        (418, "0 Accepted\n"),
+    ] {
+        let mut file = store_of(alloc, B)?;
+        file.truncate(length);
+        is_opened(&rt, alloc, file, wanted)?;
+    }
+    Ok(())
+}
