@@ -1,4 +1,5 @@
 pub mod Changing
+pub mod Chosen
 pub mod Could
 pub mod Effects
 pub mod Folding
@@ -10,4 +11,6 @@ pub mod Ordered
 pub mod Playable
 pub mod Putting
 pub mod Replaying
+pub mod Reverted
+pub mod Stopping
 pub mod Taking

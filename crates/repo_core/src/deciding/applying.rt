@@ -13,6 +13,7 @@ ghost use Rattle.repo_core.specs.Decisions.{seen, CanMakeIt};
 ghost use Rattle.repo_core.specs.Keeping.{plain_of};
 
 use crate::deciding::answers::{Decision, refuse, tell};
+use crate::deciding::naming::unknown;
 use crate::repo::{Begun, Repo};
 use crate::states::stop_in;
 use crate::workspace::Workspace;
@@ -22,6 +23,12 @@ use model_state::Package;
 use op_form::{Event, FormFault, decode, reverse};
 use script_lang::Refusal;
 use std::alloc::{AllocError, Global};
+
+fn holds(versions: &[u32], version: u32) -> bool
+    ensures { result ≡ is_among versions.now version }
+{
+    versions.iter().any(|u| version == *u)
+}
 
 impl Repo {
     /// `apply WS HEX`, with the bytes of a package: its operations are recorded, where all their steps can be taken.
@@ -96,15 +103,16 @@ impl Repo {
         if workspace.is_open() {
             return Ok(refuse(alloc, Refusal::CompositeOpen));
         }
-        if version >= begun.history.version_count() {
-            return Ok(refuse(alloc, Refusal::NoVersion));
-        }
+        let found = match begun.history.resolve(Some(version), None, None) {
+            Ok(found) => found,
+            Err(fault) => return Ok(refuse(alloc, unknown(fault))),
+        };
         self.orderly();
         let path = begun.history.path(alloc, workspace.base)?;
-        if !path.as_slice().iter().any(|u| version == *u) {
+        if !holds(path.as_slice(), found.version) {
             return Ok(refuse(alloc, Refusal::NotOnPath));
         }
-        self.decide_revert_of(alloc, begun, ws, workspace, version)
+        self.decide_revert_of(alloc, begun, ws, workspace, found.version)
     }
 
     /// The same, of a version on the path of the base.

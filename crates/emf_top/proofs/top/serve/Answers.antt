@@ -77,3 +77,10 @@ commands-preserved-in-Ok g c = serving_on (g.H.Host.told c.args.host.now) (g.H.H
     (g.H.Host.told c.step.new.host) (answer_to c.commands.session.state c.line.result.now c.block.result.now) (decide_read c.commands.session.state c.in-Ok-Some.item (sym c.is_skipped.ensures ∙ c.if-is_skipped.false) ∙ ap (λ (l : List ℕ). answer_to c.commands.session.state l c.in-Ok-Some.item.block) (sym c.line.ensures) ∙ ap (λ (b : Option (List ℕ)). answer_to c.commands.session.state c.line.result.now b) (sym c.block.ensures)) c.step.ensures.course c.step.ensures.part c.step.ensures.moments
     c.next_item.new.lines.failed c.step.new.self.state c.step.new.self.broken _ c.in-Ok-Some.ensures.fresh c.in-Ok.ensures.whole c.step.ensures.input
     (sym (c.refused_so_far-refused.ensures (answer_to c.commands.session.state c.line.result.now c.block.result.now).refused c.in-Ok.ensures.refused)) c.in-Ok.ensures.state c.in-Ok.ensures.replied c.in-Ok.ensures.added
+
+pub commands-preserved : goal.commands-preserved
+commands-preserved g c = serving_on (g.H.Host.told c.args.host.now) (g.H.Host.told c.commands.host) (g.H.Host.told c.next_item.new.host) c.args.session.now.state (script_from takes_block c.args.lines.now.place (c.args.lines.now.pending ++ (g.H.Host.told c.args.host.now).left)) c.commands.lines.failed c.commands.lines.place c.commands.lines.pending c.commands.refused c.commands.session.state c.commands.session.broken c.commands.invariant c.next_item.ensures.course c.next_item.ensures.disk c.next_item.ensures.said
+    c.in-Ok-Some.item c.next_item.new.lines.place c.next_item.new.lines.pending (rw c.in-Ok-Some.field-0-is at c.in-Ok-Some.ensures.item)
+    (g.H.Host.told c.step.new.host) (answer_to c.commands.session.state c.line.result.now c.block.result.now) (decide_read c.commands.session.state c.in-Ok-Some.item (sym c.is_skipped.ensures ∙ c.if-is_skipped.false) ∙ ap (λ (l : List ℕ). answer_to c.commands.session.state l c.in-Ok-Some.item.block) (sym c.line.ensures) ∙ ap (λ (b : Option (List ℕ)). answer_to c.commands.session.state c.line.result.now b) (sym c.block.ensures)) c.step.ensures.course c.step.ensures.part c.step.ensures.moments
+    c.next_item.new.lines.failed c.step.new.self.state c.step.new.self.broken _ c.in-Ok-Some.ensures.fresh c.in-Ok.ensures.whole c.step.ensures.input
+    (sym (c.refused_so_far-refused.ensures (answer_to c.commands.session.state c.line.result.now c.block.result.now).refused c.in-Ok.ensures.refused)) c.in-Ok.ensures.state c.in-Ok.ensures.replied c.in-Ok.ensures.added
