@@ -158,7 +158,7 @@ pub(crate) fn read(alloc: Global, text: &str) -> Result<Result<Metamodel, EcoreF
     Ok(read_metamodel(alloc, text.as_str()))
 }
 
-// What stands before the first blank, and what stands behind it.
+// What stands before the first blank, and what stands after it.
 pub(crate) fn worded(line: &str) -> (&str, &str) {
     line.split_once(' ').unwrap_or((line, ""))
 }

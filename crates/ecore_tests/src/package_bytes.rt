@@ -1,4 +1,4 @@
-// Events, byte for byte as the format's tables have them. Bytes are written in hex, a field a word.
+//! Events, byte for byte as the format's tables have them. Bytes are written in hex, a field a word.
 use op_form::{
     Event, FormFault, decode, decode_event, encode_event, has_form, reverse, reverse_op,
 };
@@ -46,29 +46,34 @@ fn read(alloc: Global, text: &str) -> Result<Vec<u8>, Fail> {
 }
 
 // Until the last byte of the next field has come, the bytes are no event, and the place is that where the field begins.
-fn add_field(rt: &impl Abort, alloc: Global, front: &mut Vec<u8>, field: &str) -> Result<(), Fail> {
+fn add_field(
+    rt: &impl Abort,
+    alloc: Global,
+    prefix: &mut Vec<u8>,
+    field: &str,
+) -> Result<(), Fail> {
     let wanted = Some(FormFault::NotForm {
-        at: front.len() as u64,
+        at: prefix.len() as u64,
     });
     for byte in hex::decode(alloc, field)?.as_slice() {
-        let fault = decode_event(alloc, front.as_slice()).err();
+        let fault = decode_event(alloc, prefix.as_slice()).err();
         assert_eq!(rt; fault, wanted, "{field}");
-        front.push(*byte)?;
+        prefix.push(*byte)?;
     }
     Ok(())
 }
 
-fn with_every_front(rt: &impl Abort, alloc: Global, text: &str) -> Result<Vec<u8>, Fail> {
-    let mut front = Vec::new(alloc);
+fn with_every_prefix(rt: &impl Abort, alloc: Global, text: &str) -> Result<Vec<u8>, Fail> {
+    let mut prefix = Vec::new(alloc);
     for field in text.split_whitespace() {
-        add_field(rt, alloc, &mut front, field)?;
+        add_field(rt, alloc, &mut prefix, field)?;
     }
-    Ok(front)
+    Ok(prefix)
 }
 
 fn check_event(rt: &impl Abort, alloc: Global, line: &str) -> Result<(), Fail> {
     let (text, wanted) = line.split_once(" = ").unwrap_or((line, ""));
-    let bytes = with_every_front(rt, alloc, text)?;
+    let bytes = with_every_prefix(rt, alloc, text)?;
     let event = decode_event(alloc, bytes.as_slice())?;
     assert_eq!(rt; format!(in alloc; "{event:?}")?.as_str(), wanted, "{text}");
     assert!(rt; has_form(&event), "{text}");
@@ -78,7 +83,7 @@ fn check_event(rt: &impl Abort, alloc: Global, line: &str) -> Result<(), Fail> {
 }
 
 #[test]
-fn events_are_spelled_and_every_front_is_no_form(rt: HostRuntime) -> Result<(), Fail> {
+fn events_are_spelled_and_every_prefix_is_no_form(rt: HostRuntime) -> Result<(), Fail> {
     let alloc = rt.alloc();
     for line in EVENTS.lines() {
         check_event(&rt, alloc, line)?;

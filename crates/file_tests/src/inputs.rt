@@ -126,7 +126,7 @@ fn a_failed_call_ends_a_line_and_a_block(rt: HostRuntime) -> Result<(), Fail> {
     Ok(())
 }
 
-// A case a line: the first line, how many bytes stand behind it and with which end, and what is told of the line or block that they are.
+// A case a line: the first line, how many bytes stand after it and with which end, and what is told of the line or block that they are.
 const LONG: &str = r"a\n|1048576|\n => Line
 a\n|1048576| => Line
 a\n|1048575|\r\n => Line
@@ -148,7 +148,7 @@ init\n|8388607|\n => UnendedBlock { at: 8388613 }
 init\n|8388607|\xff\n. => BlockTooLong { at: 8388613 }
 init\n|8388606|\xff\n. => NotText { at: 8388611 }";
 
-// What is told of the line or block behind the first line.
+// What is told of the line or block after the first line.
 fn second(alloc: Global, host: &mut MemoryHost) -> Result<String, Fail> {
     let mut lines = Lines::new(alloc)?;
     lines.next_line(host)?;

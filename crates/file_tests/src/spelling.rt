@@ -4,7 +4,7 @@ ghost use Rattle.std.specs.Prelude.{◌<◌};
 use std::alloc::Global;
 use std::test::Fail;
 
-// The byte that stands behind a `\`, and how many letters spell it.
+// The byte that stands after a `\`, and how many letters spell it.
 fn escaped(spelled: &str) -> (u8, usize) {
     match spelled.as_bytes() {
         [b'n', ..] => (b'\n', 1),

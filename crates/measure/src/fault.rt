@@ -1,3 +1,5 @@
+//! Why a measurement ends.
+
 use ecore_meta::MetaFault;
 use model_state::IdFault;
 use op_form::FormFault;

@@ -31,7 +31,7 @@ fn short_text(number: u32) -> &'static str
     text
 }
 
-/// The step of that number: each tenth makes an element, and the nine behind it set its attributes.
+/// The step of that number: each tenth makes an element, and the nine after it set its attributes.
 fn step(alloc: Global, number: u32) -> Result<Step, MeasureFault>
     ensures is { IfOk result IsStep }
     ensures fits { IfOk result FitsStep }

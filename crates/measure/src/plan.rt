@@ -62,7 +62,7 @@ fn shape_named(word: &String) -> Result<Shape, MeasureFault> {
     }
 }
 
-/// The task of a word behind which a shape stands.
+/// The task of a word after which a shape stands.
 fn shaped_task(word: &str, shape: &String, operations: &String) -> Result<Task, MeasureFault> {
     let shape = shape_named(shape)?;
     let operations = number(operations)?;
@@ -73,7 +73,7 @@ fn shaped_task(word: &str, shape: &String, operations: &String) -> Result<Task, 
     }
 }
 
-/// Reads the words behind the program's name.
+/// Reads the words after the program's name.
 pub(crate) fn read_plan(alloc: Global, words: &[String]) -> Result<Plan, MeasureFault> {
     let mut tasks = List::new(alloc);
     let mut is_timed = false;

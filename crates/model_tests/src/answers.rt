@@ -1,6 +1,6 @@
-// Tables of calls and of what they answer. A table is parts with an empty line between them. The first line of a part is the name of a metamodel and
-// the steps and edits that a model over it takes beforehand, with `; ` between them. Each line behind it is a call, ` -> `, and the answer; where the
-// call has more steps and edits before it, these and ` | ` stand in front. A line that begins with # says what those below it have in common.
+//! Tables of calls and of what they answer. A table is parts with an empty line between them. The first line of a part is the name of a metamodel and
+//! the steps and edits that a model over it takes beforehand, with `; ` between them. Each line after it is a call, ` -> `, and the answer; where the
+//! call has more steps and edits before it, these and ` | ` stand before it. A line that begins with # says what those below it have in common.
 ghost use Rattle.std.specs.Prelude.{IfOk, OnOk};
 ghost use Rattle.ecore_meta.specs.Sound.{Sound};
 ghost use Rattle.model_state.specs.Good.{Good};

@@ -1,4 +1,4 @@
-// A history that is made line by line, and what its calls and its log answer.
+//! A history that is made line by line, and what its calls and its log answer.
 ghost use Rattle.std.specs.Prelude.{◌<◌, IsTrue, All, length};
 
 use crate::lines::{add, texts};
@@ -18,13 +18,22 @@ tag v1 1
 tag b 3
 tag a 1";
 
-// Questions, and their answers: the log with `;` between its lines; by number, the path, branch, name and head; by name, what is there.
+// Questions, and their answers: the log with `;` between its lines; by number, the path, branch, name and head; by name, what is there; the last common version of
+// two; the merge base of a base and another version, with what is pending.
 const ASKED: &str =
     r#"log = 0 trunk - - 0 - "";1 trunk 0 - 0 v1,a "first";2 dev 1 - 0 - "second";3 trunk 1 2 0 b "third"
 counts = 4 3 3
 path 0 = 0
 path 2 = 0 1 2
 path 3 = 0 1 3
+common 2 3 = 1
+common 3 0 = 0
+common 3 3 = 3
+base 2 3 = 1
+base 3 2 = 2
+base 1 2 = 1
+base 1 2 2 = 2
+base 2 3 3 0 = 3
 name 1 = dev
 head 0 = 3
 head 1 = 2
@@ -129,6 +138,28 @@ fn path_of(alloc: Global, history: &History, v: u32) -> Result<String, Fail> {
     Ok(text)
 }
 
+fn last_common(alloc: Global, history: &History, a: u32, b: u32) -> Result<String, Fail> {
+    if a >= history.version_count() || b >= history.version_count() {
+        return Err("no such version")?;
+    }
+    Ok(format!(in alloc; "{}", history.last_common(a, b))?)
+}
+
+fn merge_base(
+    alloc: Global,
+    history: &History,
+    base: u32,
+    other: u32,
+    pending: &List<u32>,
+) -> Result<String, Fail> {
+    let count = history.version_count();
+    if base >= count || other >= count || !are_versions(history, pending.as_slice()) {
+        return Err("no such version")?;
+    }
+    let version = history.merge_base(alloc, base, pending, other)?;
+    Ok(format!(in alloc; "{version}")?)
+}
+
 fn of_branch(alloc: Global, history: &History, asked: &str, branch: u32) -> Result<String, Fail> {
     if branch >= history.branch_count() {
         return Err("no such branch")?;
@@ -154,6 +185,17 @@ fn ask(alloc: Global, history: &History, asked: &str) -> Result<String, Fail> {
         ["path", v] => path_of(alloc, history, v.parse::<u32>()?),
         ["name", branch] => of_branch(alloc, history, "name", branch.parse::<u32>()?),
         ["head", branch] => of_branch(alloc, history, "head", branch.parse::<u32>()?),
+        ["common", a, b] => last_common(alloc, history, a.parse::<u32>()?, b.parse::<u32>()?),
+        ["base", base, other, pending @ ..] => {
+            let pending = numbers(alloc, pending)?;
+            merge_base(
+                alloc,
+                history,
+                base.parse::<u32>()?,
+                other.parse::<u32>()?,
+                &pending,
+            )
+        }
         ["number", v] => shown(alloc, history.resolve(Some(v.parse::<u32>()?), None, None)),
         ["numbered", name] => Ok(format!(in alloc; "{:?}", history.branch_named(name))?),
         ["branch", name] => shown(alloc, history.resolve(None, Some(name), None)),

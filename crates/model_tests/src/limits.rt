@@ -7,7 +7,7 @@ use std::alloc::Global;
 use std::test::Fail;
 
 const TABLE: &str = r#"nested
-# ranks between two, or behind the last: midway, or 2^32 further on
+# ranks between two, or after the last: midway, or 2^32 further on
 rank 0 - -> 4294967296
 rank 5 6 -> -
 rank 0 4294967296 -> 2147483648

@@ -73,7 +73,7 @@ pub(crate) fn operation_line(alloc: Global, operation: &Operation) -> Result<Str
     words(alloc, shown.as_str())
 }
 
-// The word behind the text, with this between them.
+// The word after the text, with this between them.
 pub(crate) fn add(text: &mut String, between: &str, word: &str) -> Result<(), Fail> {
     if !text.is_empty() {
         text.push_str(between)?;

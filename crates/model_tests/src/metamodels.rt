@@ -32,7 +32,7 @@ use ecore_meta::Metamodel;
 use std::alloc::Global;
 use std::test::Fail;
 
-// Each behind its name, with an empty line between them. `E#` stands for Ecore's own namespace.
+// Each after its name, with an empty line between them. `E#` stands for Ecore's own namespace.
 const METAMODELS: &str = r##"boxes
 {"eClass":"E#//EPackage","name":"boxes","nsURI":"http://boxes/1","eClassifiers":[
 {"eClass":"E#//EClass","name":"Box","eStructuralFeatures":[

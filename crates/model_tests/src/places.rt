@@ -51,7 +51,7 @@ New y 0 a.5 30 | move y a.5 1 -> RerankPlace y 30 15
 move c a.5 -> nothing
 move b a.5 0 -> nothing
 New y 0 a.3 5 | move y a.3 -> nothing
-# behind the end of the others
+# after the end of the others
 move c a.5 2 -> NoEntry
 New y 0 a.3 5 | move y a.3 1 -> NoEntry
 # a full place gets no element more
@@ -72,7 +72,7 @@ move d e.3 -> Move d b.4 10 e.3 4294967296 b,a e
 New y 0 e.4 5 | move d e.4 -> Move d b.4 10 e.4 4294967301 b,a e
 # no room between the neighbours
 New y 0 e.5 1; New z 0 e.5 2 | move d e.5 1 -> RerankPlace y 1 4294967296; RerankPlace z 2 8589934592; Move d b.4 10 e.5 6442450944 b,a e
-# each refusal of a move, and before those behind it
+# each refusal of a move, and before those after it
 move o e.5 -> WrongType
 move o b.4 7 -> WrongType
 move a a.5 -> WouldCycle
@@ -100,7 +100,7 @@ Link d 10 1 a -; Link d 8 7 e 9; Link d 8 3 c 5 | delete d -> Unlink d 8 3 c 5; 
 # references to the subtree, by source and then by feature
 Link e 10 7 d -; Link c 11 9 d -; Link c 10 8 d - | delete d -> Unlink c 10 8 d -; Unlink c 11 9 d -; Unlink e 10 7 d -; Gone d 0 b.4 10
 Link e 10 7 b -; Link b 10 5 c - | delete b -> Unlink b 10 5 c -; Unlink e 10 7 b -; Gone d 0 b.4 10; Gone b 0 a.5 10
-# values go behind the references, the last of a list first
+# values go after the references, the last of a list first
 Put d 0 - "x"; Ins d 2 0 "u"; Ins d 2 1 "v"; Put b 1 - 3; Link e 10 7 b - | delete b -> Unlink e 10 7 b -; Put b 1 3 -; Put d 0 "x" -; Del d 2 1 "v"; Del d 2 0 "u"; Gone d 0 b.4 10; Gone b 0 a.5 10
 # subtrees
 subtree o -> o

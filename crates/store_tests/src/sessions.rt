@@ -1,5 +1,5 @@
-// Whole sessions: the lines of a script, and what is said to them. In a table a line behind `> ` is one of the script, below it
-// stands what is said to it, and a session's last line is how it ends: the exit status and its name.
+//! Whole sessions: the lines of a script, and what is said to them. In a table a line after `> ` is one of the script, below it
+//! stands what is said to it, and a session's last line is how it ends: the exit status and its name.
 mod composites;
 mod crowds;
 mod imports;
@@ -45,7 +45,7 @@ fn push_line(text: &mut String, line: &str) -> Result<(), AllocError> {
     text.push_str("\n")
 }
 
-// The lines of a session's script behind an opening, and what is told of it behind what is said to the opening.
+// The lines of a session's script after an opening, and what is told of it after what is said to the opening.
 fn parts_of(
     alloc: Global,
     opening: &str,
@@ -72,7 +72,7 @@ fn serve<H: Host>(alloc: Global, host: &mut H) -> Status {
     run(alloc, words.as_slice(), host)
 }
 
-// All that is said in a run with this input over a file, how it ends (the exit status and its name), and the file behind it.
+// All that is said in a run with this input over a file, how it ends (the exit status and its name), and the file after it.
 #[derive(Drop)]
 struct Run {
     said: String,
@@ -96,7 +96,7 @@ fn are_bytes(rt: &impl Abort, found: &[u8], wanted: &[u8]) {
     assert_eq!(rt; found, wanted);
 }
 
-// A session behind an opening is told as it is written down.
+// A session after an opening is told as it is written down.
 fn play(
     rt: &impl Abort,
     alloc: Global,
@@ -119,7 +119,7 @@ fn play(
 
 const QUESTIONS: &str = "changes 1\nshow 1\nchanges 2\nshow 2\nlog\ncat trunk\n";
 
-// The store that a run of a script leaves is read again: to questions it says what the script with these behind it says. A script that
+// The store that a run of a script leaves is read again: to questions it says what the script with these after it says. A script that
 // ends within a block is asked nothing more.
 fn is_read_again(
     rt: &impl Abort,
@@ -139,7 +139,7 @@ fn is_read_again(
     Ok(())
 }
 
-// The sessions of a table, behind the opening over a metamodel; the store that each leaves is read again.
+// The sessions of a table, after the opening over a metamodel; the store that each leaves is read again.
 fn are_answered(rt: &impl Abort, alloc: Global, metamodel: &str, table: &str) -> Result<(), Fail> {
     let opening = beginning(alloc, metamodel, "")?;
     for session in table.split("\n\n") {

@@ -21,15 +21,16 @@ pub(crate) fn metamodel(alloc: Global, document: &str) -> Result<Metamodel, Fail
     Ok(read_metamodel(alloc, text.as_str())?)
 }
 
-// What stands before the first blank, and what stands behind it.
+// What stands before the first blank, and what stands after it.
 pub(crate) fn cut(line: &str) -> (&str, &str) {
     line.split_once(' ').unwrap_or((line, ""))
 }
 
-// What is shown of a value, with texts and lists in place of the structures that hold them.
+// What is shown of a value, with texts, lists and bytes in place of the structures that hold them.
 pub(crate) fn plain(alloc: Global, shown: &str) -> Result<String, Fail> {
     let shown = replaced(alloc, shown, r#"Text { text: ""#, r#"""#)?;
     let shown = replaced(alloc, shown.as_str(), r#"" }"#, r#"""#)?;
     let shown = replaced(alloc, shown.as_str(), "List { items: [", "[")?;
+    let shown = replaced(alloc, shown.as_str(), "Bytes { bytes: [", "[")?;
     replaced(alloc, shown.as_str(), "] }", "]")
 }

@@ -241,7 +241,7 @@ BadId {"eClass":"//Book","_id":"a b"}
 Bound {"eClass":"//Shelf","parts":[{},{},{}]}
 WrongType {"eClass":"//Shelf","parts":[5]}"#;
 
-// The roots of a table, with a comma behind each.
+// The roots of a table, with a comma after each.
 fn roots(alloc: Global, table: &str) -> Result<String, Fail> {
     let mut roots = String::new(alloc);
     for line in table.lines() {
@@ -252,7 +252,7 @@ fn roots(alloc: Global, table: &str) -> Result<String, Fail> {
     Ok(roots)
 }
 
-// Each root of a table, behind these and in front of all of the table, has its fault told.
+// Each root of a table, after these and before all of the table, has its fault told.
 fn check_first(
     rt: &impl Abort,
     alloc: Global,
@@ -260,10 +260,10 @@ fn check_first(
     before: &str,
     table: &str,
 ) -> Result<(), Fail> {
-    let behind = roots(alloc, table)?;
+    let after = roots(alloc, table)?;
     for line in table.lines() {
         let (wanted, root) = cut(line);
-        let text = format!(in alloc; r#"[{before}{root},{behind}{{"eClass":"//Book"}}]"#)?;
+        let text = format!(in alloc; r#"[{before}{root},{after}{{"eClass":"//Book"}}]"#)?;
         let fault = read_model(alloc, text.as_str(), meta)
             .err()
             .ok_or("no fault")?;

@@ -1,4 +1,4 @@
-// The forms of replies, as the language is written down for its users.
+//! The forms of replies, as the language is written down for its users.
 use ecore_meta::{List, Text};
 use script_lang::{Last, Refusal, Reply, print_reply};
 use std::alloc::Global;
@@ -91,7 +91,7 @@ ok 1 0 trunk
 ok
 ";
 
-// Puts the bytes of a reply behind those of others.
+// Puts the bytes of a reply after those of others.
 fn print(alloc: Global, printed: &mut Vec<u8>, lines: List<Text>, last: Last) -> Result<(), Fail> {
     let reply = Reply { lines, last };
     let bytes = print_reply(alloc, &reply)?;

@@ -1,11 +1,11 @@
-// The forms of lines, as the language is written down for its users.
+//! The forms of lines, as the language is written down for its users.
 use crate::metamodels::plain;
 use script_lang::{ParseFault, parse_line};
 use std::alloc::Global;
 use std::process::Abort;
 use std::test::Fail;
 
-// In front the command that a line spells, or the column of the first word that does not fit; then the line, between bars.
+// First the command that a line spells, or the column of the first word that does not fit; then the line, between bars.
 const FIRST_LINES: &str = r#"Init |init|
 6 |init |
 6 |init x|
@@ -278,8 +278,8 @@ const MERGING_LINES: &str = r#"Tidy { ws: 1 } |tidy 1|
 5 |tidy|
 6 |tidy 0|
 8 |tidy 1 1|
-Apply { ws: 1, bytes: Bytes { bytes: [0, 171, 255] } } |apply 1 00abff|
-Apply { ws: 1, bytes: Bytes { bytes: [0, 171, 255] } } |apply 1 00ABfF|
+Apply { ws: 1, bytes: [0, 171, 255] } |apply 1 00abff|
+Apply { ws: 1, bytes: [0, 171, 255] } |apply 1 00ABfF|
 6 |apply|
 7 |apply 0 00|
 8 |apply 1|

@@ -1,7 +1,8 @@
 //! Sessions in which many people edit one model: updates, merges and reverts.
 
 // Over the library of the sessions beside this file.
-pub(crate) const SESSIONS: &str = r##"> # two people add to one list: both entries stand in it, the lesser id first
+pub(crate) const SESSIONS: &str =
+    r##"> # two people add to one list: both entries stand in it, the lesser id first
 > create 1 Library / l
 ok l
 > commit 1

@@ -8,20 +8,20 @@ use std::test::Fail;
 
 const TWO: &str = "create 1 Book / a\ncreate 1 Book / b\n";
 
-// A record behind an open gate, of a creation up to its id.
+// A record after an open gate, of a creation up to its id.
 const CREATION: &[u8] = b"\xa5\0\0\0\x22\x03\0\0\0\x01\0\0\0\x01\x01\x01\0\0\0\x01\x08\0\0\0\x01";
 
-// What stands behind that: an id of one byte, the number of the class and the rank.
+// What stands after that: an id of one byte, the number of the class and the rank.
 const A: &[u8] = b"a\0\0\0\0\0\0\0\0\x01\0\0\0\0";
 
 const B: &[u8] = b"b\0\0\0\0\0\0\0\0\x02\0\0\0\0";
 
-// The header, a record behind an open gate for the opening's metamodel, and the checkout's.
+// The header, a record after an open gate for the opening's metamodel, and the checkout's.
 const HEAD: &[u8] = b"EMFSTORE\0\0\0\x01\0\0\0\0\xa5\0\0\x01\x30\x01\0\0\x01\x2b";
 
 const CHECKOUT: &[u8] = b"\xa5\0\0\0\x09\x02\0\0\0\0\0\0\0\0";
 
-// The store of the opening, of the creation of a, and of another: the header, a record behind an open gate for each event,
+// The store of the opening, of the creation of a, and of another: the header, a record after an open gate for each event,
 // and the closed gate.
 fn store_of(alloc: Global, second: &[u8]) -> Result<Vec<u8>, AllocError> {
     let mut store = HEAD.to_vec(alloc)?;
@@ -64,7 +64,7 @@ fn status_at(calls: u64) -> Status {
     }
 }
 
-// How many events are there again: behind the write of a gate only where the fill is that of an open gate.
+// How many events are there again: after the write of a gate only where the fill is that of an open gate.
 fn kept_at(calls: u64, fill: u8) -> u64 {
     let calls = if fill == 165 {
         calls
@@ -92,7 +92,7 @@ fn is_said_after(rt: &impl Abort, alloc: Global, file: Vec<u8>, kept: u64) -> Re
     Ok(())
 }
 
-// A run that stops behind so many calls.
+// A run that crashes after so many calls.
 fn stopped(rt: &impl Abort, alloc: Global, calls: u64) -> Result<MemoryHost, Fail> {
     let host = over(alloc, script_of_two(alloc)?, Vec::new(alloc));
     let mut fuse = FuseHost::new(host, calls);
@@ -101,7 +101,7 @@ fn stopped(rt: &impl Abort, alloc: Global, calls: u64) -> Result<MemoryHost, Fai
 }
 
 #[test]
-fn a_stop_behind_any_call_leaves_the_first_events_whole(rt: HostRuntime) -> Result<(), Fail> {
+fn a_crash_after_any_call_leaves_the_first_events_whole(rt: HostRuntime) -> Result<(), Fail> {
     let alloc = rt.alloc();
     for calls in 0..29 {
         let host = stopped(&rt, alloc, calls)?;
@@ -121,7 +121,7 @@ const B_ABSTRACT: &[u8] = b"b\0\0\0\x01\0\0\0\0\x02\0\0\0\0";
 
 const B_OF_NO_CLASS: &[u8] = b"b\0\0\0\x02\0\0\0\0\x02\0\0\0\0";
 
-// The header and an open gate; behind it nothing, a length that is too great, and the event of a checkout before any project.
+// The header and an open gate; after it nothing, a length that is too great, and the event of a checkout before any project.
 const OPEN: &[u8] = b"EMFSTORE\0\0\0\x01\0\0\0\0\xa5";
 
 const LONG: &[u8] = b"EMFSTORE\0\0\0\x01\0\0\0\0\xa5\xff\xff\xff\xff";

@@ -1,4 +1,4 @@
--- the operations so far: so many, each with a spelling, and the steps left are those behind the last
+-- the operations so far: so many, each with a spelling, and the steps left are those after the last
 use Rattle.std.proofs.Common.{◌≡◌, ◌+◌, ◌-◌, ◌*◌, length, All}
 use Rattle.op_form.specs.Laws.{IsOperation}
 use Rattle.op_form.specs.Sizes.{FitsOperation}
