@@ -10,6 +10,7 @@ pub mod Numbers
 pub mod Places
 pub mod Reached
 pub mod Recorded
+pub mod Refusals
 pub mod Reverting
 pub mod Rows
 pub mod Runs

@@ -18,9 +18,9 @@ use Rattle.script_lang.specs.declared.reply.Refusal.TheVariants as refusals
 use Rattle.script_lang.specs.declared.reply.Last.TheVariants as last
 use Rattle.plain_repository.specs.State.{State, Workspace, empty, workspace_of, folded, model_of}
 use Rattle.plain_repository.specs.Orderly.{IsOrderly, Stands}
-use Rattle.plain_repository.specs.Answers.{Decision}
+use Rattle.plain_repository.specs.Answers.{Decision, is_refusal}
 use Rattle.plain_repository.specs.Events.{play, playable, are_playable}
-use Rattle.plain_repository.specs.Repository.{decide_command}
+use Rattle.plain_repository.specs.Repository.{decide_command, decide_line}
 
 -- events that could be made lead to the state
 pub record IsReached (s : State) : Type 0 where
@@ -155,6 +155,14 @@ abbrev pub DroppedStayDropped : Type 0
 DroppedStayDropped = (s : State) (place : ℕ) → slice_get s.workspaces place ≡ Some None → (event : Event) → slice_get (play s event).workspaces place ≡ Some None
 
 -- ---- commands
+-- where the reply is a refusal there is no event
+pub record NoneIfRefused (decision : Decision) : Type 0 where
+  pub none : is_refusal decision.reply ≡ true → decision.event ≡ None
+
+-- a line that is refused makes no event, so the repository and its file stay as they are
+abbrev pub RefusalsMakeNone : Type 0
+RefusalsMakeNone = (s : State) (line : List ℕ) (block : Option (List ℕ)) → NoneIfRefused (decide_line s line block)
+
 -- there is a metamodel and the workspace, and its base, the first number, is not its branch's head, the second
 pub record IsStale (s : State) (ws base head_of_branch : ℕ) : Type 0 where
   pub meta : Meta
