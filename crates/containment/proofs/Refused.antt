@@ -80,7 +80,6 @@ module _ (meta : Meta) (sound : Sound meta) (m : State) (good : Good meta m) (e 
   pub may_within : place_eq (place_of m e) to ≡ true → AllPass (within_tests e xs at) → MayMoveWithin m e to inner
   may_within same tests = record {
     stands = stands ∙ ap Some (place_equality.exact (place_of m e) to same);
-    within = tests.0;
     ranked = left_or _ _ tests.1.0;
   }
 
@@ -96,7 +95,6 @@ module _ (meta : Meta) (sound : Sound meta) (m : State) (good : Good meta m) (e 
         above_from = chain_passes m.place (Some (place_of m e)) up above_from;
         above_to = chain_passes m.place (Some to) down above_to;
         no_cycle = not_true _ t.1.0;
-        within = tests.0;
         room = tests.1.0;
         ranked = tests.1.1.0;
       }
@@ -117,11 +115,11 @@ module _ (meta : Meta) (sound : Sound meta) (m : State) (good : Good meta m) (e 
       let t = passed (move_tests meta m e to down at) open_ in
       elim (place_eq (place_of m e) to) as (λ b. place_eq (place_of m e) to ≡ b → AllPass (cond b (within_tests e xs at) (arrival_tests meta m to xs at))
       → Placed m (cond b (move_within_after m e to inner) (move_to_after m e to outer)) e to inner) [
-        | true ↦ λ same tests. move_within_stands meta sound m good e to inner (may_within same tests)
+        | true ↦ λ same tests. move_within_stands meta sound m good e to inner (may_within same tests) tests.0
         | false ↦ λ differ tests.
             let alone : without_entry e xs ≡ xs = without_none e xs (not_there meta m good e (place_of m e) to stands differ) in
             subst (λ l. Placed m (move_to_after m e to outer) e to (unwrap_or at (length l))) (sym alone)
-            (move_to_stands meta sound m good e (place_of m e) to outer up down (may_arrive open_ differ tests))
+            (move_to_stands meta sound m good e (place_of m e) to outer up down (may_arrive open_ differ tests) tests.0)
       ] refl t.1.1
 
 pub move_leads : MoveLeads

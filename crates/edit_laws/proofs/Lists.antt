@@ -35,10 +35,6 @@ or_swap true false c = refl
 or_swap false true c = refl
 or_swap false false c = refl
 
-or_false : (b : Bool) → b || false ≡ b
-or_false true = refl
-or_false false = refl
-
 nothing_more : (n : ℕ) → n ≡ 0 + n
 nothing_more n = omega arith
 

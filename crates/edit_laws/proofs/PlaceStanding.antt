@@ -231,7 +231,7 @@ create_stands meta sound m good e c p may =
     })
 
 -- ---- move
-module _ (meta : Meta) (sound : Sound meta) (m : State) (good : Good meta m) (e : Name) (p : Place) (k : ℕ) (may : MayMoveWithin m e p k) where
+module _ (meta : Meta) (sound : Sound meta) (m : State) (good : Good meta m) (e : Name) (p : Place) (k : ℕ) (may : MayMoveWithin m e p k) (inside : nat_le k (length (without_entry e (children m.place m.prank p))) ≡ true) where
   abbrev rest : List Entry
   rest = without_entry e (children m.place m.prank p)
 
@@ -253,7 +253,7 @@ module _ (meta : Meta) (sound : Sound meta) (m : State) (good : Good meta m) (e 
         here = may.stands;
         elsewhere = λ y differ. refl;
         ranks = ap (set (ranked_places rest (spot rest k).ranks m.prank) e) so;
-        within = number_le k (length rest) may.within;
+        within = number_le k (length rest) inside;
         ranked = so;
       })
 
@@ -265,12 +265,12 @@ module _ (meta : Meta) (sound : Sound meta) (m : State) (good : Good meta m) (e 
       ] refl
 
 pub move_within_stands : MoveWithinStands
-move_within_stands meta sound m good e p k may =
-    within_placed meta sound m good e p k may
+move_within_stands meta sound m good e p k may inside =
+    within_placed meta sound m good e p k may inside
     (steps_keep_good meta sound m (move_within_after m e p k) good (move_within_made m e p k) (move_within_meets meta sound m good e p k may))
 
 pub move_to_stands : MoveToStands
-move_to_stands meta sound m good e from to k up down may =
+move_to_stands meta sound m good e from to k up down may inside =
     let xs = children m.place m.prank to in
     let s = spot xs k in
     let r = unwrap_or s.rank 0 in
@@ -282,6 +282,6 @@ move_to_stands meta sound m good e from to k up down may =
       here = get-set_same id_order m.place e (Some to);
       elsewhere = λ y differ. get-set_other id_order m.place e (Some to) y (names_differ e y differ);
       ranks = ap (set (ranked_places xs s.ranks m.prank) e) so;
-      within = number_le k (length xs) may.within;
+      within = number_le k (length xs) inside;
       ranked = so;
     })

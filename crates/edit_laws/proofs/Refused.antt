@@ -1,10 +1,11 @@
 -- Edits of references that no test refuses.
-use Rattle.std.proofs.Common.{◌≡◌, ℕ, Bool, true, false, cond, List, [], ◌∷◌, refl, ◌||◌}
+use Rattle.std.proofs.Common.{◌≡◌, ℕ, Bool, true, false, cond, List, [], ◌∷◌, length, refl, ◌||◌, nat_le, nat_lt}
 use Rattle.std.specs.Prelude.{Option, None, Some, is_some}
 use Rattle.std.specs.FinMap.{get}
 use Rattle.finite_maps.proofs.Cases.{no_some, not_true}
 use Rattle.ecore_meta.specs.Meta.{Meta}
 use Rattle.model_state.specs.Keys.{Name}
+use Rattle.model_state.specs.Listing.{targets}
 use Rattle.model_state.specs.State.{State}
 use Rattle.edit_laws.specs.declared.fault.EditFault.{EditFault}
 use Rattle.edit_laws.specs.References.{is_one, MaySet, MayLink, MayReorder}
@@ -48,12 +49,14 @@ module _ (meta : Meta) (m : State) (a : Name) (f : ℕ) (b : Name) where
       record {
         typed = p.0;
         absent = no_some _ (not_true _ p.1.0);
-        within = p.1.1.0;
         free = p.1.1.1.0;
         room = p.1.1.1.1.0;
         ranked = p.1.1.1.1.1.0;
         ranked_there = p.1.1.1.1.1.1.0;
       }
+
+  pub link_within : (at : Option ℕ) → link_refusal meta m a f b at ≡ None → nat_le (link_index m a f at) (length (targets m.row a f)) ≡ true
+  link_within at open_ = (all_pass (link_tests meta m a f b (link_index m a f at)) open_).1.1.0
 
 module _ (m : State) (a : Name) (f : ℕ) (b : Name) where
   pub may_unlink : unlink_refusal m a f b ≡ None → is_some (get m.row (a, f, b)) ≡ true
@@ -64,6 +67,8 @@ module _ (m : State) (a : Name) (f : ℕ) (b : Name) where
       let p = all_pass (reorder_tests m a f b k) open_ in
       record {
         there = p.0;
-        within = p.1.0;
         ranked = left_or _ _ p.1.1.0;
       }
+
+  pub reorder_within : (k : ℕ) → reorder_refusal m a f b k ≡ None → nat_lt k (length (targets m.row a f)) ≡ true
+  reorder_within k open_ = (all_pass (reorder_tests m a f b k) open_).1.0

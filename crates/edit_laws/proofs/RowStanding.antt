@@ -225,7 +225,7 @@ module _ (meta : Meta) (sound : Sound meta) (a : Name) (f : ℕ) (ra : Option �
 number_le : (n k : ℕ) → nat_le n k ≡ true → n ≤ k
 number_le n k h = grind (arith, nat_tests)
 
-module _ (meta : Meta) (sound : Sound meta) (m : State) (good : Good meta m) (a : Name) (f : ℕ) (b : Name) (k : ℕ) (may : MayLink meta m a f b k) where
+module _ (meta : Meta) (sound : Sound meta) (m : State) (good : Good meta m) (a : Name) (f : ℕ) (b : Name) (k : ℕ) (may : MayLink meta m a f b k) (inside : nat_le k (length (targets m.row a f)) ≡ true) where
   abbrev left : Option ℕ → Rows
   left o = clear_there meta o f b m.row
 
@@ -258,7 +258,7 @@ module _ (meta : Meta) (sound : Sound meta) (m : State) (good : Good meta m) (a 
     link_here : StandsAt (others o) (targets (linked o) a f) b k
     link_here =
         let alone : without_entry b (others o) ≡ others o = without_none b (others o) (not_among (ranks_in (left o) a f) b (others o) (targets_held (left o) a f) no_row) in
-        let le : k ≤ length (others o) = subst (λ xs. k ≤ length xs) (sym same_list) (number_le k _ may.within) in
+        let le : k ≤ length (others o) = subst (λ xs. k ≤ length xs) (sym same_list) (number_le k _ inside) in
         let r = unwrap_or (spot (others o) k).rank 0 in
         subst (λ zs. StandsAt (others o) zs b k) (sym (join_here meta sound a f (spot (others o) k).rank b (next o) o is))
         (subst (λ w. StandsAt (others o) (targets (set (next o) (a, f, b) w) a f) b k) (sym ranked_so)
@@ -306,7 +306,7 @@ module _ (meta : Meta) (sound : Sound meta) (m : State) (good : Good meta m) (a 
   link_comes = subst (λ xs. StandsAt xs (targets (linked (opposite_of meta f)) a f) b k) (same_list (opposite_of meta f) refl) (link_here (opposite_of meta f) refl)
 
 pub link_stands : LinkStands
-link_stands meta sound m good a f b k may = (link_comes meta sound m good a f b k may, link_joins meta sound m good a f b k may)
+link_stands meta sound m good a f b k may inside = (link_comes meta sound m good a f b k may inside, link_joins meta sound m good a f b k may inside)
 
 -- ---- set
 module _ (meta : Meta) (sound : Sound meta) (m : State) (good : Good meta m) (a : Name) (f : ℕ) (b : Name) (may : MaySet meta m a f b) (none : get m.row (a, f, b) ≡ None) where
@@ -364,7 +364,7 @@ set_ref_stands meta sound m good a f b may none = set_joins meta sound m good a 
 number_lt : (n k : ℕ) → nat_lt n k ≡ true → suc n ≤ k
 number_lt n k h = grind (arith, nat_tests)
 
-module _ (meta : Meta) (m : State) (a : Name) (f : ℕ) (b : Name) (k : ℕ) (may : MayReorder m a f b k) where
+module _ (meta : Meta) (m : State) (a : Name) (f : ℕ) (b : Name) (k : ℕ) (may : MayReorder m a f b k) (inside : nat_lt k (length (targets m.row a f)) ≡ true) where
   abbrev list : List Entry
   list = targets m.row a f
 
@@ -377,7 +377,7 @@ module _ (meta : Meta) (m : State) (a : Name) (f : ℕ) (b : Name) (k : ℕ) (ma
   le_rest : k ≤ length rest
   le_rest =
       let has : has_id b list ≡ true = targets_has m.row a f b (unwrap_or (get m.row (a, f, b)) 0) (some_of (get m.row (a, f, b)) may.there) in
-      shorter k (length list) (length rest) (number_lt k (length list) may.within) (length_without b list (targets_apart m.row a f) has)
+      shorter k (length list) (length rest) (number_lt k (length list) inside) (length_without b list (targets_apart m.row a f) has)
     where
       shorter : (k n l : ℕ) → suc k ≤ n → n ≡ suc l → k ≤ l
       shorter k n l h e = omega arith
@@ -402,4 +402,4 @@ module _ (meta : Meta) (m : State) (a : Name) (f : ℕ) (b : Name) (k : ℕ) (ma
       ]
 
 pub reorder_stands : ReorderStands
-reorder_stands meta sound m good a f b k may = (reorder_here meta m a f b k may, reorder_others meta m a f b k may)
+reorder_stands meta sound m good a f b k may inside = (reorder_here meta m a f b k may inside, reorder_others meta m a f b k may inside)

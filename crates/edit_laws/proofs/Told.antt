@@ -110,19 +110,6 @@ one_list (x ∷ xs) (y ∷ ys) g t u =
     let rest : xs ≡ ys = one_list xs ys (but x.id g) (tail_tells g x xs t) (subst (λ (w : Entry). Tells (but w.id g) ys) (sym head) (tail_tells g y ys u)) in
     λ i. head i ∷ rest i
 
--- the lists of two rankings that are alike are one
-pub tells_alike : (g h : Ranking) (xs : List Entry) → ((y : Name) → g y ≡ h y) → Tells g xs → Tells h xs
-tells_alike g h xs alike t = record {
-  up = t.up;
-  once = t.once;
-  held = all_alike xs t.held;
-  has = λ y r is. t.has y r (alike y ∙ is);
-}
-  where
-    all_alike : (xs : List Entry) → AllHeld g xs → AllHeld h xs
-    all_alike [] held = tt
-    all_alike (x ∷ xs) held = (sym (alike x.id) ∙ held.0, all_alike xs held.1)
-
 -- ---- an element comes into the list, and the others are ranked anew
 none_tallied : (p : Entry → Bool) (xs : List Entry) → list_any p xs ≡ false → tally p xs ≡ 0
 none_tallied p [] h = refl

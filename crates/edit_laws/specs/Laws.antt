@@ -1,5 +1,5 @@
 -- The steps of an edit that is not refused can be taken one by one, and lead to the model that the edit is to leave.
-use Rattle.std.specs.Prelude.{List, [], ◌≡◌, ℕ, Some, None, is_some, true, false, length, nat_lt, ◌||◌}
+use Rattle.std.specs.Prelude.{List, [], ◌≡◌, ℕ, Some, None, is_some, true, false, length, nat_le, nat_lt, ◌||◌}
 use Rattle.std.specs.FinMap.{get}
 use Rattle.ecore_meta.specs.Meta.{Meta}
 use Rattle.model_state.specs.Keys.{Name}
@@ -16,7 +16,7 @@ use Rattle.edit_laws.specs.Rows.{around}
 use Rattle.edit_laws.specs.Standing.{StandsAt, Joined, Placed, is_displaced, is_list}
 use Rattle.edit_laws.specs.Attributes.{IsAttribute, set_attr_after, set_attr_made, put_after, put_made}
 use Rattle.edit_laws.specs.ManyValues.{IsMany, MayInsert, values_in, insert_after, insert_made, remove_after, remove_made, shift_after, shift_made, clear_after, clear_made}
-use Rattle.edit_laws.specs.References.{MaySet, MayLink, MayReorder, set_ref_after, set_ref_made, link_after, link_made, unlink_after, unlink_made, unset_after, unset_made, reorder_after, reorder_made}
+use Rattle.edit_laws.specs.References.{MaySet, MayLink, MayReorder, without_entry, set_ref_after, set_ref_made, link_after, link_made, unlink_after, unlink_made, unset_after, unset_made, reorder_after, reorder_made}
 
 -- a reference is set: the rows are those that it is to leave, and all else is as it was
 abbrev pub SetRefMeets : Type 0
@@ -94,9 +94,9 @@ ClearMeets = (meta : Meta) (m : State) → Good meta m → (e : Name) (f : ℕ) 
     → fold meta m (clear_made m e f) ≡ Some (clear_after m e f)
 
 -- ---- where an entry stands after an edit
--- a link at index k: b stands at k of a's list, a last in the opposite's, and the other lists are as they were, without the rows displaced
+-- a link at an index k of the list: b stands at k of a's list, a last in the opposite's, and the other lists are as they were, without the rows displaced
 abbrev pub LinkStands : Type 0
-LinkStands = (meta : Meta) → Sound meta → (m : State) → Good meta m → (a : Name) (f : ℕ) (b : Name) (k : ℕ) → MayLink meta m a f b k
+LinkStands = (meta : Meta) → Sound meta → (m : State) → Good meta m → (a : Name) (f : ℕ) (b : Name) (k : ℕ) → MayLink meta m a f b k → nat_le k (length (targets m.row a f)) ≡ true
     → StandsAt (targets m.row a f) (targets (link_after meta a f b k m.row) a f) b k × Joined meta (is_displaced meta (opposite_of meta f) f b) m.row (link_after meta a f b k m.row) a f b k
 
 -- a set: b stands first and alone in a's list, a last in the opposite's, and the other lists are as they were, without the old row and those displaced
@@ -104,9 +104,9 @@ abbrev pub SetRefStands : Type 0
 SetRefStands = (meta : Meta) → Sound meta → (m : State) → Good meta m → (a : Name) (f : ℕ) (b : Name) → MaySet meta m a f b → get m.row (a, f, b) ≡ None
     → Joined meta (λ (k : RowKey). around (opposite_of meta f) a f k || is_displaced meta (opposite_of meta f) f b k) m.row (set_ref_after meta a f b m.row) a f b 0
 
--- a reorder to index k: b stands at k of the others, and each other list is as it was
+-- a reorder to an index k of the list: b stands at k of the others, and each other list is as it was
 abbrev pub ReorderStands : Type 0
-ReorderStands = (meta : Meta) → Sound meta → (m : State) → Good meta m → (a : Name) (f : ℕ) (b : Name) (k : ℕ) → MayReorder m a f b k
+ReorderStands = (meta : Meta) → Sound meta → (m : State) → Good meta m → (a : Name) (f : ℕ) (b : Name) (k : ℕ) → MayReorder m a f b k → nat_lt k (length (targets m.row a f)) ≡ true
     → StandsAt (targets m.row a f) (targets (reorder_after a f b k m.row) a f) b k × ((x : Name) (h : ℕ) → is_list a f x h ≡ false → targets (reorder_after a f b k m.row) x h ≡ targets m.row x h)
 
 -- a creation: the element stands last in its place, and each other place is as it was
@@ -114,12 +114,12 @@ abbrev pub CreateStands : Type 0
 CreateStands = (meta : Meta) → Sound meta → (m : State) → Good meta m → (e : Name) (c : ℕ) (p : Place) → MayCreate meta m e c p
     → Placed m (create_after m e c p) e p (length (children m.place m.prank p))
 
--- a move within a place to index k: the element stands at k of the others, and each other place is as it was
+-- a move within a place to an index k of the others: the element stands at k of the others, and each other place is as it was
 abbrev pub MoveWithinStands : Type 0
-MoveWithinStands = (meta : Meta) → Sound meta → (m : State) → Good meta m → (e : Name) (p : Place) (k : ℕ) → MayMoveWithin m e p k
+MoveWithinStands = (meta : Meta) → Sound meta → (m : State) → Good meta m → (e : Name) (p : Place) (k : ℕ) → MayMoveWithin m e p k → nat_le k (length (without_entry e (children m.place m.prank p))) ≡ true
     → Placed m (move_within_after m e p k) e p k
 
--- a move to index k of another place: the element stands at k there, and each other place is as it was, the old one without it
+-- a move to an index k of another place: the element stands at k there, and each other place is as it was, the old one without it
 abbrev pub MoveToStands : Type 0
-MoveToStands = (meta : Meta) → Sound meta → (m : State) → Good meta m → (e : Name) (from to : Place) (k : ℕ) (up down : List Name) → MayMoveTo meta m e from to k up down
+MoveToStands = (meta : Meta) → Sound meta → (m : State) → Good meta m → (e : Name) (from to : Place) (k : ℕ) (up down : List Name) → MayMoveTo meta m e from to k up down → nat_le k (length (children m.place m.prank to)) ≡ true
     → Placed m (move_to_after m e to k) e to k

@@ -1,5 +1,5 @@
 -- Edits of places: an element is created at the end of a place, or moves. The model after each, said without steps, and the steps.
-use Rattle.std.specs.Prelude.{◌≡◌, ℕ, true, false, cond, List, [], ◌∷◌, ◌++◌, Some, is_some, unwrap_or, nat_eq, nat_le, length}
+use Rattle.std.specs.Prelude.{◌≡◌, ℕ, true, false, cond, List, [], ◌∷◌, ◌++◌, Some, is_some, unwrap_or, nat_eq}
 use Rattle.std.specs.FinMap.{FinMap, get}
 use Rattle.finite_maps.specs.Maps.{set}
 use Rattle.ecore_meta.specs.Meta.{Meta}
@@ -77,7 +77,6 @@ move_within_made m e p k =
 -- it may move within its place
 pub record MayMoveWithin (m : State) (e : Name) (p : Place) (k : ℕ) : Type 0 where
   pub stands : get m.place e ≡ Some p
-  pub within : nat_le k (length (without_entry e (children m.place m.prank p))) ≡ true
   pub ranked : stands_at e k (children m.place m.prank p) ≡ false → is_some (spot (without_entry e (children m.place m.prank p)) k).rank ≡ true
 
 -- to another place: it has its spot among the children there
@@ -103,6 +102,5 @@ pub record MayMoveTo (meta : Meta) (m : State) (e : Name) (from to : Place) (k :
   pub above_from : chain_is m.place (Some from) up ≡ true
   pub above_to : chain_is m.place (Some to) down ≡ true
   pub no_cycle : list_any (text_eq e) down ≡ false
-  pub within : nat_le k (length (children m.place m.prank to)) ≡ true
   pub room : has_room meta m to ≡ true
   pub ranked : is_some (spot (children m.place m.prank to) k).rank ≡ true

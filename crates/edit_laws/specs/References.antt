@@ -1,5 +1,5 @@
 -- Edits of plain references: the rows after each, said without steps, and the steps that are made for it.
-use Rattle.std.specs.Prelude.{◌≡◌, ℕ, Bool, true, false, cond, List, [], ◌∷◌, ◌++◌, Option, None, Some, is_some, unwrap_or, nat_eq, nat_le, nat_lt, length, ◌||◌, not, map, slice_get}
+use Rattle.std.specs.Prelude.{◌≡◌, ℕ, Bool, true, false, cond, List, [], ◌∷◌, ◌++◌, Option, None, Some, is_some, unwrap_or, nat_eq, ◌||◌, not, map, slice_get}
 use Rattle.std.specs.List.{filter}
 use Rattle.std.specs.FinMap.{get}
 use Rattle.finite_maps.specs.Equal.{option_eq, text_eq}
@@ -124,7 +124,6 @@ pub record MaySet (meta : Meta) (m : State) (a : Name) (f : ℕ) (b : Name) : Ty
 pub record MayLink (meta : Meta) (m : State) (a : Name) (f : ℕ) (b : Name) (k : ℕ) : Type 0 where
   pub typed : may_link meta (get m.kind a) f (get m.kind b) ≡ true
   pub absent : get m.row (a, f, b) ≡ None
-  pub within : nat_le k (length (targets m.row a f)) ≡ true
   pub free : is_below (row_count m a f) (row_upper meta f) ≡ true
   pub room : room_there meta m (opposite_of meta f) b ≡ true
   pub ranked : is_some (spot (targets m.row a f) k).rank ≡ true
@@ -158,5 +157,4 @@ reorder_made row a f b k =
 -- it may be put at the index
 pub record MayReorder (m : State) (a : Name) (f : ℕ) (b : Name) (k : ℕ) : Type 0 where
   pub there : is_some (get m.row (a, f, b)) ≡ true
-  pub within : nat_lt k (length (targets m.row a f)) ≡ true
   pub ranked : stands_at b k (targets m.row a f) ≡ false → is_some (spot (without_entry b (targets m.row a f)) k).rank ≡ true

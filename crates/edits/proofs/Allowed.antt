@@ -1,10 +1,11 @@
 -- What makes an effect possible, and what tests in a row have shown.
-use Rattle.std.proofs.Common.{◌≡◌, ℕ, Bool, true, false, not, length, refl, subst, nat_lt}
+use Rattle.std.proofs.Common.{◌≡◌, ℕ, Bool, true, false, not, length, refl, subst, nat_le, nat_lt}
 use Rattle.std.specs.Prelude.{Option, None, is_some, Result, Ok, Err, if◌then◌else◌}
 use Rattle.std.specs.FinMap.{get}
 use Rattle.ecore_meta.specs.Meta.{Meta}
 use Rattle.model_state.specs.declared.step.Place.{Place}
 use Rattle.model_state.specs.Keys.{Name}
+use Rattle.model_state.specs.Listing.{targets}
 use Rattle.model_state.specs.State.{State, is_live}
 use Rattle.model_state.specs.Steps.{value_fits, not_default}
 use Rattle.edit_laws.specs.declared.fault.EditFault.{EditFault}
@@ -34,9 +35,9 @@ Allowed meta m (Removes e f k) = IsMany meta m e f × (nat_lt k (length (values_
 Allowed meta m (Shifts e f from to) = IsMany meta m e f × (nat_lt from (length (values_in m e f)) ≡ true) × (nat_lt to (length (values_in m e f)) ≡ true)
 Allowed meta m (Refers a f b) = MaySet meta m a f b
 Allowed meta m (Forgets a f) = Unit {0}
-Allowed meta m (Links a f b k) = MayLink meta m a f b k
+Allowed meta m (Links a f b k) = MayLink meta m a f b k × (nat_le k (length (targets m.row a f)) ≡ true)
 Allowed meta m (Unlinks a f b) = is_some (get m.row (a, f, b)) ≡ true
-Allowed meta m (Reorders a f b k) = MayReorder m a f b k
+Allowed meta m (Reorders a f b k) = MayReorder m a f b k × (nat_lt k (length (targets m.row a f)) ≡ true)
 
 -- ---- the tests of a row
 pub passed : {A : Type 0} (b : Bool) (e : EditFault) (r : Result A EditFault) (x : A) → (if not b then Err e else r) ≡ Ok x → (b ≡ true) × (r ≡ Ok x)

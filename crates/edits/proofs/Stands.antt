@@ -26,9 +26,9 @@ stands meta sound m good (Removes e f k) may = tt
 stands meta sound m good (Shifts e f from to) may = tt
 stands meta sound m good (Refers a f b) may = λ none. set_ref_stands meta sound m good a f b may none
 stands meta sound m good (Forgets a f) may = tt
-stands meta sound m good (Links a f b k) may = link_stands meta sound m good a f b k may
+stands meta sound m good (Links a f b k) may = link_stands meta sound m good a f b k may.0 may.1
 stands meta sound m good (Unlinks a f b) may = tt
-stands meta sound m good (Reorders a f b k) may = (reorder_stands meta sound m good a f b k may).0
+stands meta sound m good (Reorders a f b k) may = reorder_stands meta sound m good a f b k may.0 may.1
 
 pub edits_stand : EditsStand
 edits_stand meta sound m good reading typed ws edit effect comes = stands meta sound m good effect (allowed meta m good reading typed ws edit effect comes)

@@ -136,7 +136,6 @@ module _ (meta : Meta) (sound : Sound meta) (m : State) (good : Good meta m) (e 
       → cond b (move_within_made m e to inner) (move_to_made m e (place_of m e) to outer up down) ≡ []) [
         | true ↦ λ same tests. within_still meta sound m good e to inner (record {
           stands = stands ∙ ap Some (place_equality.exact (place_of m e) to same);
-          within = tests.0;
           ranked = left_or _ _ tests.1.0;
         })
         | false ↦ λ differ tests same. absurd (not_moved differ same)

@@ -43,7 +43,7 @@ use Rattle.edits.proofs.Names.{feature_held}
 use Rattle.edits.proofs.Placed.{create_allowed, move_allowed, move_meets, delete_allowed}
 use Rattle.edits.specs.Laws.{IsTyped, EditsMeet, EditsKeepGood}
 use Rattle.model_laws.proofs.Runs.{steps_keep_good}
-use Rattle.edit_laws.proofs.Refused.{may_set, may_link, may_unlink, may_reorder}
+use Rattle.edit_laws.proofs.Refused.{may_set, may_link, link_within, may_unlink, may_reorder, reorder_within}
 use Rattle.edit_laws.proofs.Sets.{set_ref_meets}
 use Rattle.edit_laws.proofs.LinkEdits.{link_meets, unlink_meets, unset_meets, reorder_meets}
 use Rattle.edit_laws.proofs.Creates.{create_meets}
@@ -133,7 +133,7 @@ module _ (meta : Meta) (m : State) (e : Name) (f : ℕ) (has : class_has meta (g
       let listed = passed (is_listed meta f k) _ _ effect h in
       let live = passed (is_some (class_at m b)) _ _ effect listed.1 in
       let open_ = not_refused (link_refusal meta m e f b at) (Links e f b (link_index m e f at)) effect live.1 in
-      allowed_as meta m (Links e f b (link_index m e f at)) effect open_.1 (may_link meta m e f b at open_.0)
+      allowed_as meta m (Links e f b (link_index m e f at)) effect open_.1 (may_link meta m e f b at open_.0, link_within meta m e f b at open_.0)
 
   unlink_allowed : (b : Name) (k : Kind) → unlink_effect meta m e f k b ≡ Ok effect → Allowed meta m effect
   unlink_allowed b k h =
@@ -147,7 +147,7 @@ module _ (meta : Meta) (m : State) (e : Name) (f : ℕ) (has : class_has meta (g
       let listed = passed (is_listed meta f k) _ _ effect h in
       let formed = passed (is_id b) _ _ effect listed.1 in
       let open_ = not_refused (reorder_refusal m e f b i) (Reorders e f b i) effect formed.1 in
-      allowed_as meta m (Reorders e f b i) effect open_.1 (may_reorder m e f b i open_.0)
+      allowed_as meta m (Reorders e f b i) effect open_.1 (may_reorder m e f b i open_.0, reorder_within m e f b i open_.0)
 
 -- the effect of an edit that is not refused is possible
 pub allowed : (meta : Meta) (m : State) → Good meta m → (reading : Reading) → IsTyped meta reading → (ws : ℕ) (edit : Edit) (effect : Effect) → effect_of reading meta m ws edit ≡ Ok effect → Allowed meta m effect
@@ -192,9 +192,9 @@ made_leads meta sound m good (Removes e f k) may = remove_meets meta m good e f 
 made_leads meta sound m good (Shifts e f from to) may = shift_meets meta m good e f from to may.0 may.1 may.2
 made_leads meta sound m good (Refers a f b) may = set_ref_meets meta sound m good a f b may
 made_leads meta sound m good (Forgets a f) may = unset_meets meta sound m good a f
-made_leads meta sound m good (Links a f b k) may = link_meets meta sound m good a f b k may
+made_leads meta sound m good (Links a f b k) may = link_meets meta sound m good a f b k may.0
 made_leads meta sound m good (Unlinks a f b) may = unlink_meets meta sound m good a f b may
-made_leads meta sound m good (Reorders a f b k) may = reorder_meets meta sound m good a f b k may
+made_leads meta sound m good (Reorders a f b k) may = reorder_meets meta sound m good a f b k may.0
 
 pub edits_meet : EditsMeet
 edits_meet meta sound m good reading typed ws edit effect comes = made_leads meta sound m good effect (allowed meta m good reading typed ws edit effect comes)

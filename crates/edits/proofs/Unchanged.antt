@@ -84,9 +84,9 @@ still meta sound m good (Shifts e f from to) may same =
     ap (λ b. cond {A = List Step} b [] (Shift e f from to ∷ [])) equal
 still meta sound m good (Refers a f b) may same = set_ref_still meta sound m a f b (same_rows m (set_ref_after meta a f b m.row) same)
 still meta sound m good (Forgets a f) may same = unset_still meta sound m good a f (same_rows m (unset_after meta a f m.row) same)
-still meta sound m good (Links a f b k) may same = link_still meta sound m good a f b k may (same_rows m (link_after meta a f b k m.row) same)
+still meta sound m good (Links a f b k) may same = link_still meta sound m good a f b k may.0 (same_rows m (link_after meta a f b k m.row) same)
 still meta sound m good (Unlinks a f b) may same = unlink_still meta sound m good a f b may (same_rows m (unlink_after meta a f b m.row) same)
-still meta sound m good (Reorders a f b k) may same = reorder_still meta sound m good a f b k may (same_rows m (reorder_after a f b k m.row) same)
+still meta sound m good (Reorders a f b k) may same = reorder_still meta sound m good a f b k may.0 (same_rows m (reorder_after a f b k m.row) same)
 
 pub edits_idle : EditsIdle
 edits_idle meta sound m good reading typed ws edit effect comes =

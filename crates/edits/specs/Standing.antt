@@ -1,14 +1,14 @@
 -- Where the entry of an edit stands in the model after it, and what stays of the rest.
-use Rattle.std.specs.Prelude.{◌≡◌, None, length, unwrap_or, ◌||◌}
+use Rattle.std.specs.Prelude.{◌≡◌, ℕ, false, None, length, unwrap_or, ◌||◌}
 use Rattle.std.specs.FinMap.{get}
 use Rattle.ecore_meta.specs.Meta.{Meta}
-use Rattle.model_state.specs.Keys.{RowKey}
+use Rattle.model_state.specs.Keys.{Name, RowKey}
 use Rattle.model_state.specs.Listing.{children, targets}
 use Rattle.model_state.specs.State.{State}
 use Rattle.model_state.specs.Typing.{opposite_of}
 use Rattle.edit_laws.specs.References.{without_entry}
 use Rattle.edit_laws.specs.Rows.{around}
-use Rattle.edit_laws.specs.Standing.{StandsAt, Joined, Placed, is_displaced}
+use Rattle.edit_laws.specs.Standing.{StandsAt, Joined, Placed, is_displaced, is_list}
 use Rattle.containment.specs.Stays.{Keeps}
 use Rattle.edits.specs.Edits.{Effect, Creates, Moves, Deletes, Refers, Links, Reorders}
 
@@ -20,5 +20,5 @@ Stands meta before after (Moves e place at) = Placed before after e place (unwra
 Stands meta before after (Deletes e) = Keeps before after e
 Stands meta before after (Refers a f b) = get before.row (a, f, b) ≡ None → Joined meta (λ (k : RowKey). around (opposite_of meta f) a f k || is_displaced meta (opposite_of meta f) f b k) before.row after.row a f b 0
 Stands meta before after (Links a f b k) = StandsAt (targets before.row a f) (targets after.row a f) b k × Joined meta (is_displaced meta (opposite_of meta f) f b) before.row after.row a f b k
-Stands meta before after (Reorders a f b k) = StandsAt (targets before.row a f) (targets after.row a f) b k
+Stands meta before after (Reorders a f b k) = StandsAt (targets before.row a f) (targets after.row a f) b k × ((x : Name) (h : ℕ) → is_list a f x h ≡ false → targets after.row x h ≡ targets before.row x h)
 Stands meta before after effect = Unit {0}

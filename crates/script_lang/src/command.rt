@@ -1,3 +1,4 @@
+//! Commands, and how a line names a version.
 use crate::Bytes;
 use ecore_meta::Text;
 use edits::Edit;

@@ -1,3 +1,4 @@
+//! Why a line is not read.
 use std::alloc::AllocError;
 use thiserror::Error;
 
