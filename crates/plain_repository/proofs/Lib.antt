@@ -1,4 +1,5 @@
 pub mod Apart
+pub mod Changing
 pub mod Commits
 pub mod Forms
 pub mod Growth

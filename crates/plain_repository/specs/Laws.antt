@@ -19,7 +19,7 @@ use Rattle.script_lang.specs.declared.reply.Last.TheVariants as last
 use Rattle.plain_repository.specs.State.{State, Workspace, empty, workspace_of, folded, model_of}
 use Rattle.plain_repository.specs.Orderly.{IsOrderly, Stands}
 use Rattle.plain_repository.specs.Answers.{Decision, is_refusal}
-use Rattle.plain_repository.specs.Events.{play, playable, are_playable}
+use Rattle.plain_repository.specs.Events.{effect, play, playable, are_playable}
 use Rattle.plain_repository.specs.Repository.{decide_command, decide_line}
 
 -- events that could be made lead to the state
@@ -99,6 +99,10 @@ pub record Grows (before after : History) : Type 0 where
 -- no event that could be made changes a version, a branch's name and start, or a tag
 abbrev pub HistoryOnlyGrows : Type 0
 HistoryOnlyGrows = (s : State) → IsOrderly s → (event : Event) → IsTrue (playable s event) → Grows s.history (play s event).history
+
+-- each event that could be made changes something beside the numbers that every event raises
+abbrev pub EventsChange : Type 0
+EventsChange = (s : State) (event : Event) → IsTrue (playable s event) → effect s event ≢ s
 
 -- ---- workspaces apart
 -- is the event one of that workspace

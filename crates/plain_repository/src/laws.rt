@@ -1,6 +1,6 @@
 //! The laws of the plain repository: each is a function without a body, whose contract is the law.
 ghost use Rattle.model_state.specs.Good.{Good};
-ghost use Rattle.plain_repository.specs.Laws.{StartsInOrder, StaysInOrder, AllIsInOrder, OfModels, OfVersions, HasIds, ModelsAreDefined, VersionsAreDefined, MetamodelsAreSound, HistoriesAreWhole, WorkspacesStand, HistoryOnlyGrows, WorkspacesStayApart, ModelsStayApart, NumbersOnlyGrow, DroppedStayDropped, RefusalsMakeNone, CommitsAreStale, UndoGivesBack, CommitsKeepModels, ShownByOwn, ShownApart};
+ghost use Rattle.plain_repository.specs.Laws.{StartsInOrder, StaysInOrder, AllIsInOrder, OfModels, OfVersions, HasIds, ModelsAreDefined, VersionsAreDefined, MetamodelsAreSound, HistoriesAreWhole, WorkspacesStand, HistoryOnlyGrows, WorkspacesStayApart, ModelsStayApart, NumbersOnlyGrow, DroppedStayDropped, RefusalsMakeNone, EventsChange, CommitsAreStale, UndoGivesBack, CommitsKeepModels, ShownByOwn, ShownApart};
 ghost use Rattle.plain_repository.specs.MergeLaws.{TidyingKeepsModels, UpdatesMerge, MergesMerge, MergesCount, RevertsTakeOut};
 
 /// The law of order: all is in order in the empty repository, and each event that could be made keeps it so. The other laws speak of such a state, so a
@@ -48,9 +48,11 @@ pub fn law_of_workspaces_apart()
     ensures dropped { DroppedStayDropped }
 {}
 
-/// The law of refusals: a line whose reply is a refusal makes no event, so neither the repository nor its file changes.
-pub fn law_of_refusals()
+/// The law of events: a line whose reply is a refusal makes none, and each event that could be made changes something beside the
+/// numbers that every event raises.
+pub fn law_of_events()
     ensures none { RefusalsMakeNone }
+    ensures change { EventsChange }
 {}
 
 /// The law of commits: one is refused as stale just where the base is not the head and no earlier refusal applies, and one that is made leaves the

@@ -7,6 +7,6 @@
 mod laws;
 
 pub use laws::{
-    law_of_commits, law_of_growth, law_of_merging, law_of_order, law_of_refusals, law_of_undoing,
+    law_of_commits, law_of_events, law_of_growth, law_of_merging, law_of_order, law_of_undoing,
     law_of_versions, law_of_working_models, law_of_workspaces_apart,
 };
