@@ -1,6 +1,6 @@
 -- Cells in order: the order is total and ties equal cells alone, and a search by it finds what is there.
 use Rattle.std.proofs.Common.{◌≡◌, ℕ, zero, suc, ◌+◌, ◌<◌, ◌≤◌, Bool, true, false, List, [], ◌∷◌, ◌++◌, ◌&&◌, ◌||◌, refl, sym, ap, subst, ◌∙◌, length, get_or, arith, inl, inr, ◌⊎◌}
-use Rattle.std.specs.Prelude.{Option, None, Some, slice_get, nat_eq, Result, Ok, Err, is_ok}
+use Rattle.std.specs.Prelude.{None, Some, slice_get, nat_eq, Result, Ok, Err, is_ok}
 use Rattle.std.specs.List.{list_any, range_with_len}
 use Rattle.std.specs.List.Sorted.{IsPermutation, IsSearchInRange, IsBinarySearchResult, IsNonDecreasingBy}
 use Rattle.std.specs.Option.{option_cmp, option_map_or}
