@@ -1,5 +1,5 @@
 -- Cells as the code holds them, against the cells that they are.
-use Rattle.std.proofs.Common.{◌≡◌, Bool, List, [], ◌∷◌, ◌++◌, ◌||◌, refl, ap, map}
+use Rattle.std.proofs.Common.{◌≡◌, Bool, List, [], ◌∷◌, ◌++◌, ◌||◌, refl, ap, ◌∙◌, map}
 use Rattle.std.proofs.lemmas.List.{map-append}
 use Rattle.std.specs.List.{list_any}
 use Rattle.ecore_meta.specs.Meta.{Meta}
@@ -8,6 +8,7 @@ use Rattle.model_laws.specs.Cells.{Cell, cell_eq, has}
 use Rattle.footprint.specs.declared.cell.Cell.{Cell as Held}
 use Rattle.footprint.specs.declared.cell.Print.{Print}
 use Rattle.footprint.specs.Interference.{op_writes, op_reads, meets, clash, interferes}
+use Rattle.footprint.proofs.Pairs.{meets_turned}
 use Rattle.footprint.specs.Prints.{seen, cells, holds, hold_one}
 
 pub cells_more : (list : List Held) (h : Held) → cells (list ++ h ∷ []) ≡ cells list ++ seen h ∷ []
@@ -26,6 +27,9 @@ pub held_meets : (list other : List Held) → hold_one list other ≡ meets (cel
 unfolding cells
 held_meets [] other = refl
 held_meets (h ∷ list) other = λ i. held_has other (seen h) i || held_meets list other i
+
+pub held_turned : (list other : List Held) → hold_one other list ≡ meets (cells list) (cells other)
+held_turned list other = held_meets other list ∙ meets_turned (cells other) (cells list)
 
 -- the prints of two operations tell whether they interfere
 pub prints_tell : (meta : Meta) (o p : Operation) (a b : Print) → cells a.writes ≡ op_writes meta o → cells a.reads ≡ op_reads o → cells b.writes ≡ op_writes meta p → cells b.reads ≡ op_reads p

@@ -3,3 +3,4 @@ pub mod Runs
 pub mod Alike
 pub mod Held
 pub mod Printed
+pub mod Sorted

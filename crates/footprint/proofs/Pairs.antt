@@ -7,7 +7,7 @@ use Rattle.finite_maps.proofs.EqualLaws.{and_first, and_second, and_both, nat_eq
 use Rattle.ecore_meta.specs.Meta.{Meta}
 use Rattle.model_state.specs.declared.step.Step.{Step}
 use Rattle.model_laws.specs.Cells.{Cell, OfKind, OfPlace, OfRank, OfAttr, OfRow, OfWhole, About, cell_eq, has, step_writes, step_reads, writes_all, reads_all, KeepApart}
-use Rattle.finite_maps.proofs.Cases.{true_false}
+use Rattle.finite_maps.proofs.Cases.{not_so, true_false}
 use Rattle.model_laws.proofs.Apart.{turned}
 use Rattle.model_laws.proofs.Exchange.{has_append, or_first, or_second, or_cases}
 use Rattle.model_state.specs.declared.operation.Operation.{Operation}
@@ -56,7 +56,7 @@ any_out test (x ∷ xs) c out h = or_cases (cell_eq c x) (has xs c) h
 pub apart_of : (xs ys : List Cell) → meets xs ys ≡ false → (c : Cell) → has xs c ≡ true → has ys c ≡ false
 apart_of xs ys out c h = any_out (has ys) xs c out h
 
-or_neither : (a b : Bool) → a ≡ false → b ≡ false → a || b ≡ false
+pub or_neither : (a b : Bool) → a ≡ false → b ≡ false → a || b ≡ false
 or_neither a b p q = ap (λ x. x || b) p ∙ q
 
 none_of : (test : Cell → Bool) (xs : List Cell) → ((c : Cell) → has xs c ≡ true → test c ≡ false) → list_any test xs ≡ false
@@ -70,6 +70,19 @@ none_of test (x ∷ xs) out = or_neither (test x) (list_any test xs)
 
 pub meets_of : (xs ys : List Cell) → ((c : Cell) → has xs c ≡ true → has ys c ≡ false) → meets xs ys ≡ false
 meets_of xs ys out = none_of (has ys) xs out
+
+turned_false : (xs ys : List Cell) → meets xs ys ≡ false → meets ys xs ≡ false
+turned_false xs ys out = meets_of ys xs (λ c there. not_so (has xs c) (λ here. true_false (has ys c) there (apart_of xs ys out c here)))
+
+pub meets_turned : (xs ys : List Cell) → meets xs ys ≡ meets ys xs
+meets_turned xs ys =
+    elim (meets xs ys) as (λ b. meets xs ys ≡ b → b ≡ meets ys xs) [
+      | false ↦ λ out. sym (turned_false xs ys out)
+      | true ↦ λ met. elim (meets ys xs) as (λ b. meets ys xs ≡ b → true ≡ b) [
+        | true ↦ λ again. refl
+        | false ↦ λ out. absurd (true_false (meets xs ys) met (turned_false ys xs out))
+      ] refl
+    ] refl
 
 -- lists that meet have a cell in common
 any_in : (test : Cell → Bool) (xs : List Cell) → list_any test xs ≡ true → (c : Cell) × (has xs c ≡ true) × (test c ≡ true)

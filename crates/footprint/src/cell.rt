@@ -1,13 +1,11 @@
 //! Cells, and the cells of an operation.
-ghost use Rattle.std.specs.Prelude.{◌≡◌};
-ghost use Rattle.model_laws.specs.Cells.{cell_eq};
-ghost use Rattle.footprint.specs.Prints.{seen};
+ghost use Rattle.footprint.specs.Order.{IsOrder};
 
 use ecore_meta::List;
 use model_state::Id;
 
-/// A part of a model that steps write or read as one.
-#[derive(Debug, Drop)]
+/// A part of a model that steps write or read as one. Cells stand in an order: by their sorts, and in one sort by what they are of.
+#[derive(Debug, PartialEq, Eq, PartialOrd, Ord, Drop)]
 pub enum Cell {
     /// Whether an element is there, and its class.
     Kind(Id),
@@ -23,43 +21,14 @@ pub enum Cell {
     Whole(Id, u32),
 }
 
-/// The cells that an operation writes, and those that it reads, in the order of its steps.
+/// The cells that an operation writes, and those that it reads, in the order of its steps. Where there are many, it keeps their places by
+/// the order of cells too, so that one of them is found without a walk over all.
 #[derive(Debug, Drop)]
 pub struct Print {
     pub writes: List<Cell>,
     pub reads: List<Cell>,
-}
-
-impl Cell {
-    /// Whether the two are the same cell.
-    pub fn is_same(&self, other: &Cell) -> bool
-        ensures { result ≡ cell_eq (seen self.now) (seen other.now) }
-    {
-        match self {
-            Cell::Kind(e) => match other {
-                Cell::Kind(x) => e == x,
-                _ => false,
-            },
-            Cell::Place(e) => match other {
-                Cell::Place(x) => e == x,
-                _ => false,
-            },
-            Cell::Rank(e) => match other {
-                Cell::Rank(x) => e == x,
-                _ => false,
-            },
-            Cell::Attr(e, f) => match other {
-                Cell::Attr(x, g) => e == x && f == g,
-                _ => false,
-            },
-            Cell::Row(a, f, b) => match other {
-                Cell::Row(x, g, y) => a == x && f == g && b == y,
-                _ => false,
-            },
-            Cell::Whole(a, f) => match other {
-                Cell::Whole(x, g) => a == x && f == g,
-                _ => false,
-            },
-        }
-    }
+    pub(crate) write_order: Vec<usize>,
+    pub(crate) read_order: Vec<usize>,
+    ghost writes_in_order: { IsOrder writes write_order.items },
+    ghost reads_in_order: { IsOrder reads read_order.items },
 }

@@ -7,6 +7,7 @@ mod exchanging;
 mod laws;
 mod meeting;
 mod printing;
+mod sorting;
 
 pub use bucket::{Bucket, Buckets};
 pub use cell::{Cell, Print};

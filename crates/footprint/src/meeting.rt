@@ -1,34 +1,40 @@
 //! Whether the cells of two operations clash.
 ghost use Rattle.std.specs.Prelude.{◌≡◌};
-ghost use Rattle.model_laws.specs.Cells.{cell_eq};
 ghost use Rattle.footprint.specs.Interference.{meets, clash};
-ghost use Rattle.footprint.specs.Prints.{seen, cells, holds, hold_one};
+ghost use Rattle.footprint.specs.Order.{IsOrder};
+ghost use Rattle.footprint.specs.Prints.{cells, hold_one};
 
+use crate::sorting::holds;
 use crate::{Cell, Print};
 use ecore_meta::List;
 
-fn holds(list: &[Cell], cell: &Cell) -> bool
-    ensures { result ≡ holds list.now (seen cell.now) }
-{
-    list.iter().any(|c| cell.is_same(c))
-}
-
-fn hold_one(list: &[Cell], other: &[Cell]) -> bool
+fn hold_one(list: &[Cell], other: &[Cell], order: &[usize]) -> bool
+    requires { IsOrder other.now order.now }
     ensures { result ≡ hold_one list.now other.now }
 {
-    list.iter().any(|c| holds(other, c))
+    list.iter().any(|c| holds(other, order, c))
 }
 
-fn meets(list: &List<Cell>, other: &List<Cell>) -> bool
+/// Whether the lists have a cell in common: each cell of the shorter is looked for in the longer.
+#[tactic(auto, using(crate::proofs::Held::held_meets, crate::proofs::Held::held_turned))]
+fn meets(list: &List<Cell>, order: &[usize], other: &List<Cell>, other_order: &[usize]) -> bool
+    requires list { IsOrder list.now order.now }
+    requires other { IsOrder other.now other_order.now }
     ensures { result ≡ meets (cells list.now) (cells other.now) }
 {
-    hold_one(list.as_slice(), other.as_slice())
+    if list.len() <= other.len() {
+        hold_one(list.as_slice(), other.as_slice(), other_order)
+    } else {
+        hold_one(other.as_slice(), list.as_slice(), order)
+    }
 }
 
-/// Whether a cell that one of the two operations writes is written or read by the other. It compares each cell of the one with those of
-/// the other.
+/// Whether a cell that one of the two operations writes is written or read by the other. It goes over the cells of the one that has
+/// fewer, and takes a number of steps for each that grows as the logarithm of how many the other has.
 pub fn interferes(a: &Print, b: &Print) -> bool
     ensures { result ≡ clash (cells a.now.writes) (cells a.now.reads) (cells b.now.writes) (cells b.now.reads) }
 {
-    meets(&a.writes, &b.writes) || meets(&a.writes, &b.reads) || meets(&b.writes, &a.reads)
+    meets(&a.writes, &a.write_order, &b.writes, &b.write_order)
+        || meets(&a.writes, &a.write_order, &b.reads, &b.read_order)
+        || meets(&b.writes, &b.write_order, &a.reads, &a.read_order)
 }

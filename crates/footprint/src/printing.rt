@@ -6,6 +6,7 @@ ghost use Rattle.model_laws.specs.Cells.{OfKind, OfPlace, OfRank, is_bounded, is
 ghost use Rattle.footprint.specs.Interference.{op_writes, op_reads};
 ghost use Rattle.footprint.specs.Prints.{seen, cells, shown, printed};
 
+use crate::sorting::order_of;
 use crate::{Cell, Print};
 use ecore_meta::{Kind, List, Metamodel};
 use model_state::{Id, Operation, Place, Step, opposite_of};
@@ -236,6 +237,20 @@ fn put_reads(alloc: Global, list: &mut List<Cell>, step: &Step) -> Result<(), Al
     }
 }
 
+fn with_orders(alloc: Global, writes: List<Cell>, reads: List<Cell>) -> Result<Print, AllocError>
+    ensures writes { IfOk result (λ p. p.writes ≡ writes) }
+    ensures reads { IfOk result (λ p. p.reads ≡ reads) }
+{
+    let write_order = order_of(alloc, writes.as_slice())?;
+    let read_order = order_of(alloc, reads.as_slice())?;
+    Ok(Print {
+        writes,
+        reads,
+        write_order,
+        read_order,
+    })
+}
+
 fn print_steps(alloc: Global, steps: &[Step], meta: &Metamodel) -> Result<Print, AllocError>
     ensures writes { IfOk result (λ p. cells p.writes ≡ writes_all meta.now steps.now) }
     ensures reads { IfOk result (λ p. cells p.reads ≡ reads_all steps.now) }
@@ -246,7 +261,7 @@ fn print_steps(alloc: Global, steps: &[Step], meta: &Metamodel) -> Result<Print,
         put_writes(alloc, &mut writes, meta, step)?;
         put_reads(alloc, &mut reads, step)?;
     }
-    Ok(Print { writes, reads })
+    with_orders(alloc, writes, reads)
 }
 
 /// The cells that the steps of an operation write, and those that they read, in the order of the steps.
