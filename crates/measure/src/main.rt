@@ -104,10 +104,10 @@ fn measure_history(
 /// How many operations, at most, are each tested with each.
 const TESTED: usize = 1000;
 
-fn measure_prints(rt: &HostRuntime, is_timed: bool, operations: u32) -> Result<()> {
+fn measure_prints(rt: &HostRuntime, is_timed: bool, operations: u32, steps: u32) -> Result<()> {
     let alloc = rt.alloc();
     let meta = metamodel(alloc)?;
-    let package = settings(alloc, operations)?;
+    let package = settings(alloc, operations, steps)?;
     let start = Instant::now(rt)?;
     let prints = prints_of(alloc, package.as_slice(), &meta)?;
     let printing = start.elapsed(rt)?;
@@ -116,7 +116,7 @@ fn measure_prints(rt: &HostRuntime, is_timed: bool, operations: u32) -> Result<(
     let found = count_interfering(tested);
     let testing = start.elapsed(rt)?;
     println!(rt;
-        "prints {operations}: {} prints, of {} each with each {found} pairs interfere",
+        "prints {operations} {steps}: {} prints, of {} each with each {found} pairs interfere",
         prints.len(),
         tested.len()
     )?;
@@ -198,7 +198,12 @@ fn main(rt: HostRuntime) -> Result<()> {
                 branches,
                 tags,
             } => measure_history(&rt, plan.is_timed, versions, branches, tags)?,
-            Task::Prints { operations } => measure_prints(&rt, plan.is_timed, operations)?,
+            Task::Prints { operations, steps } => measure_prints(
+                &rt,
+                plan.is_timed,
+                operations,
+                steps,
+            )?,
             Task::Pairs { shape, operations } => measure_pairs(
                 &rt,
                 plan.is_timed,

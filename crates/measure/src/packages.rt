@@ -48,33 +48,41 @@ fn single(alloc: Global, step: Step) -> Result<Operation, MeasureFault> {
     })
 }
 
-/// So many operations, each of which sets the text of an element of its own.
-pub(crate) fn settings(alloc: Global, operations: u32) -> Result<Package, MeasureFault>
-    ensures count { IfOk result (λ p. length p ≡ operations) }
-{
-    let mut package = List::new(alloc);
-    for element in 0..operations {
-        package.push(single(alloc, setting(alloc, element as u64)?)?)?;
-    }
-    Ok(package)
-}
-
-/// How many steps a composite has.
-const STEPS: u64 = 20;
-
-/// A composite that sets the texts of elements of its own.
-fn composite(alloc: Global, number: u64) -> Result<Operation, MeasureFault>
-    requires { number < 2 ^ 34 }
-{
+/// The composite of a number, of so many steps, which sets the texts of elements of its own.
+fn composite(alloc: Global, number: u64, count: u64) -> Result<Operation, MeasureFault> {
+    let first = number.saturating_mul(count);
     let mut steps = List::new(alloc);
-    for k in 0..STEPS {
-        steps.push(setting(alloc, number * STEPS + k)?)?;
+    for k in 0..count {
+        steps.push(setting(alloc, first.saturating_add(k))?)?;
     }
     Ok(Operation::Composite {
         name: Text::new(alloc, "texts")?,
         steps,
     })
 }
+
+/// The operation of a number, of so many steps, which sets the texts of elements of its own.
+fn setter(alloc: Global, number: u64, steps: u64) -> Result<Operation, MeasureFault> {
+    if steps == 1 {
+        single(alloc, setting(alloc, number)?)
+    } else {
+        composite(alloc, number, steps)
+    }
+}
+
+/// So many operations of so many steps each, none of which interferes with another.
+pub(crate) fn settings(alloc: Global, operations: u32, steps: u32) -> Result<Package, MeasureFault>
+    ensures count { IfOk result (λ p. length p ≡ operations) }
+{
+    let mut package = List::new(alloc);
+    for number in 0..operations {
+        package.push(setter(alloc, number as u64, steps as u64)?)?;
+    }
+    Ok(package)
+}
+
+/// How many steps a composite of a shape has.
+const STEPS: u64 = 20;
 
 /// The operation of a number, of the first of two packages or of the second, of so many operations each.
 fn operation_of(
@@ -95,7 +103,7 @@ fn operation_of(
         Shape::One => single(alloc, setting(alloc, 0)?),
         Shape::Composites => {
             let first = if is_second { size - size / 10 } else { 0 };
-            composite(alloc, first + number)
+            composite(alloc, first + number, STEPS)
         }
     }
 }

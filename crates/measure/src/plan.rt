@@ -23,9 +23,10 @@ pub enum Task {
         branches: u32,
         tags: u32,
     },
-    /// The cells of so many operations.
+    /// The cells of so many operations of so many steps each.
     Prints {
         operations: u32,
+        steps: u32,
     },
     /// The interfering pairs of two packages, each of so many operations.
     Pairs {
@@ -104,9 +105,10 @@ pub(crate) fn read_plan(alloc: Global, words: &[String]) -> Result<Plan, Measure
                 })?;
                 rest = more;
             }
-            ("prints", [operations, more @ ..]) => {
+            ("prints", [operations, steps, more @ ..]) => {
                 let operations = number(operations)?;
-                tasks.push(Task::Prints { operations })?;
+                let steps = number(steps)?;
+                tasks.push(Task::Prints { operations, steps })?;
                 rest = more;
             }
             (word, [shape, operations, more @ ..]) => {

@@ -1,5 +1,5 @@
 use Rattle.std.proofs.Common.{◌≡◌, length}
 use Rattle.measure.proofs.packages.settings.Given as goal
 
-abbrev pub invariant-loop-element : goal.invariant-loop-element
-invariant-loop-element l = length l.package ≡ l.element
+abbrev pub invariant-loop-number : goal.invariant-loop-number
+invariant-loop-number l = length l.package ≡ l.number
