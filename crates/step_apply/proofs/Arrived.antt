@@ -51,28 +51,19 @@ arrived t n i j k w is wrote here there b q =
     ] refl
 
 -- what was put in is taken back
-pub into_undone : (t n : BTreeMap RowKey ℕ) (i p j : Into) (k : RowKey) (r : ℕ) → IsInto t i → n.entries ≡ t.entries → tree.get row_cmp t k ≡ None
+pub into_undone : (t n : BTreeMap RowKey ℕ) (i p j : Into) (k : RowKey) (r : ℕ) (old : Option ℕ) → IsInto t i → n.entries ≡ t.entries → tree.get row_cmp t k ≡ old
     → arriving p k.2 ≡ set (arriving i k.2) k (Some r) → ((x : Name) → text_eq k.2 x ≡ false → arriving p x ≡ arriving i x)
-    → (is_some (get (arriving p k.2) k) ≡ true → arriving j k.2 ≡ set (arriving p k.2) k None) → ((x : Name) → text_eq k.2 x ≡ false → arriving j x ≡ arriving p x)
+    → (is_some (get (arriving p k.2) k) ≡ true → arriving j k.2 ≡ set (arriving p k.2) k old) → ((x : Name) → text_eq k.2 x ≡ false → arriving j x ≡ arriving p x)
     → IsInto n j
-into_undone t n i p j k r is same was here there back else b q =
+into_undone t n i p j k r old is same was here there back else b q =
     ap (λ m. get m q) (elim (text_eq k.2 b) as (λ c. text_eq k.2 b ≡ c → arriving j b ≡ arriving i b) [
       | true ↦ λ like. subst (λ z. arriving j z ≡ arriving i z) (text_equality.exact k.2 b like) (
           back (ap is_some (ap (λ m. get m k) here ∙ get-set_same row_order (arriving i k.2) k (Some r)))
-          ∙ ap (λ m. set m k None) here
-          ∙ set_back row_order (arriving i k.2) k None (Some r) (is k.2 k ∙ ap (λ c. cond c (tree.get row_cmp t k) None) (text_equality.own k.2) ∙ was))
+          ∙ ap (λ m. set m k old) here
+          ∙ set_back row_order (arriving i k.2) k old (Some r) (is k.2 k ∙ ap (λ c. cond c (tree.get row_cmp t k) None) (text_equality.own k.2) ∙ was))
       | false ↦ λ not. else b not ∙ there b not
     ] refl)
     ∙ is b q ∙ ap (λ es. cond (text_eq b q.2) (lookup (is_at (row_cmp q)) es) None) (sym same)
-
--- nothing changed
-pub into_kept : (t : BTreeMap RowKey ℕ) (i j : Into) (k : RowKey) → IsInto t i → arriving j k.2 ≡ arriving i k.2 → ((x : Name) → text_eq k.2 x ≡ false → arriving j x ≡ arriving i x) → IsInto t j
-into_kept t i j k is here there b q =
-    ap (λ m. get m q) (elim (text_eq k.2 b) as (λ c. text_eq k.2 b ≡ c → arriving j b ≡ arriving i b) [
-      | true ↦ λ like. subst (λ z. arriving j z ≡ arriving i z) (text_equality.exact k.2 b like) here
-      | false ↦ λ not. there b not
-    ] refl)
-    ∙ is b q
 
 abbrev ends_at : Name → RowKey × ℕ → Bool
 ends_at b e = text_eq b e.0.2

@@ -23,7 +23,8 @@ use Rattle.model_state.specs.State.{place_eq, is_inside}
 use Rattle.model_state.proofs.Orders.{id_order, row_order}
 use Rattle.model_state.proofs.StepTests.{place_equality}
 use Rattle.step_apply.specs.declared.groups.Groups.{Groups}
-use Rattle.step_apply.specs.Groups.{group_of, held, stood, arriving, IsGrouped, IsOut, IsInto}
+use Rattle.step_apply.specs.Groups.{held, stood, arriving, IsGrouped, IsOut, IsInto}
+use Rattle.step_apply.specs.Spots.{Members}
 use Rattle.step_apply.proofs.Grouped.{no_items}
 
 pub no_row : (t : BTreeMap RowKey ℕ) → btree_map_len t ≡ 0 → (k : RowKey) → get (table row_cmp t) k ≡ None
@@ -31,17 +32,6 @@ no_row t none k = get-table row_order t k ∙ ap (λ es. lookup (is_at (row_cmp 
 
 pub no_group : (t : BTreeMap Name ℕ) → btree_map_len t ≡ 0 → (b : Name) → get (table id_cmp t) b ≡ None
 no_group t none b = get-table id_order t b ∙ ap (λ es. lookup (is_at (id_cmp b)) es) (no_items t.entries none)
-
-none_among : (es : List (ℕ × BTreeMap Name ℕ)) → list_all (λ (g : BTreeMap Name ℕ). nat_eq (btree_map_len g) 0) (map {B = BTreeMap Name ℕ} (λ (e : ℕ × BTreeMap Name ℕ). e.1) es) ≡ true → (f : ℕ) (b : Name) → get (group_of (lookup (is_at (nat_cmp f)) es)) b ≡ None
-none_among [] h f b = get-empty id_cmp b
-none_among (e ∷ es) h f b =
-    elim (is_at (nat_cmp f) e.0) as (λ c. get (group_of (cond c (Some e.1) (lookup (is_at (nat_cmp f)) es))) b ≡ None) [
-      | true ↦ no_group e.1 (nat_equality.exact (btree_map_len e.1) 0 (and_first _ _ h)) b
-      | false ↦ none_among es (and_second _ _ h) f b
-    ]
-
-pub none_held : (fan : BTreeMap ℕ (BTreeMap Name ℕ)) → list_all (λ (g : BTreeMap Name ℕ). nat_eq (btree_map_len g) 0) (values fan) ≡ true → (f : ℕ) (b : Name) → get (group_of (tree.get nat_cmp fan f)) b ≡ None
-none_held fan h f b = none_among fan.entries h f b
 
 -- nothing stands in an element without lists
 pub none_inside : (t : BTreeMap Name Placed) (g : Groups) → IsGrouped t g → (e : Name) → ((f : ℕ) (b : Name) → get (held g.inside e f) b ≡ None)
@@ -63,7 +53,7 @@ none_inside t g is e none = sym (count_none id_order (λ (x : Name × Place). is
         there q a f (tree.get id_cmp t q) found (sym (is (Inside a f) q) ∙ ap (λ z. get (held g.inside z f) q) (sym (text_equality.exact e a like)) ∙ none f q))
 
 -- no row begins or ends at an element without lists
-pub none_at : (t : BTreeMap RowKey ℕ) (o : BTreeMap Name (BTreeMap ℕ (BTreeMap Name ℕ))) (i : BTreeMap Name (BTreeMap RowKey ℕ)) → IsOut t o → IsInto t i → (e : Name)
+pub none_at : (t : BTreeMap RowKey ℕ) (o : BTreeMap Name (BTreeMap ℕ Members)) (i : BTreeMap Name (BTreeMap RowKey ℕ)) → IsOut t o → IsInto t i → (e : Name)
     → ((f : ℕ) (b : Name) → get (held o e f) b ≡ None) → ((k : RowKey) → get (arriving i e) k ≡ None)
     → 0 ≡ count (λ (x : RowKey × ℕ). text_eq e x.0.0 || text_eq e x.0.2) (table row_cmp t)
 none_at t o i out into e none none' = sym (count_none row_order (λ (x : RowKey × ℕ). text_eq e x.0.0 || text_eq e x.0.2) (table row_cmp t) (λ q v found. neither q v (sym (get-table row_order t q) ∙ found)))

@@ -13,18 +13,11 @@ use Rattle.finite_maps.proofs.MapLaws.{same_key}
 use Rattle.finite_maps.proofs.TableLaws.{get-table}
 use Rattle.model_state.specs.Keys.{Name, RowKey, id_cmp, row_cmp}
 use Rattle.model_state.proofs.Orders.{id_order, row_order}
-use Rattle.step_apply.specs.Groups.{group_of, rows_of}
+use Rattle.step_apply.specs.Groups.{rows_of}
 
 -- different names are not found at one another
 pub not_at : (a b : Name) → text_eq a b ≡ false → is_at (id_cmp a) b ≡ false
 not_at a b apart = not_so (is_at (id_cmp a) b) (λ t. true_false (text_eq a b) (subst (λ z. text_eq a z ≡ true) (same_key id_order a b t) (text_equality.own a)) apart)
-
--- nothing is found where there is no list
-pub none_grouped : (e : Name) (o : Option (BTreeMap Name ℕ)) → o ≡ None → is_some (get (group_of o) e) ≡ true → ⊥
-none_grouped e o none some = true_false (is_some (get (group_of o) e)) some (ap (λ o. is_some (get (group_of o) e)) none ∙ ap is_some (get-empty id_cmp e))
-
-pub some_tabled : (t : BTreeMap Name ℕ) (e : Name) → is_some (get (table id_cmp t) e) ≡ true → is_some (tree.get id_cmp t e) ≡ true
-some_tabled t e some = ap is_some (sym (get-table id_order t e)) ∙ some
 
 pub no_items : {A : Type 0} (xs : List A) → length xs ≡ 0 → xs ≡ []
 no_items [] h = refl

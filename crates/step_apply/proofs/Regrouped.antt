@@ -59,10 +59,6 @@ into_one f h e x here there p =
 pub not_in : (h : Place → FinMap id_cmp ℕ) (e : Name) (x : Placed) (p : Place) → get (h p) e ≡ stood p (Some x) → place_eq x.place p ≡ false → h p ≡ set (h p) e None
 not_in h e x p is else = sym (set_here id_order (h p) e None (is ∙ ap (λ b. cond b (Some x.rank) None) (apart place_eq place_equality x.place p else)))
 
--- an element is where it stands
-pub is_in : (h : Place → FinMap id_cmp ℕ) (e : Name) (x : Placed) → ((p : Place) → get (h p) e ≡ stood p (Some x)) → is_some (get (h x.place) e) ≡ true
-is_in h e x is = ap is_some (is x.place ∙ ap (λ b. cond b (Some x.rank) None) (place_equality.own x.place))
-
 -- what is taken out of its only list is in none
 pub out_of_one : (f h : Place → FinMap id_cmp ℕ) (e : Name) (x : Placed) → ((p : Place) → get (h p) e ≡ stood p (Some x)) → f x.place ≡ set (h x.place) e None → ((p : Place) → place_eq x.place p ≡ false → f p ≡ h p) → (p : Place) → f p ≡ set (h p) e None
 out_of_one f h e x is here there p =
@@ -118,13 +114,11 @@ spots_count t g is p = ap length (entries_are t g is p) ∙ tally_part (λ (e : 
 
 -- ---- an element that leaves its list for another
 module _ (f h : Place → FinMap id_cmp ℕ) (e : Name) (x : Placed) (to : Place) (was : (p : Place) → place_eq to p ≡ false → get (h p) e ≡ stood p (Some x)) where
-  pub out_of : place_eq x.place to ≡ false → (is_some (get (h x.place) e) ≡ true → f x.place ≡ set (h x.place) e None) → ((p : Place) → place_eq x.place p ≡ false → f p ≡ h p)
+  pub out_of : f x.place ≡ set (h x.place) e None → ((p : Place) → place_eq x.place p ≡ false → f p ≡ h p)
       → (p : Place) → place_eq to p ≡ false → f p ≡ set (h p) e None
-  out_of differ here there p else =
+  out_of here there p else =
       elim (place_eq x.place p) as (λ b. place_eq x.place p ≡ b → f p ≡ set (h p) e None) [
-        | true ↦ λ same.
-            subst (λ z. f z ≡ set (h z) e None) (place_equality.exact x.place p same)
-            (here (ap is_some (was x.place (apart place_eq place_equality x.place to differ) ∙ ap (λ b. cond b (Some x.rank) None) (place_equality.own x.place))))
+        | true ↦ λ same. subst (λ z. f z ≡ set (h z) e None) (place_equality.exact x.place p same) here
         | false ↦ λ q. there p q ∙ not_in h e x p (was p else) q
       ] refl
 
@@ -134,13 +128,12 @@ module _ (f h : Place → FinMap id_cmp ℕ) (e : Name) (x : Placed) (to : Place
 -- what was put in is taken out again
 pub undone : (f g h : Place → FinMap id_cmp ℕ) (to : Place) (own : Name) (r : ℕ) → get (h to) own ≡ None
     → g to ≡ set (h to) own (Some r) → ((p : Place) → place_eq to p ≡ false → g p ≡ h p)
-    → (is_some (get (g to) own) ≡ true → f to ≡ set (g to) own None) → ((p : Place) → place_eq to p ≡ false → f p ≡ g p)
+    → f to ≡ set (g to) own None → ((p : Place) → place_eq to p ≡ false → f p ≡ g p)
     → (p : Place) → f p ≡ h p
 undone f g h to own r absent here there back else p =
     elim (place_eq to p) as (λ b. place_eq to p ≡ b → f p ≡ h p) [
       | true ↦ λ same.
           subst (λ z. f z ≡ h z) (place_equality.exact to p same)
-          (back (ap is_some (ap (λ m. get m own) here ∙ get-set_same id_order (h to) own (Some r)))
-          ∙ ap (λ m. set m own None) here ∙ set_back id_order (h to) own None (Some r) absent)
+          (back ∙ ap (λ m. set m own None) here ∙ set_back id_order (h to) own None (Some r) absent)
       | false ↦ λ q. else p q ∙ there p q
     ] refl

@@ -21,12 +21,13 @@ use Rattle.model_state.specs.Keys.{Name, RowKey, id_cmp, row_cmp}
 use Rattle.model_state.specs.Listing.{is_of, row_entry}
 use Rattle.model_state.proofs.Orders.{id_order, nat_order, row_order}
 use Rattle.step_apply.specs.Groups.{held, IsOut}
+use Rattle.step_apply.specs.Spots.{Members}
 use Rattle.step_apply.specs.Standing.{ranked_entry}
 use Rattle.step_apply.proofs.Parts.{part, entries-part}
 use Rattle.step_apply.proofs.Regrouped.{map_map, tally_part}
 
 abbrev Out : Type 0
-Out = BTreeMap Name (BTreeMap ℕ (BTreeMap Name ℕ))
+Out = BTreeMap Name (BTreeMap ℕ Members)
 
 -- by cases on whether the list is that of a and f
 pub by_list : (P : Name → ℕ → Type 0) (a : Name) (f : ℕ) → P a f → ((g : ℕ) → nat_eq f g ≡ false → P a g) → ((b : Name) (g : ℕ) → text_eq a b ≡ false → P b g) → (b : Name) (g : ℕ) → P b g
@@ -65,18 +66,22 @@ routed t n o p k w is wrote here beside there a f b =
     ∙ sym (wrote (a, f, b))
 
 -- what was put in is taken back
-pub out_undone : (t n : BTreeMap RowKey ℕ) (o p q : Out) (k : RowKey) (r : ℕ) (old : Option ℕ) → IsOut t o → n.entries ≡ t.entries → tree.get row_cmp t k ≡ old
+pub out_undone : (t n : BTreeMap RowKey ℕ) (o p q : Out) (k : RowKey) (r : ℕ) → IsOut t o → n.entries ≡ t.entries → tree.get row_cmp t k ≡ None
     → held p k.0 k.1 ≡ set (held o k.0 k.1) k.2 (Some r) → ((g : ℕ) → nat_eq k.1 g ≡ false → held p k.0 g ≡ held o k.0 g) → ((b : Name) (g : ℕ) → text_eq k.0 b ≡ false → held p b g ≡ held o b g)
-    → (is_some (get (held p k.0 k.1) k.2) ≡ true → held q k.0 k.1 ≡ set (held p k.0 k.1) k.2 old) → ((g : ℕ) → nat_eq k.1 g ≡ false → held q k.0 g ≡ held p k.0 g) → ((b : Name) (g : ℕ) → text_eq k.0 b ≡ false → held q b g ≡ held p b g)
+    → held q k.0 k.1 ≡ set (held p k.0 k.1) k.2 None → ((g : ℕ) → nat_eq k.1 g ≡ false → held q k.0 g ≡ held p k.0 g) → ((b : Name) (g : ℕ) → text_eq k.0 b ≡ false → held q b g ≡ held p b g)
     → IsOut n q
-out_undone t n o p q k r old is same was here beside there back beside' there' a f b =
+out_undone t n o p q k r is same was here beside there back beside' there' a f b =
     ap (λ m. get m b) (
     by_list (λ a f. held q a f ≡ held o a f) k.0 k.1
-    (back (ap is_some (ap (λ m. get m k.2) here ∙ get-set_same id_order (held o k.0 k.1) k.2 (Some r)))
-    ∙ ap (λ m. set m k.2 old) here ∙ set_back id_order (held o k.0 k.1) k.2 old (Some r) (is k.0 k.1 k.2 ∙ was))
+    (back ∙ ap (λ m. set m k.2 None) here ∙ set_back id_order (held o k.0 k.1) k.2 None (Some r) (is k.0 k.1 k.2 ∙ was))
     (λ g apart. beside' g apart ∙ beside g apart)
     (λ x g apart. there' x g apart ∙ there x g apart) a f)
     ∙ is a f b ∙ ap (λ es. lookup (is_at (row_cmp (a, f, b))) es) (sym same)
+
+-- nothing changed
+pub out_kept : (t : BTreeMap RowKey ℕ) (o p : Out) (k : RowKey) → IsOut t o → held p k.0 k.1 ≡ held o k.0 k.1
+    → ((g : ℕ) → nat_eq k.1 g ≡ false → held p k.0 g ≡ held o k.0 g) → ((b : Name) (g : ℕ) → text_eq k.0 b ≡ false → held p b g ≡ held o b g) → IsOut t p
+out_kept t o p k is here beside there a f b = ap (λ m. get m b) (by_list (λ a f. held p a f ≡ held o a f) k.0 k.1 here beside there a f) ∙ is a f b
 
 -- ---- lists
 module _ (t : BTreeMap RowKey ℕ) (o : Out) (is : IsOut t o) (a : Name) (f : ℕ) where

@@ -11,25 +11,26 @@ use Rattle.model_state.specs.declared.step.Place.TheVariants.{Root, Inside}
 use Rattle.model_state.specs.declared.step.Placed.{Placed}
 use Rattle.model_state.specs.Keys.{Name, RowKey, id_cmp, row_cmp}
 use Rattle.model_state.specs.State.{place_eq}
+use Rattle.step_apply.specs.Spots.{Members}
 use Rattle.step_apply.specs.declared.groups.Groups.{Groups}
 
 -- the elements of one list, and their ranks there
-abbrev pub group_of : Option (BTreeMap Name ℕ) → FinMap id_cmp ℕ
+abbrev pub group_of : Option Members → Members
 group_of None = empty
-group_of (Some t) = table id_cmp t
+group_of (Some m) = m
 
 -- those of a feature of one element
-abbrev pub fan_of : Option (BTreeMap ℕ (BTreeMap Name ℕ)) → ℕ → FinMap id_cmp ℕ
+abbrev pub fan_of : Option (BTreeMap ℕ Members) → ℕ → Members
 fan_of None f = empty
 fan_of (Some t) f = group_of (tree.get nat_cmp t f)
 
 -- those of a feature of an element
-abbrev pub held : BTreeMap Name (BTreeMap ℕ (BTreeMap Name ℕ)) → Name → ℕ → FinMap id_cmp ℕ
+abbrev pub held : BTreeMap Name (BTreeMap ℕ Members) → Name → ℕ → Members
 held t a f = fan_of (tree.get id_cmp t a) f
 
 -- those of a place
-abbrev pub standing : Groups → Place → FinMap id_cmp ℕ
-standing s Root = table id_cmp s.roots
+abbrev pub standing : Groups → Place → Members
+standing s Root = s.roots
 standing s (Inside a f) = held s.inside a f
 
 -- the rank in a place of the element that stands as given
@@ -42,7 +43,7 @@ abbrev pub IsGrouped : BTreeMap Name Placed → Groups → Type 0
 IsGrouped t g = (p : Place) (e : Name) → get (standing g p) e ≡ stood p (tree.get id_cmp t e)
 
 -- the rows are held by source and feature
-abbrev pub IsOut : BTreeMap RowKey ℕ → BTreeMap Name (BTreeMap ℕ (BTreeMap Name ℕ)) → Type 0
+abbrev pub IsOut : BTreeMap RowKey ℕ → BTreeMap Name (BTreeMap ℕ Members) → Type 0
 IsOut t out = (a : Name) (f : ℕ) (b : Name) → get (held out a f) b ≡ tree.get row_cmp t (a, f, b)
 
 -- the rows to an element

@@ -21,6 +21,14 @@ coded_name = coded_list coded_ℕ
 abbrev pub spots_code : Coded Spots
 spots_code = code_by (FinMap id_cmp Place × FinMap id_cmp ℕ) (coded× (code coded_name place_type.the_row.coded) (code coded_name coded_ℕ)) (λ s. (s.place, s.rank)) (λ p. record { place = p.0; rank = p.1 }) (λ _. refl)
 
+-- the elements of one list, and their ranks there
+abbrev pub Members : Type 0
+Members = FinMap id_cmp ℕ
+
+-- the code of these
+abbrev pub members_code : Coded Members
+members_code = code coded_name coded_ℕ
+
 -- the values of each attribute that is set
 abbrev pub Values : Type 0
 Values = FinMap attr_cmp (List Value)

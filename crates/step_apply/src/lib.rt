@@ -4,6 +4,7 @@
 mod attrs;
 mod births;
 mod change;
+mod group;
 mod groups;
 mod kinds;
 mod links;

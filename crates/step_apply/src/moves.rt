@@ -144,7 +144,9 @@ impl Plain {
         if !self.stands_at(e, old) {
             return Err(StepFault::OldDiffers);
         }
-        self.places.rerank(e, new);
-        Ok(())
+        match self.places.rerank(e, new) {
+            Ok(()) => Ok(()),
+            Err(_) => Err(StepFault::Memory),
+        }
     }
 }

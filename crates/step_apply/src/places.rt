@@ -33,7 +33,7 @@ fn leave(groups: &mut Groups, old: Option<Placed>, e: &Id)
     ensures { ((p : Spot) → get (standing groups.old p) e.now ≡ stood p old) → (p : Spot) → standing groups.new p ≡ set (standing groups.old p) e.now None }
 {
     if let Some(old) = old {
-        groups.rewrite(&old.place, e, None);
+        groups.drop_at(&old.place, e);
     }
 }
 
@@ -44,7 +44,7 @@ fn leave_for(groups: &mut Groups, old: Option<Placed>, e: &Id, to: &Place)
 {
     if let Some(old) = old {
         if !old.place.is_same(to) {
-            groups.rewrite(&old.place, e, None);
+            groups.drop_at(&old.place, e);
         }
     }
 }
@@ -52,7 +52,7 @@ fn leave_for(groups: &mut Groups, old: Option<Placed>, e: &Id, to: &Place)
 /// The places of the live elements and their ranks, which contracts see as two finite maps.
 ///
 /// Beside the place of each element stand the elements of each place. So to find, put or take out an element, and
-/// to count a place, costs a logarithm, and to list a place costs the sorting of what stands there.
+/// to count a place or tell the rank of its last, costs a logarithm, and to list a place costs the sorting of what stands there.
 #[derive(Drop)]
 pub struct Places {
     alloc: Global,
@@ -126,7 +126,7 @@ impl Places {
             .put(self.alloc, &to, own.copy(self.alloc)?, placed.rank)?;
         match self.tree.insert(e, placed) {
             Err(_) => {
-                self.groups.rewrite(&to, &own, None);
+                self.groups.drop_at(&to, &own);
                 Err(AllocError)
             }
             Ok(old) => {
@@ -136,15 +136,17 @@ impl Places {
         }
     }
 
-    /// Gives an element another rank where it stands.
-    pub fn rerank(&mut self, e: &Id, rank: u64)
+    /// Gives an element another rank where it stands. The error is out of memory.
+    pub fn rerank(&mut self, e: &Id, rank: u64) -> Result<(), AllocError>
         ensures place { self.new.place ≡ self.old.place }
-        ensures rank { is_some (get self.old.rank e.now) ≡ true → self.new.rank ≡ set self.old.rank e.now (Some rank) }
+        ensures rank { OnOk result (is_some (get self.old.rank e.now) ≡ true → self.new.rank ≡ set self.old.rank e.now (Some rank)) }
+        ensures err { OnErr result (self.new ≡ self.old) }
     {
-        if let Some(placed) = self.tree.get_mut(e) {
-            self.groups.rewrite(&placed.place, e, Some(rank));
-            placed.rank = rank;
-        }
+        let Some(placed) = self.tree.get(e) else {
+            return Ok(());
+        };
+        let place = placed.place.copy(self.alloc)?;
+        self.put(e.copy(self.alloc)?, Placed { place, rank })
     }
 
     /// Takes an element away from where it stands, if it stands anywhere.
@@ -156,7 +158,7 @@ impl Places {
         leave(&mut self.groups, old, e);
     }
 
-    /// The rank of the last element of a place, `None` where there is none. This goes over these alone, and sorts none.
+    /// The rank of the last element of a place, `None` where there is none.
     pub fn last_child(&self, place: &Place) -> Option<u64>
         ensures { result ≡ last_rank (children self.now.place self.now.rank place.now) }
     {

@@ -11,7 +11,8 @@ ghost use Rattle.finite_maps.specs.Equal.{text_eq};
 ghost use Rattle.model_state.specs.Keys.{Name, RowKey, row_cmp};
 ghost use Rattle.model_state.specs.Listing.{row_incoming, last_rank, targets, incoming};
 
-use crate::groups::{entries_of, group_in, is_bare, last_of, put_in, rewrite_in};
+use crate::group::Group;
+use crate::groups::{drop_in, group_in, is_bare, put_in};
 use ecore_meta::List;
 use model_state::{Entry, Id, Incoming};
 use std::alloc::{AllocError, Global};
@@ -59,7 +60,7 @@ fn rewrite_row(rows: &mut BTreeMap<(Id, u32, Id), u64>, key: &(Id, u32, Id), ran
 }
 
 /// Gives a row that is among those to the element another rank, or takes it out.
-fn rewrite_to(
+fn write_to(
     into: &mut BTreeMap<Id, BTreeMap<(Id, u32, Id), u64>>,
     b: &Id,
     key: &(Id, u32, Id),
@@ -71,6 +72,39 @@ fn rewrite_to(
     if let Some(rows) = into.get_mut(b) {
         rewrite_row(rows, key, rank);
     }
+}
+
+/// Whether no row ends at the element.
+fn is_no_target(into: &BTreeMap<Id, BTreeMap<(Id, u32, Id), u64>>, b: &Id) -> bool
+    ensures { result ≡ true → (k : RowKey) → get (arriving into.now b.now) k ≡ None }
+{
+    match into.get(b) {
+        None => true,
+        Some(rows) => rows.len() == 0,
+    }
+}
+
+/// Lets the rows to an element go, where there are none.
+fn clear_to(into: &mut BTreeMap<Id, BTreeMap<(Id, u32, Id), u64>>, b: &Id)
+    ensures { (x : Name) → arriving into.new x ≡ arriving into.old x }
+{
+    if is_no_target(into, b) {
+        into.remove(b);
+    }
+}
+
+/// Gives a row that is among those to the element another rank, or takes it out; where none is left they go.
+fn rewrite_to(
+    into: &mut BTreeMap<Id, BTreeMap<(Id, u32, Id), u64>>,
+    b: &Id,
+    key: &(Id, u32, Id),
+    rank: Option<u64>,
+)
+    ensures here { is_some (get (arriving into.old b.now) key.now) ≡ true → arriving into.new b.now ≡ set (arriving into.old b.now) key.now rank }
+    ensures there { (x : Name) → text_eq b.now x ≡ false → arriving into.new x ≡ arriving into.old x }
+{
+    write_to(into, b, key, rank);
+    clear_to(into, b);
 }
 
 /// Puts a row among those to the element.
@@ -100,16 +134,6 @@ fn put_to(
     }
 }
 
-/// Whether no row ends at the element.
-fn is_no_target(into: &BTreeMap<Id, BTreeMap<(Id, u32, Id), u64>>, b: &Id) -> bool
-    ensures { result ≡ true → (k : RowKey) → get (arriving into.now b.now) k ≡ None }
-{
-    match into.get(b) {
-        None => true,
-        Some(rows) => rows.len() == 0,
-    }
-}
-
 /// The rows as they are listed at their target.
 fn listed(alloc: Global, rows: &BTreeMap<(Id, u32, Id), u64>) -> Result<List<Incoming>, AllocError>
     ensures rows { IfOk result (λ l. l ≡ map row_incoming rows.now.entries) }
@@ -135,7 +159,7 @@ fn listed(alloc: Global, rows: &BTreeMap<(Id, u32, Id), u64>) -> Result<List<Inc
 pub struct Rows {
     alloc: Global,
     tree: BTreeMap<(Id, u32, Id), u64>,
-    out: BTreeMap<Id, BTreeMap<u32, BTreeMap<Id, u64>>>,
+    out: BTreeMap<Id, BTreeMap<u32, Group>>,
     into: BTreeMap<Id, BTreeMap<(Id, u32, Id), u64>>,
 }
 
@@ -180,11 +204,11 @@ impl Rows {
     {
         match group_in(&self.out, a, f) {
             None => None,
-            Some(group) => group.get(b).copied(),
+            Some(group) => group.rank(b),
         }
     }
 
-    /// Gives a row its rank, a new row or one that is there. The error is want of memory.
+    /// Gives a row its rank, a new row or one that is there. The error is out of memory.
     pub fn put(&mut self, key: (Id, u32, Id), rank: u64) -> Result<(), AllocError>
         ensures ok { OnOk result (self.new ≡ set self.old key (Some rank)) }
         ensures err { OnErr result (self.new ≡ self.old) }
@@ -192,17 +216,17 @@ impl Rows {
         let own = row_key(self.alloc, &key.0, key.1, &key.2)?;
         let target = key.2.copy(self.alloc)?;
         let old = self.tree.get(&key).copied();
-        put_in(self.alloc, &mut self.out, &key.0, key.1, target, rank)?;
-        match put_to(self.alloc, &mut self.into, &key.2, own, rank) {
+        put_to(self.alloc, &mut self.into, &key.2, own, rank)?;
+        match put_in(self.alloc, &mut self.out, &key.0, key.1, target, rank) {
             Err(error) => {
-                rewrite_in(&mut self.out, &key.0, key.1, &key.2, old);
+                rewrite_to(&mut self.into, &key.2, &key, old);
                 Err(error)
             }
             Ok(()) => match self.tree.insert(key, rank) {
                 Ok(_) => Ok(()),
                 Err(back) => {
                     let key = &back.value.0;
-                    rewrite_in(&mut self.out, &key.0, key.1, &key.2, None);
+                    drop_in(&mut self.out, &key.0, key.1, &key.2);
                     rewrite_to(&mut self.into, &key.2, key, None);
                     Err(AllocError)
                 }
@@ -215,7 +239,7 @@ impl Rows {
         ensures { self.new ≡ set self.old key.now None }
     {
         if self.tree.remove(key).is_some() {
-            rewrite_in(&mut self.out, &key.0, key.1, &key.2, None);
+            drop_in(&mut self.out, &key.0, key.1, &key.2);
             rewrite_to(&mut self.into, &key.2, key, None);
         }
     }
@@ -241,14 +265,13 @@ impl Rows {
         counted_at(&self.tree, e)
     }
 
-    /// The rank of the last target of a feature of an element, `None` where there is none. This goes over these alone, and
-    /// sorts none.
+    /// The rank of the last target of a feature of an element, `None` where there is none.
     pub fn last_target(&self, a: &Id, f: u32) -> Option<u64>
         ensures { result ≡ last_rank (targets self.now a.now f) }
     {
         match group_in(&self.out, a, f) {
             None => None,
-            Some(group) => last_of(group),
+            Some(group) => group.last(),
         }
     }
 
@@ -259,7 +282,7 @@ impl Rows {
         match group_in(&self.out, a, f) {
             None => Ok(List::new(alloc)),
             Some(group) => {
-                let mut found = entries_of(alloc, group)?;
+                let mut found = group.list(alloc)?;
                 found.sort_unstable();
                 Ok(List::from_vec(found))
             }

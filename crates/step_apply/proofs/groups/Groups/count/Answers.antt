@@ -1,17 +1,12 @@
 use Rattle.std.proofs.Common.{sym, ap, ◌∙◌, length}
 use Rattle.std.specs.FinMap.{entries}
-use Rattle.finite_maps.proofs.TableLaws.{entries-table}
-use Rattle.model_state.proofs.Orders.{id_order}
 use Rattle.step_apply.specs.Groups.{standing}
 use Rattle.model_state.specs.Keys.{id_cmp}
 use Rattle.step_apply.proofs.Grouped.{no_entries}
 use Rattle.step_apply.proofs.groups.Groups.count.Goals as goal
 
 pub returns-in-Root : goal.returns-in-Root
-returns-in-Root c =
-    c.len.ensures.len
-    ∙ ap length (sym (entries-table id_order c.args.self.now.roots c.len.ensures.ordered))
-    ∙ ap (λ p. length (entries (standing c.args.self.now p))) (sym c.in-Root.is)
+returns-in-Root c = c.len.ensures ∙ ap (λ p. length (entries (standing c.args.self.now p))) (sym c.in-Root.is)
 
 pub returns-in-None : goal.returns-in-None
 returns-in-None c =
@@ -20,7 +15,6 @@ returns-in-None c =
 
 pub returns-in-Some : goal.returns-in-Some
 returns-in-Some c =
-    c.len-in-Some.ensures.len
-    ∙ ap length (sym (entries-table id_order c.in-Some.group.now c.len-in-Some.ensures.ordered))
+    c.len-in-Some.ensures
     ∙ ap (λ m. length (entries m)) c.in-Some.ensures
     ∙ ap (λ p. length (entries (standing c.args.self.now p))) (sym c.in-Inside.is)

@@ -1,8 +1,6 @@
-use Rattle.std.proofs.Common.{◌≡◌, sym, ap, ◌∙◌, map}
+use Rattle.std.proofs.Common.{sym, ap, ◌∙◌, map}
 use Rattle.std.specs.FinMap.{entries}
 use Rattle.finite_maps.specs.Sorts.{in_order}
-use Rattle.finite_maps.proofs.TableLaws.{entries-table}
-use Rattle.model_state.proofs.Orders.{id_order}
 use Rattle.model_state.specs.Keys.{id_cmp}
 use Rattle.model_state.specs.Listing.{entry_cmp, last_rank}
 use Rattle.step_apply.specs.Groups.{standing}
@@ -11,10 +9,7 @@ use Rattle.step_apply.proofs.Grouped.{no_entries}
 use Rattle.step_apply.proofs.groups.Groups.last.Goals as goal
 
 pub returns-in-Root : goal.returns-in-Root
-returns-in-Root c =
-    c.last_of.ensures.last
-    ∙ ap (λ es. last_rank (in_order entry_cmp (map ranked_entry es))) (sym (entries-table id_order c.args.self.now.roots c.last_of.ensures.ordered))
-    ∙ ap (λ p. last_rank (in_order entry_cmp (map ranked_entry (entries (standing c.args.self.now p))))) (sym c.in-Root.is)
+returns-in-Root c = c.last.ensures ∙ ap (λ p. last_rank (in_order entry_cmp (map ranked_entry (entries (standing c.args.self.now p))))) (sym c.in-Root.is)
 
 pub returns-in-None : goal.returns-in-None
 returns-in-None c =
@@ -24,7 +19,6 @@ returns-in-None c =
 
 pub returns-in-Some : goal.returns-in-Some
 returns-in-Some c =
-    c.last_of-in-Some.ensures.last
-    ∙ ap (λ es. last_rank (in_order entry_cmp (map ranked_entry es))) (sym (entries-table id_order c.in-Some.group.now c.last_of-in-Some.ensures.ordered))
+    c.last-in-Some.ensures
     ∙ ap (λ m. last_rank (in_order entry_cmp (map ranked_entry (entries m)))) c.in-Some.ensures
     ∙ ap (λ p. last_rank (in_order entry_cmp (map ranked_entry (entries (standing c.args.self.now p))))) (sym c.in-Inside.is)

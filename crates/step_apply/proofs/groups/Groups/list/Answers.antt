@@ -1,8 +1,6 @@
 use Rattle.std.proofs.Common.{◌≡◌, sym, ap, subst, ◌∙◌, map}
 use Rattle.std.specs.Prelude.{IfOk}
 use Rattle.std.specs.FinMap.{entries}
-use Rattle.finite_maps.proofs.TableLaws.{entries-table}
-use Rattle.model_state.proofs.Orders.{id_order}
 use Rattle.step_apply.specs.Groups.{standing}
 use Rattle.step_apply.specs.Standing.{ranked_entry}
 use Rattle.model_state.specs.Keys.{id_cmp}
@@ -11,10 +9,7 @@ use Rattle.step_apply.proofs.groups.Groups.list.Goals as goal
 
 pub returns-in-Root : goal.returns-in-Root
 returns-in-Root c =
-    subst (λ es. IfOk c.entries_of.result (λ v. v.items ≡ es))
-    (ap (map ranked_entry) (sym (entries-table id_order c.args.self.now.roots c.entries_of.ensures.ordered))
-    ∙ ap (λ p. map ranked_entry (entries (standing c.args.self.now p))) (sym c.in-Root.is))
-    c.entries_of.ensures.entries
+    subst (λ es. IfOk c.list.result (λ v. v.items ≡ es)) (ap (λ p. map ranked_entry (entries (standing c.args.self.now p))) (sym c.in-Root.is)) c.list.ensures
 
 pub returns-in-None : goal.returns-in-None
 returns-in-None c =
@@ -25,8 +20,7 @@ returns-in-None c =
 
 pub returns-in-Some : goal.returns-in-Some
 returns-in-Some c =
-    subst (λ es. IfOk c.entries_of-in-Some.result (λ v. v.items ≡ es))
-    (ap (map ranked_entry) (sym (entries-table id_order c.in-Some.group.now c.entries_of-in-Some.ensures.ordered))
-    ∙ ap (λ m. map ranked_entry (entries m)) c.in-Some.ensures
+    subst (λ es. IfOk c.list-in-Some.result (λ v. v.items ≡ es))
+    (ap (λ m. map ranked_entry (entries m)) c.in-Some.ensures
     ∙ ap (λ p. map ranked_entry (entries (standing c.args.self.now p))) (sym c.in-Inside.is))
-    c.entries_of-in-Some.ensures.entries
+    c.list-in-Some.ensures

@@ -13,11 +13,11 @@ use Rattle.step_apply.proofs.places.Places.put.Goals as goal
 pub invariant_of-self-in-Err : goal.invariant_of-self-in-Err
 invariant_of-self-in-Err c =
     let groups = c.self.inside.groups in
-    same_grouped c.self.inside.tree c.insert.new.self groups c.rewrite.new.self c.self.invariant c.in-Err.ensures.err
-    (undone (standing c.rewrite.new.self) (standing c.put.new.self) (standing groups) c.in_ok-to.to c.in_ok-own.own c.args.placed.rank
+    same_grouped c.self.inside.tree c.insert.new.self groups c.drop_at.new.self c.self.invariant c.in-Err.ensures.err
+    (undone (standing c.drop_at.new.self) (standing c.put.new.self) (standing groups) c.in_ok-to.to c.in_ok-own.own c.args.placed.rank
     (ap (get (standing groups c.in_ok-to.to)) c.in_ok-own.ensures ∙ c.self.invariant c.in_ok-to.to c.args.e ∙ ap (stood c.in_ok-to.to) c.in-Err.ensures.absent)
     (c.in_ok-put.ensures.here ∙ ap (λ z. set (standing groups c.in_ok-to.to) z (Some c.args.placed.rank)) c.in_ok-copy.ensures)
-    c.in_ok-put.ensures.there c.rewrite.ensures.here c.rewrite.ensures.there)
+    c.in_ok-put.ensures.there c.drop_at.ensures.here c.drop_at.ensures.there)
 
 -- the element is in the list of the place, and in no other
 pub invariant_of-self-in-Ok : goal.invariant_of-self-in-Ok

@@ -1,10 +1,8 @@
 use Rattle.std.proofs.Common.{sym, ap, ◌∙◌, map}
 use Rattle.std.specs.FinMap.{entries}
 use Rattle.finite_maps.specs.Sorts.{in_order}
-use Rattle.finite_maps.proofs.TableLaws.{entries-table}
 use Rattle.model_state.specs.Keys.{id_cmp}
 use Rattle.model_state.specs.Listing.{entry_cmp, last_rank, targets}
-use Rattle.model_state.proofs.Orders.{id_order}
 use Rattle.step_apply.specs.Standing.{ranked_entry}
 use Rattle.step_apply.proofs.Grouped.{no_entries}
 use Rattle.step_apply.proofs.Routed.{targets_are}
@@ -18,7 +16,7 @@ returns-in-None c =
 
 pub returns-in-Some : goal.returns-in-Some
 returns-in-Some c =
-    c.last_of.ensures.last
-    ∙ ap (λ es. last_rank (in_order entry_cmp (map ranked_entry es))) (sym (entries-table id_order c.in-Some.group.now c.last_of.ensures.ordered) ∙ ap entries c.in-Some.ensures)
+    c.last.ensures
+    ∙ ap (λ es. last_rank (in_order entry_cmp (map ranked_entry es))) (ap entries c.in-Some.ensures)
     ∙ ap (λ es. last_rank (in_order entry_cmp es)) (targets_are c.self.inside.tree c.self.inside.out c.self.invariant.0 c.args.a.now c.args.f)
     ∙ ap (λ m. last_rank (targets m c.args.a.now c.args.f)) c.self.view_is

@@ -3,7 +3,7 @@ use Rattle.std.specs.Prelude.{None}
 use Rattle.std.specs.FinMap.{get, get-empty}
 use Rattle.finite_maps.proofs.TableLaws.{get-table}
 use Rattle.model_state.specs.Keys.{id_cmp}
-use Rattle.model_state.proofs.Orders.{id_order, row_order}
+use Rattle.model_state.proofs.Orders.{row_order}
 use Rattle.step_apply.proofs.rows.Rows.rank.Goals as goal
 
 pub returns-in-None : goal.returns-in-None
@@ -14,6 +14,6 @@ returns-in-None c =
 
 pub returns-in-Some : goal.returns-in-Some
 returns-in-Some c =
-    c.copied.ensures ∙ c.get.ensures.value ∙ sym (get-table id_order c.in-Some.group.now c.args.b.now) ∙ ap (λ m. get m c.args.b.now) c.in-Some.ensures
+    c.rank.ensures ∙ ap (λ m. get m c.args.b.now) c.in-Some.ensures
     ∙ c.self.invariant.0 c.args.a.now c.args.f c.args.b.now
     ∙ sym (get-table row_order c.self.inside.tree (c.args.a.now, c.args.f, c.args.b.now)) ∙ ap (λ m. get m (c.args.a.now, c.args.f, c.args.b.now)) c.self.view_is

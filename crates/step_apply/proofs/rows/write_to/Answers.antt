@@ -5,7 +5,7 @@ use Rattle.std.specs.FinMap.{get}
 use Rattle.finite_maps.specs.Maps.{set}
 use Rattle.step_apply.specs.Groups.{rows_of}
 use Rattle.step_apply.proofs.Grouped.{none_arrives, some_row, not_at}
-use Rattle.step_apply.proofs.rows.rewrite_to.Goals as goal
+use Rattle.step_apply.proofs.rows.write_to.Goals as goal
 
 pub returns-in-Some-clause-here : goal.returns-in-Some-clause-here
 returns-in-Some-clause-here c = λ some.
