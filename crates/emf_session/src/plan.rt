@@ -193,3 +193,42 @@ pub(crate) fn answer<H: Host>(
         Err(_) => Err(SessionFault::SayFault),
     }
 }
+
+/// Carries a command out, and prints nothing.
+pub(crate) fn answer_quietly<H: Host>(
+    alloc: Global,
+    host: &mut H,
+    repo: &mut Repo,
+    journal: &mut Journal,
+    line: &str,
+    block: &Option<Text>,
+) -> Result<Answered, SessionFault>
+    requires line { length line.now < 2 ^ 32 - 1 }
+    requires block { IsShortBlock block.now }
+    requires whole { journal.old.broken ≡ false }
+    requires end { repo.old.end ≡ journal.old.end }
+    requires open { IsTrue (H.told host.old).tells → ((made : List Event) × IsStoreOf (disk_now (H.told host.old)) repo.old made) }
+    ensures refused { IfOk result (λ a. a ≡ answered_as (answer_to repo.old line.now block.now).refused) }
+    ensures state { OnOk result (repo.new ≡ after play repo.old (answer_to repo.old line.now block.now).event) }
+    ensures added { OnOk result (IsTrue (H.told host.old).tells → (made : List Event) → IsStoreOf (disk_now (H.told host.old)) repo.old made
+        → IsStoreOf (disk_now (H.told host.new)) repo.new (made ++ listed (answer_to repo.old line.now block.now).event)) }
+    ensures whole { OnOk result (journal.new.broken ≡ false) }
+    ensures end { journal.new.broken ≡ false → repo.new.end ≡ journal.new.end }
+    ensures faults { IfErr result (λ e. (e ≡ SessionFault.DiskFault) ⊎ (e ≡ SessionFault.Memory)) }
+    ensures event { IsErrOf result SessionFault.DiskFault → IsSome (answer_to repo.old line.now block.now).event }
+    ensures broken { IsErrOf result SessionFault.DiskFault → journal.new.broken ≡ true }
+    ensures cause { IsErrOf result SessionFault.DiskFault → Rose (H.told host.old).disk_faults (H.told host.new).disk_faults }
+    ensures memory { IsErrOf result SessionFault.Memory → KeepsDisk (H.told host.old) (H.told host.new) }
+    ensures same_repo { IsErrOf result SessionFault.Memory → repo.new ≡ repo.old }
+    ensures same_journal { IsErrOf result SessionFault.Memory → journal.new ≡ journal.old }
+    ensures entering { (made : List Event) → IsStoreOf (disk_now (H.told host.old)) repo.old made
+        → Throughout (H.told host.old) (H.told host.new) (λ disk _. IsEntering made (answer_to repo.old line.now block.now).event disk) }
+    ensures course { GoesOn (H.told host.old) (H.told host.new) }
+    ensures said { KeepsSaid (H.told host.old) (H.told host.new) }
+    ensures input { KeepsInput (H.told host.old) (H.told host.new) }
+{
+    match carry_out(alloc, host, repo, journal, line, block) {
+        Ok(carried) => Ok(carried.answered),
+        Err(fault) => Err(fault),
+    }
+}

@@ -7,16 +7,17 @@ ghost use Rattle.op_form.specs.declared.event.Event.{Event};
 ghost use Rattle.plain_repository.specs.Events.{play};
 ghost use Rattle.plain_repository.specs.Store.{Stands, IsDamaged, StandsForNoEvents};
 ghost use Rattle.commit_journal.specs.Journal.{StandsForSame};
+ghost use Rattle.repo_core.specs.Counting.{AreCounts, element_count};
 ghost use Rattle.repo_core.specs.Decisions.{IsShortBlock};
-ghost use Rattle.emf_session.specs.Session.{answer_to, IsStoreOf, IfMade, AtDamage, answered_as};
+ghost use Rattle.emf_session.specs.Session.{answer_to, IsStoreOf, IsEntering, IfMade, AtDamage, answered_as};
 
 use crate::answered::{Answered, SessionFault, session_fault};
-use crate::plan::answer;
+use crate::plan::{answer, answer_quietly};
 use commit_journal::{Journal, Walk};
 use ecore_meta::Text;
 use host_port::Host;
-use repo_core::{ReplayFault, Repo};
-use std::alloc::Global;
+use repo_core::{Counts, ReplayFault, Repo};
+use std::alloc::{AllocError, Global};
 use std::marker::Model;
 
 /// A store that is open, and its repository.
@@ -84,6 +85,28 @@ impl Session {
         self.journal.broken()
     }
 
+    /// The repository of the store.
+    pub fn repo(&self) -> &Repo
+        ensures { result.now ≡ self.now.state }
+    {
+        &self.repo
+    }
+
+    /// What there is of each in the repository.
+    pub fn counts(&self) -> Counts
+        ensures { AreCounts self.now.state result }
+    {
+        self.repo.counts()
+    }
+
+    /// How many elements the state at trunk's head has; none before there is a metamodel.
+    pub fn elements(&mut self, alloc: Global) -> Result<u64, AllocError>
+        ensures elements { IfOk result (λ n. n ≡ element_count self.old.state) }
+        ensures same { self.new ≡ self.old }
+    {
+        self.repo.elements(alloc)
+    }
+
     /// Answers a command: its event is in the file before its reply is printed.
     ///
     /// # Errors
@@ -126,5 +149,43 @@ impl Session {
         ensures never { IfErr result (λ e. (at : ℕ) → e ≡ SessionFault.Damaged at → ⊥) }
     {
         answer(alloc, host, &mut self.repo, &mut self.journal, line, block)
+    }
+
+    /// Answers a command as `step` does, and prints nothing.
+    ///
+    /// # Errors
+    ///
+    /// `DiskFault` breaks the session. After `Memory` nothing has changed. No other fault is answered.
+    pub fn step_quiet<H: Host>(
+        &mut self,
+        alloc: Global,
+        host: &mut H,
+        line: &str,
+        block: &Option<Text>,
+    ) -> Result<Answered, SessionFault>
+        requires line { length line.now < 2 ^ 32 - 1 }
+        requires block { IsShortBlock block.now }
+        requires whole { self.old.broken ≡ false }
+        requires open { IsTrue (H.told host.old).tells → ((made : List Event) × IsStoreOf (disk_now (H.told host.old)) self.old.state made) }
+        // The command is answered and carried out as the plain repository has it.
+        ensures refused { IfOk result (λ a. a ≡ answered_as (answer_to self.old.state line.now block.now).refused) }
+        ensures state { OnOk result (self.new.state ≡ after play self.old.state (answer_to self.old.state line.now block.now).event) }
+        ensures added { OnOk result (IsTrue (H.told host.old).tells → (made : List Event) → IsStoreOf (disk_now (H.told host.old)) self.old.state made
+            → IsStoreOf (disk_now (H.told host.new)) self.new.state (made ++ listed (answer_to self.old.state line.now block.now).event)) }
+        ensures whole { OnOk result (self.new.broken ≡ false) }
+        ensures faults { IfErr result (λ e. (e ≡ SessionFault.DiskFault) ⊎ (e ≡ SessionFault.Memory)) }
+        ensures event { IsErrOf result SessionFault.DiskFault → IsSome (answer_to self.old.state line.now block.now).event }
+        ensures broken { IsErrOf result SessionFault.DiskFault → self.new.broken ≡ true }
+        ensures cause { IsErrOf result SessionFault.DiskFault → Rose (H.told host.old).disk_faults (H.told host.new).disk_faults }
+        ensures memory { IsErrOf result SessionFault.Memory → KeepsDisk (H.told host.old) (H.told host.new) }
+        ensures same { IsErrOf result SessionFault.Memory → self.new ≡ self.old }
+        // At each moment a crash leaves the event whole or not at all.
+        ensures entering { (made : List Event) → IsStoreOf (disk_now (H.told host.old)) self.old.state made
+            → Throughout (H.told host.old) (H.told host.new) (λ disk _. IsEntering made (answer_to self.old.state line.now block.now).event disk) }
+        ensures course { GoesOn (H.told host.old) (H.told host.new) }
+        ensures said { KeepsSaid (H.told host.old) (H.told host.new) }
+        ensures input { KeepsInput (H.told host.old) (H.told host.new) }
+    {
+        answer_quietly(alloc, host, &mut self.repo, &mut self.journal, line, block)
     }
 }

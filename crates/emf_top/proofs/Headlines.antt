@@ -3,14 +3,12 @@ use Rattle.std.proofs.Common.{◌≡◌, ◌⊎◌, inl, inr, ⊎_elim, ℕ, ◌
 use Rattle.std.specs.Prelude.{IsTrue, map}
 use Rattle.std.proofs.lemmas.List.{append-nil}
 use Rattle.host_port.specs.Host.{Told, MayLeave, GoesOn, Throughout, KeepsSaid, KeepsInput, AddsPart, Rose, disk_now, said_now}
-use Rattle.host_port.specs.Cut.{script_from}
 use Rattle.host_port.proofs.Course.{at_last, carry_on, told_next, adds_none, said_kept_now, still_disk}
 use Rattle.command_runs.specs.Runs.{played, replies, events, answered}
 use Rattle.command_runs.specs.Stops.{IsRunning, IsOpenedRunning}
 use Rattle.command_runs.proofs.Going.{among}
 use Rattle.op_form.specs.declared.event.Event.{Event}
 use Rattle.op_form.specs.Events.{event_form}
-use Rattle.plain_repository.specs.Lines.{takes_block}
 use Rattle.plain_repository.specs.State.{State, empty}
 use Rattle.plain_repository.specs.Events.{play}
 use Rattle.plain_repository.specs.Store.{Stands, StandsForNoEvents, IsDamaged}
@@ -21,33 +19,23 @@ use Rattle.emf_session.specs.Session.{IsStoreOf, AtDamage}
 use Rattle.emf_session.proofs.Opening.{IsMounting, is_long}
 use Rattle.emf_top.specs.declared.top.Status.{Status}
 use Rattle.emf_top.specs.declared.top.Status.TheVariants.{Accepted, Refused, BadWords, ReadFault, WriteFault, DiskFault, Damaged, Memory, Input}
-use Rattle.emf_top.specs.Headline.{Task, script, serving, Asks, AreBad, Ends, NothingRose, KeepsFile, IsFoundDamaged, IsUnsaid, IsUnopened, IsUnanswered, IsHalted, IsKept, session_status}
+use Rattle.emf_top.specs.Headline.{Ends, NothingRose, KeepsFile, IsFoundDamaged, IsUnsaid, IsUnopened, IsUnanswered, IsHalted, IsKept, session_status}
+use Rattle.emf_top.specs.Tasks.{Task, task_of}
+use Rattle.emf_top.specs.Words.{AskFor, words_of}
+use Rattle.emf_top.specs.declared.words.Request.{Request}
+use Rattle.emf_top.specs.declared.words.Request.TheVariants.{Serve, Check}
 
--- without words the script is served
-pub asked : (words : List (List ℕ)) (before : Told) (s : State) (task : Task) → words ≡ [] → Asks words before s task → serving s (script before.left) ≡ task
-asked [] before s task none asks = some_same (serving s (script before.left)) task asks
-  where
-    some_same : (x y : Task) → Some x ≡ Some y → x ≡ y
-    some_same x y is = cc
-asked (word ∷ words) before s task none asks = absurd cc
+-- words ask for one thing at most
+pub same_request : (words : List (List ℕ)) (a b : Request) → AskFor words a → AskFor words b → a ≡ b
+same_request words Serve Serve first second = refl
+same_request words Serve Check first second = let other : words_of Serve ≡ words_of Check = sym first ∙ second in absurd cc
+same_request words Check Serve first second = let other : words_of Check ≡ words_of Serve = sym first ∙ second in absurd cc
+same_request words Check Check first second = refl
 
--- words that are bad ask for nothing
-pub asked_nothing : (words : List (List ℕ)) (before : Told) (s : State) (task : Task) → AreBad words → Asks words before s task → ⊥
-asked_nothing words before s task bad asks = let none : None ≡ Some task = sym (bad s before.left) ∙ asks in absurd cc
-
--- words that are none are not bad
-pub none_not_bad : (words : List (List ℕ)) → words ≡ [] → AreBad words → ⊥
-none_not_bad [] none bad = let some : Some (serving empty (script [])) ≡ None = bad empty [] in absurd cc
-none_not_bad (word ∷ words) none bad = absurd cc
-
--- a list of no words, and one of some
-pub bare_words : {W : Type 0} (bytes : W → List ℕ) (words : List W) → length words ≡ 0 → map bytes words ≡ []
-bare_words bytes [] none = refl
-bare_words bytes (word ∷ words) none = absurd (omega (arith, none))
-
-pub some_words : {W : Type 0} (bytes : W → List ℕ) (words : List W) → (length words ≡ 0 → ⊥) → AreBad (map bytes words)
-some_words bytes [] some s input = absurd (some refl)
-some_words bytes (word ∷ words) some s input = refl
+-- whether the input is read goes by what is asked for alone
+pub same_reads : (request : Request) (s t : State) (one two : List ℕ) → (task_of request s one).reads ≡ (task_of request t two).reads
+same_reads Serve s t one two = refl
+same_reads Check s t one two = refl
 
 -- no call at all leaves the file
 pub file_still : (a : Told) → KeepsFile a a
@@ -76,7 +64,7 @@ ends_from task first entry a b same (Input fault at) e = (record { said = e.0.sa
 ends_from task first entry a b same WriteFault e = unsaid_from task first entry a b same e
 ends_from task first entry a b same (Damaged at) e = e
 ends_from task first entry a b same BadWords e = e
-ends_from task first entry a b same ReadFault e = halted_from task first entry a b same e
+ends_from task first entry a b same ReadFault e = (halted_from task first entry a b same e.0, e.1)
 ends_from task first entry a b same DiskFault e = ⊎_elim (λ h. inl (record { said = h.said ∙ same; stands = h.stands })) (λ u. inr (unanswered_from task first entry a b same u)) e
 ends_from task first entry a b same Memory e = halted_from task first entry a b same e
 
@@ -114,44 +102,41 @@ module _ (entry a : Told) (course : GoesOn entry a) (said : KeepsSaid entry a) (
         (at_last entry a (λ disk said. IsMounting (disk_now entry) disk) course mounting told);
   }
 
--- the opening, and then the lines
+-- the opening, and then what the task asks for, which goes by the state of the store and the input
 module _ (entry a : Told) (course : GoesOn entry a) (said : KeepsSaid entry a) (mounting : Throughout entry a (λ disk said. IsMounting (disk_now entry) disk)) (first : List Event) (stood : Stands (disk_now entry).now first)
-    (b : Told) (input : KeepsInput entry a) (on : GoesOn a b) (now : State) (place : ℕ) (pending : List ℕ) (place_is : place ≡ 0) (pending_is : pending ≡ [])
+    (b : Told) (input : KeepsInput entry a) (on : GoesOn a b) (now : State) (asked : State → List ℕ → Task)
     (opened : IsTrue entry.tells → (made : List Event) × IsStoreOf (disk_now a) now made × Stands (disk_now entry).now made) where
   holds_first : IsTrue entry.tells → IsStoreOf (disk_now a) now first
   holds_first told =
       let had = opened told in
       subst (λ (l : List Event). IsStoreOf (disk_now a) now l) (sym (same_events (disk_now entry).now first had.0 stood had.2)) had.1
 
-  task_is : IsTrue entry.tells → serving now (script_from takes_block place (pending ++ a.left)) ≡ serving (played play empty first) (script entry.left)
-  task_is told = ap (λ (s : State). serving s (script_from takes_block place (pending ++ a.left))) (holds_first told).state_is
-      ∙ ap (λ (n : ℕ). serving (played play empty first) (script_from takes_block n (pending ++ a.left))) place_is
-      ∙ ap (λ (l : List ℕ). serving (played play empty first) (script_from takes_block 0 (l ++ a.left))) pending_is
-      ∙ ap (λ (l : List ℕ). serving (played play empty first) (script_from takes_block 0 l)) input.left
+  task_is : IsTrue entry.tells → asked now a.left ≡ asked (played play empty first) entry.left
+  task_is told = ap (λ (s : State). asked s a.left) (holds_first told).state_is ∙ ap (λ (l : List ℕ). asked (played play empty first) l) input.left
 
   said_is : IsTrue entry.tells → said_now a ≡ said_now entry
   said_is told = said_kept_now entry a course said told
 
-  pub whole_ends : (status : Status) → (IsTrue a.tells → (made : List Event) → IsStoreOf (disk_now a) now made → Ends (serving now (script_from takes_block place (pending ++ a.left))) made a b status)
-      → IsTrue entry.tells → Ends (serving (played play empty first) (script entry.left)) first entry b status
-  whole_ends status ends told = ends_from (serving (played play empty first) (script entry.left)) first entry a b (said_is told) status
+  pub whole_ends : (status : Status) → (IsTrue a.tells → (made : List Event) → IsStoreOf (disk_now a) now made → Ends (asked now a.left) made a b status)
+      → IsTrue entry.tells → Ends (asked (played play empty first) entry.left) first entry b status
+  whole_ends status ends told = ends_from (asked (played play empty first) entry.left) first entry a b (said_is told) status
       (subst (λ (t : Task). Ends t first a b status) (task_is told) (ends (told_next entry a course told) first (holds_first told)))
 
-  pub whole_part : ((made : List Event) → IsStoreOf (disk_now a) now made → Throughout a b (λ disk said. AddsPart (said_now a) (replies (serving now (script_from takes_block place (pending ++ a.left))).answers) said))
-      → Throughout entry b (λ disk said. AddsPart (said_now entry) (replies (serving (played play empty first) (script entry.left)).answers) said)
-  whole_part part told = carry_on entry a b (λ disk said. AddsPart (said_now entry) (replies (serving (played play empty first) (script entry.left)).answers) said) course on
-      (opening_part entry a course said mounting first stood (serving (played play empty first) (script entry.left)))
-      (subst (λ (l : List ℕ). Throughout a b (λ disk said. AddsPart l (replies (serving (played play empty first) (script entry.left)).answers) said)) (said_is told)
+  pub whole_part : ((made : List Event) → IsStoreOf (disk_now a) now made → Throughout a b (λ disk said. AddsPart (said_now a) (replies (asked now a.left).answers) said))
+      → Throughout entry b (λ disk said. AddsPart (said_now entry) (replies (asked (played play empty first) entry.left).answers) said)
+  whole_part part told = carry_on entry a b (λ disk said. AddsPart (said_now entry) (replies (asked (played play empty first) entry.left).answers) said) course on
+      (opening_part entry a course said mounting first stood (asked (played play empty first) entry.left))
+      (subst (λ (l : List ℕ). Throughout a b (λ disk said. AddsPart l (replies (asked (played play empty first) entry.left).answers) said)) (said_is told)
       (subst (λ (t : Task). Throughout a b (λ disk said. AddsPart (said_now a) (replies t.answers) said)) (task_is told) (part first (holds_first told)))) told
 
   pub whole_moments : ((made : List Event) → IsStoreOf (disk_now a) now made
-      → Throughout a b (IsRunning Stands made (events (serving now (script_from takes_block place (pending ++ a.left))).answers) (answered (serving now (script_from takes_block place (pending ++ a.left))).answers) (said_now a)))
-      → Throughout entry b (IsOpenedRunning (disk_now entry) Stands first (events (serving (played play empty first) (script entry.left)).answers) (answered (serving (played play empty first) (script entry.left)).answers) (said_now entry))
+      → Throughout a b (IsRunning Stands made (events (asked now a.left).answers) (answered (asked now a.left).answers) (said_now a)))
+      → Throughout entry b (IsOpenedRunning (disk_now entry) Stands first (events (asked (played play empty first) entry.left).answers) (answered (asked (played play empty first) entry.left).answers) (said_now entry))
   whole_moments moments told = carry_on entry a b
-      (IsOpenedRunning (disk_now entry) Stands first (events (serving (played play empty first) (script entry.left)).answers) (answered (serving (played play empty first) (script entry.left)).answers) (said_now entry)) course on
-      (opening_moments entry a course said mounting first stood (serving (played play empty first) (script entry.left)))
+      (IsOpenedRunning (disk_now entry) Stands first (events (asked (played play empty first) entry.left).answers) (answered (asked (played play empty first) entry.left).answers) (said_now entry)) course on
+      (opening_moments entry a course said mounting first stood (asked (played play empty first) entry.left))
       (λ told_a t low high. inr (
-      subst (λ (l : List ℕ). Throughout a b (IsRunning Stands first (events (serving (played play empty first) (script entry.left)).answers) (answered (serving (played play empty first) (script entry.left)).answers) l)) (said_is told)
+      subst (λ (l : List ℕ). Throughout a b (IsRunning Stands first (events (asked (played play empty first) entry.left).answers) (answered (asked (played play empty first) entry.left).answers) l)) (said_is told)
       (subst (λ (t : Task). Throughout a b (IsRunning Stands first (events t.answers) (answered t.answers) (said_now a))) (task_is told) (moments first (holds_first told))) told_a t low high)) told
 
 -- what stands in the file at the end of a run

@@ -23,7 +23,8 @@ use Rattle.emf_session.specs.Session.{answer_to, IsStoreOf, IfMade}
 use Rattle.emf_session.proofs.Entering.{rest_leaves, holds_stands, none_added, quiet_step}
 use Rattle.emf_top.specs.declared.top.Status.TheVariants.{ReadFault}
 use Rattle.emf_top.specs.Items.{GotItem}
-use Rattle.emf_top.specs.Headline.{Task, serving, IsServed, IsUnsaid, IsUnanswered, IsHalted, Ends, input_status, session_status, end_of}
+use Rattle.emf_top.specs.Headline.{IsServed, IsUnsaid, IsUnanswered, IsHalted, Ends, session_status}
+use Rattle.emf_top.specs.Tasks.{Task, serving, input_status, end_of}
 
 -- a run between two commands, where the store rests
 pub record Between (entry now : Told) (made : List Event) (task : Task) (left : Script) (state : State) (refused : Bool) : Type 0 where
@@ -98,14 +99,14 @@ module _ (entry a b : Told) (made : List Event) (task : Task) (left : Script) (s
   halted_here : IsHalted task made entry b
   halted_here = halted entry b made task left state refused (looked entry a b made task left state refused between course on disk said told left refl)
 
-  pub fault_ends : (fault : LineFault) (rest : Script) → GotItem (Err fault) left rest → Ends task made entry b (input_status fault)
-  fault_ends (faults.LineTooLong at) rest is = at_fault (faults.LineTooLong at) is
-  fault_ends (faults.BlockTooLong at) rest is = at_fault (faults.BlockTooLong at) is
-  fault_ends (faults.NotText at) rest is = at_fault (faults.NotText at) is
-  fault_ends (faults.UnendedBlock at) rest is = at_fault (faults.UnendedBlock at) is
-  fault_ends (faults.InputTooLong at) rest is = at_fault (faults.InputTooLong at) is
-  fault_ends faults.Failed rest is = halted_here
-  fault_ends faults.Memory rest is = halted_here
+  pub fault_ends : (fault : LineFault) (rest : Script) → IsTrue task.reads → GotItem (Err fault) left rest → Ends task made entry b (input_status fault)
+  fault_ends (faults.LineTooLong at) rest reads is = at_fault (faults.LineTooLong at) is
+  fault_ends (faults.BlockTooLong at) rest reads is = at_fault (faults.BlockTooLong at) is
+  fault_ends (faults.NotText at) rest reads is = at_fault (faults.NotText at) is
+  fault_ends (faults.UnendedBlock at) rest reads is = at_fault (faults.UnendedBlock at) is
+  fault_ends (faults.InputTooLong at) rest reads is = at_fault (faults.InputTooLong at) is
+  fault_ends faults.Failed rest reads is = (halted_here, reads)
+  fault_ends faults.Memory rest reads is = halted_here
 
   pub end_ends : left ≡ ends_by None → IsServed task made entry b × (task.end ≡ end_of None refused)
   end_ends is =

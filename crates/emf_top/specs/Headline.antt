@@ -1,66 +1,15 @@
--- What a run has to do, and how it ends.
-use Rattle.std.specs.Prelude.{◌≡◌, ◌⊎◌, ℕ, ◌-◌, List, [], ◌∷◌, ◌++◌, Bool, true, false, length, Option, Some, None, IsSome, IsTrue}
-use Rattle.host_port.specs.Host.{Told, disk_now, said_now, Rose, Throughout, KeepsSaid, AddsPart}
-use Rattle.host_port.specs.Cut.{Script, script_of}
-use Rattle.host_port.specs.declared.lines.LineFault.{LineFault}
-use Rattle.host_port.specs.declared.lines.LineFault.TheVariants as faults
-use Rattle.command_runs.specs.Runs.{Answer, answers, replies, events, refuses, answered}
+-- How a run ends.
+use Rattle.std.specs.Prelude.{◌≡◌, ◌⊎◌, ℕ, ◌-◌, List, [], ◌∷◌, ◌++◌, false, length, IsSome, IsTrue}
+use Rattle.host_port.specs.Host.{Told, disk_now, said_now, Rose, Throughout, KeepsInput, KeepsSaid, AddsPart}
+use Rattle.command_runs.specs.Runs.{Answer, replies, events, answered}
 use Rattle.command_runs.specs.Stops.{IsAmong}
 use Rattle.op_form.specs.declared.event.Event.{Event}
-use Rattle.plain_repository.specs.Lines.{takes_block}
-use Rattle.plain_repository.specs.State.{State}
-use Rattle.plain_repository.specs.Events.{play}
-use Rattle.plain_repository.specs.Repository.{decide}
 use Rattle.plain_repository.specs.Store.{Stands, StandsForNoEvents, IsDamaged}
 use Rattle.emf_session.specs.declared.answered.SessionFault.{SessionFault}
 use Rattle.emf_session.specs.declared.answered.SessionFault.TheVariants as session
+use Rattle.emf_top.specs.Tasks.{Task}
 use Rattle.emf_top.specs.declared.top.Status.{Status}
 use Rattle.emf_top.specs.declared.top.Status.TheVariants.{Accepted, Refused, BadWords, ReadFault, WriteFault, DiskFault, Damaged, Memory, Input}
-
--- the script that an input is
-abbrev pub script : List ℕ → Script
-script input = script_of takes_block input
-
--- the status of a fault of the input
-abbrev pub input_status : LineFault → Status
-input_status (faults.LineTooLong at) = Input 1 at
-input_status (faults.BlockTooLong at) = Input 2 at
-input_status (faults.NotText at) = Input 3 at
-input_status (faults.UnendedBlock at) = Input 4 at
-input_status (faults.InputTooLong at) = Input 5 at
-input_status faults.Failed = ReadFault
-input_status faults.Memory = Memory
-
--- the status of a script that is served to its end
-abbrev pub end_of : Option LineFault → Bool → Status
-end_of (Some fault) refused = input_status fault
-end_of None true = Refused
-end_of None false = Accepted
-
--- What a run has to do: the answers that it gives, one after the other, each printed once its event is kept; how it ends
--- where nothing fails; and whether it reads its input.
-pub record Task : Type 0 where
-  pub answers : List (Answer Event)
-  pub end : Status
-  pub reads : Bool
-
--- a script is served: each of its items is answered
-abbrev pub serving : State → Script → Task
-serving s commands = record { answers = answers decide play s commands.items; end = end_of commands.fault (refuses (answers decide play s commands.items)); reads = true }
-
--- What the words ask for, on the state of the store and the input; None where they are of no form. Without words the
--- input's script is served.
-abbrev pub task_of : List (List ℕ) → State → List ℕ → Option Task
-task_of [] s input = Some (serving s (script input))
-task_of (word ∷ words) s input = None
-
--- the words ask for this, where the file stood for these events
-abbrev pub Asks : List (List ℕ) → Told → State → Task → Type 0
-Asks words before s task = task_of words s before.left ≡ Some task
-
--- the words are of no form
-abbrev pub AreBad : List (List ℕ) → Type 0
-AreBad words = (s : State) (input : List ℕ) → task_of words s input ≡ None
 
 -- all of the replies were printed, and the file stands for all of the events
 pub record IsServed (task : Task) (first : List Event) (before now : Told) : Type 0 where
@@ -113,7 +62,7 @@ Ends task first before now (Input fault at) = IsServed task first before now × 
 Ends task first before now WriteFault = IsUnsaid task first before now
 Ends task first before now (Damaged at) = ⊥
 Ends task first before now BadWords = ⊥
-Ends task first before now ReadFault = IsHalted task first before now
+Ends task first before now ReadFault = IsHalted task first before now × IsTrue task.reads
 Ends task first before now DiskFault = IsUnopened first before now ⊎ IsUnanswered task first before now
 Ends task first before now Memory = IsHalted task first before now
 
@@ -135,6 +84,10 @@ code_of DiskFault = 5
 code_of (Damaged at) = 6
 code_of Memory = 7
 code_of (Input fault at) = 8
+
+-- a run that does not read its input leaves it as it is
+abbrev pub KeepsUnread : Task → Told → Told → Type 0
+KeepsUnread task before now = task.reads ≡ false → KeepsInput before now
 
 -- no count of faults rose
 pub record NothingRose (before now : Told) : Type 0 where

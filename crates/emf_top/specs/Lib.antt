@@ -1,2 +1,4 @@
 pub mod Headline
 pub mod Items
+pub mod Tasks
+pub mod Words

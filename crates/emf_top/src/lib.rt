@@ -2,6 +2,9 @@
 #![tactic(auto)]
 
 mod item;
+mod line;
+mod looking;
 mod top;
+mod words;
 
 pub use top::{Status, run};

@@ -1,5 +1,5 @@
 //! The top call.
-ghost use Rattle.std.specs.Prelude.{◌≡◌, ◌≢◌, ◌⊎◌, ◌+◌, ◌↔◌, ◌++◌, ◌||◌, true, false, Bool, ℕ, List, [], map, string_bytes, IsTrue};
+ghost use Rattle.std.specs.Prelude.{◌≡◌, ◌≢◌, ◌⊎◌, ◌+◌, ◌↔◌, ◌++◌, ◌||◌, true, false, Bool, ℕ, List, map, string_bytes, IsTrue};
 ghost use Rattle.host_port.specs.Host.{disk_now, said_now, Rose, GoesOn, Throughout, AddsPart};
 ghost use Rattle.host_port.specs.Cut.{script_from};
 ghost use Rattle.command_runs.specs.Runs.{played, replies, events, answered};
@@ -10,9 +10,14 @@ ghost use Rattle.plain_repository.specs.State.{empty};
 ghost use Rattle.plain_repository.specs.Events.{play};
 ghost use Rattle.plain_repository.specs.Store.{Stands, StandsForNoEvents};
 ghost use Rattle.emf_session.specs.Session.{IsStoreOf, answered_as};
-ghost use Rattle.emf_top.specs.Headline.{Task, script, serving, Asks, AreBad, code_of, Ends, input_status, session_status, NothingRose, IsKept, KeepsFile, IsFoundDamaged};
+ghost use Rattle.emf_top.specs.Headline.{code_of, Ends, session_status, NothingRose, IsKept, KeepsFile, KeepsUnread, IsFoundDamaged};
+ghost use Rattle.emf_top.specs.Tasks.{serving, task_of, input_status};
+ghost use Rattle.emf_top.specs.Words.{AskFor, AreBad};
+ghost use Rattle.emf_top.specs.declared.words.Request.{Request};
 
 use crate::item::next_item;
+use crate::looking::look;
+use crate::words::{Request, request_of};
 use emf_session::{Answered, Session, SessionFault};
 use host_port::{Host, LineFault, Lines};
 use std::alloc::Global;
@@ -20,11 +25,11 @@ use std::alloc::Global;
 /// How a run ended.
 #[derive(Clone, Copy, Debug, PartialEq, Eq)]
 pub enum Status {
-    /// The input was read to its end, and no reply is a refusal.
+    /// The input was read to its end, and no reply is a refusal; or `--check` or `--generate` printed its line.
     Accepted,
     /// The input was read to its end, and some reply is a refusal.
     Refused,
-    /// The program was given words, and it takes none.
+    /// The words of the command line are of no form.
     BadWords,
     /// The host failed to hand over input.
     ReadFault,
@@ -59,7 +64,7 @@ impl Status {
     }
 }
 
-fn status_of(fault: SessionFault) -> Status
+pub(crate) fn status_of(fault: SessionFault) -> Status
     ensures { result ≡ session_status fault }
 {
     match fault {
@@ -84,35 +89,31 @@ fn status_of_input(fault: LineFault) -> Status
     }
 }
 
-/// Whether there are no words.
-fn is_bare(words: &[String]) -> bool
-    ensures bare { result ≡ true → map string_bytes words.now ≡ [] }
-    ensures bad { result ≡ false → AreBad (map string_bytes words.now) }
-{
-    words.is_empty()
-}
-
-/// All that the program does: it opens the store and answers the lines of the input, one after the other.
+/// All that the program does: it opens the store and does what the words ask for. Without words it answers the lines of the
+/// input, one after the other.
 pub fn run<H: Host>(alloc: Global, words: &[String], host: &mut H) -> Status
     // What is printed and kept, where the file stands for a list of events: with Accepted, Refused and Input all of the
     // task's replies, and all of its events; with WriteFault the event whose reply failed; with the other statuses the first
     // replies and their events, and at a disk fault the one event more or not.
-    ensures ends { IsTrue (H.told host.old).tells → (task : Task) (first : List Event) → Stands (disk_now (H.told host.old)).now first → Asks (map string_bytes words.now) (H.told host.old) (played play empty first) task
-        → Ends task first (H.told host.old) (H.told host.new) result }
+    ensures ends { IsTrue (H.told host.old).tells → (request : Request) (first : List Event) → Stands (disk_now (H.told host.old)).now first → AskFor (map string_bytes words.now) request
+        → Ends (task_of request (played play empty first) (H.told host.old).left) first (H.told host.old) (H.told host.new) result }
     // At each moment a prefix of the replies is printed.
-    ensures part { (task : Task) (first : List Event) → Stands (disk_now (H.told host.old)).now first → Asks (map string_bytes words.now) (H.told host.old) (played play empty first) task
-        → Throughout (H.told host.old) (H.told host.new) (λ _ said. AddsPart (said_now (H.told host.old)) (replies task.answers) said) }
+    ensures part { (request : Request) (first : List Event) → Stands (disk_now (H.told host.old)).now first → AskFor (map string_bytes words.now) request
+        → Throughout (H.told host.old) (H.told host.new) (λ _ said. AddsPart (said_now (H.told host.old)) (replies (task_of request (played play empty first) (H.told host.old).left).answers) said) }
     // At each moment whatever a crash leaves stands for the first events and some of the new ones, none in part, with all
     // whose reply is begun; until the first sync has succeeded the disk is that of the entry, and nothing is printed.
-    ensures moments { (task : Task) (first : List Event) → Stands (disk_now (H.told host.old)).now first → Asks (map string_bytes words.now) (H.told host.old) (played play empty first) task
-        → Throughout (H.told host.old) (H.told host.new) (IsOpenedRunning (disk_now (H.told host.old)) Stands first (events task.answers) (answered task.answers) (said_now (H.told host.old))) }
+    ensures moments { (request : Request) (first : List Event) → Stands (disk_now (H.told host.old)).now first → AskFor (map string_bytes words.now) request
+        → Throughout (H.told host.old) (H.told host.new) (IsOpenedRunning (disk_now (H.told host.old)) Stands first (events (task_of request (played play empty first) (H.told host.old).left).answers)
+        (answered (task_of request (played play empty first) (H.told host.old).left).answers) (said_now (H.told host.old))) }
     // However it ends, the file stands for the first events and some of the new ones, none in part, with all whose reply is
     // begun: the command that was being written at a disk fault is kept whole or not at all.
-    ensures stopped { IsTrue (H.told host.old).tells → (task : Task) (first : List Event) → Stands (disk_now (H.told host.old)).now first → Asks (map string_bytes words.now) (H.told host.old) (played play empty first) task
-        → IsKept task first (H.told host.old) (H.told host.new) }
+    ensures stopped { IsTrue (H.told host.old).tells → (request : Request) (first : List Event) → Stands (disk_now (H.told host.old)).now first → AskFor (map string_bytes words.now) request
+        → IsKept (task_of request (played play empty first) (H.told host.old).left) first (H.told host.old) (H.told host.new) }
     // Where no count rises, it ends as the task does, or memory ran out.
-    ensures complete { IsTrue (H.told host.old).tells → (task : Task) (first : List Event) → Stands (disk_now (H.told host.old)).now first → Asks (map string_bytes words.now) (H.told host.old) (played play empty first) task
-        → NothingRose (H.told host.old) (H.told host.new) → (result ≡ task.end) ⊎ (result ≡ Status.Memory) }
+    ensures complete { IsTrue (H.told host.old).tells → (request : Request) (first : List Event) → Stands (disk_now (H.told host.old)).now first → AskFor (map string_bytes words.now) request
+        → NothingRose (H.told host.old) (H.told host.new) → (result ≡ (task_of request (played play empty first) (H.told host.old).left).end) ⊎ (result ≡ Status.Memory) }
+    // With words the input stays unread.
+    ensures unread { (request : Request) (first : List Event) → Stands (disk_now (H.told host.old)).now first → AskFor (map string_bytes words.now) request → KeepsUnread (task_of request (played play empty first) (H.told host.old).left) (H.told host.old) (H.told host.new) }
     ensures words { result ≡ Status.BadWords ↔ AreBad (map string_bytes words.now) }
     ensures untouched { result ≡ Status.BadWords → H.told host.new ≡ H.told host.old }
     ensures read { result ≡ Status.ReadFault → Rose (H.told host.old).take_faults (H.told host.new).take_faults }
@@ -126,21 +127,22 @@ pub fn run<H: Host>(alloc: Global, words: &[String], host: &mut H) -> Status
         → AreBad (map string_bytes words.now) ⊎ ((at : ℕ) × (result ≡ Status.Damaged at)) ⊎ (result ≡ Status.DiskFault) ⊎ (result ≡ Status.Memory) }
     ensures course { GoesOn (H.told host.old) (H.told host.new) }
 {
-    if is_bare(words) {
-        return run_script(alloc, host);
+    match request_of(words) {
+        None => Status::BadWords,
+        Some(request) => run_request(alloc, request, host),
     }
-    Status::BadWords
 }
 
-/// The run that serves the input's script.
-fn run_script<H: Host>(alloc: Global, host: &mut H) -> Status
+/// The run that does what is asked for.
+fn run_request<H: Host>(alloc: Global, request: Request, host: &mut H) -> Status
     ensures ends { IsTrue (H.told host.old).tells → (first : List Event) → Stands (disk_now (H.told host.old)).now first
-        → Ends (serving (played play empty first) (script (H.told host.old).left)) first (H.told host.old) (H.told host.new) result }
+        → Ends (task_of request (played play empty first) (H.told host.old).left) first (H.told host.old) (H.told host.new) result }
     ensures part { (first : List Event) → Stands (disk_now (H.told host.old)).now first
-        → Throughout (H.told host.old) (H.told host.new) (λ _ said. AddsPart (said_now (H.told host.old)) (replies (serving (played play empty first) (script (H.told host.old).left)).answers) said) }
+        → Throughout (H.told host.old) (H.told host.new) (λ _ said. AddsPart (said_now (H.told host.old)) (replies (task_of request (played play empty first) (H.told host.old).left).answers) said) }
     ensures moments { (first : List Event) → Stands (disk_now (H.told host.old)).now first
-        → Throughout (H.told host.old) (H.told host.new) (IsOpenedRunning (disk_now (H.told host.old)) Stands first (events (serving (played play empty first) (script (H.told host.old).left)).answers)
-        (answered (serving (played play empty first) (script (H.told host.old).left)).answers) (said_now (H.told host.old))) }
+        → Throughout (H.told host.old) (H.told host.new) (IsOpenedRunning (disk_now (H.told host.old)) Stands first (events (task_of request (played play empty first) (H.told host.old).left).answers)
+        (answered (task_of request (played play empty first) (H.told host.old).left).answers) (said_now (H.told host.old))) }
+    ensures unread { (first : List Event) → KeepsUnread (task_of request (played play empty first) (H.told host.old).left) (H.told host.old) (H.told host.new) }
     ensures words { result ≢ Status.BadWords }
     ensures read { result ≡ Status.ReadFault → Rose (H.told host.old).take_faults (H.told host.new).take_faults }
     ensures write { result ≡ Status.WriteFault → Rose (H.told host.old).say_faults (H.told host.new).say_faults }
@@ -155,10 +157,37 @@ fn run_script<H: Host>(alloc: Global, host: &mut H) -> Status
         Ok(session) => session,
         Err(fault) => return status_of(fault),
     };
-    let Ok(mut lines) = Lines::new(alloc) else {
-        return Status::Memory;
-    };
-    serve(alloc, host, &mut session, &mut lines)
+    fulfil(alloc, request, host, &mut session)
+}
+
+/// Does what is asked for over a store that is open.
+fn fulfil<H: Host>(alloc: Global, request: Request, host: &mut H, session: &mut Session) -> Status
+    requires whole { session.old.broken ≡ false }
+    requires open { IsTrue (H.told host.old).tells → ((made : List Event) × IsStoreOf (disk_now (H.told host.old)) session.old.state made) }
+    ensures ends { IsTrue (H.told host.old).tells → (made : List Event) → IsStoreOf (disk_now (H.told host.old)) session.old.state made
+        → Ends (task_of request session.old.state (H.told host.old).left) made (H.told host.old) (H.told host.new) result }
+    ensures part { (made : List Event) → IsStoreOf (disk_now (H.told host.old)) session.old.state made
+        → Throughout (H.told host.old) (H.told host.new) (λ _ said. AddsPart (said_now (H.told host.old)) (replies (task_of request session.old.state (H.told host.old).left).answers) said) }
+    ensures moments { (made : List Event) → IsStoreOf (disk_now (H.told host.old)) session.old.state made
+        → Throughout (H.told host.old) (H.told host.new) (IsRunning Stands made (events (task_of request session.old.state (H.told host.old).left).answers)
+        (answered (task_of request session.old.state (H.told host.old).left).answers) (said_now (H.told host.old))) }
+    ensures unread { KeepsUnread (task_of request session.old.state (H.told host.old).left) (H.told host.old) (H.told host.new) }
+    ensures words { result ≢ Status.BadWords }
+    ensures read { result ≡ Status.ReadFault → Rose (H.told host.old).take_faults (H.told host.new).take_faults }
+    ensures write { result ≡ Status.WriteFault → Rose (H.told host.old).say_faults (H.told host.new).say_faults }
+    ensures disk { result ≡ Status.DiskFault → Rose (H.told host.old).disk_faults (H.told host.new).disk_faults }
+    ensures damaged { (at : ℕ) → result ≢ Status.Damaged at }
+    ensures course { GoesOn (H.told host.old) (H.told host.new) }
+{
+    match request {
+        Request::Serve => {
+            let Ok(mut lines) = Lines::new(alloc) else {
+                return Status::Memory;
+            };
+            serve(alloc, host, session, &mut lines)
+        }
+        Request::Check => look(alloc, host, session),
+    }
 }
 
 /// Whether a reply was a refusal, once more was answered.

@@ -1,5 +1,6 @@
 pub mod Changing
 pub mod Could
+pub mod Counted
 pub mod Effects
 pub mod Folding
 pub mod Grown

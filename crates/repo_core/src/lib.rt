@@ -1,6 +1,7 @@
 //! The repository in memory: what a line is answered, the event that it makes, and what an event makes of the repository.
 #![tactic(auto)]
 
+mod counting;
 mod deciding;
 mod fault;
 mod growing;
@@ -13,6 +14,7 @@ mod repo;
 mod states;
 mod workspace;
 
+pub use counting::{Counts, law_of_counts};
 pub use deciding::{Decision, Made};
 pub use fault::ReplayFault;
 pub use repo::Repo;

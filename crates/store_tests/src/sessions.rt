@@ -11,6 +11,7 @@ mod tidying;
 mod trees;
 mod values;
 mod versions;
+mod words;
 
 use emf_top::{Status, run};
 use host_port::{Host, MemoryHost, TalkHost};
@@ -70,6 +71,15 @@ fn over(alloc: Global, input: Vec<u8>, file: Vec<u8>) -> MemoryHost {
 fn serve<H: Host>(alloc: Global, host: &mut H) -> Status {
     let words = Vec::new(alloc);
     run(alloc, words.as_slice(), host)
+}
+
+// How a run with these words ends, the words between single spaces, over a host without input.
+fn asked<H: Host>(alloc: Global, words: &str, host: &mut H) -> Result<Status, Fail> {
+    let mut list = Vec::new(alloc);
+    for word in words.split(' ') {
+        list.push(String::from_str(alloc, word)?)?;
+    }
+    Ok(run(alloc, list.as_slice(), host))
 }
 
 // All that is said in a run with this input over a file, how it ends (the exit status and its name), and the file after it.

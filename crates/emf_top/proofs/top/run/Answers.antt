@@ -8,56 +8,64 @@ use Rattle.plain_repository.specs.State.{empty}
 use Rattle.plain_repository.specs.Events.{play}
 use Rattle.plain_repository.specs.Store.{Stands}
 use Rattle.emf_top.specs.declared.top.Status.TheVariants.{Memory}
-use Rattle.emf_top.specs.Headline.{Task, script, serving, Ends, IsKept}
-use Rattle.emf_top.proofs.Headlines.{asked, asked_nothing, none_not_bad, file_still, complete, stopped}
+use Rattle.emf_top.specs.declared.words.Request.{Request}
+use Rattle.emf_top.specs.Headline.{Ends, IsKept, KeepsUnread}
+use Rattle.emf_top.specs.Tasks.{task_of}
+use Rattle.emf_top.proofs.Headlines.{same_request, file_still, complete, stopped}
 use Rattle.emf_top.proofs.top.run.Goals as goal
 
-pub returns-then-is_bare-clause-ends : goal.returns-then-is_bare-clause-ends
-returns-then-is_bare-clause-ends g c = λ told task first stood asks. subst (λ (t : Task). Ends t first (g.H.Host.told c.args.host.now) (g.H.Host.told c.run_script.new.host) c.run_script.result) (asked (map string_bytes c.args.words.now) (g.H.Host.told c.args.host.now) (played play empty first) task (c.is_bare.ensures.bare c.if-is_bare.true) asks) (c.run_script.ensures.ends told first stood)
+pub returns-in-Some-clause-ends : goal.returns-in-Some-clause-ends
+returns-in-Some-clause-ends g c = λ told request first stood asks. subst (λ (r : Request). Ends (task_of r (played play empty first) (g.H.Host.told c.args.host.now).left) first (g.H.Host.told c.args.host.now) (g.H.Host.told c.run_request.new.host) c.run_request.result) (same_request (map string_bytes c.args.words.now) c.in-Some.request request c.in-Some.ensures.asked asks) (c.run_request.ensures.ends told first stood)
 
-pub returns-then-is_bare-clause-part : goal.returns-then-is_bare-clause-part
-returns-then-is_bare-clause-part g c = λ task first stood asks. subst (λ (t : Task). Throughout (g.H.Host.told c.args.host.now) (g.H.Host.told c.run_script.new.host) (λ disk said. AddsPart (said_now (g.H.Host.told c.args.host.now)) (replies t.answers) said)) (asked (map string_bytes c.args.words.now) (g.H.Host.told c.args.host.now) (played play empty first) task (c.is_bare.ensures.bare c.if-is_bare.true) asks) (c.run_script.ensures.part first stood)
+pub returns-in-Some-clause-part : goal.returns-in-Some-clause-part
+returns-in-Some-clause-part g c = λ request first stood asks. subst (λ (r : Request). Throughout (g.H.Host.told c.args.host.now) (g.H.Host.told c.run_request.new.host) (λ disk said. AddsPart (said_now (g.H.Host.told c.args.host.now)) (replies (task_of r (played play empty first) (g.H.Host.told c.args.host.now).left).answers) said)) (same_request (map string_bytes c.args.words.now) c.in-Some.request request c.in-Some.ensures.asked asks) (c.run_request.ensures.part first stood)
 
-pub returns-then-is_bare-clause-moments : goal.returns-then-is_bare-clause-moments
-returns-then-is_bare-clause-moments g c = λ task first stood asks. subst (λ (t : Task). Throughout (g.H.Host.told c.args.host.now) (g.H.Host.told c.run_script.new.host) (IsOpenedRunning (disk_now (g.H.Host.told c.args.host.now)) Stands first (events t.answers) (answered t.answers) (said_now (g.H.Host.told c.args.host.now)))) (asked (map string_bytes c.args.words.now) (g.H.Host.told c.args.host.now) (played play empty first) task (c.is_bare.ensures.bare c.if-is_bare.true) asks) (c.run_script.ensures.moments first stood)
+pub returns-in-Some-clause-moments : goal.returns-in-Some-clause-moments
+returns-in-Some-clause-moments g c = λ request first stood asks. subst (λ (r : Request). Throughout (g.H.Host.told c.args.host.now) (g.H.Host.told c.run_request.new.host) (IsOpenedRunning (disk_now (g.H.Host.told c.args.host.now)) Stands first (events (task_of r (played play empty first) (g.H.Host.told c.args.host.now).left).answers) (answered (task_of r (played play empty first) (g.H.Host.told c.args.host.now).left).answers) (said_now (g.H.Host.told c.args.host.now)))) (same_request (map string_bytes c.args.words.now) c.in-Some.request request c.in-Some.ensures.asked asks) (c.run_request.ensures.moments first stood)
 
-pub returns-then-is_bare-clause-stopped : goal.returns-then-is_bare-clause-stopped
-returns-then-is_bare-clause-stopped g c = λ told task first stood asks. subst (λ (t : Task). IsKept t first (g.H.Host.told c.args.host.now) (g.H.Host.told c.run_script.new.host)) (asked (map string_bytes c.args.words.now) (g.H.Host.told c.args.host.now) (played play empty first) task (c.is_bare.ensures.bare c.if-is_bare.true) asks)
-    (stopped (g.H.Host.told c.args.host.now) (g.H.Host.told c.run_script.new.host) first (serving (played play empty first) (script (g.H.Host.told c.args.host.now).left)) c.run_script.ensures.course (c.run_script.ensures.moments first stood) stood (g.met.H.Host.now_is_left c.run_script.new.host (g.H.Host.told c.run_script.new.host).clock (told_next (g.H.Host.told c.args.host.now) (g.H.Host.told c.run_script.new.host) c.run_script.ensures.course told) (omega arith)) told)
+pub returns-in-Some-clause-stopped : goal.returns-in-Some-clause-stopped
+returns-in-Some-clause-stopped g c = λ told request first stood asks. subst (λ (r : Request). IsKept (task_of r (played play empty first) (g.H.Host.told c.args.host.now).left) first (g.H.Host.told c.args.host.now) (g.H.Host.told c.run_request.new.host)) (same_request (map string_bytes c.args.words.now) c.in-Some.request request c.in-Some.ensures.asked asks)
+    (stopped (g.H.Host.told c.args.host.now) (g.H.Host.told c.run_request.new.host) first (task_of c.in-Some.request (played play empty first) (g.H.Host.told c.args.host.now).left) c.run_request.ensures.course (c.run_request.ensures.moments first stood) stood (g.met.H.Host.now_is_left c.run_request.new.host (g.H.Host.told c.run_request.new.host).clock (told_next (g.H.Host.told c.args.host.now) (g.H.Host.told c.run_request.new.host) c.run_request.ensures.course told) (omega arith)) told)
 
-pub returns-then-is_bare-clause-complete : goal.returns-then-is_bare-clause-complete
-returns-then-is_bare-clause-complete g c = λ told task first stood asks none. subst (λ (t : Task). (c.run_script.result ≡ t.end) ⊎ (c.run_script.result ≡ Memory)) (asked (map string_bytes c.args.words.now) (g.H.Host.told c.args.host.now) (played play empty first) task (c.is_bare.ensures.bare c.if-is_bare.true) asks)
-    (complete (serving (played play empty first) (script (g.H.Host.told c.args.host.now).left)) first (g.H.Host.told c.args.host.now) (g.H.Host.told c.run_script.new.host) c.run_script.result (c.run_script.ensures.ends told first stood) none c.run_script.ensures.read c.run_script.ensures.write c.run_script.ensures.disk)
+pub returns-in-Some-clause-complete : goal.returns-in-Some-clause-complete
+returns-in-Some-clause-complete g c = λ told request first stood asks none. subst (λ (r : Request). (c.run_request.result ≡ (task_of r (played play empty first) (g.H.Host.told c.args.host.now).left).end) ⊎ (c.run_request.result ≡ Memory)) (same_request (map string_bytes c.args.words.now) c.in-Some.request request c.in-Some.ensures.asked asks)
+    (complete (task_of c.in-Some.request (played play empty first) (g.H.Host.told c.args.host.now).left) first (g.H.Host.told c.args.host.now) (g.H.Host.told c.run_request.new.host) c.run_request.result (c.run_request.ensures.ends told first stood) none c.run_request.ensures.read c.run_request.ensures.write c.run_request.ensures.disk)
 
-pub returns-then-is_bare-clause-words : goal.returns-then-is_bare-clause-words
-returns-then-is_bare-clause-words g c = (λ is. absurd (c.run_script.ensures.words is), λ bad. absurd (none_not_bad (map string_bytes c.args.words.now) (c.is_bare.ensures.bare c.if-is_bare.true) bad))
+pub returns-in-Some-clause-unread : goal.returns-in-Some-clause-unread
+returns-in-Some-clause-unread g c = λ request first stood asks. subst (λ (r : Request). KeepsUnread (task_of r (played play empty first) (g.H.Host.told c.args.host.now).left) (g.H.Host.told c.args.host.now) (g.H.Host.told c.run_request.new.host)) (same_request (map string_bytes c.args.words.now) c.in-Some.request request c.in-Some.ensures.asked asks) (c.run_request.ensures.unread first)
 
-pub returns-then-is_bare-clause-damages : goal.returns-then-is_bare-clause-damages
-returns-then-is_bare-clause-damages g c = λ told none. inr (c.run_script.ensures.damages told none)
+pub returns-in-Some-clause-words : goal.returns-in-Some-clause-words
+returns-in-Some-clause-words g c = (λ is. absurd (c.run_request.ensures.words is), λ bad. absurd (bad c.in-Some.request c.in-Some.ensures.asked))
 
-pub returns-then-is_bare-clause-untouched : goal.returns-then-is_bare-clause-untouched
-returns-then-is_bare-clause-untouched g c = λ is. absurd (c.run_script.ensures.words is)
+pub returns-in-Some-clause-damages : goal.returns-in-Some-clause-damages
+returns-in-Some-clause-damages g c = λ told none. inr (c.run_request.ensures.damages told none)
 
-pub returns-clause-ends : goal.returns-clause-ends
-returns-clause-ends g c = λ told task first stood asks. absurd (asked_nothing (map string_bytes c.args.words.now) (g.H.Host.told c.args.host.now) (played play empty first) task (c.is_bare.ensures.bad c.if-is_bare.false) asks)
+pub returns-in-Some-clause-untouched : goal.returns-in-Some-clause-untouched
+returns-in-Some-clause-untouched g c = λ is. absurd (c.run_request.ensures.words is)
 
-pub returns-clause-part : goal.returns-clause-part
-returns-clause-part g c = λ task first stood asks. absurd (asked_nothing (map string_bytes c.args.words.now) (g.H.Host.told c.args.host.now) (played play empty first) task (c.is_bare.ensures.bad c.if-is_bare.false) asks)
+pub returns-in-None-clause-ends : goal.returns-in-None-clause-ends
+returns-in-None-clause-ends g c = λ told request first stood asks. absurd (c.in-None.ensures.bad request asks)
 
-pub returns-clause-moments : goal.returns-clause-moments
-returns-clause-moments g c = λ task first stood asks. absurd (asked_nothing (map string_bytes c.args.words.now) (g.H.Host.told c.args.host.now) (played play empty first) task (c.is_bare.ensures.bad c.if-is_bare.false) asks)
+pub returns-in-None-clause-part : goal.returns-in-None-clause-part
+returns-in-None-clause-part g c = λ request first stood asks. absurd (c.in-None.ensures.bad request asks)
 
-pub returns-clause-stopped : goal.returns-clause-stopped
-returns-clause-stopped g c = λ told task first stood asks. absurd (asked_nothing (map string_bytes c.args.words.now) (g.H.Host.told c.args.host.now) (played play empty first) task (c.is_bare.ensures.bad c.if-is_bare.false) asks)
+pub returns-in-None-clause-moments : goal.returns-in-None-clause-moments
+returns-in-None-clause-moments g c = λ request first stood asks. absurd (c.in-None.ensures.bad request asks)
 
-pub returns-clause-complete : goal.returns-clause-complete
-returns-clause-complete g c = λ told task first stood asks none. absurd (asked_nothing (map string_bytes c.args.words.now) (g.H.Host.told c.args.host.now) (played play empty first) task (c.is_bare.ensures.bad c.if-is_bare.false) asks)
+pub returns-in-None-clause-stopped : goal.returns-in-None-clause-stopped
+returns-in-None-clause-stopped g c = λ told request first stood asks. absurd (c.in-None.ensures.bad request asks)
 
-pub returns-clause-words : goal.returns-clause-words
-returns-clause-words g c = (λ is. c.is_bare.ensures.bad c.if-is_bare.false, λ bad. refl)
+pub returns-in-None-clause-complete : goal.returns-in-None-clause-complete
+returns-in-None-clause-complete g c = λ told request first stood asks none. absurd (c.in-None.ensures.bad request asks)
 
-pub returns-clause-kept : goal.returns-clause-kept
-returns-clause-kept g c = λ none. file_still (g.H.Host.told c.args.host.now)
+pub returns-in-None-clause-unread : goal.returns-in-None-clause-unread
+returns-in-None-clause-unread g c = λ request first stood asks. absurd (c.in-None.ensures.bad request asks)
 
-pub returns-clause-damages : goal.returns-clause-damages
-returns-clause-damages g c = λ told none. inl (c.is_bare.ensures.bad c.if-is_bare.false)
+pub returns-in-None-clause-words : goal.returns-in-None-clause-words
+returns-in-None-clause-words g c = (λ is. c.in-None.ensures.bad, λ bad. refl)
+
+pub returns-in-None-clause-kept : goal.returns-in-None-clause-kept
+returns-in-None-clause-kept g c = λ none. file_still (g.H.Host.told c.args.host.now)
+
+pub returns-in-None-clause-damages : goal.returns-in-None-clause-damages
+returns-in-None-clause-damages g c = λ told none. inl c.in-None.ensures.bad

@@ -3,12 +3,12 @@ use Rattle.host_port.specs.Cut.{script_from}
 use Rattle.host_port.proofs.Course.{told_next, rose_second}
 use Rattle.plain_repository.specs.Lines.{takes_block}
 use Rattle.emf_session.specs.Session.{answer_to}
-use Rattle.emf_top.specs.Headline.{serving, end_of}
+use Rattle.emf_top.specs.Tasks.{serving, end_of}
 use Rattle.emf_top.proofs.Serving.{serving_starts, fault_ends, end_ends, looked_part, looked_moments, status_failed, open_for, skipped_on, decide_read, item_part, item_moments, step_fault_ends, serving_on}
 use Rattle.emf_top.proofs.top.serve.Goals as goal
 
 pub returns-in-Err-clause-ends : goal.returns-in-Err-clause-ends
-returns-in-Err-clause-ends g c = λ told made holds. rw c.status_of_input.ensures (fault_ends (g.H.Host.told c.args.host.now) (g.H.Host.told c.commands.host) (g.H.Host.told c.next_item.new.host) made (serving c.args.session.now.state (script_from takes_block c.args.lines.now.place (c.args.lines.now.pending ++ (g.H.Host.told c.args.host.now).left))) (script_from takes_block c.commands.lines.place (c.commands.lines.pending ++ (g.H.Host.told c.commands.host).left)) c.commands.session.state c.commands.refused (c.commands.invariant.going told made holds) c.commands.invariant.course c.next_item.ensures.course c.next_item.ensures.disk c.next_item.ensures.said told c.in-Err.fault (script_from takes_block c.next_item.new.lines.place (c.next_item.new.lines.pending ++ (g.H.Host.told c.next_item.new.host).left)) (c.in-Err.ensures.item (told_next (g.H.Host.told c.args.host.now) (g.H.Host.told c.commands.host) c.commands.invariant.course told)))
+returns-in-Err-clause-ends g c = λ told made holds. rw c.status_of_input.ensures (fault_ends (g.H.Host.told c.args.host.now) (g.H.Host.told c.commands.host) (g.H.Host.told c.next_item.new.host) made (serving c.args.session.now.state (script_from takes_block c.args.lines.now.place (c.args.lines.now.pending ++ (g.H.Host.told c.args.host.now).left))) (script_from takes_block c.commands.lines.place (c.commands.lines.pending ++ (g.H.Host.told c.commands.host).left)) c.commands.session.state c.commands.refused (c.commands.invariant.going told made holds) c.commands.invariant.course c.next_item.ensures.course c.next_item.ensures.disk c.next_item.ensures.said told c.in-Err.fault (script_from takes_block c.next_item.new.lines.place (c.next_item.new.lines.pending ++ (g.H.Host.told c.next_item.new.host).left)) refl (c.in-Err.ensures.item (told_next (g.H.Host.told c.args.host.now) (g.H.Host.told c.commands.host) c.commands.invariant.course told)))
 
 pub returns-in-Err-clause-part : goal.returns-in-Err-clause-part
 returns-in-Err-clause-part g c = λ made holds told. looked_part (g.H.Host.told c.args.host.now) (g.H.Host.told c.commands.host) (g.H.Host.told c.next_item.new.host) made (serving c.args.session.now.state (script_from takes_block c.args.lines.now.place (c.args.lines.now.pending ++ (g.H.Host.told c.args.host.now).left))) (script_from takes_block c.commands.lines.place (c.commands.lines.pending ++ (g.H.Host.told c.commands.host).left)) c.commands.session.state c.commands.refused (c.commands.invariant.going told made holds) c.commands.invariant.course c.next_item.ensures.course c.next_item.ensures.disk c.next_item.ensures.said told told

@@ -1,0 +1,43 @@
+use Rattle.std.proofs.Common.{◌≡◌, true, false, subst}
+use Rattle.host_port.specs.Host.{Throughout, AddsPart, said_now}
+use Rattle.host_port.proofs.Course.{still_input}
+use Rattle.command_runs.specs.Runs.{replies, events, answered}
+use Rattle.command_runs.specs.Stops.{IsRunning}
+use Rattle.plain_repository.specs.Store.{Stands}
+use Rattle.emf_top.specs.Headline.{Ends}
+use Rattle.emf_top.specs.Tasks.{Task, task_of}
+use Rattle.emf_top.proofs.Starting.{from_start, halted_at_start, part_at_start, moments_at_start}
+use Rattle.emf_top.proofs.top.fulfil.Goals as goal
+
+pub returns-in_default-clause-ends : goal.returns-in_default-clause-ends
+returns-in_default-clause-ends g c = λ told made holds. halted_at_start (g.H.Host.told c.args.host.now) c.args.session.now.state (task_of c.args.request c.args.session.now.state (g.H.Host.told c.args.host.now).left) made holds
+
+pub returns-in_default-clause-part : goal.returns-in_default-clause-part
+returns-in_default-clause-part g c = λ made holds. part_at_start (g.H.Host.told c.args.host.now) c.args.session.now.state (task_of c.args.request c.args.session.now.state (g.H.Host.told c.args.host.now).left) made holds
+
+pub returns-in_default-clause-moments : goal.returns-in_default-clause-moments
+returns-in_default-clause-moments g c = λ made holds. moments_at_start (g.H.Host.told c.args.host.now) c.args.session.now.state (task_of c.args.request c.args.session.now.state (g.H.Host.told c.args.host.now).left) made holds
+
+pub returns-in_default-clause-unread : goal.returns-in_default-clause-unread
+returns-in_default-clause-unread g c = λ unread. still_input (g.H.Host.told c.args.host.now)
+
+pub returns-in-Ok-clause-ends : goal.returns-in-Ok-clause-ends
+returns-in-Ok-clause-ends g c = rw c.in-Serve.is (λ told made holds. subst (λ (t : Task). Ends t made (g.H.Host.told c.args.host.now) (g.H.Host.told c.serve.new.host) c.serve.result) (from_start c.args.session.now.state (g.H.Host.told c.args.host.now).left c.in-Ok.lines.place c.in-Ok.lines.pending c.in-Ok.ensures.start.1 c.in-Ok.ensures.start.0) (c.serve.ensures.ends told made holds))
+
+pub returns-in-Ok-clause-part : goal.returns-in-Ok-clause-part
+returns-in-Ok-clause-part g c = rw c.in-Serve.is (λ made holds. subst (λ (t : Task). Throughout (g.H.Host.told c.args.host.now) (g.H.Host.told c.serve.new.host) (λ disk said. AddsPart (said_now (g.H.Host.told c.args.host.now)) (replies t.answers) said)) (from_start c.args.session.now.state (g.H.Host.told c.args.host.now).left c.in-Ok.lines.place c.in-Ok.lines.pending c.in-Ok.ensures.start.1 c.in-Ok.ensures.start.0) (c.serve.ensures.part made holds))
+
+pub returns-in-Ok-clause-moments : goal.returns-in-Ok-clause-moments
+returns-in-Ok-clause-moments g c = rw c.in-Serve.is (λ made holds. subst (λ (t : Task). Throughout (g.H.Host.told c.args.host.now) (g.H.Host.told c.serve.new.host) (IsRunning Stands made (events t.answers) (answered t.answers) (said_now (g.H.Host.told c.args.host.now)))) (from_start c.args.session.now.state (g.H.Host.told c.args.host.now).left c.in-Ok.lines.place c.in-Ok.lines.pending c.in-Ok.ensures.start.1 c.in-Ok.ensures.start.0) (c.serve.ensures.moments made holds))
+
+pub returns-in-Ok-clause-unread : goal.returns-in-Ok-clause-unread
+returns-in-Ok-clause-unread g c = rw c.in-Serve.is (λ unread. let other : true ≡ false = unread in absurd cc)
+
+pub returns-in-Check-clause-ends : goal.returns-in-Check-clause-ends
+returns-in-Check-clause-ends g c = rw c.in-Check.is c.look.ensures.ends
+
+pub returns-in-Check-clause-part : goal.returns-in-Check-clause-part
+returns-in-Check-clause-part g c = rw c.in-Check.is c.look.ensures.part
+
+pub returns-in-Check-clause-moments : goal.returns-in-Check-clause-moments
+returns-in-Check-clause-moments g c = rw c.in-Check.is c.look.ensures.moments
