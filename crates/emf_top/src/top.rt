@@ -25,7 +25,7 @@ use std::alloc::Global;
 /// How a run ended.
 #[derive(Clone, Copy, Debug, PartialEq, Eq)]
 pub enum Status {
-    /// The input was read to its end, and no reply is a refusal; or `--check` or `--generate` printed its line.
+    /// The input was read to its end, and no reply is a refusal; or the line of `--check` was printed.
     Accepted,
     /// The input was read to its end, and some reply is a refusal.
     Refused,
