@@ -16,7 +16,7 @@ returns-then-is_bare c = λ b g.
       | true ↦ λ at.
           ap (λ o. fan_of o g) (c.remove.ensures.updates.0 b ∙ ap (λ t. cond t None (tree.get id_cmp old b)) at)
           ∙ sym (same id_order (held old b g) empty (λ q.
-              ap (λ k. get (held old k g) q) (sym (same_key id_order c.args.a.now b at))
-              ∙ c.is_bare.ensures c.if-is_bare.true g q ∙ sym (get-empty id_cmp q)))
+          ap (λ k. get (held old k g) q) (sym (same_key id_order c.args.a.now b at))
+          ∙ c.is_bare.ensures c.if-is_bare.true g q ∙ sym (get-empty id_cmp q)))
       | false ↦ λ differ. ap (λ o. fan_of o g) (c.remove.ensures.updates.2 b differ)
     ] refl

@@ -17,7 +17,7 @@ returns-then-is_empty_of c = λ g.
       | true ↦ λ at.
           ap group_of (c.remove.ensures.updates.0 g ∙ ap (λ b. cond b None (tree.get nat_cmp old g)) at)
           ∙ sym (same id_order (group_of (tree.get nat_cmp old g)) empty (λ q.
-              ap (λ k. get (group_of (tree.get nat_cmp old k)) q) (sym (same_key nat_order c.args.f g at))
-              ∙ c.is_empty_of.ensures c.if-is_empty_of.true q ∙ sym (get-empty id_cmp q)))
+          ap (λ k. get (group_of (tree.get nat_cmp old k)) q) (sym (same_key nat_order c.args.f g at))
+          ∙ c.is_empty_of.ensures c.if-is_empty_of.true q ∙ sym (get-empty id_cmp q)))
       | false ↦ λ differ. ap group_of (c.remove.ensures.updates.2 g differ)
     ] refl

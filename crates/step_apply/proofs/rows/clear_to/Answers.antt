@@ -16,7 +16,7 @@ returns-then-is_no_target c = λ x.
       | true ↦ λ at.
           ap rows_of (c.remove.ensures.updates.0 x ∙ ap (λ t. cond t None (tree.get id_cmp old x)) at)
           ∙ sym (same row_order (arriving old x) empty (λ q.
-              ap (λ k. get (arriving old k) q) (sym (same_key id_order c.args.b.now x at))
-              ∙ c.is_no_target.ensures c.if-is_no_target.true q ∙ sym (get-empty row_cmp q)))
+          ap (λ k. get (arriving old k) q) (sym (same_key id_order c.args.b.now x at))
+          ∙ c.is_no_target.ensures c.if-is_no_target.true q ∙ sym (get-empty row_cmp q)))
       | false ↦ λ differ. ap rows_of (c.remove.ensures.updates.2 x differ)
     ] refl
