@@ -32,6 +32,11 @@ pub none_ready : (state : State) (event : Option Event) (ready : Option (List �
 none_ready state None ready none is = refl
 none_ready state (Some event) ready none is = let form_is = is.0 in cc
 
+-- where there is no event, no record is ready
+pub ready_none : (state : State) (event : Option Event) (ready : Option (List ℕ)) → event ≡ None → IsRecordOf state event ready → ready ≡ None
+ready_none state None ready none is = is
+ready_none state (Some event) ready none is = cc
+
 -- a record is ready for an event alone
 pub event_ready : (state : State) (event : Option Event) (ready : Option (List ℕ)) → IsRecordOf state event ready → IsSome ready → IsSome event
 event_ready state None ready is some = subst (λ (o : Option (List ℕ)). IsSome o) is some

@@ -1,5 +1,5 @@
 //! The parts of a command: all that it takes is made ready, its event enters the store, and its reply is printed.
-ghost use Rattle.std.specs.Prelude.{◌≡◌, ◌⊎◌, ◌++◌, ◌^◌, ◌-◌, ◌<◌, ℕ, length, List, Option, IsTrue, IfOk, OnOk, IfErr, OnErr, IsErrOf, IsSome, true, false};
+ghost use Rattle.std.specs.Prelude.{◌≡◌, ◌⊎◌, ◌++◌, ◌^◌, ◌-◌, ◌<◌, ℕ, length, List, Option, IsTrue, IfOk, OnOk, IfErr, OnErr, IsErrOf, IsSome, None, true, false};
 ghost use Rattle.host_port.specs.Host.{disk_now, said_now, Rose, GoesOn, Throughout, KeepsDisk, KeepsSaid, KeepsInput, AddsPart};
 ghost use Rattle.command_runs.specs.Runs.{listed, after};
 ghost use Rattle.command_runs.specs.Stops.{IsStepping};
@@ -79,6 +79,7 @@ pub(crate) fn enter<H: Host>(
     ensures fault { IfErr result (λ e. e ≡ DiskFault) }
     ensures broken { OnErr result (journal.new.broken ≡ true) }
     ensures event { OnErr result (IsSome ready) }
+    ensures still { ready ≡ None → KeepsDisk (H.told host.old) (H.told host.new) }
     ensures cause { IsErrOf result SessionFault.DiskFault → Rose (H.told host.old).disk_faults (H.told host.new).disk_faults }
     ensures course { GoesOn (H.told host.old) (H.told host.new) }
     ensures said { KeepsSaid (H.told host.old) (H.told host.new) }
@@ -125,6 +126,8 @@ fn carry_out<H: Host>(
     ensures event { IsErrOf result SessionFault.DiskFault → IsSome (answer_to repo.old line.now block.now).event }
     ensures broken { IsErrOf result SessionFault.DiskFault → journal.new.broken ≡ true }
     ensures cause { IsErrOf result SessionFault.DiskFault → Rose (H.told host.old).disk_faults (H.told host.new).disk_faults }
+    ensures faulted { IsErrOf result SessionFault.DiskFault → repo.new ≡ after play repo.old (answer_to repo.old line.now block.now).event }
+    ensures still { (answer_to repo.old line.now block.now).event ≡ None → KeepsDisk (H.told host.old) (H.told host.new) }
     ensures memory { IsErrOf result SessionFault.Memory → KeepsDisk (H.told host.old) (H.told host.new) }
     ensures same_repo { IsErrOf result SessionFault.Memory → repo.new ≡ repo.old }
     ensures same_journal { IsErrOf result SessionFault.Memory → journal.new ≡ journal.old }
@@ -179,6 +182,8 @@ pub(crate) fn answer<H: Host>(
     ensures input { KeepsInput (H.told host.old) (H.told host.new) }
     ensures disk_cause { IsErrOf result SessionFault.DiskFault → Rose (H.told host.old).disk_faults (H.told host.new).disk_faults }
     ensures say_cause { IsErrOf result SessionFault.SayFault → Rose (H.told host.old).say_faults (H.told host.new).say_faults }
+    ensures faulted { IsErrOf result SessionFault.DiskFault → repo.new ≡ after play repo.old (answer_to repo.old line.now block.now).event }
+    ensures still { (answer_to repo.old line.now block.now).event ≡ None → KeepsDisk (H.told host.old) (H.told host.new) }
     ensures memory { IsErrOf result SessionFault.Memory → KeepsDisk (H.told host.old) (H.told host.new) × KeepsSaid (H.told host.old) (H.told host.new) }
     ensures same_repo { IsErrOf result SessionFault.Memory → repo.new ≡ repo.old }
     ensures same_journal { IsErrOf result SessionFault.Memory → journal.new ≡ journal.old }
@@ -218,6 +223,8 @@ pub(crate) fn answer_quietly<H: Host>(
     ensures event { IsErrOf result SessionFault.DiskFault → IsSome (answer_to repo.old line.now block.now).event }
     ensures broken { IsErrOf result SessionFault.DiskFault → journal.new.broken ≡ true }
     ensures cause { IsErrOf result SessionFault.DiskFault → Rose (H.told host.old).disk_faults (H.told host.new).disk_faults }
+    ensures faulted { IsErrOf result SessionFault.DiskFault → repo.new ≡ after play repo.old (answer_to repo.old line.now block.now).event }
+    ensures still { (answer_to repo.old line.now block.now).event ≡ None → KeepsDisk (H.told host.old) (H.told host.new) }
     ensures memory { IsErrOf result SessionFault.Memory → KeepsDisk (H.told host.old) (H.told host.new) }
     ensures same_repo { IsErrOf result SessionFault.Memory → repo.new ≡ repo.old }
     ensures same_journal { IsErrOf result SessionFault.Memory → journal.new ≡ journal.old }

@@ -1,5 +1,5 @@
 //! One command after another: decided, written, made, and answered.
-ghost use Rattle.std.specs.Prelude.{◌≡◌, ◌≢◌, ◌⊎◌, ◌+◌, ◌-◌, ◌^◌, ◌<◌, ◌++◌, ℕ, List, length, IsTrue, IfOk, OnOk, IfErr, IsErrOf, IsSome, true, false};
+ghost use Rattle.std.specs.Prelude.{◌≡◌, ◌≢◌, ◌⊎◌, ◌+◌, ◌-◌, ◌^◌, ◌<◌, ◌++◌, ℕ, List, length, IsTrue, IfOk, OnOk, IfErr, IsErrOf, IsSome, None, true, false};
 ghost use Rattle.host_port.specs.Host.{disk_now, said_now, Rose, GoesOn, Throughout, KeepsDisk, KeepsSaid, KeepsInput, AddsPart, StopLeaves};
 ghost use Rattle.command_runs.specs.Runs.{listed, after};
 ghost use Rattle.command_runs.specs.Stops.{IsStepping};
@@ -131,10 +131,14 @@ impl Session {
         ensures added { IfMade result (IsTrue (H.told host.old).tells → (made : List Event) → IsStoreOf (disk_now (H.told host.old)) self.old.state made
             → IsStoreOf (disk_now (H.told host.new)) self.new.state (made ++ listed (answer_to self.old.state line.now block.now).event)) }
         ensures whole { IfMade result (self.new.broken ≡ false) }
-        // A disk fault comes with a command that makes an event, before any byte of the reply is printed, and breaks the session.
+        // A disk fault comes with a command that makes an event, before any byte of the reply is printed. It breaks the session,
+        // whose state is that with the event.
         ensures event { IsErrOf result SessionFault.DiskFault → IsSome (answer_to self.old.state line.now block.now).event }
         ensures unsaid { IsErrOf result SessionFault.DiskFault → KeepsSaid (H.told host.old) (H.told host.new) }
         ensures broken { IsErrOf result SessionFault.DiskFault → self.new.broken ≡ true }
+        ensures faulted { IsErrOf result SessionFault.DiskFault → self.new.state ≡ after play self.old.state (answer_to self.old.state line.now block.now).event }
+        // Where no event is made the disk stays.
+        ensures still { (answer_to self.old.state line.now block.now).event ≡ None → KeepsDisk (H.told host.old) (H.told host.new) }
         // At each moment a prefix of the reply is printed, and none of it before a crash leaves the event.
         ensures part { Throughout (H.told host.old) (H.told host.new) (λ _ said. AddsPart (said_now (H.told host.old)) (answer_to self.old.state line.now block.now).reply said) }
         ensures moments { (made : List Event) → IsStoreOf (disk_now (H.told host.old)) self.old.state made
@@ -176,6 +180,9 @@ impl Session {
         ensures faults { IfErr result (λ e. (e ≡ SessionFault.DiskFault) ⊎ (e ≡ SessionFault.Memory)) }
         ensures event { IsErrOf result SessionFault.DiskFault → IsSome (answer_to self.old.state line.now block.now).event }
         ensures broken { IsErrOf result SessionFault.DiskFault → self.new.broken ≡ true }
+        ensures faulted { IsErrOf result SessionFault.DiskFault → self.new.state ≡ after play self.old.state (answer_to self.old.state line.now block.now).event }
+        // Where no event is made the disk stays.
+        ensures still { (answer_to self.old.state line.now block.now).event ≡ None → KeepsDisk (H.told host.old) (H.told host.new) }
         ensures cause { IsErrOf result SessionFault.DiskFault → Rose (H.told host.old).disk_faults (H.told host.new).disk_faults }
         ensures memory { IsErrOf result SessionFault.Memory → KeepsDisk (H.told host.old) (H.told host.new) }
         ensures same { IsErrOf result SessionFault.Memory → self.new ≡ self.old }

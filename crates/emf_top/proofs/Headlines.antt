@@ -1,9 +1,9 @@
 -- A whole run: the opening, and then the lines.
-use Rattle.std.proofs.Common.{◌≡◌, ◌⊎◌, inl, inr, ⊎_elim, ℕ, ◌-◌, ◌<◌, ◌≤◌, List, [], ◌∷◌, ◌++◌, Some, None, length, refl, sym, ◌∙◌, ap, subst, arith}
+use Rattle.std.proofs.Common.{◌≡◌, ◌⊎◌, inl, inr, ⊎_elim, ℕ, ◌-◌, ◌<◌, ◌≤◌, List, [], ◌++◌, length, refl, sym, ◌∙◌, ap, subst, arith}
 use Rattle.std.specs.Prelude.{IsTrue, map}
 use Rattle.std.proofs.lemmas.List.{append-nil}
 use Rattle.host_port.specs.Host.{Told, MayLeave, GoesOn, Throughout, KeepsSaid, KeepsInput, AddsPart, Rose, disk_now, said_now}
-use Rattle.host_port.proofs.Course.{at_last, carry_on, told_next, adds_none, said_kept_now, still_disk}
+use Rattle.host_port.proofs.Course.{at_last, carry_on, told_next, adds_none, said_kept_now, still_disk, keeps_input_on}
 use Rattle.command_runs.specs.Runs.{played, replies, events, answered}
 use Rattle.command_runs.specs.Stops.{IsRunning, IsOpenedRunning}
 use Rattle.command_runs.proofs.Going.{among}
@@ -21,21 +21,14 @@ use Rattle.emf_top.specs.declared.top.Status.{Status}
 use Rattle.emf_top.specs.declared.top.Status.TheVariants.{Accepted, Refused, BadWords, ReadFault, WriteFault, DiskFault, Damaged, Memory, Input}
 use Rattle.emf_top.specs.Headline.{Ends, NothingRose, KeepsFile, IsFoundDamaged, IsUnsaid, IsUnopened, IsUnanswered, IsHalted, IsKept, session_status}
 use Rattle.emf_top.specs.Tasks.{Task, task_of}
-use Rattle.emf_top.specs.Words.{AskFor, words_of}
 use Rattle.emf_top.specs.declared.words.Request.{Request}
-use Rattle.emf_top.specs.declared.words.Request.TheVariants.{Serve, Check}
-
--- words ask for one thing at most
-pub same_request : (words : List (List ℕ)) (a b : Request) → AskFor words a → AskFor words b → a ≡ b
-same_request words Serve Serve first second = refl
-same_request words Serve Check first second = let other : words_of Serve ≡ words_of Check = sym first ∙ second in absurd cc
-same_request words Check Serve first second = let other : words_of Check ≡ words_of Serve = sym first ∙ second in absurd cc
-same_request words Check Check first second = refl
+use Rattle.emf_top.specs.declared.words.Request.TheVariants.{Serve, Check, Generate}
 
 -- whether the input is read goes by what is asked for alone
 pub same_reads : (request : Request) (s t : State) (one two : List ℕ) → (task_of request s one).reads ≡ (task_of request t two).reads
 same_reads Serve s t one two = refl
 same_reads Check s t one two = refl
+same_reads (Generate seed count) s t one two = refl
 
 -- no call at all leaves the file
 pub file_still : (a : Told) → KeepsFile a a
@@ -57,16 +50,16 @@ unsaid_from task first entry a b same e = record {
 unanswered_from : (task : Task) (first : List Event) (entry a b : Told) → said_now a ≡ said_now entry → IsUnanswered task first a b → IsUnanswered task first entry b
 unanswered_from task first entry a b same e = record { done = e.done; answer = e.answer; left = e.left; whole = e.whole; event = e.event; said = e.said ∙ ap (λ (l : List ℕ). l ++ replies e.done) same; stands = e.stands }
 
-ends_from : (task : Task) (first : List Event) (entry a b : Told) → said_now a ≡ said_now entry → (status : Status) → Ends task first a b status → Ends task first entry b status
-ends_from task first entry a b same Accepted e = (record { said = e.0.said ∙ ap (λ (l : List ℕ). l ++ replies task.answers) same; stands = e.0.stands }, e.1, e.2)
-ends_from task first entry a b same Refused e = (record { said = e.0.said ∙ ap (λ (l : List ℕ). l ++ replies task.answers) same; stands = e.0.stands }, e.1, e.2)
-ends_from task first entry a b same (Input fault at) e = (record { said = e.0.said ∙ ap (λ (l : List ℕ). l ++ replies task.answers) same; stands = e.0.stands }, e.1)
-ends_from task first entry a b same WriteFault e = unsaid_from task first entry a b same e
-ends_from task first entry a b same (Damaged at) e = e
-ends_from task first entry a b same BadWords e = e
-ends_from task first entry a b same ReadFault e = (halted_from task first entry a b same e.0, e.1)
-ends_from task first entry a b same DiskFault e = ⊎_elim (λ h. inl (record { said = h.said ∙ same; stands = h.stands })) (λ u. inr (unanswered_from task first entry a b same u)) e
-ends_from task first entry a b same Memory e = halted_from task first entry a b same e
+ends_from : (task : Task) (first : List Event) (entry a b : Told) → said_now a ≡ said_now entry → KeepsInput entry a → (status : Status) → Ends task first a b status → Ends task first entry b status
+ends_from task first entry a b same input Accepted e = (record { said = e.0.said ∙ ap (λ (l : List ℕ). l ++ replies task.answers) same; stands = e.0.stands }, e.1, e.2)
+ends_from task first entry a b same input Refused e = (record { said = e.0.said ∙ ap (λ (l : List ℕ). l ++ replies task.answers) same; stands = e.0.stands }, e.1, e.2)
+ends_from task first entry a b same input (Input fault at) e = (record { said = e.0.said ∙ ap (λ (l : List ℕ). l ++ replies task.answers) same; stands = e.0.stands }, e.1)
+ends_from task first entry a b same input WriteFault e = unsaid_from task first entry a b same e
+ends_from task first entry a b same input (Damaged at) e = e
+ends_from task first entry a b same input BadWords e = e
+ends_from task first entry a b same input ReadFault e = (halted_from task first entry a b same e.0, e.1)
+ends_from task first entry a b same input DiskFault e = ⊎_elim (λ h. inl (record { said = h.said ∙ same; input = keeps_input_on entry a b input h.input; stands = h.stands })) (λ u. inr (unanswered_from task first entry a b same u)) e
+ends_from task first entry a b same input Memory e = halted_from task first entry a b same e
 
 -- nothing was answered
 pub none_answered : (task : Task) (first : List Event) (entry a : Told) → IsUnopened first entry a → IsHalted task first entry a
@@ -93,9 +86,10 @@ module _ (entry a : Told) (course : GoesOn entry a) (said : KeepsSaid entry a) (
       (mounting told t low high)
 
   -- before the first line
-  pub unopened : MayLeave (disk_now a) (disk_now a).now → IsTrue entry.tells → IsUnopened first entry a
-  unopened left told = record {
+  pub unopened : KeepsInput entry a → MayLeave (disk_now a) (disk_now a).now → IsTrue entry.tells → IsUnopened first entry a
+  unopened input left told = record {
     said = said_kept_now entry a course said told;
+    input = input;
     stands = ⊎_elim
         (λ before. subst (λ d. Stands d.now first) (sym before) stood)
         (λ same. record { forms = same (disk_now a).now left (map event_form first) stood.forms; playable = stood.playable })
@@ -119,7 +113,7 @@ module _ (entry a : Told) (course : GoesOn entry a) (said : KeepsSaid entry a) (
 
   pub whole_ends : (status : Status) → (IsTrue a.tells → (made : List Event) → IsStoreOf (disk_now a) now made → Ends (asked now a.left) made a b status)
       → IsTrue entry.tells → Ends (asked (played play empty first) entry.left) first entry b status
-  whole_ends status ends told = ends_from (asked (played play empty first) entry.left) first entry a b (said_is told) status
+  whole_ends status ends told = ends_from (asked (played play empty first) entry.left) first entry a b (said_is told) input status
       (subst (λ (t : Task). Ends t first a b status) (task_is told) (ends (told_next entry a course told) first (holds_first told)))
 
   pub whole_part : ((made : List Event) → IsStoreOf (disk_now a) now made → Throughout a b (λ disk said. AddsPart (said_now a) (replies (asked now a.left).answers) said))
@@ -174,15 +168,15 @@ module _ (entry a : Told) (fault : SessionFault) (never : fault ≡ session.SayF
       go (session.Damaged at) n d = (d told).1 first stood
       go session.Memory n d = none_answered task first entry a ended
 
-  pub unopened_damaged : (17 < length (disk_now entry).now → Throughout entry a (λ disk said. disk.now ≡ (disk_now entry).now)) → KeepsSaid entry a → (at : ℕ) → session_status fault ≡ Damaged at → IsFoundDamaged entry a at
-  unopened_damaged long said at is = go fault damage is
+  pub unopened_damaged : (17 < length (disk_now entry).now → Throughout entry a (λ disk said. disk.now ≡ (disk_now entry).now)) → KeepsSaid entry a → KeepsInput entry a → (at : ℕ) → session_status fault ≡ Damaged at → IsFoundDamaged entry a at
+  unopened_damaged long said input at is = go fault damage is
     where
       go : (f : SessionFault) → AtDamage f (λ at. IsTrue entry.tells → IsDamaged (disk_now entry).now at × StandsForNoEvents (disk_now entry).now) → session_status f ≡ Damaged at → IsFoundDamaged entry a at
       go session.DiskFault d e = absurd cc
       go session.SayFault d e = absurd cc
       go (session.Damaged b) d e =
           let same : b ≡ at = cc in
-          record { place = λ told. subst (λ (n : ℕ). IsDamaged (disk_now entry).now n) same (d told).0; no_events = λ told. (d told).1; file = λ told. long (is_long (disk_now entry).now (d told).1) told; said = said }
+          record { place = λ told. subst (λ (n : ℕ). IsDamaged (disk_now entry).now n) same (d told).0; no_events = λ told. (d told).1; file = λ told. long (is_long (disk_now entry).now (d told).1) told; said = said; input = input }
       go session.Memory d e = absurd cc
 
   pub unopened_damages : ((at : ℕ) × (session_status fault ≡ Damaged at)) ⊎ (session_status fault ≡ DiskFault) ⊎ (session_status fault ≡ Memory)

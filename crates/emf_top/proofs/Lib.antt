@@ -1,7 +1,11 @@
+pub mod Asked
 pub mod Few
 pub mod Headlines
 pub mod Items
+pub mod Plain
 pub mod Printing
+pub mod Quietly
+pub mod Rounds
 pub mod Serving
 pub mod Starting
 pub mod Texts

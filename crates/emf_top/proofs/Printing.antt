@@ -2,7 +2,7 @@
 use Rattle.std.proofs.Common.{◌≡◌, ◌∙◌, ℕ, List, [], ◌∷◌, ◌++◌, None, append-nil, refl, sym, ap, subst}
 use Rattle.std.specs.Prelude.{IsTrue}
 use Rattle.host_port.specs.Host.{Told, GoesOn, Throughout, KeepsDisk, AddsPart, disk_now, said_now}
-use Rattle.host_port.proofs.Course.{at_last, kept_now, told_next}
+use Rattle.host_port.proofs.Course.{at_last, kept_now}
 use Rattle.command_runs.specs.Runs.{Answer, replies, events, answered}
 use Rattle.command_runs.specs.Stops.{IsRunning}
 use Rattle.command_runs.proofs.Going.{Going, Steps, one_more, stepped_part, stepped_moments, answers_more}

@@ -25,9 +25,10 @@ pub record IsUnsaid (task : Task) (first : List Event) (before now : Told) : Typ
   pub said : AddsPart (said_now before ++ replies done) answer.reply (said_now now)
   pub stands : Stands (disk_now now).now (first ++ events (done ++ answer ∷ []))
 
--- nothing was printed, and the file stands for the first events alone
+-- nothing was printed and no input taken, and the file stands for the first events alone
 pub record IsUnopened (first : List Event) (before now : Told) : Type 0 where
   pub said : said_now now ≡ said_now before
+  pub input : KeepsInput before now
   pub stands : Stands (disk_now now).now first
 
 -- An answer that makes an event was on its way: nothing of its reply was printed, and its event is kept whole or not at
@@ -100,9 +101,10 @@ abbrev pub KeepsFile : Told → Told → Type 0
 KeepsFile before now = Throughout before now (λ disk said. disk.now ≡ (disk_now before).now)
 
 -- a host that tells has a file that is damaged at a place and stands for no list of events; at each moment the file reads as
--- it was, and nothing is printed
+-- it was; nothing is printed, and no input taken
 pub record IsFoundDamaged (before now : Told) (at : ℕ) : Type 0 where
   pub place : IsTrue before.tells → IsDamaged (disk_now before).now at
   pub no_events : IsTrue before.tells → StandsForNoEvents (disk_now before).now
   pub file : KeepsFile before now
   pub said : KeepsSaid before now
+  pub input : KeepsInput before now

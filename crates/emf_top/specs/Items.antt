@@ -1,13 +1,18 @@
 -- What is read of a script.
-use Rattle.std.specs.Prelude.{◌≡◌, ◌-◌, ◌<◌, ◌^◌, length, Option, Some, None, Result, Ok, Err}
+use Rattle.std.specs.Prelude.{◌≡◌, ◌-◌, ◌<◌, ◌^◌, length, false, Option, Some, None, Result, Ok, Err}
 use Rattle.host_port.specs.Cut.{Item, Script, with_item, ends_by}
 use Rattle.host_port.specs.Reads.{EndsScript}
+use Rattle.plain_repository.specs.Lines.{is_skipped}
 use Rattle.host_port.specs.declared.lines.LineFault.{LineFault}
 use Rattle.repo_core.specs.Decisions.{IsShortBlock}
 
 -- the texts of an item are short enough to be read
 abbrev pub IsShortItem : Item → Type 0
 IsShortItem item = (length item.line < 2 ^ 32 - 1) × IsShortBlock item.block
+
+-- an item that is short enough to be read, and gets a reply
+abbrev pub IsAnswered : Item → Type 0
+IsAnswered item = IsShortItem item × (is_skipped item.line ≡ false)
 
 -- the script's next item, with what is left of the script behind it; or its end; or its fault
 abbrev pub GotItem : Result (Option Item) LineFault → Script → Script → Type 0

@@ -1,3 +1,4 @@
+pub mod Generator
 pub mod Headline
 pub mod Items
 pub mod Tasks

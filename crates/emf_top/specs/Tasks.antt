@@ -1,18 +1,19 @@
 -- What a run has to do.
-use Rattle.std.specs.Prelude.{ℕ, List, [], ◌∷◌, ◌++◌, codes, Bool, true, false, length, Option, Some, None}
+use Rattle.std.specs.Prelude.{ℕ, List, [], ◌∷◌, ◌++◌, codes, not, Bool, true, false, length, Option, Some, None, count_by}
 use Rattle.std.specs.Fmt.{decimal}
-use Rattle.host_port.specs.Cut.{Script, script_of}
+use Rattle.host_port.specs.Cut.{Item, Script, script_of}
 use Rattle.host_port.specs.declared.lines.LineFault.{LineFault}
 use Rattle.host_port.specs.declared.lines.LineFault.TheVariants as faults
-use Rattle.command_runs.specs.Runs.{Answer, answers, refuses}
+use Rattle.command_runs.specs.Runs.{Answer, answers, events, refuses, played}
 use Rattle.op_form.specs.declared.event.Event.{Event}
 use Rattle.plain_repository.specs.Lines.{takes_block}
 use Rattle.plain_repository.specs.State.{State}
 use Rattle.plain_repository.specs.Events.{play}
 use Rattle.plain_repository.specs.Repository.{decide}
-use Rattle.repo_core.specs.Counting.{live_workspaces}
+use Rattle.repo_core.specs.Counting.{live_workspaces, element_count}
+use Rattle.emf_top.specs.Generator.{generated}
 use Rattle.emf_top.specs.declared.words.Request.{Request}
-use Rattle.emf_top.specs.declared.words.Request.TheVariants.{Serve, Check}
+use Rattle.emf_top.specs.declared.words.Request.TheVariants.{Serve, Check, Generate}
 use Rattle.emf_top.specs.declared.top.Status.{Status}
 use Rattle.emf_top.specs.declared.top.Status.TheVariants.{Accepted, Refused, ReadFault, Memory, Input}
 
@@ -63,8 +64,40 @@ check_line s = codes "check events " ++ (decimal s.events ++ (codes " versions "
 abbrev pub checking : State → Task
 checking s = record { answers = printing (check_line s) ∷ []; end = Accepted; reads = false }
 
+-- ---- --generate
+-- an answer whose reply is not printed
+abbrev pub silenced : Answer Event → Answer Event
+silenced answer = record { reply = []; refused = answer.refused; event = answer.event }
+
+-- an item is answered as ever, and the reply is not printed
+abbrev pub quietly : State → Item → Answer Event
+quietly s item = silenced (decide s item)
+
+-- how many answers are refusals, and how many are not
+abbrev pub refusals_in : List (Answer Event) → ℕ
+refusals_in given = count_by (λ a. a.refused) given
+
+abbrev pub others_in : List (Answer Event) → ℕ
+others_in given = count_by (λ a. not a.refused) given
+
+-- how many lines were accepted and how many refused, and what there is in the end, as a line
+abbrev pub outcome_line : ℕ → ℕ → State → List ℕ
+outcome_line accepted refused s = codes "accepted " ++ (decimal accepted ++ (codes " refused " ++ (decimal refused
+    ++ (codes " versions " ++ (decimal (length s.history.versions) ++ (codes " elements " ++ (decimal (element_count s) ++ (10 ∷ []))))))))
+
+-- what is printed of some answers, and of the state that they lead to
+abbrev pub outcome : State → List (Answer Event) → List ℕ
+outcome s given = outcome_line (others_in given) (refusals_in given) (played play s (events given))
+
+-- items are answered in place of the input, and of their replies nothing is printed but the outcome
+abbrev pub filling : State → List Item → Task
+filling s items =
+    let given = answers quietly play s items in
+    record { answers = given ++ printing (outcome s given) ∷ []; end = Accepted; reads = false }
+
 -- ---- all forms
 -- what is asked for, on the state of the store and the input
 abbrev pub task_of : Request → State → List ℕ → Task
 task_of Serve s input = serving s (script input)
 task_of Check s input = checking s
+task_of (Generate seed count) s input = filling s (generated seed count)

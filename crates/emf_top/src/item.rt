@@ -37,6 +37,13 @@ fn is_skipped(line: &str) -> bool
 }
 
 impl Item {
+    /// An item of these texts.
+    pub(crate) fn new(line: Text, block: Option<Text>) -> Item
+        ensures { result ≡ record { line = line; block = block } }
+    {
+        Item { line, block }
+    }
+
     /// The line, without its line feed and a carriage return right before that.
     pub fn line(&self) -> &str
         ensures { result.now ≡ self.now.line }

@@ -1,6 +1,6 @@
 //! The top call.
 ghost use Rattle.std.specs.Prelude.{◌≡◌, ◌≢◌, ◌⊎◌, ◌+◌, ◌↔◌, ◌++◌, ◌||◌, true, false, Bool, ℕ, List, map, string_bytes, IsTrue};
-ghost use Rattle.host_port.specs.Host.{disk_now, said_now, Rose, GoesOn, Throughout, AddsPart};
+ghost use Rattle.host_port.specs.Host.{disk_now, said_now, Rose, GoesOn, Throughout, AddsPart, KeepsSaid, KeepsInput};
 ghost use Rattle.host_port.specs.Cut.{script_from};
 ghost use Rattle.command_runs.specs.Runs.{played, replies, events, answered};
 ghost use Rattle.command_runs.specs.Stops.{IsRunning, IsOpenedRunning};
@@ -15,6 +15,8 @@ ghost use Rattle.emf_top.specs.Tasks.{serving, task_of, input_status};
 ghost use Rattle.emf_top.specs.Words.{AskFor, AreBad};
 ghost use Rattle.emf_top.specs.declared.words.Request.{Request};
 
+use crate::filling::fill;
+use crate::generator::generated;
 use crate::item::next_item;
 use crate::looking::look;
 use crate::words::{Request, request_of};
@@ -25,7 +27,8 @@ use std::alloc::Global;
 /// How a run ended.
 #[derive(Clone, Copy, Debug, PartialEq, Eq)]
 pub enum Status {
-    /// The input was read to its end, and no reply is a refusal; or the line of `--check` was printed.
+    /// The input was read to its end, and no reply is a refusal; or the line of `--check` or
+    /// `--generate` was printed.
     Accepted,
     /// The input was read to its end, and some reply is a refusal.
     Refused,
@@ -112,7 +115,7 @@ pub fn run<H: Host>(alloc: Global, words: &[String], host: &mut H) -> Status
     // Where no count rises, it ends as the task does, or memory ran out.
     ensures complete { IsTrue (H.told host.old).tells → (request : Request) (first : List Event) → Stands (disk_now (H.told host.old)).now first → AskFor (map string_bytes words.now) request
         → NothingRose (H.told host.old) (H.told host.new) → (result ≡ (task_of request (played play empty first) (H.told host.old).left).end) ⊎ (result ≡ Status.Memory) }
-    // With words the input stays unread.
+    // With `--check` and `--generate` the input stays unread.
     ensures unread { (request : Request) (first : List Event) → Stands (disk_now (H.told host.old)).now first → AskFor (map string_bytes words.now) request → KeepsUnread (task_of request (played play empty first) (H.told host.old).left) (H.told host.old) (H.told host.new) }
     ensures words { result ≡ Status.BadWords ↔ AreBad (map string_bytes words.now) }
     ensures untouched { result ≡ Status.BadWords → H.told host.new ≡ H.told host.old }
@@ -120,9 +123,11 @@ pub fn run<H: Host>(alloc: Global, words: &[String], host: &mut H) -> Status
     ensures write { result ≡ Status.WriteFault → Rose (H.told host.old).say_faults (H.told host.new).say_faults }
     ensures disk { result ≡ Status.DiskFault → Rose (H.told host.old).disk_faults (H.told host.new).disk_faults }
     // Damaged comes where the file stands for no list of events, with the exact place. Such a file reads as it was at each
-    // moment, whatever the status.
+    // moment, nothing is printed and no input taken, whatever the status.
     ensures damaged { (at : ℕ) → result ≡ Status.Damaged at → IsFoundDamaged (H.told host.old) (H.told host.new) at }
     ensures kept { StandsForNoEvents (disk_now (H.told host.old)).now → KeepsFile (H.told host.old) (H.told host.new) }
+    ensures silent { IsTrue (H.told host.old).tells → StandsForNoEvents (disk_now (H.told host.old)).now
+        → KeepsSaid (H.told host.old) (H.told host.new) × KeepsInput (H.told host.old) (H.told host.new) }
     ensures damages { IsTrue (H.told host.old).tells → StandsForNoEvents (disk_now (H.told host.old)).now
         → AreBad (map string_bytes words.now) ⊎ ((at : ℕ) × (result ≡ Status.Damaged at)) ⊎ (result ≡ Status.DiskFault) ⊎ (result ≡ Status.Memory) }
     ensures course { GoesOn (H.told host.old) (H.told host.new) }
@@ -149,6 +154,8 @@ fn run_request<H: Host>(alloc: Global, request: Request, host: &mut H) -> Status
     ensures disk { result ≡ Status.DiskFault → Rose (H.told host.old).disk_faults (H.told host.new).disk_faults }
     ensures damaged { (at : ℕ) → result ≡ Status.Damaged at → IsFoundDamaged (H.told host.old) (H.told host.new) at }
     ensures kept { StandsForNoEvents (disk_now (H.told host.old)).now → KeepsFile (H.told host.old) (H.told host.new) }
+    ensures silent { IsTrue (H.told host.old).tells → StandsForNoEvents (disk_now (H.told host.old)).now
+        → KeepsSaid (H.told host.old) (H.told host.new) × KeepsInput (H.told host.old) (H.told host.new) }
     ensures damages { IsTrue (H.told host.old).tells → StandsForNoEvents (disk_now (H.told host.old)).now
         → ((at : ℕ) × (result ≡ Status.Damaged at)) ⊎ (result ≡ Status.DiskFault) ⊎ (result ≡ Status.Memory) }
     ensures course { GoesOn (H.told host.old) (H.told host.new) }
@@ -187,6 +194,12 @@ fn fulfil<H: Host>(alloc: Global, request: Request, host: &mut H, session: &mut 
             serve(alloc, host, session, &mut lines)
         }
         Request::Check => look(alloc, host, session),
+        Request::Generate { seed, count } => {
+            let Ok(items) = generated(alloc, seed, count) else {
+                return Status::Memory;
+            };
+            fill(alloc, host, session, items.as_slice())
+        }
     }
 }
 

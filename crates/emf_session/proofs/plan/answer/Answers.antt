@@ -1,6 +1,6 @@
 use Rattle.std.proofs.Common.{ℕ, ◌∙◌, ap, Err}
 use Rattle.commit_journal.specs.Journal.{JournalState}
-use Rattle.host_port.proofs.Course.{adds_none}
+use Rattle.host_port.proofs.Course.{adds_none, keeps_disk_on}
 use Rattle.emf_session.specs.declared.answered.SessionFault.TheVariants.{DiskFault, SayFault, Memory}
 use Rattle.emf_session.specs.Session.{answer_to}
 use Rattle.emf_session.proofs.Answering.{entered_moments, said_added, said_moments, said_part, said_whole}
@@ -97,3 +97,15 @@ returns-clause-part g c = said_part (g.H.Host.told c.args.host.now) (g.H.Host.to
 
 pub returns-clause-moments : goal.returns-clause-moments
 returns-clause-moments g c = said_moments (g.H.Host.told c.args.host.now) (g.H.Host.told c.carry_out.new.host) c.args.repo.now (answer_to c.args.repo.now c.args.line.now c.args.block.now) c.carry_out.ensures.course c.carry_out.ensures.said c.carry_out.ensures.entering (g.H.Host.told c.say.new.self) c.carry_out.new.repo c.deref.result.now (c.deref.ensures.value ∙ c.in-Ok.ensures.reply) c.say.ensures.course c.say.ensures.disk c.say.ensures.part c.in-Ok.ensures.added
+
+pub returns-in-Err-clause-faulted : goal.returns-in-Err-clause-faulted
+returns-in-Err-clause-faulted g c = λ is. c.in-Err.ensures.faulted (retyped c.in-Err.fault DiskFault is)
+
+pub returns-in-Err-clause-still : goal.returns-in-Err-clause-still
+returns-in-Err-clause-still g c = c.carry_out.ensures.still
+
+pub returns-in-Ok-say-clause-still : goal.returns-in-Ok-say-clause-still
+returns-in-Ok-say-clause-still g c = λ none. keeps_disk_on (g.H.Host.told c.args.host.now) (g.H.Host.told c.carry_out.new.host) (g.H.Host.told c.say.new.self) c.carry_out.ensures.course c.say.ensures.course (c.carry_out.ensures.still none) c.say.ensures.disk
+
+pub returns-clause-still : goal.returns-clause-still
+returns-clause-still g c = λ none. keeps_disk_on (g.H.Host.told c.args.host.now) (g.H.Host.told c.carry_out.new.host) (g.H.Host.told c.say.new.self) c.carry_out.ensures.course c.say.ensures.course (c.carry_out.ensures.still none) c.say.ensures.disk

@@ -49,3 +49,12 @@ returns-in-Ok-clause-whole g c = c.in-Ok.ensures.whole
 
 pub returns-in-Ok-clause-entering : goal.returns-in-Ok-clause-entering
 returns-in-Ok-clause-entering g c = c.carry_out.ensures.entering
+
+pub returns-in-Err-clause-faulted : goal.returns-in-Err-clause-faulted
+returns-in-Err-clause-faulted g c = λ is. c.in-Err.ensures.faulted (retyped c.in-Err.fault DiskFault is)
+
+pub returns-in-Err-clause-still : goal.returns-in-Err-clause-still
+returns-in-Err-clause-still g c = c.carry_out.ensures.still
+
+pub returns-in-Ok-clause-still : goal.returns-in-Ok-clause-still
+returns-in-Ok-clause-still g c = c.carry_out.ensures.still

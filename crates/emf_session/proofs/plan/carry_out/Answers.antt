@@ -1,10 +1,11 @@
 use Rattle.std.proofs.Common.{ℕ, ◌++◌, sym, ◌∙◌, ap, subst}
 use Rattle.host_port.specs.Host.{disk_now}
+use Rattle.host_port.proofs.Course.{still_disk}
 use Rattle.command_runs.specs.Runs.{listed}
 use Rattle.plain_repository.specs.State.{State}
 use Rattle.plain_repository.specs.Repository.{decide_line}
 use Rattle.emf_session.specs.Session.{IsStoreOf}
-use Rattle.emf_session.proofs.Entering.{still_entering, event_ready}
+use Rattle.emf_session.proofs.Entering.{still_entering, event_ready, ready_none}
 use Rattle.emf_session.proofs.plan.carry_out.Goals as goal
 
 abbrev end_of : State → ℕ
@@ -43,3 +44,15 @@ returns-in-Err-clause-entering g c = λ made holds. c.enter.ensures.entering c.a
 
 pub returns-in-Err-clause-event : goal.returns-in-Err-clause-event
 returns-in-Err-clause-event g c = λ is. event_ready c.args.repo.now (decide_line c.args.repo.now c.args.line.now c.args.block.now).event c.in-Ok.plan.ready c.in-Ok.ensures.plan.ready c.in-Err.ensures.event
+
+pub returns-in_default-clause-still : goal.returns-in_default-clause-still
+returns-in_default-clause-still g c = λ none. still_disk (g.H.Host.told c.args.host.now)
+
+pub returns-in-Ok-enter-clause-still : goal.returns-in-Ok-enter-clause-still
+returns-in-Ok-enter-clause-still g c = λ none. c.enter.ensures.still (ready_none c.args.repo.now (decide_line c.args.repo.now c.args.line.now c.args.block.now).event c.in-Ok.plan.ready none c.in-Ok.ensures.plan.ready)
+
+pub returns-in-Err-clause-still : goal.returns-in-Err-clause-still
+returns-in-Err-clause-still g c = λ none. c.enter.ensures.still (ready_none c.args.repo.now (decide_line c.args.repo.now c.args.line.now c.args.block.now).event c.in-Ok.plan.ready none c.in-Ok.ensures.plan.ready)
+
+pub returns-in-Err-clause-faulted : goal.returns-in-Err-clause-faulted
+returns-in-Err-clause-faulted g c = λ is. c.in-Ok.ensures.state

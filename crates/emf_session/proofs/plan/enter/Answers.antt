@@ -1,6 +1,7 @@
 use Rattle.std.proofs.Common.{◌≡◌, ℕ, ◌+◌, length, sym, ◌∙◌, ap, refl, subst, arith}
 use Rattle.std.specs.Prelude.{map}
 use Rattle.host_port.specs.Host.{disk_now}
+use Rattle.host_port.proofs.Course.{still_disk}
 use Rattle.commit_journal.specs.Journal.{JournalState, IsAtRest, Fits}
 use Rattle.op_form.specs.Events.{event_form}
 use Rattle.plain_repository.specs.Events.{play}
@@ -57,3 +58,12 @@ returns-in-Err-clause-entering g c = λ state event at' is made holds.
     let of = some_ready state event c.args.ready c.in-Some.prepared c.in-Some.is is in
     rw of.event_is (event_entering (g.H.Host.told c.args.host.now) (g.H.Host.told c.append.new.host) state made of.made of.playable holds
     c.in-Some.prepared of.form_is (c.append.ensures.any_moment c.in-Some.prepared refl (map event_form made) (subst (λ (n : ℕ). IsAtRest (disk_now (g.H.Host.told c.args.host.now)) (map event_form made) n) at' holds.rests.journal)))
+
+pub returns-in_default-clause-still : goal.returns-in_default-clause-still
+returns-in_default-clause-still g c = λ none. still_disk (g.H.Host.told c.args.host.now)
+
+pub returns-in-Ok-clause-still : goal.returns-in-Ok-clause-still
+returns-in-Ok-clause-still g c = λ none. let some = c.in-Some.is in absurd (cc (some, none))
+
+pub returns-in-Err-clause-still : goal.returns-in-Err-clause-still
+returns-in-Err-clause-still g c = λ none. let some = c.in-Some.is in absurd (cc (some, none))

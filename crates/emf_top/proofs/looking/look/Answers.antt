@@ -1,6 +1,6 @@
 use Rattle.std.proofs.Common.{◌≡◌, ◌∙◌, true, false, refl}
 use Rattle.host_port.specs.Host.{disk_now}
-use Rattle.host_port.proofs.Course.{course_still, told_next}
+use Rattle.host_port.proofs.Course.{course_still}
 use Rattle.emf_top.specs.Tasks.{checking, check_line}
 use Rattle.emf_top.proofs.Few.{few_workspaces}
 use Rattle.emf_top.proofs.Printing.{printed, printed_part, printed_moments, unprinted}

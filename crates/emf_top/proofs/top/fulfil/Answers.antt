@@ -1,11 +1,15 @@
-use Rattle.std.proofs.Common.{◌≡◌, true, false, subst}
+use Rattle.std.proofs.Common.{◌≡◌, ◌∙◌, List, true, false, sym, subst, arith}
+use Rattle.std.specs.Prelude.{All}
 use Rattle.host_port.specs.Host.{Throughout, AddsPart, said_now}
+use Rattle.host_port.specs.Cut.{Item}
 use Rattle.host_port.proofs.Course.{still_input}
 use Rattle.command_runs.specs.Runs.{replies, events, answered}
 use Rattle.command_runs.specs.Stops.{IsRunning}
 use Rattle.plain_repository.specs.Store.{Stands}
 use Rattle.emf_top.specs.Headline.{Ends}
-use Rattle.emf_top.specs.Tasks.{Task, task_of}
+use Rattle.emf_top.specs.Items.{IsAnswered}
+use Rattle.emf_top.specs.Tasks.{Task, task_of, filling}
+use Rattle.emf_top.proofs.Plain.{all_answered}
 use Rattle.emf_top.proofs.Starting.{from_start, halted_at_start, part_at_start, moments_at_start}
 use Rattle.emf_top.proofs.top.fulfil.Goals as goal
 
@@ -41,3 +45,30 @@ returns-in-Check-clause-part g c = rw c.in-Check.is c.look.ensures.part
 
 pub returns-in-Check-clause-moments : goal.returns-in-Check-clause-moments
 returns-in-Check-clause-moments g c = rw c.in-Check.is c.look.ensures.moments
+
+pub returns-in_default-generated-clause-ends : goal.returns-in_default-generated-clause-ends
+returns-in_default-generated-clause-ends g c = λ told made holds. halted_at_start (g.H.Host.told c.args.host.now) c.args.session.now.state (task_of c.args.request c.args.session.now.state (g.H.Host.told c.args.host.now).left) made holds
+
+pub returns-in_default-generated-clause-part : goal.returns-in_default-generated-clause-part
+returns-in_default-generated-clause-part g c = λ made holds. part_at_start (g.H.Host.told c.args.host.now) c.args.session.now.state (task_of c.args.request c.args.session.now.state (g.H.Host.told c.args.host.now).left) made holds
+
+pub returns-in_default-generated-clause-moments : goal.returns-in_default-generated-clause-moments
+returns-in_default-generated-clause-moments g c = λ made holds. moments_at_start (g.H.Host.told c.args.host.now) c.args.session.now.state (task_of c.args.request c.args.session.now.state (g.H.Host.told c.args.host.now).left) made holds
+
+pub returns-in_default-generated-clause-unread : goal.returns-in_default-generated-clause-unread
+returns-in_default-generated-clause-unread g c = λ unread. still_input (g.H.Host.told c.args.host.now)
+
+pub fill-requires-clause-plain : goal.fill-requires-clause-plain
+fill-requires-clause-plain g c = subst (λ (l : List Item). All IsAnswered l) (sym (c.as_slice.ensures ∙ c.in-Ok-generated.ensures)) (all_answered c.in-Generate.seed c.in-Generate.count (omega arith))
+
+pub returns-in-Ok-generated-clause-ends : goal.returns-in-Ok-generated-clause-ends
+returns-in-Ok-generated-clause-ends g c = rw c.in-Generate.is (λ told made holds. subst (λ (l : List Item). Ends (filling c.args.session.now.state l) made (g.H.Host.told c.args.host.now) (g.H.Host.told c.fill.new.host) c.fill.result) (c.as_slice.ensures ∙ c.in-Ok-generated.ensures) (c.fill.ensures.ends told made holds))
+
+pub returns-in-Ok-generated-clause-part : goal.returns-in-Ok-generated-clause-part
+returns-in-Ok-generated-clause-part g c = rw c.in-Generate.is (λ made holds. subst (λ (l : List Item). Throughout (g.H.Host.told c.args.host.now) (g.H.Host.told c.fill.new.host) (λ disk said. AddsPart (said_now (g.H.Host.told c.args.host.now)) (replies (filling c.args.session.now.state l).answers) said)) (c.as_slice.ensures ∙ c.in-Ok-generated.ensures) (c.fill.ensures.part made holds))
+
+pub returns-in-Ok-generated-clause-moments : goal.returns-in-Ok-generated-clause-moments
+returns-in-Ok-generated-clause-moments g c = rw c.in-Generate.is (λ made holds. subst (λ (l : List Item). Throughout (g.H.Host.told c.args.host.now) (g.H.Host.told c.fill.new.host) (IsRunning Stands made (events (filling c.args.session.now.state l).answers) (answered (filling c.args.session.now.state l).answers) (said_now (g.H.Host.told c.args.host.now)))) (c.as_slice.ensures ∙ c.in-Ok-generated.ensures) (c.fill.ensures.moments made holds))
+
+pub returns-in-Ok-generated-clause-unread : goal.returns-in-Ok-generated-clause-unread
+returns-in-Ok-generated-clause-unread g c = rw c.in-Generate.is (λ unread. c.fill.ensures.unread unread)

@@ -1,7 +1,7 @@
 use Rattle.std.proofs.Common.{◌≡◌, ◌⊎◌, inl, inr, arith, refl, subst}
 use Rattle.std.specs.Prelude.{map, string_bytes}
 use Rattle.host_port.specs.Host.{Throughout, AddsPart, disk_now, said_now}
-use Rattle.host_port.proofs.Course.{told_next}
+use Rattle.host_port.proofs.Course.{told_next, still_said, still_input}
 use Rattle.command_runs.specs.Runs.{played, replies, events, answered}
 use Rattle.command_runs.specs.Stops.{IsOpenedRunning}
 use Rattle.plain_repository.specs.State.{empty}
@@ -11,7 +11,8 @@ use Rattle.emf_top.specs.declared.top.Status.TheVariants.{Memory}
 use Rattle.emf_top.specs.declared.words.Request.{Request}
 use Rattle.emf_top.specs.Headline.{Ends, IsKept, KeepsUnread}
 use Rattle.emf_top.specs.Tasks.{task_of}
-use Rattle.emf_top.proofs.Headlines.{same_request, file_still, complete, stopped}
+use Rattle.emf_top.proofs.Asked.{same_request}
+use Rattle.emf_top.proofs.Headlines.{file_still, complete, stopped}
 use Rattle.emf_top.proofs.top.run.Goals as goal
 
 pub returns-in-Some-clause-ends : goal.returns-in-Some-clause-ends
@@ -66,6 +67,9 @@ returns-in-None-clause-words g c = (λ is. c.in-None.ensures.bad, λ bad. refl)
 
 pub returns-in-None-clause-kept : goal.returns-in-None-clause-kept
 returns-in-None-clause-kept g c = λ none. file_still (g.H.Host.told c.args.host.now)
+
+pub returns-in-None-clause-silent : goal.returns-in-None-clause-silent
+returns-in-None-clause-silent g c = λ told none. (still_said (g.H.Host.told c.args.host.now), still_input (g.H.Host.told c.args.host.now))
 
 pub returns-in-None-clause-damages : goal.returns-in-None-clause-damages
 returns-in-None-clause-damages g c = λ told none. inl c.in-None.ensures.bad

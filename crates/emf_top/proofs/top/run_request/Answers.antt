@@ -1,4 +1,4 @@
-use Rattle.std.proofs.Common.{◌≡◌, arith, inr, refl, sym, ◌∙◌, ap}
+use Rattle.std.proofs.Common.{arith, refl, sym, ◌∙◌}
 use Rattle.host_port.specs.Host.{disk_now}
 use Rattle.host_port.proofs.Course.{told_next, rose_second, keeps_input_on}
 use Rattle.command_runs.specs.Runs.{played}
@@ -11,7 +11,7 @@ use Rattle.emf_top.proofs.top.run_request.Goals as goal
 
 pub returns-in-Err-clause-ends : goal.returns-in-Err-clause-ends
 returns-in-Err-clause-ends g c = λ told first stood. rw c.status_of.ensures (unopened_ends (g.H.Host.told c.args.host.now) (g.H.Host.told c.mount.new.host) c.in-Err.fault c.in-Err.ensures.never c.in-Err.ensures.damaged (task_of c.args.request (played play empty first) (g.H.Host.told c.args.host.now).left) first told stood
-    (unopened (g.H.Host.told c.args.host.now) (g.H.Host.told c.mount.new.host) c.mount.ensures.course c.mount.ensures.said c.mount.ensures.moments first stood (task_of c.args.request (played play empty first) (g.H.Host.told c.args.host.now).left) (g.met.H.Host.now_is_left c.mount.new.host (g.H.Host.told c.mount.new.host).clock (told_next (g.H.Host.told c.args.host.now) (g.H.Host.told c.mount.new.host) c.mount.ensures.course told) (omega arith)) told))
+    (unopened (g.H.Host.told c.args.host.now) (g.H.Host.told c.mount.new.host) c.mount.ensures.course c.mount.ensures.said c.mount.ensures.moments first stood (task_of c.args.request (played play empty first) (g.H.Host.told c.args.host.now).left) c.mount.ensures.input (g.met.H.Host.now_is_left c.mount.new.host (g.H.Host.told c.mount.new.host).clock (told_next (g.H.Host.told c.args.host.now) (g.H.Host.told c.mount.new.host) c.mount.ensures.course told) (omega arith)) told))
 
 pub returns-in-Err-clause-part : goal.returns-in-Err-clause-part
 returns-in-Err-clause-part g c = λ first stood. opening_part (g.H.Host.told c.args.host.now) (g.H.Host.told c.mount.new.host) c.mount.ensures.course c.mount.ensures.said c.mount.ensures.moments first stood (task_of c.args.request (played play empty first) (g.H.Host.told c.args.host.now).left)
@@ -25,8 +25,11 @@ returns-in-Err-clause-unread g c = λ first unread. c.mount.ensures.input
 pub returns-in-Err-clause-kept : goal.returns-in-Err-clause-kept
 returns-in-Err-clause-kept g c = λ none. c.mount.ensures.long (is_long (disk_now (g.H.Host.told c.args.host.now)).now none)
 
+pub returns-in-Err-clause-silent : goal.returns-in-Err-clause-silent
+returns-in-Err-clause-silent g c = λ told none. (c.mount.ensures.said, c.mount.ensures.input)
+
 pub returns-in-Err-clause-damaged : goal.returns-in-Err-clause-damaged
-returns-in-Err-clause-damaged g c = λ at is. unopened_damaged (g.H.Host.told c.args.host.now) (g.H.Host.told c.mount.new.host) c.in-Err.fault c.in-Err.ensures.never c.in-Err.ensures.damaged c.mount.ensures.long c.mount.ensures.said at (sym c.status_of.ensures ∙ is)
+returns-in-Err-clause-damaged g c = λ at is. unopened_damaged (g.H.Host.told c.args.host.now) (g.H.Host.told c.mount.new.host) c.in-Err.fault c.in-Err.ensures.never c.in-Err.ensures.damaged c.mount.ensures.long c.mount.ensures.said c.mount.ensures.input at (sym c.status_of.ensures ∙ is)
 
 pub returns-in-Err-clause-damages : goal.returns-in-Err-clause-damages
 returns-in-Err-clause-damages g c = λ told none. rw c.status_of.ensures (unopened_damages (g.H.Host.told c.args.host.now) (g.H.Host.told c.mount.new.host) c.in-Err.fault c.in-Err.ensures.never c.in-Err.ensures.damaged)
@@ -54,6 +57,9 @@ returns-clause-damages g c = λ told none. let had = c.in-Ok.ensures.opened told
 
 pub returns-clause-kept : goal.returns-clause-kept
 returns-clause-kept g c = λ none told t low high. let had = c.in-Ok.ensures.opened told in absurd (none had.0 had.2)
+
+pub returns-clause-silent : goal.returns-clause-silent
+returns-clause-silent g c = λ told none. let had = c.in-Ok.ensures.opened told in absurd (none had.0 had.2)
 
 pub returns-clause-damaged : goal.returns-clause-damaged
 returns-clause-damaged g c = λ at is. absurd (c.fulfil.ensures.damaged at is)

@@ -62,3 +62,9 @@ returns-clause-input g c = c.answer_quietly.ensures.input
 
 pub returns-clause-same : goal.returns-clause-same
 returns-clause-same g c = λ is. same_view _ _ _ _ (c.answer_quietly.ensures.same_repo is) (c.answer_quietly.ensures.same_journal is) ∙ c.self.view_is
+
+pub returns-clause-faulted : goal.returns-clause-faulted
+returns-clause-faulted g c = rw (sym c.self.view_is) c.answer_quietly.ensures.faulted
+
+pub returns-clause-still : goal.returns-clause-still
+returns-clause-still g c = rw (sym c.self.view_is) c.answer_quietly.ensures.still

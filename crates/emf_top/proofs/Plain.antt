@@ -1,0 +1,129 @@
+-- The lines of the generated script are short, and begin with a letter.
+use Rattle.std.proofs.Common.{◌≡◌, ℕ, zero, suc, ◌%◌, ◌<◌, ◌≤◌, ◌^◌, List, [], ◌∷◌, ◌++◌, map, length, true, refl, ap, arith, length-append, nat_eq, ◌-◌, Bool, false}
+use Rattle.std.specs.Prelude.{codes, All, Some, ◌==◌, if◌then◌else◌}
+use Rattle.std.specs.Fmt.{decimal}
+use Rattle.std.proofs.lemmas.Bool.{ltb-true}
+use Rattle.std.proofs.lemmas.Bool.Decides.{nat_tests}
+use Rattle.std.proofs.lemmas.Fmt.{length-decimal-le}
+use Rattle.std.proofs.lemmas.List.Elements.{All-append, All-cons, All-map, All-nil}
+use Rattle.host_port.specs.Cut.{Item}
+use Rattle.plain_repository.specs.Lines.{is_skipped}
+use Rattle.emf_top.specs.Items.{IsAnswered}
+use Rattle.emf_top.specs.declared.generator.TheConstants.{LIBRARY}
+use Rattle.emf_top.specs.Generator.{plain, opening, workspace_in, pages_in, create_text, title_text, pages_text, edits, exchange, round, rounds, generated}
+
+-- a line that begins with a letter, and is short
+record IsPlain (line : List ℕ) : Type 0 where
+  pub first : ℕ
+  pub rest : List ℕ
+  pub line_is : line ≡ first ∷ rest
+  pub letter : 97 ≤ first
+  pub short : length rest ≤ 200
+
+short_number : (n : ℕ) → n < 2 ^ 64 → length (decimal n) ≤ 20
+short_number n small = length-decimal-le 20 n (omega arith) (omega arith) small
+
+create_plain : (ws k : ℕ) → ws < 2 ^ 64 → k < 2 ^ 64 → IsPlain (create_text ws k)
+create_plain ws k small fits = record {
+  first = 99;
+  rest = codes "reate " ++ (decimal ws ++ (codes " Book lib books b" ++ decimal k));
+  line_is = refl;
+  letter = omega arith;
+  short = simp length-append (omega (arith, short_number ws small, short_number k fits));
+}
+
+title_plain : (ws k : ℕ) → ws < 2 ^ 64 → k < 2 ^ 64 → IsPlain (title_text ws k)
+title_plain ws k small fits = record {
+  first = 115;
+  rest = codes "et " ++ (decimal ws ++ (codes " b" ++ (decimal k ++ (codes " title " ++ (34 ∷ 116 ∷ decimal k ++ 34 ∷ [])))));
+  line_is = refl;
+  letter = omega arith;
+  short = simp length-append (omega (arith, short_number ws small, short_number k fits));
+}
+
+pages_plain : (ws k pages : ℕ) → ws < 2 ^ 64 → k < 2 ^ 64 → pages < 2 ^ 64 → IsPlain (pages_text ws k pages)
+pages_plain ws k pages small fits few = record {
+  first = 115;
+  rest = codes "et " ++ (decimal ws ++ (codes " b" ++ (decimal k ++ (codes " pages " ++ decimal pages))));
+  line_is = refl;
+  letter = omega arith;
+  short = simp length-append (omega (arith, short_number ws small, short_number k fits, short_number pages few));
+}
+
+-- a line of letters and a number
+numbered_plain : (first : ℕ) (word : List ℕ) (k : ℕ) → 97 ≤ first → length word ≤ 20 → k < 2 ^ 64 → IsPlain (first ∷ (word ++ decimal k))
+numbered_plain first word k letter short fits = record { first = first; rest = word ++ decimal k; line_is = refl; letter = letter; short = simp length-append (omega (arith, short_number k fits)) }
+
+letters_plain : (first : ℕ) (word : List ℕ) → 97 ≤ first → length word ≤ 200 → IsPlain (first ∷ word)
+letters_plain first word letter short = record { first = first; rest = word; line_is = refl; letter = letter; short = short }
+
+workspace_small : (seed k : ℕ) → workspace_in seed k < 2 ^ 64
+workspace_small seed k = omega arith
+
+pages_small : (seed k : ℕ) → pages_in seed k < 2 ^ 64
+pages_small seed k = omega arith
+
+three_all : (a b c : List ℕ) → IsPlain a → IsPlain b → IsPlain c → All IsPlain (a ∷ b ∷ c ∷ [])
+three_all a b c p q r = All-cons IsPlain a (b ∷ c ∷ []) p (All-cons IsPlain b (c ∷ []) q (All-cons IsPlain c [] r (All-nil IsPlain)))
+
+edits_plain : (seed k : ℕ) → k < 2 ^ 64 → All IsPlain (edits seed k)
+edits_plain seed k fits =
+    let ws = workspace_small seed k in
+    three_all (create_text (workspace_in seed k) k) (title_text (workspace_in seed k) k) (pages_text (workspace_in seed k) k (pages_in seed k))
+    (create_plain (workspace_in seed k) k ws fits) (title_plain (workspace_in seed k) k ws fits) (pages_plain (workspace_in seed k) k (pages_in seed k) ws fits (pages_small seed k))
+
+exchange_plain : (k : ℕ) → k < 2 ^ 64 → All IsPlain (exchange k)
+exchange_plain k fits =
+    let one = numbered_plain 99 (codes "ommit 1 round ") k (omega arith) (omega arith) fits in
+    let two = numbered_plain 99 (codes "ommit 2 round ") k (omega arith) (omega arith) fits in
+    All-cons IsPlain (codes "update 1") ((codes "commit 1 round " ++ decimal k) ∷ codes "update 2" ∷ (codes "commit 2 round " ++ decimal k) ∷ []) (letters_plain 117 (codes "pdate 1") (omega arith) (omega arith))
+    (three_all (codes "commit 1 round " ++ decimal k) (codes "update 2") (codes "commit 2 round " ++ decimal k) one (letters_plain 117 (codes "pdate 2") (omega arith) (omega arith)) two)
+
+round_plain : (seed k : ℕ) → k < 2 ^ 64 → All IsPlain (round seed k)
+round_plain seed k fits = All-append IsPlain (edits seed k) _ (edits_plain seed k fits) (last (nat_eq (k % 4) 0))
+  where
+    last : (b : Bool) → All IsPlain (if b then exchange k else [])
+    last true = exchange_plain k fits
+    last false = All-nil IsPlain
+
+rounds_plain : (seed count : ℕ) → count < 2 ^ 64 → All IsPlain (rounds seed count)
+rounds_plain seed zero fits = All-nil IsPlain
+rounds_plain seed (suc n) fits = All-append IsPlain (rounds seed n) (round seed (suc n)) (rounds_plain seed n (omega arith)) (round_plain seed (suc n) fits)
+
+-- the metamodel is short enough to be read
+library_short : length LIBRARY.now < 2 ^ 32 - 1
+library_short = ltb-true (length LIBRARY.now) (2 ^ 32 - 1) refl
+
+answered_line : (line : List ℕ) → IsPlain line → IsAnswered (plain line)
+unfolding is_skipped
+answered_line line p =
+    let first = p.letter in
+    let long : length line ≤ 201 = omega (arith, ap length p.line_is, p.short) in
+    let other : (p.first == 35) ≡ false = grind (arith, nat_tests, first) in
+    ((omega arith, tt), rw p.line_is other)
+
+more : (line : List ℕ) (items : List Item) → IsPlain line → All IsAnswered items → All IsAnswered (plain line ∷ items)
+more line items p all = All-cons IsAnswered (plain line) items (answered_line line p) all
+
+start_answered : IsAnswered (record { line = codes "init"; block = Some LIBRARY.now })
+unfolding is_skipped
+start_answered = ((omega arith, library_short), refl)
+
+opening_answered : All IsAnswered opening
+opening_answered =
+    let one = letters_plain 99 (codes "heckout trunk") (omega arith) (omega arith) in
+    let two = letters_plain 99 (codes "reate 1 Library / lib") (omega arith) (omega arith) in
+    let three = letters_plain 99 (codes "ommit 1 start") (omega arith) (omega arith) in
+    let four = letters_plain 117 (codes "pdate 2") (omega arith) (omega arith) in
+    All-cons IsAnswered (record { line = codes "init"; block = Some LIBRARY.now })
+    (plain (codes "checkout trunk") ∷ plain (codes "checkout trunk") ∷ plain (codes "create 1 Library / lib") ∷ plain (codes "commit 1 start") ∷ plain (codes "update 2") ∷ []) start_answered
+    (more (codes "checkout trunk") (plain (codes "checkout trunk") ∷ plain (codes "create 1 Library / lib") ∷ plain (codes "commit 1 start") ∷ plain (codes "update 2") ∷ []) one
+    (more (codes "checkout trunk") (plain (codes "create 1 Library / lib") ∷ plain (codes "commit 1 start") ∷ plain (codes "update 2") ∷ []) one
+    (more (codes "create 1 Library / lib") (plain (codes "commit 1 start") ∷ plain (codes "update 2") ∷ []) two
+    (more (codes "commit 1 start") (plain (codes "update 2") ∷ []) three
+    (more (codes "update 2") [] four (All-nil IsAnswered))))))
+
+-- each item of the script gets a reply
+pub all_answered : (seed count : ℕ) → count < 2 ^ 64 → All IsAnswered (generated seed count)
+all_answered seed count fits = All-append IsAnswered opening (map plain (rounds seed count)) opening_answered
+    (All-map IsAnswered plain (rounds seed count) (λ k d low. answered_line _ (rounds_plain seed count fits k d low)))

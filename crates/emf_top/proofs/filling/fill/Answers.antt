@@ -1,0 +1,56 @@
+use Rattle.std.proofs.Common.{◌+◌, ◌-◌, length, arith, ℕ, List, Option, refl, sym, ◌∙◌, ap, ◌≡◌, true, false}
+use Rattle.host_port.proofs.Course.{told_next}
+use Rattle.emf_session.specs.Session.{answer_to}
+use Rattle.emf_top.specs.Tasks.{filling, outcome}
+use Rattle.emf_top.proofs.Quietly.{given, gets_reply, fills_start, halted, fill_part, fill_moments, fault_ends, filled_on, outcome_is, at_outcome}
+use Rattle.emf_top.proofs.Printing.{printed, printed_part, printed_moments, unprinted}
+use Rattle.emf_top.proofs.Serving.{decide_read}
+use Rattle.emf_top.proofs.filling.fill.Goals as goal
+
+pub items-init : goal.items-init
+items-init g c = fills_start (g.H.Host.told c.args.host.now) c.args.session.now.state c.args.items.now c.args.session.now.broken c.requires.whole c.requires.open
+
+pub returns-in-Err-clause-ends : goal.returns-in-Err-clause-ends
+returns-in-Err-clause-ends g c = λ told made holds. rw c.status_of.ensures (fault_ends (g.H.Host.told c.args.host.now) (g.H.Host.told c.items.host) c.args.session.now.state c.args.items.now c.items.item-index c.items.refused c.items.session.state c.items.session.broken c.items.invariant c.item-item.result (omega arith) c.item-item.is (g.H.Host.told c.step_quiet.new.host) (answer_to c.items.session.state c.line.result.now c.block.result.now) (decide_read c.items.session.state c.item-item.result (gets_reply c.args.items.now c.items.item-index c.item-item.result c.requires.plain (omega arith) c.item-item.is) ∙ ap (λ (l : List ℕ). answer_to c.items.session.state l c.item-item.result.block) (sym c.line.ensures) ∙ ap (λ (b : Option (List ℕ)). answer_to c.items.session.state c.line.result.now b) (sym c.block.ensures)) c.step_quiet.ensures.course c.step_quiet.ensures.said c.step_quiet.ensures.entering
+    c.in-Err.fault c.in-Err.ensures.faults (λ is. c.in-Err.ensures.event (rw is refl)) (λ is. c.in-Err.ensures.memory (rw is refl))
+    (λ told_d. g.met.H.Host.now_is_left c.step_quiet.new.host (g.H.Host.told c.step_quiet.new.host).clock told_d (omega arith)) told made holds)
+
+pub returns-in-Err-clause-part : goal.returns-in-Err-clause-part
+returns-in-Err-clause-part g c = fill_part (g.H.Host.told c.args.host.now) (g.H.Host.told c.items.host) c.args.session.now.state c.args.items.now c.items.item-index c.items.refused c.items.session.state c.items.session.broken c.items.invariant c.item-item.result (omega arith) c.item-item.is (g.H.Host.told c.step_quiet.new.host) (answer_to c.items.session.state c.line.result.now c.block.result.now) (decide_read c.items.session.state c.item-item.result (gets_reply c.args.items.now c.items.item-index c.item-item.result c.requires.plain (omega arith) c.item-item.is) ∙ ap (λ (l : List ℕ). answer_to c.items.session.state l c.item-item.result.block) (sym c.line.ensures) ∙ ap (λ (b : Option (List ℕ)). answer_to c.items.session.state c.line.result.now b) (sym c.block.ensures)) c.step_quiet.ensures.course c.step_quiet.ensures.said c.step_quiet.ensures.entering
+
+pub returns-in-Err-clause-moments : goal.returns-in-Err-clause-moments
+returns-in-Err-clause-moments g c = fill_moments (g.H.Host.told c.args.host.now) (g.H.Host.told c.items.host) c.args.session.now.state c.args.items.now c.items.item-index c.items.refused c.items.session.state c.items.session.broken c.items.invariant c.item-item.result (omega arith) c.item-item.is (g.H.Host.told c.step_quiet.new.host) (answer_to c.items.session.state c.line.result.now c.block.result.now) (decide_read c.items.session.state c.item-item.result (gets_reply c.args.items.now c.items.item-index c.item-item.result c.requires.plain (omega arith) c.item-item.is) ∙ ap (λ (l : List ℕ). answer_to c.items.session.state l c.item-item.result.block) (sym c.line.ensures) ∙ ap (λ (b : Option (List ℕ)). answer_to c.items.session.state c.line.result.now b) (sym c.block.ensures)) c.step_quiet.ensures.course c.step_quiet.ensures.said c.step_quiet.ensures.entering
+
+pub items-preserved : goal.items-preserved
+items-preserved g c = filled_on (g.H.Host.told c.args.host.now) (g.H.Host.told c.items.host) c.args.session.now.state c.args.items.now c.items.item-index c.items.refused c.items.session.state c.items.session.broken c.items.invariant c.item-item.result (omega arith) c.item-item.is (g.H.Host.told c.step_quiet.new.host) (answer_to c.items.session.state c.line.result.now c.block.result.now) (decide_read c.items.session.state c.item-item.result (gets_reply c.args.items.now c.items.item-index c.item-item.result c.requires.plain (omega arith) c.item-item.is) ∙ ap (λ (l : List ℕ). answer_to c.items.session.state l c.item-item.result.block) (sym c.line.ensures) ∙ ap (λ (b : Option (List ℕ)). answer_to c.items.session.state c.line.result.now b) (sym c.block.ensures)) c.step_quiet.ensures.course c.step_quiet.ensures.said c.step_quiet.ensures.entering
+    c.step_quiet.new.self.state c.in-Ok.ensures.state c.in-Ok.ensures.added _ c.step_quiet.new.self.broken c.in-Ok.ensures.whole c.step_quiet.ensures.input
+    (ap (λ (n : ℕ). c.items.refused + n) (c.refusals-refused.ensures.count (answer_to c.items.session.state c.line.result.now c.block.result.now).refused c.in-Ok.ensures.refused))
+
+pub returns-in_default-clause-ends : goal.returns-in_default-clause-ends
+returns-in_default-clause-ends g c = λ told made holds. halted (g.H.Host.told c.args.host.now) (g.H.Host.told c.items.host) made (filling c.args.session.now.state c.args.items.now) _ c.items.session.state (c.items.invariant.going told made holds)
+
+pub returns-in_default-clause-part : goal.returns-in_default-clause-part
+returns-in_default-clause-part g c = λ made holds told. (c.items.invariant.going told made holds).part told
+
+pub returns-in_default-clause-moments : goal.returns-in_default-clause-moments
+returns-in_default-clause-moments g c = λ made holds told. (c.items.invariant.going told made holds).moments told
+
+pub returns-in-Ok-say-clause-ends : goal.returns-in-Ok-say-clause-ends
+returns-in-Ok-say-clause-ends g c = λ told made holds.
+    let told_b = told_next (g.H.Host.told c.args.host.now) (g.H.Host.told c.items.host) c.items.invariant.course told in
+    (printed (g.H.Host.told c.args.host.now) (g.H.Host.told c.items.host) (g.H.Host.told c.say.new.self) made (filling c.args.session.now.state c.args.items.now) c.items.session.state (outcome c.args.session.now.state (given c.args.session.now.state c.args.items.now)) c.as_bytes.result.now (c.as_bytes.ensures.value ∙ c.in-Ok-outcome_line.ensures.line ∙ (outcome_is (g.H.Host.told c.args.host.now) (g.H.Host.told c.items.host) c.args.session.now.state c.args.items.now c.items.item-index c.items.refused c.items.session.state c.items.session.broken c.items.invariant c.items-test.false (length c.args.items.now - c.items.refused) refl)) (at_outcome (g.H.Host.told c.args.host.now) (g.H.Host.told c.items.host) c.args.session.now.state c.args.items.now c.items.item-index c.items.refused c.items.session.state c.items.session.broken c.items.invariant c.items-test.false told made holds) c.items.invariant.course c.say.ensures.course c.say.ensures.disk c.say.ensures.part told_b (c.in-Ok-say.ensures.whole told_b), refl, λ reads. let other : false ≡ true = reads in absurd cc)
+
+pub returns-in-Ok-say-clause-part : goal.returns-in-Ok-say-clause-part
+returns-in-Ok-say-clause-part g c = λ made holds told. printed_part (g.H.Host.told c.args.host.now) (g.H.Host.told c.items.host) (g.H.Host.told c.say.new.self) made (filling c.args.session.now.state c.args.items.now) c.items.session.state (outcome c.args.session.now.state (given c.args.session.now.state c.args.items.now)) c.as_bytes.result.now (c.as_bytes.ensures.value ∙ c.in-Ok-outcome_line.ensures.line ∙ (outcome_is (g.H.Host.told c.args.host.now) (g.H.Host.told c.items.host) c.args.session.now.state c.args.items.now c.items.item-index c.items.refused c.items.session.state c.items.session.broken c.items.invariant c.items-test.false (length c.args.items.now - c.items.refused) refl)) (at_outcome (g.H.Host.told c.args.host.now) (g.H.Host.told c.items.host) c.args.session.now.state c.args.items.now c.items.item-index c.items.refused c.items.session.state c.items.session.broken c.items.invariant c.items-test.false told made holds) c.items.invariant.course c.say.ensures.course c.say.ensures.disk c.say.ensures.part told
+
+pub returns-in-Ok-say-clause-moments : goal.returns-in-Ok-say-clause-moments
+returns-in-Ok-say-clause-moments g c = λ made holds told. printed_moments (g.H.Host.told c.args.host.now) (g.H.Host.told c.items.host) (g.H.Host.told c.say.new.self) made (filling c.args.session.now.state c.args.items.now) c.items.session.state (outcome c.args.session.now.state (given c.args.session.now.state c.args.items.now)) c.as_bytes.result.now (c.as_bytes.ensures.value ∙ c.in-Ok-outcome_line.ensures.line ∙ (outcome_is (g.H.Host.told c.args.host.now) (g.H.Host.told c.items.host) c.args.session.now.state c.args.items.now c.items.item-index c.items.refused c.items.session.state c.items.session.broken c.items.invariant c.items-test.false (length c.args.items.now - c.items.refused) refl)) (at_outcome (g.H.Host.told c.args.host.now) (g.H.Host.told c.items.host) c.args.session.now.state c.args.items.now c.items.item-index c.items.refused c.items.session.state c.items.session.broken c.items.invariant c.items-test.false told made holds) c.items.invariant.course c.say.ensures.course c.say.ensures.disk c.say.ensures.part told
+
+pub returns-clause-ends : goal.returns-clause-ends
+returns-clause-ends g c = λ told made holds. unprinted (g.H.Host.told c.args.host.now) (g.H.Host.told c.items.host) (g.H.Host.told c.say.new.self) made (filling c.args.session.now.state c.args.items.now) c.items.session.state (outcome c.args.session.now.state (given c.args.session.now.state c.args.items.now)) c.as_bytes.result.now (c.as_bytes.ensures.value ∙ c.in-Ok-outcome_line.ensures.line ∙ (outcome_is (g.H.Host.told c.args.host.now) (g.H.Host.told c.items.host) c.args.session.now.state c.args.items.now c.items.item-index c.items.refused c.items.session.state c.items.session.broken c.items.invariant c.items-test.false (length c.args.items.now - c.items.refused) refl)) (at_outcome (g.H.Host.told c.args.host.now) (g.H.Host.told c.items.host) c.args.session.now.state c.args.items.now c.items.item-index c.items.refused c.items.session.state c.items.session.broken c.items.invariant c.items-test.false told made holds) c.items.invariant.course c.say.ensures.course c.say.ensures.disk c.say.ensures.part (told_next (g.H.Host.told c.args.host.now) (g.H.Host.told c.items.host) c.items.invariant.course told)
+
+pub returns-clause-part : goal.returns-clause-part
+returns-clause-part g c = λ made holds told. printed_part (g.H.Host.told c.args.host.now) (g.H.Host.told c.items.host) (g.H.Host.told c.say.new.self) made (filling c.args.session.now.state c.args.items.now) c.items.session.state (outcome c.args.session.now.state (given c.args.session.now.state c.args.items.now)) c.as_bytes.result.now (c.as_bytes.ensures.value ∙ c.in-Ok-outcome_line.ensures.line ∙ (outcome_is (g.H.Host.told c.args.host.now) (g.H.Host.told c.items.host) c.args.session.now.state c.args.items.now c.items.item-index c.items.refused c.items.session.state c.items.session.broken c.items.invariant c.items-test.false (length c.args.items.now - c.items.refused) refl)) (at_outcome (g.H.Host.told c.args.host.now) (g.H.Host.told c.items.host) c.args.session.now.state c.args.items.now c.items.item-index c.items.refused c.items.session.state c.items.session.broken c.items.invariant c.items-test.false told made holds) c.items.invariant.course c.say.ensures.course c.say.ensures.disk c.say.ensures.part told
+
+pub returns-clause-moments : goal.returns-clause-moments
+returns-clause-moments g c = λ made holds told. printed_moments (g.H.Host.told c.args.host.now) (g.H.Host.told c.items.host) (g.H.Host.told c.say.new.self) made (filling c.args.session.now.state c.args.items.now) c.items.session.state (outcome c.args.session.now.state (given c.args.session.now.state c.args.items.now)) c.as_bytes.result.now (c.as_bytes.ensures.value ∙ c.in-Ok-outcome_line.ensures.line ∙ (outcome_is (g.H.Host.told c.args.host.now) (g.H.Host.told c.items.host) c.args.session.now.state c.args.items.now c.items.item-index c.items.refused c.items.session.state c.items.session.broken c.items.invariant c.items-test.false (length c.args.items.now - c.items.refused) refl)) (at_outcome (g.H.Host.told c.args.host.now) (g.H.Host.told c.items.host) c.args.session.now.state c.args.items.now c.items.item-index c.items.refused c.items.session.state c.items.session.broken c.items.invariant c.items-test.false told made holds) c.items.invariant.course c.say.ensures.course c.say.ensures.disk c.say.ensures.part told
