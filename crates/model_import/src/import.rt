@@ -1,5 +1,6 @@
 //! The import of a document as one composite: creations first, then values, then links.
 ghost use Rattle.std.specs.Prelude.{◌≡◌, IfOk, length};
+ghost use Rattle.emfjson_model.specs.Fits.{Fits};
 ghost use Rattle.model_import.specs.Import.{Imports, composite, of_steps, recorded_import, steps_made};
 ghost use Rattle.edits.specs.Answers.{Answers};
 
@@ -96,7 +97,8 @@ fn imported<L: Look>(
 }
 
 /// Records that a document is brought in, as one composite of the name `import`: its roots come behind the last element at the
-/// root, and elements without an id get fresh ones of the workspace. A document without elements makes no operation.
+/// root, and elements without an id get fresh ones of the workspace. A document without elements makes no operation. The
+/// document fits the metamodel, as each does that was read with it: both sides of a reference are given, in one order.
 ///
 /// # Errors
 ///
@@ -109,6 +111,7 @@ pub fn import_doc<L: Look>(
     ws: u32,
     doc: &Doc,
 ) -> Result<Option<Operation>, EditFault>
+    requires fits { Fits meta.now doc.now.rows }
     ensures made { Imports meta.now (L.state look.now) ws doc.now.rows result }
     ensures recorded { Answers result (recorded_import meta.now (L.state look.now) ws doc.now.rows) }
 {

@@ -3,6 +3,7 @@ use Rattle.std.specs.Prelude.{IfSome}
 use Rattle.model_state.specs.State as models
 use Rattle.model_state.specs.Packages.{fold_package}
 use Rattle.model_state.specs.declared.operation.Operation.{Operation}
+use Rattle.emfjson_model.proofs.Fitting.{documents_fit}
 use Rattle.model_import.specs.Import.{Imports}
 use Rattle.step_apply.specs.View.{plain_state}
 use Rattle.repo_core.specs.Keeping.{plain_of}
@@ -17,6 +18,9 @@ settle-requires c = record {
   there = sym c.in-Some.ensures.found;
   model = subst (λ r. IfSome r (λ m. IsWorkingModel c.args.self.now c.args.ws m.now)) c.in-Some-model.is c.requires.model;
 }
+
+pub import_doc-requires : goal.import_doc-requires
+import_doc-requires c = record { fits = documents_fit c.args.begun.now.meta c.sound.ensures c.args.text.now c.in-Ok.doc.rows c.in-Ok.ensures.read }
 
 pub with_operation-requires : goal.with_operation-requires
 with_operation-requires c =
