@@ -22,12 +22,12 @@ none_of test [] out = refl
 none_of test (x ∷ xs) out = ap (λ b. b || list_any test xs) (out x (Contains-append_left (x ∷ []) xs x (Contains-push [] x))) ∙ none_of test xs (λ y h. out y (Contains-append_right (x ∷ []) xs y h))
 
 -- lists of cells none of which are the same
-apart : (list other : List Held) → ((h g : Held) → Contains list h → Contains other g → seen h ≡ seen g → ⊥) → meets (cells list) (cells other) ≡ false
+pub apart : (list other : List Held) → ((h g : Held) → Contains list h → Contains other g → seen h ≡ seen g → ⊥) → meets (cells list) (cells other) ≡ false
 apart list other out = sym (held_meets list other) ∙ none_of (λ h. holds other (seen h)) list
     (λ h in_list. none_of (λ g. cell_eq (seen h) (seen g)) other (λ g in_other. not_so (cell_eq (seen h) (seen g)) (λ e. out h g in_list in_other (cell_exact (seen h) (seen g) e))))
 
 -- the same cell has the same row
-row_same : (t : List (Vec ℕ Global)) (h g : Held) → seen h ≡ seen g → row_of t h ≡ row_of t g
+pub row_same : (t : List (Vec ℕ Global)) (h g : Held) → seen h ≡ seen g → row_of t h ≡ row_of t g
 row_same t h g e = ap (λ c. list_at t (cell_key c % length t)) e
 
 module _ (index : CellIndex) (p : Print) (prints : List Print) (flags : List Bool) (ix : Indexes index prints) (size : length flags ≡ length prints)

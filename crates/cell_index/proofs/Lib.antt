@@ -1,2 +1,4 @@
 pub mod Rows
 pub mod Far
+pub mod Rises
+pub mod Touching

@@ -23,12 +23,12 @@ pub whole : {X : Type 0} (xs : List X) (n : ℕ) (x : X) → length xs ≤ n →
 whole xs n x high h = subst (λ l. Contains l x) (sym (take_all n xs high)) h
 
 -- ---- lists at slots
-at_same : (t : List (Vec ℕ Global)) (s : ℕ) (v : Vec ℕ Global) → s < length t → list_at (set t s v) s ≡ v.items
+pub at_same : (t : List (Vec ℕ Global)) (s : ℕ) (v : Vec ℕ Global) → s < length t → list_at (set t s v) s ≡ v.items
 at_same [] s v h = absurd (omega (arith, h))
 at_same (w ∷ t) zero v h = refl
 at_same (w ∷ t) (suc s) v h = at_same t s v (omega (arith, h))
 
-at_other : (t : List (Vec ℕ Global)) (s r : ℕ) (v : Vec ℕ Global) → (r ≡ s → ⊥) → list_at (set t s v) r ≡ list_at t r
+pub at_other : (t : List (Vec ℕ Global)) (s r : ℕ) (v : Vec ℕ Global) → (r ≡ s → ⊥) → list_at (set t s v) r ≡ list_at t r
 at_other [] s r v h = refl
 at_other (w ∷ t) zero zero v h = absurd (h refl)
 at_other (w ∷ t) zero (suc r) v h = refl
@@ -40,7 +40,7 @@ list_here [] s v h is = absurd (omega (arith, h))
 list_here (w ∷ t) zero v h is = ap (λ (x : Vec ℕ Global). x.items) (sym is)
 list_here (w ∷ t) (suc s) v h is = list_here t s v (omega (arith, h)) is
 
-same_or_not : (r s : ℕ) {G : Type 0} → (r ≡ s → G) → ((r ≡ s → ⊥) → G) → G
+pub same_or_not : (r s : ℕ) {G : Type 0} → (r ≡ s → G) → ((r ≡ s → ⊥) → G) → G
 same_or_not zero zero same other = same refl
 same_or_not zero (suc s) same other = other (λ e. cc)
 same_or_not (suc r) zero same other = other (λ e. cc)

@@ -1,9 +1,13 @@
-//! An index of operations by their cells: near an operation are all that interfere with it, and perhaps more.
+//! An index of operations by their cells: near an operation are all that interfere with it, and perhaps more; and the last that
+//! touches it.
 #![tactic(auto)]
 
 mod keys;
 mod listing;
 mod marking;
+mod seeking;
+mod staying;
 
 pub use listing::{CellIndex, index_of};
 pub use marking::{near, tells};
+pub use staying::Standing;

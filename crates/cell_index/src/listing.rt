@@ -2,6 +2,7 @@
 ghost use Rattle.std.specs.Prelude.{ℕ, ◌≡◌, ◌<◌, ◌++◌, ◌∷◌, [], length, OnOk, IfOk, get_or};
 ghost use Rattle.std.specs.List.{Contains};
 ghost use Rattle.cell_index.specs.Near.{list_at, Listed, Wider, Indexes};
+ghost use Rattle.cell_index.specs.Standing.{Rising};
 
 use crate::keys::slot_of;
 use footprint::{Cell, Print};
@@ -19,16 +20,22 @@ fn put_place(table: &mut Vec<Vec<u64>>, slot: usize, place: u64) -> Result<(), A
     requires { slot < length table.old.items }
     ensures wider { OnOk result (Wider table.old.items table.new.items) }
     ensures listed { OnOk result (Contains (list_at table.new.items slot) place) }
+    ensures rising { OnOk result (Rising table.old.items place → Rising table.new.items place) }
 {
     table[slot].push(place)?;
     Ok(())
 }
 
 /// Puts the place into the lists of the cells.
-fn put_cells(table: &mut Vec<Vec<u64>>, cells: &[Cell], place: u64) -> Result<(), AllocError>
+pub(crate) fn put_cells(
+    table: &mut Vec<Vec<u64>>,
+    cells: &[Cell],
+    place: u64,
+) -> Result<(), AllocError>
     requires { 0 < length table.old.items }
     ensures wider { OnOk result (Wider table.old.items table.new.items) }
     ensures listed { OnOk result (Listed table.new.items cells.now place) }
+    ensures rising { OnOk result (Rising table.old.items place → Rising table.new.items place) }
 {
     for cell in cells {
         let slot = slot_of(cell, table.len());
@@ -38,8 +45,9 @@ fn put_cells(table: &mut Vec<Vec<u64>>, cells: &[Cell], place: u64) -> Result<()
 }
 
 /// A table of empty lists.
-fn lists_of(alloc: Global, size: usize) -> Result<Vec<Vec<u64>>, AllocError>
-    ensures { IfOk result (λ v. length v.items ≡ size) }
+pub(crate) fn lists_of(alloc: Global, size: usize) -> Result<Vec<Vec<u64>>, AllocError>
+    ensures size { IfOk result (λ v. length v.items ≡ size) }
+    ensures empty { IfOk result (λ v. (s : ℕ) → list_at v.items s ≡ []) }
 {
     let mut table = Vec::new(alloc);
     for _ in 0..size {
@@ -49,7 +57,7 @@ fn lists_of(alloc: Global, size: usize) -> Result<Vec<Vec<u64>>, AllocError>
 }
 
 /// One more than the cells that the prints write, and one more than those that they read.
-fn table_sizes(prints: &[Print]) -> (usize, usize)
+pub(crate) fn table_sizes(prints: &[Print]) -> (usize, usize)
     ensures writers { 0 < result.0 }
     ensures readers { 0 < result.1 }
 {
