@@ -1,7 +1,9 @@
 pub mod Reversals
-pub mod Places
 pub mod Cells
-pub mod Marked
-pub mod Rounds
 pub mod Leaving
 pub mod Tidied
+pub mod Touches
+pub mod Moves
+pub mod Comes
+pub mod Keeping
+pub mod Turning

@@ -1,50 +1,85 @@
--- What the search for a rule says.
-use Rattle.std.specs.Prelude.{◌≡◌, ◌≤◌, ℕ, take, List, [], ◌∷◌, ◌++◌, Option, None, Some, length, set}
-use Rattle.std.specs.List.{remove}
+-- What tidying keeps while operations come one after the other.
+use Rattle.std.specs.Prelude.{◌≡◌, ℕ, Bool, true, false, List, [], ◌∷◌, ◌++◌, Option, None, Some, length, set, get_or}
 use Rattle.ecore_meta.specs.Meta.{Meta}
 use Rattle.model_state.specs.declared.operation.Operation.{Operation}
 use Rattle.footprint.specs.declared.cell.Print.{Print}
-use Rattle.footprint.specs.Interference.{Free}
-use Rattle.footprint.specs.Prints.{shown, printed}
-use Rattle.tidy_laws.specs.Rules.{met, NoneMet, OneRule}
-use Rattle.tidy_laws.specs.Tidy.{onto, into, Settled}
+use Rattle.footprint.specs.Interference.{op_writes, op_reads}
+use Rattle.cell_index.specs.Standing.{touch, LastHit, IsLast}
+use Rattle.tidy_laws.specs.Rules.{met, Settles}
+use Rattle.tidy_laws.specs.Tidy.{onto, Settled}
 
 -- the operation, if any, as a list
 abbrev pub list_of : Option Operation → List Operation
 list_of None = []
 list_of (Some o) = o ∷ []
 
--- the prints are those of the operations, of b after them, and of more
-abbrev pub PrintedWith : Meta → List Operation → Operation → List Print → Type 0
-PrintedWith meta before b prints = (rest : List Operation) × (shown prints ≡ printed meta (before ++ (b ∷ rest)))
+-- the operations that stand; those that have not come yet all do
+abbrev pub kept : List Bool → List Operation → List Operation
+kept [] ops = ops
+kept (true ∷ stands) [] = []
+kept (false ∷ stands) [] = []
+kept (true ∷ stands) (o ∷ ops) = o ∷ kept stands ops
+kept (false ∷ stands) (o ∷ ops) = kept stands ops
 
--- a rule applies to b at the place, and at none after it
-pub record FoundIn (meta : Meta) (before : List Operation) (b : Operation) (at : ℕ) (left : Option Operation) : Type 0 where
+-- the operations interfere, or neither writes anything
+abbrev pub touches : Meta → Operation → Operation → Bool
+touches meta a b = touch (op_writes meta a) (op_reads a) (op_writes meta b) (op_reads b)
+
+-- none of the operations touches b
+abbrev pub Apart : Meta → Operation → List Operation → Type 0
+Apart meta b [] = Unit {0}
+Apart meta b (y ∷ ys) = (touches meta b y ≡ false) × Apart meta b ys
+
+-- a rule applies to the operations of two places, the earlier of which is the last that touches the later, and leaves what is said
+pub record RuleAt (stands : List Bool) (prints : List Print) (ops : List Operation) (at i : ℕ) (left : Option Operation) : Type 0 where
+  pub last : (p : Print) → p ≡ get_or prints at p → LastHit stands prints p at i
+  pub rule : (a b : Operation) → a ≡ get_or ops i a → b ≡ get_or ops at b → met a b ≡ Some (list_of left)
+
+-- no rule applies to the operation of the place and the last that touches it, or none does
+pub record NoRuleAt (stands : List Bool) (prints : List Print) (ops : List Operation) (at : ℕ) : Type 0 where
+  pub o : Option ℕ
+  pub last : (p : Print) → p ≡ get_or prints at p → IsLast stands prints p at o
+  pub none : (i : ℕ) (a b : Operation) → o ≡ Some i → a ≡ get_or ops i a → b ≡ get_or ops at b → met a b ≡ None
+
+-- of the operations that came, no rule applies to those that stand
+pub record Calm (meta : Meta) (stands : List Bool) (ops : List Operation) : Type 0 where
+  pub come : List Operation
+  pub rest : List Operation
+  pub is : ops ≡ come ++ rest
+  pub many : length stands ≡ length come
+  pub settled : Settled meta (onto (kept stands come) [])
+
+-- an operation stands at the place; no rule applies to the others that came and stand, and none of those behind the place touches it
+pub record Ready (meta : Meta) (stands : List Bool) (ops : List Operation) (at : ℕ) : Type 0 where
+  pub first : List Bool
+  pub second : List Bool
   pub front : List Operation
-  pub a : Operation
-  pub mid : List Operation
-  pub is : before ≡ front ++ (a ∷ mid)
+  pub b : Operation
+  pub back : List Operation
+  pub rest : List Operation
+  pub stands_is : stands ≡ first ++ (true ∷ second)
+  pub ops_is : ops ≡ front ++ (b ∷ (back ++ rest))
+  pub many : length first ≡ length front
+  pub more : length second ≡ length back
   pub place : length front ≡ at
-  pub free : Free meta b mid
-  pub none : NoneMet b mid
-  pub rule : met a b ≡ Some (list_of left)
+  pub settled : Settled meta (onto (kept first front ++ kept second back) [])
+  pub apart : Apart meta b (kept second back)
 
--- no rule applies to b at a place of the list
-abbrev pub Passes : Meta → List Operation → Operation → Type 0
-Passes meta before b = into meta b (onto before []) ≡ None
+-- what the second list settles to, the first settles to
+abbrev pub Leads : Meta → List Operation → List Operation → Type 0
+Leads meta p q = (r : List Operation) → Settles meta q r → Settles meta p r
 
--- the list without the operation at j, and with what is left in place of the one before it
-abbrev pub taken_out : List Operation → ℕ → ℕ → Option Operation → List Operation
-taken_out ops at j None = remove (remove ops j) at
-taken_out ops at j (Some o) = set (remove ops j) at o
+-- what stands where the operation of a place goes, and with it, where nothing is left, an earlier one
+abbrev pub stands_out : List Bool → ℕ → ℕ → Option Operation → List Bool
+stands_out stands i at None = set (set stands at false) i false
+stands_out stands i at (Some c) = set stands at false
 
--- the prints without that of the operation at j, and without that of the one before it where nothing is left
-abbrev pub prints_out : List Print → ℕ → ℕ → Option Operation → List Print
-prints_out prints at j None = remove (remove prints j) at
-prints_out prints at j (Some o) = remove prints j
+-- the operations, with what is left in its place
+abbrev pub ops_out : List Operation → ℕ → Option Operation → List Operation
+ops_out ops i None = ops
+ops_out ops i (Some c) = set ops i c
 
--- the list after one rule, and a place before which no rule applies to it
-pub record Turned (meta : Meta) (old new : List Operation) (at : ℕ) : Type 0 where
-  pub rule : OneRule meta old new
-  pub within : at ≤ length new
-  pub settled : Settled meta (onto (take at new) [])
+-- the place of what is left
+abbrev pub place_left : ℕ → Option Operation → Option ℕ
+place_left i None = None
+place_left i (Some c) = Some i

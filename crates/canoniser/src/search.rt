@@ -1,12 +1,11 @@
 //! The search for a rule that applies.
-ghost use Rattle.std.specs.Prelude.{◌≡◌, ◌<◌, IfOk, MatchOption, length, get_or};
-ghost use Rattle.model_state.specs.declared.operation.Operation.{Operation};
-ghost use Rattle.footprint.specs.Interference.{interferes};
-ghost use Rattle.canoniser.specs.Meetings.{FoundIn, Passes, PrintedWith};
+ghost use Rattle.std.specs.Prelude.{◌≡◌, ◌<◌, IfOk, MatchOption, length};
+ghost use Rattle.cell_index.specs.Standing.{Keeps};
+ghost use Rattle.canoniser.specs.Meetings.{RuleAt, NoRuleAt};
 
 use crate::joining::{is_met, left_of};
-use ecore_meta::Metamodel;
-use footprint::{Print, interferes};
+use cell_index::Standing;
+use footprint::Print;
 use model_state::Operation;
 use std::alloc::{AllocError, Global};
 
@@ -17,39 +16,30 @@ pub(crate) struct Found {
     pub left: Option<Operation>,
 }
 
-/// Whether the operation after those of `before` interferes with the one at a place of them.
-fn stops(meta: &Metamodel, before: &[Operation], b: &Operation, prints: &[Print], i: usize) -> bool
-    requires printed { PrintedWith meta.now before.now b.now prints.now }
-    requires within { i < length before.now }
-    ensures { (a : Operation) → a ≡ get_or before.now i a → result ≡ interferes meta.now b.now a }
-{
-    // The contract alone speaks of them.
-    let (_meta, _b) = (meta, b);
-    interferes(&prints[before.len()], &prints[i])
-}
-
-/// The last place of `before` at which a rule applies to `b`, with no operation after it that interferes with `b`.
+/// The rule that applies to the operation of the place and the nearest earlier one, with no operation between them that
+/// interferes. A rule applies only to operations that touch, and two that touch without one interfere; so the last that touches
+/// decides.
 pub(crate) fn nearest(
     alloc: Global,
-    meta: &Metamodel,
-    before: &[Operation],
-    b: &Operation,
+    list: &[Operation],
+    standing: &Standing,
     prints: &[Print],
+    at: usize,
 ) -> Result<Option<Found>, AllocError>
-    requires printed { PrintedWith meta.now before.now b.now prints.now }
-    ensures { IfOk result (λ r. MatchOption r (Passes meta.now before.now b.now) (λ f. FoundIn meta.now before.now b.now f.at f.left)) }
+    requires keeps { Keeps standing.now prints.now }
+    requires within { at < length list.now }
+    requires many { length prints.now ≡ length list.now }
+    ensures { IfOk result (λ r. MatchOption r (NoRuleAt standing.now.stands.items prints.now list.now at) (λ f. RuleAt standing.now.stands.items prints.now list.now at f.at f.left)) }
 {
-    let mut i = before.len();
-    while i > 0 {
-        i -= 1;
-        let a = &before[i];
-        if is_met(a, b) {
+    match standing.last(prints, at) {
+        None => Ok(None),
+        Some(i) => {
+            let (a, b) = (&list[i], &list[at]);
+            if !is_met(a, b) {
+                return Ok(None);
+            }
             let left = left_of(alloc, a, b)?;
-            return Ok(Some(Found { at: i, left }));
-        }
-        if stops(meta, before, b, prints, i) {
-            return Ok(None);
+            Ok(Some(Found { at: i, left }))
         }
     }
-    Ok(None)
 }

@@ -5,24 +5,25 @@ ghost use Rattle.tidy_laws.specs.Rules.{Settles};
 ghost use Rattle.tidy_laws.specs.Tidy.{tidy, is_tidy, Normal};
 
 use crate::splitting::{are_single, split};
-use crate::turns::settle;
+use crate::turns::{keep, settle};
 use ecore_meta::{List, Metamodel};
 use footprint::prints_of;
 use model_state::Package;
 use std::alloc::{AllocError, Global};
 
 /// The package with its simple operations cut into their steps, with what was taken back gone and what was changed twice changed once. It
-/// does what the package does. Time grows with the square of the number of operations, as each is compared with those before it, up
-/// to one that interferes with it.
+/// does what the package does. Each operation is compared with those before it whose cells share a slot of an index with its own,
+/// from the last of them to one that touches it.
 pub fn tidy(alloc: Global, package: &Package, meta: &Metamodel) -> Result<Package, AllocError>
     ensures tidied { IfOk result (λ p. p ≡ tidy meta.now «package».now) }
     ensures normal { IfOk result (λ p. Normal meta.now p) }
     ensures rules { IfOk result (λ p. Settles meta.now (split_of «package».now) p) }
 {
     let mut list = split(alloc, package.as_slice())?;
-    let mut prints = prints_of(alloc, &list, meta)?;
-    settle(alloc, meta, &mut list, &mut prints)?;
-    Ok(List::from_vec(list))
+    let prints = prints_of(alloc, &list, meta)?;
+    let standing = settle(alloc, meta, &mut list, &prints)?;
+    let tidied = keep(alloc, list, standing.stands())?;
+    Ok(List::from_vec(tidied))
 }
 
 /// Whether tidying leaves the package as it is, which `law_of_tidy` says of no other. It tidies a copy, and takes the time of that.

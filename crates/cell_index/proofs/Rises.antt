@@ -1,7 +1,7 @@
 -- Lists that rise, and what a search from their end passes.
-use Rattle.std.proofs.Common.{◌≡◌, ℕ, zero, suc, ◌-◌, ◌<◌, ◌≤◌, List, [], ◌∷◌, ◌++◌, refl, sym, ap, subst, inl, inr, ◌∙◌, drop, length, get_or, set, arith, length-set, drop-cons}
+use Rattle.std.proofs.Common.{◌≡◌, ℕ, zero, suc, ◌-◌, ◌<◌, ◌≤◌, List, [], ◌∷◌, ◌++◌, refl, sym, ap, subst, inl, inr, ◌∙◌, drop, length, get_or, set, arith, length-set}
 use Rattle.std.specs.List.{Contains}
-use Rattle.std.specs.Prelude.{◌⊎◌, Option, Some}
+use Rattle.std.specs.Prelude.{◌⊎◌, Option}
 use Rattle.std.specs.Option.{option_to_list}
 use Rattle.std.specs.declared.vec.Vec.{Vec}
 use Rattle.std.specs.declared.alloc.Global.{Global}
@@ -32,7 +32,7 @@ rise_low low high [] i inside h = absurd (omega (arith, inside))
 rise_low low high (x ∷ xs) zero inside h = h.0
 rise_low low high (x ∷ xs) (suc i) inside h = let first = h.0 in let rest = rise_low x high xs i (omega (arith, inside)) h.1 in omega (arith, first, rest)
 
-pub first_or_rest : (x : ℕ) (xs : List ℕ) (k : ℕ) → Contains (x ∷ xs) k → (x ≡ k) ⊎ Contains xs k
+first_or_rest : (x : ℕ) (xs : List ℕ) (k : ℕ) → Contains (x ∷ xs) k → (x ≡ k) ⊎ Contains xs k
 first_or_rest x xs k h = elim (Contains-append_cases (x ∷ []) xs k h) [
   | inl here ↦ inl (only here)
   | inr there ↦ inr there
@@ -45,7 +45,7 @@ first_or_rest x xs k h = elim (Contains-append_cases (x ∷ []) xs k h) [
         nowhere h = let low = h.1 in omega (arith, low)
 
 -- what is above the number of a place stands behind it
-pub rise_later : (low high : ℕ) (xs : List ℕ) (i k : ℕ) → i < length xs → Rise low high xs → get_or xs i 0 < k → Contains xs k → Contains (drop (suc i) xs) k
+rise_later : (low high : ℕ) (xs : List ℕ) (i k : ℕ) → i < length xs → Rise low high xs → get_or xs i 0 < k → Contains xs k → Contains (drop (suc i) xs) k
 rise_later low high [] i k inside h up has_k = absurd (omega (arith, inside))
 rise_later low high (x ∷ xs) zero k inside h up has_k = elim (first_or_rest x xs k has_k) [
   | inl e ↦ absurd (omega (arith, e, up))
@@ -56,25 +56,12 @@ rise_later low high (x ∷ xs) (suc i) k inside h up has_k = elim (first_or_rest
   | inr there ↦ rise_later x high xs i k (omega (arith, inside)) h.1 up there
 ]
 
--- ---- the turns of the search: what was passed is no hit
-module _ (xs : List ℕ) (i : ℕ) (hits : ℕ → Type 0) (low : 0 < i) (inside : i ≤ length xs) (passed : (k : ℕ) → Contains (drop i xs) k → hits k → ⊥) where
-  cut : drop (i - 1) xs ≡ get_or xs (i - 1) 0 ∷ drop i xs
-  cut = drop-cons xs (i - 1) 0 (omega (arith, low, inside)) ∙ ap (λ n. get_or xs (i - 1) 0 ∷ drop n xs) (next i low)
-    where
-      next : (i : ℕ) → 0 < i → suc (i - 1) ≡ i
-      next i low = omega (arith, low)
-
-  pub passed_more : (hits (get_or xs (i - 1) 0) → ⊥) → (k : ℕ) → Contains (drop (i - 1) xs) k → hits k → ⊥
-  passed_more here k has_k hit = elim (first_or_rest (get_or xs (i - 1) 0) (drop i xs) k (subst (λ l. Contains l k) cut has_k)) [
-    | inl e ↦ here (subst hits (sym e) hit)
-    | inr there ↦ passed k there hit
-  ]
-
-  pub passed_above : (high k : ℕ) → Rise 0 high xs → get_or xs (i - 1) 0 < k → Contains xs k → hits k → ⊥
-  passed_above high k rise up has_k hit = passed k (subst (λ n. Contains (drop n xs) k) (next i low) (rise_later 0 high xs (i - 1) k (omega (arith, low, inside)) rise up has_k)) hit
-    where
-      next : (i : ℕ) → 0 < i → suc (i - 1) ≡ i
-      next i low = omega (arith, low)
+-- what is above the number of a place is no hit, where none behind it is
+pub passed_above : (xs : List ℕ) (i : ℕ) (hits : ℕ → Type 0) (low : 0 < i) (inside : i ≤ length xs) (passed : (k : ℕ) → Contains (drop i xs) k → hits k → ⊥) (high k : ℕ) → Rise 0 high xs → get_or xs (i - 1) 0 < k → Contains xs k → hits k → ⊥
+passed_above xs i hits low inside passed high k rise up has_k hit = passed k (subst (λ n. Contains (drop n xs) k) (next i low) (rise_later 0 high xs (i - 1) k (omega (arith, low, inside)) rise up has_k)) hit
+  where
+    next : (i : ℕ) → 0 < i → suc (i - 1) ≡ i
+    next i low = omega (arith, low)
 
 -- ---- tables
 pub put_rising : (t made : List (Vec ℕ Global)) (s k : ℕ) (v w : Vec ℕ Global) → s < length t → v ≡ get_or t s v → w.items ≡ v.items ++ k ∷ [] → made ≡ set t s w → Rising t k → Rising made k
@@ -108,16 +95,6 @@ empty_more [] v none is (suc s) = refl
 empty_more (w ∷ t) v none is zero = none 0
 empty_more (w ∷ t) v none is (suc s) = empty_more t v (λ r. none (suc r)) is s
 
-pub empty_rising : (t : List (Vec ℕ Global)) (high : ℕ) → ((s : ℕ) → list_at t s ≡ []) → Rising t high
-empty_rising t high none s = subst (Rise 0 high) (sym (none s)) (omega arith)
-
 -- the last number of a list goes
-pub pop_kept : (old new : List ℕ) (o : Option ℕ) (x place : ℕ) → old ≡ new ++ option_to_list o → o ≡ Some x → x ≡ place → (j : ℕ) → (j ≡ place → ⊥) → Contains old j → Contains new j
-pop_kept old new o x place is some same j other h =
-    elim (Contains-push_cases new x j (subst (λ l. Contains l j) (is ∙ ap (λ q. new ++ option_to_list q) some) h)) [
-      | inl there ↦ there
-      | inr e ↦ absurd (other (sym e ∙ same))
-    ]
-
 pub pop_rise : (old new : List ℕ) (o : Option ℕ) → old ≡ new ++ option_to_list o → (high : ℕ) → Rise 0 high old → Rise 0 high new
 pop_rise old new o is high h = rise_first 0 high new (option_to_list o) (subst (Rise 0 high) is h)

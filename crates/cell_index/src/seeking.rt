@@ -32,7 +32,8 @@ impl Standing {
             && touches(print, &prints[place])
     }
 
-    /// One more than the last place of the list at which an operation stands that touches the one of the print, or `floor` where that is more.
+    /// One more than the last place of the list at which an operation stands that touches the one of the print, or `floor` where that
+    /// is more.
     fn later(
         &self,
         prints: &[Print],
@@ -101,7 +102,8 @@ impl Standing {
         }
     }
 
-    /// The last place below another at which an operation stands that touches the one of that other place: they interfere, or neither writes anything.
+    /// The last place below another at which an operation stands that touches the one of that other place: they interfere, or neither
+    /// writes anything.
     pub fn last(&self, prints: &[Print], at: usize) -> Option<usize>
         requires keeps { Keeps self.now prints.now }
         requires within { at < length prints.now }

@@ -10,8 +10,8 @@ use crate::listing::{lists_of, put_cells, table_sizes};
 use footprint::{Cell, Print};
 use std::alloc::{AllocError, Global};
 
-/// Which of the operations that came still stand, each by its place. Those that stand are listed by the slots of their cells, the later ones behind the
-/// earlier ones.
+/// Which of the operations that came still stand, each by its place. Those that stand are listed by the slots of their cells, the
+/// later ones behind the earlier ones.
 #[derive(Debug, Drop)]
 pub struct Standing {
     pub(crate) stands: Vec<bool>,

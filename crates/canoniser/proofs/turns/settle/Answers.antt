@@ -1,24 +1,34 @@
--- one rule more
-use Rattle.std.proofs.Common.{◌≡◌}
-use Rattle.tidy_laws.specs.Rules.{NoRule, more}
-use Rattle.canoniser.specs.Meetings.{Turned}
-use Rattle.canoniser.proofs.Rounds.{turned_of, none_of, settled_turned}
+-- one operation more
+use Rattle.std.proofs.Common.{◌≡◌, ◌+◌, length, ap, subst, refl, ◌∙◌, arith}
+use Rattle.tidy_laws.specs.Rules.{Settles}
+use Rattle.canoniser.specs.Meetings.{kept}
+use Rattle.canoniser.proofs.Comes.{calm_none, calm_settles}
 use Rattle.canoniser.proofs.turns.settle.Goals as goal
 
-pub loop-at-preserved : goal.loop-at-preserved
-loop-at-preserved c =
-    let old = c.loop-at.list.items in
-    let new = c.once.new.list.items in
-    let t = turned_of c.in_ok-at.field-0 c.in-Some.at (NoRule c.args.meta.now new × new ≡ old) (λ at. Turned c.args.meta.now old new at) c.in_ok-at.ensures.turned c.in-Some.is in
-    record {
-      printed = c.in_ok-at.ensures.printed;
-      within = t.within;
-      settled = t.settled;
-      rest = λ q h. c.loop-at.invariant.rest q (more t.rule h);
-    }
+pub loop-init : goal.loop-init
+loop-init c = record {
+  keeps = c.in_ok-standing.ensures.keeps;
+  printed = c.requires.printed;
+  calm = calm_none c.args.meta.now c.in_ok-standing.standing.stands.items c.args.list.now.items c.in_ok-standing.ensures.none;
+  leads = λ r h. subst (λ l. Settles c.args.meta.now l r) (ap (λ s. kept s c.args.list.now.items) c.in_ok-standing.ensures.none) h;
+  many = ap length c.in_ok-standing.ensures.none;
+  size = refl;
+}
 
-pub returns : goal.returns
-returns c =
-    let old = c.loop-at.list.items in
-    let new = c.once.new.list.items in
-    c.loop-at.invariant.rest new (settled_turned c.args.meta.now old new (none_of c.in_ok-at.field-0 (NoRule c.args.meta.now new × new ≡ old) (λ at. Turned c.args.meta.now old new at) c.in_ok-at.ensures.turned c.in_default.is))
+pub loop-preserved : goal.loop-preserved
+loop-preserved c = record {
+  keeps = c.in_ok-enter.ensures.keeps;
+  printed = c.in_ok-enter.ensures.printed;
+  calm = c.in_ok-enter.ensures.calm;
+  leads = λ r h. c.loop.invariant.leads r (c.in_ok-enter.ensures.leads r h);
+  many = c.in_ok-enter.ensures.many ∙ ap (λ n. n + 1) c.loop.invariant.many;
+  size = c.in_ok-enter.ensures.size ∙ c.loop.invariant.size;
+}
+
+pub returns-clause-settles : goal.returns-clause-settles
+returns-clause-settles c =
+    let past = c.loop-test.false in
+    let many = c.loop.invariant.many in
+    let size = c.loop.invariant.size in
+    let end : c.len-end.result ≡ length c.args.list.now.items = c.len-end.ensures ∙ c.args.list.now.ok.0 in
+    c.loop.invariant.leads (kept c.loop.standing.stands.items c.loop.list.items) (calm_settles c.args.meta.now c.loop.standing.stands.items c.loop.list.items c.loop.invariant.calm (omega (arith, past, many, size, end)))

@@ -1,19 +1,16 @@
--- what the list settles to, the first list settles to
-use Rattle.std.proofs.Common.{◌≡◌, ◌≤◌, List, [], length, take}
-use Rattle.model_state.specs.declared.operation.Operation.{Operation}
+-- no rule applies to those that came
+use Rattle.std.proofs.Common.{◌≡◌, length}
 use Rattle.footprint.specs.Prints.{shown, printed}
-use Rattle.tidy_laws.specs.Rules.{Settles}
-use Rattle.tidy_laws.specs.Tidy.{onto, Settled}
+use Rattle.cell_index.specs.Standing.{Keeps}
+use Rattle.canoniser.specs.Meetings.{kept, Calm, Leads}
 use Rattle.canoniser.proofs.turns.settle.Given as goal
 
-abbrev pub invariant-loop-at : goal.invariant-loop-at
-invariant-loop-at l =
-    record {
-      printed : shown l.prints.items ≡ printed l.meta l.list.items;
-      within : l.from ≤ length l.list.items;
-      settled : Settled l.meta (onto (take l.from l.list.items) []);
-      rest : (q : List Operation) → Settles l.meta l.list.items q → Settles l.meta l.fn.list.items q;
-    }
-
-abbrev pub decreases-loop-at : goal.decreases-loop-at
-decreases-loop-at l = length l.list.items
+abbrev pub invariant-loop : goal.invariant-loop
+invariant-loop l = record {
+  keeps : Keeps l.standing l.prints;
+  printed : shown l.prints ≡ printed l.meta l.list.items;
+  calm : Calm l.meta l.standing.stands.items l.list.items;
+  leads : Leads l.meta l.fn.list.items (kept l.standing.stands.items l.list.items);
+  many : length l.standing.stands.items ≡ l.counter;
+  size : length l.list.items ≡ length l.fn.list.items;
+}
