@@ -3,6 +3,7 @@
 #![tactic(auto)]
 
 mod bounds;
+mod entering;
 mod fault;
 mod laws;
 mod link;

@@ -1,24 +1,19 @@
 //! The insertion of a target into a list of references, with its opposite.
-ghost use Rattle.std.specs.Prelude.{◌≡◌, ◌<◌, true, false, ◌++◌, ◌∷◌, [], IfOk, OnOk, IfErr, None, is_some, not, length, unwrap_or};
+ghost use Rattle.std.specs.Prelude.{◌≡◌, true, false, IfOk, OnOk, IfErr, None, is_some, length, unwrap_or};
 ghost use Rattle.std.specs.FinMap.{get};
-ghost use Rattle.finite_maps.specs.Maps.{is_below};
-ghost use Rattle.model_state.specs.State.{row_count};
 ghost use Rattle.model_state.specs.Good.{Good, Sound};
-ghost use Rattle.model_state.specs.Typing.{opposite_of, row_upper};
 ghost use Rattle.model_state.specs.Listing.{targets};
-ghost use Rattle.edit_laws.specs.Spot.{rank_for, ranks_of, spot};
-ghost use Rattle.edit_laws.specs.Rows.{link_step, reranks};
-ghost use Rattle.edit_laws.specs.References.{is_one, link_made, displace};
-ghost use Rattle.edit_laws.specs.Refusals.{link_refusal};
-ghost use Rattle.opposites.specs.Refusals.{IsReference, IsRefusal};
-ghost use Rattle.opposites.specs.Ends.{reranks_by};
+ghost use Rattle.edit_laws.specs.Rows.{link_step};
+ghost use Rattle.edit_laws.specs.References.{is_one, link_made};
+ghost use Rattle.edit_laws.specs.Refusals.{first_refusal, link_index, link_refusal};
+ghost use Rattle.opposites.specs.Refusals.{IsReference, IsRefusal, list_tests};
 
 use crate::LinkFault;
-use crate::bounds::has_room;
-use crate::openings::{Opening, rerank};
-use crate::there::{displace, opening_there, rerank_there};
+use crate::bounds::has_room_for;
+use crate::entering::enter;
+use crate::there::{displace, enter_there};
 use ecore_meta::{List, Metamodel};
-use model_state::{Entry, Id, Look, Step, may_link, opposite_of};
+use model_state::{Id, Look, Step, may_link, opposite_of};
 use std::alloc::{AllocError, Global};
 
 /// The link of a row and its mirror, written from the side whose feature has the lesser number.
@@ -75,37 +70,30 @@ pub fn index_or_end(at: Option<u32>, n: usize) -> usize
     }
 }
 
-/// Whether the list of a feature has room, by its entries.
-fn has_room_here<L: Look>(look: &L, meta: &Metamodel, a: &Id, f: u32, mine: &[Entry]) -> bool
-    requires { mine.now ≡ targets (L.state look.now).row a.now f }
-    ensures { result ≡ is_below (row_count (L.state look.now) a.now f) (row_upper meta.now f) }
-{
-    has_room(meta, f, mine.len())
-}
-
+/// The steps that link two elements that aren't linked. Refused with NoEntry before Bound.
 fn link<L: Look>(
     alloc: Global,
     look: &L,
     meta: &Metamodel,
     a: &Id,
     f: u32,
-    here: &Opening,
     b: &Id,
-    there: &Opening,
-) -> Result<List<Step>, AllocError>
-    requires reranks { here.now.reranks ≡ not (is_some (rank_for (ranks_of here.now.others) here.now.index)) }
-    requires small { here.now.reranks ≡ true → length here.now.others < 4294967295 }
-    requires index_there { there.now.index ≡ length there.now.others }
-    requires reranks_there { there.now.reranks ≡ not (is_some (rank_for (ranks_of there.now.others) there.now.index)) }
-    requires small_there { there.now.reranks ≡ true → length there.now.others < 4294967295 }
-    ensures { IfOk result (λ s. s ≡ displace meta.now (L.state look.now).row (opposite_of meta.now f) f b.now ++ (reranks a.now f here.now.others (spot here.now.others here.now.index).ranks ++ (reranks_by (opposite_of meta.now f) b.now there.now.others ++ link_step (opposite_of meta.now f) a.now f here.now.rank b.now there.now.rank ∷ []))) }
+    at: Option<u32>,
+) -> Result<List<Step>, LinkFault>
+    ensures made { IfOk result (λ s. s ≡ link_made meta.now (L.state look.now).row a.now f b.now (link_index (L.state look.now) a.now f at)) }
+    ensures taken { OnOk result (first_refusal (list_tests meta.now (L.state look.now) a.now f b.now (link_index (L.state look.now) a.now f at)) ≡ None) }
+    ensures refused { IfErr result (λ e. IsRefusal (first_refusal (list_tests meta.now (L.state look.now) a.now f b.now (link_index (L.state look.now) a.now f at))) e) }
 {
     let opposite = opposite_of(meta, f);
     let mut steps = List::new(alloc);
     displace(alloc, look, meta, opposite, f, b, &mut steps)?;
-    rerank(alloc, a, f, here, &mut steps)?;
-    rerank_there(alloc, opposite, b, there, &mut steps)?;
-    steps.push(link_step(alloc, opposite, a, f, here.rank, b, there.rank)?)?;
+    let here = enter(alloc, look, a, f, at, &mut steps)?;
+    let has_room = has_room_for(alloc, look, meta, a, f)?;
+    if !has_room {
+        return Err(LinkFault::Bound);
+    }
+    let there = enter_there(alloc, look, meta, opposite, b, &mut steps)?;
+    steps.push(link_step(alloc, opposite, a, f, here, b, there)?)?;
     Ok(steps)
 }
 
@@ -137,17 +125,5 @@ pub fn link_steps<L: Look>(
     if look.row(a, f, b).is_some() {
         return Err(LinkFault::AlreadyThere);
     }
-    let mine = look.targets(alloc, a, f)?;
-    let index = index_or_end(at, mine.len());
-    if index > mine.len() {
-        return Err(LinkFault::NoEntry);
-    }
-    if !has_room_here(look, meta, a, f, mine.as_slice()) {
-        return Err(LinkFault::Bound);
-    }
-    let there = opening_there(alloc, look, meta, opposite_of(meta, f), b)?;
-    let Some(here) = Opening::find(mine, index) else {
-        return Err(LinkFault::Bound);
-    };
-    Ok(link(alloc, look, meta, a, f, &here, b, &there)?)
+    link(alloc, look, meta, a, f, b, at)
 }

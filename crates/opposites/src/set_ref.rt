@@ -1,25 +1,23 @@
 //! The assignment of a reference of upper bound 1, which displaces its old target.
-ghost use Rattle.std.specs.Prelude.{◌≡◌, ◌<◌, true, ◌++◌, ◌∷◌, [], IfOk, OnOk, IfErr, None, is_some, not, length};
+ghost use Rattle.std.specs.Prelude.{◌≡◌, true, ◌++◌, ◌∷◌, [], IfOk, OnOk, IfErr, None, is_some, unwrap_or};
 ghost use Rattle.std.specs.FinMap.{get};
 ghost use Rattle.model_state.specs.Good.{Good, Sound};
 ghost use Rattle.model_state.specs.Typing.{opposite_of};
 ghost use Rattle.model_state.specs.Listing.{targets};
-ghost use Rattle.edit_laws.specs.Spot.{rank_for, ranks_of};
 ghost use Rattle.edit_laws.specs.Rows.{link_step, unlinks};
-ghost use Rattle.edit_laws.specs.References.{is_one, set_ref_made, displace};
-ghost use Rattle.edit_laws.specs.Refusals.{set_ref_refusal};
-ghost use Rattle.opposites.specs.Refusals.{IsReference, IsRefusal};
-ghost use Rattle.opposites.specs.Ends.{reranks_by};
+ghost use Rattle.edit_laws.specs.References.{is_one, set_ref_made, displace, rank_there, reranks_there};
+ghost use Rattle.edit_laws.specs.Refusals.{first_refusal, set_ref_refusal};
+ghost use Rattle.opposites.specs.Refusals.{IsReference, IsRefusal, mirror_tests};
 
 use crate::LinkFault;
 use crate::link::link_step;
-use crate::openings::Opening;
-use crate::there::{displace, opening_there, rerank_there};
+use crate::there::{displace, enter_there};
 use crate::unlink::unlinks;
 use ecore_meta::{List, Metamodel};
 use model_state::{Id, Look, Step, may_link, opposite_of};
-use std::alloc::{AllocError, Global};
+use std::alloc::Global;
 
+/// The steps that set a reference that isn't there. Refused with Bound.
 fn set_ref<L: Look>(
     alloc: Global,
     look: &L,
@@ -27,20 +25,18 @@ fn set_ref<L: Look>(
     a: &Id,
     f: u32,
     b: &Id,
-    there: &Opening,
-) -> Result<List<Step>, AllocError>
-    requires index { there.now.index ≡ length there.now.others }
-    requires reranks { there.now.reranks ≡ not (is_some (rank_for (ranks_of there.now.others) there.now.index)) }
-    requires small { there.now.reranks ≡ true → length there.now.others < 4294967295 }
-    ensures { IfOk result (λ s. s ≡ unlinks (L.state look.now).row (opposite_of meta.now f) a.now f (targets (L.state look.now).row a.now f) ++ (displace meta.now (L.state look.now).row (opposite_of meta.now f) f b.now ++ (reranks_by (opposite_of meta.now f) b.now there.now.others ++ link_step (opposite_of meta.now f) a.now f 4294967296 b.now there.now.rank ∷ []))) }
+) -> Result<List<Step>, LinkFault>
+    ensures made { IfOk result (λ s. s ≡ unlinks (L.state look.now).row (opposite_of meta.now f) a.now f (targets (L.state look.now).row a.now f) ++ (displace meta.now (L.state look.now).row (opposite_of meta.now f) f b.now ++ (reranks_there meta.now (L.state look.now).row (opposite_of meta.now f) b.now ++ link_step (opposite_of meta.now f) a.now f 4294967296 b.now (unwrap_or (rank_there meta.now (L.state look.now).row (opposite_of meta.now f) b.now) 0) ∷ []))) }
+    ensures taken { OnOk result (first_refusal (mirror_tests meta.now (L.state look.now) (opposite_of meta.now f) b.now) ≡ None) }
+    ensures refused { IfErr result (λ e. IsRefusal (first_refusal (mirror_tests meta.now (L.state look.now) (opposite_of meta.now f) b.now)) e) }
 {
     let opposite = opposite_of(meta, f);
     let mut steps = List::new(alloc);
     let mine = look.targets(alloc, a, f)?;
     unlinks(alloc, look, opposite, a, f, mine.as_slice(), &mut steps)?;
     displace(alloc, look, meta, opposite, f, b, &mut steps)?;
-    rerank_there(alloc, opposite, b, there, &mut steps)?;
-    steps.push(link_step(alloc, opposite, a, f, 4294967296, b, there.rank)?)?;
+    let there = enter_there(alloc, look, meta, opposite, b, &mut steps)?;
+    steps.push(link_step(alloc, opposite, a, f, 4294967296, b, there)?)?;
     Ok(steps)
 }
 
@@ -72,6 +68,5 @@ pub fn set_ref_steps<L: Look>(
     if look.row(a, f, b).is_some() {
         return Ok(List::new(alloc));
     }
-    let there = opening_there(alloc, look, meta, opposite_of(meta, f), b)?;
-    Ok(set_ref(alloc, look, meta, a, f, b, &there)?)
+    set_ref(alloc, look, meta, a, f, b)
 }

@@ -1,11 +1,9 @@
-use Rattle.std.proofs.Common.{◌≡◌, sym, ap, ◌∙◌, cond, List, [], length, ◌||◌, false}
+use Rattle.std.proofs.Common.{◌≡◌, false, sym, ap, subst, ◌∙◌, ◌||◌}
+use Rattle.std.specs.Prelude.{IfOk}
 use Rattle.finite_maps.specs.Maps.{is_below}
-use Rattle.model_state.specs.declared.entry.Entry.{Entry}
-use Rattle.model_state.specs.Typing.{row_upper}
 use Rattle.model_state.specs.State.{row_count}
-use Rattle.model_state.specs.Listing.{targets}
-use Rattle.edit_laws.specs.References.{is_one, others_there, room_there}
-use Rattle.opposites.proofs.RankLaws.{length_targets}
+use Rattle.model_state.specs.Typing.{row_upper}
+use Rattle.edit_laws.specs.References.{is_one, room_there}
 use Rattle.opposites.proofs.there.has_room_there.Goals as goal
 
 pub returns-else-is_one : goal.returns-else-is_one
@@ -15,8 +13,6 @@ returns-else-is_one gh c =
     let b = c.args.b.now in
     let g = c.in-Some.g in
     let many : is_one meta g ≡ false = sym c.is_one.ensures ∙ c.if-is_one.false in
-    let long : length c.args.others.now ≡ row_count m b g =
-    ap length (c.requires ∙ ap (λ o. others_there meta m.row o b) c.in-Some.is ∙ ap (λ t. cond {A = List Entry} t [] (targets m.row b g)) many)
-    ∙ length_targets m.row b g in
-    c.has_room.ensures ∙ ap (λ n. is_below n (row_upper meta g)) long
-    ∙ sym (ap (λ o. room_there meta m o b) c.in-Some.is ∙ ap (λ t. t || is_below (row_count m b g) (row_upper meta g)) many)
+    subst (λ t. IfOk c.has_room_for.result (λ r. r ≡ t))
+    (sym (ap (λ o. room_there meta m o b) c.in-Some.is ∙ ap (λ t. t || is_below (row_count m b g) (row_upper meta g)) many))
+    c.has_room_for.ensures
