@@ -10,7 +10,7 @@ use thiserror::Error;
 #[derive(Debug, Drop, Error)]
 pub enum MeasureFault {
     /// A word is none of the program's, or a number is missing or too great.
-    #[error("usage: measure [metamodel CLASSES FEATURES | forms STEPS | history VERSIONS BRANCHES TAGS | prints OPERATIONS STEPS | pairs SHAPE OPERATIONS | merge SHAPE OPERATIONS | timed]..")]
+    #[error("usage: measure [metamodel CLASSES FEATURES | forms STEPS | history VERSIONS BRANCHES TAGS | prints OPERATIONS STEPS | pairs SHAPE OPERATIONS | merge SHAPE OPERATIONS | tidy EDITS OPERATIONS | timed]..")]
     Usage,
     /// There are more classes or features than a metamodel numbers, or more versions, branches or tags than a history does.
     #[error("too many of what is numbered")]

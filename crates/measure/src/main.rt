@@ -1,7 +1,8 @@
 //! Measures calls of the libraries on inputs that it makes: a metamodel built of its rows, a package spelled and read again, a history of
-//! many versions, the cells of operations, and the conflicts of two packages.
+//! many versions, the cells of operations, the conflicts of two packages, and a package tidied.
 #![tactic(auto)]
 
+mod edits;
 mod fault;
 mod forms;
 mod histories;
@@ -14,8 +15,10 @@ ghost use Rattle.std.specs.Prelude.{◌≡◌};
 ghost use Rattle.footprint.specs.Buckets.{buckets as buckets_of};
 
 use anyhow::Result;
+use canoniser::tidy;
 use conflict_buckets::{buckets, pairs};
 use ecore_meta::{Metamodel, build};
+use edits::{Edits, edits_of};
 use fault::MeasureFault;
 use footprint::{Buckets, prints_of};
 use forms::{package_of, read_again};
@@ -180,6 +183,20 @@ fn measure_merge(rt: &HostRuntime, is_timed: bool, shape: Shape, operations: u32
     measure_choices(rt, is_timed, &theirs, &mine, &found, &meta)
 }
 
+fn measure_tidy(rt: &HostRuntime, is_timed: bool, edits: Edits, operations: u32) -> Result<()> {
+    let alloc = rt.alloc();
+    let meta = metamodel(alloc)?;
+    let package = edits_of(alloc, edits, operations)?;
+    let start = Instant::now(rt)?;
+    let tidied = tidy(alloc, &package, &meta)?;
+    let tidying = start.elapsed(rt)?;
+    println!(rt;
+        "tidy {edits:?} {operations}: {} operations are left",
+        tidied.len()
+    )?;
+    print_time(rt, is_timed, "tidy", tidying)
+}
+
 fn main(rt: HostRuntime) -> Result<()> {
     let alloc = rt.alloc();
     let words: Vec<String> = env::args(&rt)?.skip(1).collect(alloc)?;
@@ -214,6 +231,12 @@ fn main(rt: HostRuntime) -> Result<()> {
                 &rt,
                 plan.is_timed,
                 shape,
+                operations,
+            )?,
+            Task::Tidy { edits, operations } => measure_tidy(
+                &rt,
+                plan.is_timed,
+                edits,
                 operations,
             )?,
         }

@@ -30,7 +30,7 @@ pub enum Shape {
 }
 
 /// The step that sets the text of the element of that number.
-fn setting(alloc: Global, element: u64) -> Result<Step, MeasureFault> {
+pub(crate) fn setting(alloc: Global, element: u64) -> Result<Step, MeasureFault> {
     Ok(Step::Put {
         e: Id::read(alloc, format!(in alloc; "n{element}")?.as_str())?,
         f: 0,
@@ -39,13 +39,11 @@ fn setting(alloc: Global, element: u64) -> Result<Step, MeasureFault> {
     })
 }
 
-fn single(alloc: Global, step: Step) -> Result<Operation, MeasureFault> {
+/// An operation of one step.
+pub(crate) fn single(alloc: Global, kind: OpKind, step: Step) -> Result<Operation, MeasureFault> {
     let mut steps = List::new(alloc);
     steps.push(step)?;
-    Ok(Operation::Simple {
-        kind: OpKind::Attribute,
-        steps,
-    })
+    Ok(Operation::Simple { kind, steps })
 }
 
 /// The composite of a number, of so many steps, which sets the texts of elements of its own.
@@ -64,7 +62,7 @@ fn composite(alloc: Global, number: u64, count: u64) -> Result<Operation, Measur
 /// The operation of a number, of so many steps, which sets the texts of elements of its own.
 fn setter(alloc: Global, number: u64, steps: u64) -> Result<Operation, MeasureFault> {
     if steps == 1 {
-        single(alloc, setting(alloc, number)?)
+        single(alloc, OpKind::Attribute, setting(alloc, number)?)
     } else {
         composite(alloc, number, steps)
     }
@@ -97,10 +95,10 @@ fn operation_of(
     match shape {
         Shape::Apart => {
             let first = if is_second { size } else { 0 };
-            single(alloc, setting(alloc, first + number)?)
+            single(alloc, OpKind::Attribute, setting(alloc, first + number)?)
         }
-        Shape::Each => single(alloc, setting(alloc, number)?),
-        Shape::One => single(alloc, setting(alloc, 0)?),
+        Shape::Each => single(alloc, OpKind::Attribute, setting(alloc, number)?),
+        Shape::One => single(alloc, OpKind::Attribute, setting(alloc, 0)?),
         Shape::Composites => {
             let first = if is_second { size - size / 10 } else { 0 };
             composite(alloc, first + number, STEPS)

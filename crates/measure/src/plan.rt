@@ -1,5 +1,6 @@
 //! The words of the command line.
 
+use crate::edits::Edits;
 use crate::fault::MeasureFault;
 use crate::packages::Shape;
 use ecore_meta::List;
@@ -38,6 +39,11 @@ pub enum Task {
         shape: Shape,
         operations: u32,
     },
+    /// A package of so many edits, tidied.
+    Tidy {
+        edits: Edits,
+        operations: u32,
+    },
 }
 
 /// What the words ask for, in their order, and whether times are printed.
@@ -63,13 +69,32 @@ fn shape_named(word: &String) -> Result<Shape, MeasureFault> {
     }
 }
 
-/// The task of a word after which a shape stands.
+fn edits_named(word: &String) -> Result<Edits, MeasureFault> {
+    match word.as_str() {
+        "one" => Ok(Edits::One),
+        "many" => Ok(Edits::Many),
+        "undone" => Ok(Edits::Undone),
+        "late" => Ok(Edits::Late),
+        _ => Err(MeasureFault::Usage),
+    }
+}
+
+/// The task of a word after which a shape stands, or the edits of a package.
 fn shaped_task(word: &str, shape: &String, operations: &String) -> Result<Task, MeasureFault> {
-    let shape = shape_named(shape)?;
     let operations = number(operations)?;
     match word {
-        "pairs" => Ok(Task::Pairs { shape, operations }),
-        "merge" => Ok(Task::Merge { shape, operations }),
+        "pairs" => Ok(Task::Pairs {
+            shape: shape_named(shape)?,
+            operations,
+        }),
+        "merge" => Ok(Task::Merge {
+            shape: shape_named(shape)?,
+            operations,
+        }),
+        "tidy" => Ok(Task::Tidy {
+            edits: edits_named(shape)?,
+            operations,
+        }),
         _ => Err(MeasureFault::Usage),
     }
 }
