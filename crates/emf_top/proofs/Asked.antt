@@ -4,31 +4,17 @@ use Rattle.std.specs.Prelude.{MatchOption, IfNone, nat_lt, ◌==◌, slice_index
 use Rattle.std.specs.Fmt.{decimal}
 use Rattle.std.specs.List.{list_all}
 use Rattle.std.specs.Char.{is_ascii_digit}
-use Rattle.std.specs.Str.Parse.{digits_value, ParsesUnsigned}
-use Rattle.std.proofs.Math.Dec.{leb}
-use Rattle.std.proofs.lemmas.Bool.{leb-true, le-leb, cases_eq}
+use Rattle.std.specs.Str.Parse.{ParsesUnsigned}
+use Rattle.std.proofs.lemmas.Bool.{cases_eq}
 use Rattle.std.proofs.lemmas.Bool.Decides.{nat_tests}
 use Rattle.std.proofs.lemmas.Fmt.{digits_decimal, decimal_nonempty, decimal_digit, first_decimal, decimal_injective, decimal-digits_value, parse-decimal}
-use Rattle.std.proofs.lemmas.Str.Parse.{IsNumeralModel, IsDigitsTest, numerals_by_value, not_in_digits, parse_digits}
+use Rattle.std.proofs.lemmas.Str.Parse.{not_in_digits, parse_digits}
 use Rattle.std.proofs.lemmas.Str.Pattern.{IsSplitOnceResult, split_after}
 use denote.Ref.{Bor}
+use Rattle.emf_top.proofs.Digits.{numerals}
 use Rattle.emf_top.specs.Words.{AreNumbers, AskFor, is_numeral}
 use Rattle.emf_top.specs.declared.words.Request.{Request}
 use Rattle.emf_top.specs.declared.words.Request.TheVariants.{Serve, Check, Generate}
-
-both : (a b : Bool) → (a && b) ≡ true → (a ≡ true) × (b ≡ true)
-both true b e = (refl, e)
-both false b e = cc
-
-tells_digits : IsDigitsTest (λ ds. list_all is_ascii_digit ds ≡ true)
-tells_digits = record {
-  empty = refl;
-  parts = λ c cs e. let k = both (is_ascii_digit c) (list_all is_ascii_digit cs) e in let m = both (leb 48 c) (leb c 57) k.0 in ((leb-true 48 c m.0, leb-true c 57 m.1), k.1);
-  more = λ c cs k e i. (le-leb 48 c k.0 i && le-leb c 57 k.1 i) && e i;
-}
-
-numerals : IsNumeralModel (λ ds. list_all is_ascii_digit ds ≡ true) (digits_value 10)
-numerals = numerals_by_value (λ ds. list_all is_ascii_digit ds ≡ true) tells_digits
 
 -- three tests that hold
 three : (a b c : Bool) → (a && b && c) ≡ true → (a ≡ true) × (b ≡ true) × (c ≡ true)

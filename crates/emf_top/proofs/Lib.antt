@@ -1,11 +1,14 @@
 pub mod Asked
+pub mod Digits
 pub mod Few
+pub mod Graphic
 pub mod Headlines
 pub mod Items
 pub mod Plain
 pub mod Printing
 pub mod Quietly
 pub mod Rounds
+pub mod Script
 pub mod Serving
 pub mod Starting
 pub mod Texts

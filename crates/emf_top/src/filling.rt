@@ -85,7 +85,8 @@ pub(crate) fn fill<H: Host>(
     let Ok(line) = outcome_line(alloc, session, accepted, refused) else {
         return Status::Memory;
     };
-    match host.say(line.as_bytes()) {
+    let said = host.say(line.as_bytes());
+    match said {
         Ok(()) => Status::Accepted,
         Err(_) => Status::WriteFault,
     }

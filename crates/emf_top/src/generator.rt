@@ -1,7 +1,8 @@
 //! The script that is generated: a library whose books two workspaces make in turn.
-ghost use Rattle.std.specs.Prelude.{◌≡◌, ◌++◌, ◌∷◌, [], ◌<◌, ◌≤◌, IfOk, OnOk, map, string_bytes};
+ghost use Rattle.std.specs.Prelude.{◌≡◌, ◌++◌, ◌∷◌, [], ◌<◌, ◌≤◌, IfOk, OnOk, None, map, string_bytes};
 ghost use Rattle.std.specs.Fmt.{decimal};
 ghost use Rattle.emf_top.specs.Generator.{plain, opening, workspace_in, pages_in, create_text, title_text, pages_text, edits, exchange, round, generated, block_bytes, script_bytes};
+ghost use Rattle.emf_top.specs.Tasks.{script};
 
 use crate::item::Item;
 use crate::line::push_count;
@@ -182,7 +183,9 @@ fn push_bytes(bytes: &mut Vec<u8>, item: &Item) -> Result<(), AllocError>
 /// A script that fills an empty store, whatever the seed: two workspaces make `count` books in turn, and after each fourth
 /// one takes what the other committed and commits its own.
 pub fn generate(alloc: Global, seed: u64, count: u32) -> Result<Vec<u8>, AllocError>
-    ensures { IfOk result (λ bytes. bytes.items ≡ script_bytes (generated seed count)) }
+    ensures bytes { IfOk result (λ bytes. bytes.items ≡ script_bytes (generated seed count)) }
+    // As an input they are the script of the items that `--generate` answers.
+    ensures script { IfOk result (λ bytes. count ≤ 10000 → script bytes.items ≡ record { items = generated seed count; fault = None }) }
 {
     let items = generated(alloc, seed, count)?;
     let mut bytes = Vec::new(alloc);

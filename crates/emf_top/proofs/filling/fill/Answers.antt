@@ -35,22 +35,22 @@ returns-in_default-clause-part g c = λ made holds told. (c.items.invariant.goin
 pub returns-in_default-clause-moments : goal.returns-in_default-clause-moments
 returns-in_default-clause-moments g c = λ made holds told. (c.items.invariant.going told made holds).moments told
 
-pub returns-in-Ok-say-clause-ends : goal.returns-in-Ok-say-clause-ends
-returns-in-Ok-say-clause-ends g c = λ told made holds.
+pub returns-in-Ok-said-clause-ends : goal.returns-in-Ok-said-clause-ends
+returns-in-Ok-said-clause-ends g c = λ told made holds.
     let told_b = told_next (g.H.Host.told c.args.host.now) (g.H.Host.told c.items.host) c.items.invariant.course told in
-    (printed (g.H.Host.told c.args.host.now) (g.H.Host.told c.items.host) (g.H.Host.told c.say.new.self) made (filling c.args.session.now.state c.args.items.now) c.items.session.state (outcome c.args.session.now.state (given c.args.session.now.state c.args.items.now)) c.as_bytes.result.now (c.as_bytes.ensures.value ∙ c.in-Ok-outcome_line.ensures.line ∙ (outcome_is (g.H.Host.told c.args.host.now) (g.H.Host.told c.items.host) c.args.session.now.state c.args.items.now c.items.item-index c.items.refused c.items.session.state c.items.session.broken c.items.invariant c.items-test.false (length c.args.items.now - c.items.refused) refl)) (at_outcome (g.H.Host.told c.args.host.now) (g.H.Host.told c.items.host) c.args.session.now.state c.args.items.now c.items.item-index c.items.refused c.items.session.state c.items.session.broken c.items.invariant c.items-test.false told made holds) c.items.invariant.course c.say.ensures.course c.say.ensures.disk c.say.ensures.part told_b (c.in-Ok-say.ensures.whole told_b), refl, λ reads. let other : false ≡ true = reads in absurd cc)
+    (printed (g.H.Host.told c.args.host.now) (g.H.Host.told c.items.host) (g.H.Host.told c.say-said.new.self) made (filling c.args.session.now.state c.args.items.now) c.items.session.state (outcome c.args.session.now.state (given c.args.session.now.state c.args.items.now)) c.as_bytes.result.now (c.as_bytes.ensures.value ∙ c.in-Ok-outcome_line.ensures.line ∙ (outcome_is (g.H.Host.told c.args.host.now) (g.H.Host.told c.items.host) c.args.session.now.state c.args.items.now c.items.item-index c.items.refused c.items.session.state c.items.session.broken c.items.invariant c.items-test.false (length c.args.items.now - c.items.refused) refl)) (at_outcome (g.H.Host.told c.args.host.now) (g.H.Host.told c.items.host) c.args.session.now.state c.args.items.now c.items.item-index c.items.refused c.items.session.state c.items.session.broken c.items.invariant c.items-test.false told made holds) c.items.invariant.course c.say-said.ensures.course c.say-said.ensures.disk c.say-said.ensures.part told_b (c.in-Ok-said.ensures.whole told_b), refl, λ reads. let other : false ≡ true = reads in absurd cc)
 
-pub returns-in-Ok-say-clause-part : goal.returns-in-Ok-say-clause-part
-returns-in-Ok-say-clause-part g c = λ made holds told. printed_part (g.H.Host.told c.args.host.now) (g.H.Host.told c.items.host) (g.H.Host.told c.say.new.self) made (filling c.args.session.now.state c.args.items.now) c.items.session.state (outcome c.args.session.now.state (given c.args.session.now.state c.args.items.now)) c.as_bytes.result.now (c.as_bytes.ensures.value ∙ c.in-Ok-outcome_line.ensures.line ∙ (outcome_is (g.H.Host.told c.args.host.now) (g.H.Host.told c.items.host) c.args.session.now.state c.args.items.now c.items.item-index c.items.refused c.items.session.state c.items.session.broken c.items.invariant c.items-test.false (length c.args.items.now - c.items.refused) refl)) (at_outcome (g.H.Host.told c.args.host.now) (g.H.Host.told c.items.host) c.args.session.now.state c.args.items.now c.items.item-index c.items.refused c.items.session.state c.items.session.broken c.items.invariant c.items-test.false told made holds) c.items.invariant.course c.say.ensures.course c.say.ensures.disk c.say.ensures.part told
+pub returns-in-Ok-said-clause-part : goal.returns-in-Ok-said-clause-part
+returns-in-Ok-said-clause-part g c = λ made holds told. printed_part (g.H.Host.told c.args.host.now) (g.H.Host.told c.items.host) (g.H.Host.told c.say-said.new.self) made (filling c.args.session.now.state c.args.items.now) c.items.session.state (outcome c.args.session.now.state (given c.args.session.now.state c.args.items.now)) c.as_bytes.result.now (c.as_bytes.ensures.value ∙ c.in-Ok-outcome_line.ensures.line ∙ (outcome_is (g.H.Host.told c.args.host.now) (g.H.Host.told c.items.host) c.args.session.now.state c.args.items.now c.items.item-index c.items.refused c.items.session.state c.items.session.broken c.items.invariant c.items-test.false (length c.args.items.now - c.items.refused) refl)) (at_outcome (g.H.Host.told c.args.host.now) (g.H.Host.told c.items.host) c.args.session.now.state c.args.items.now c.items.item-index c.items.refused c.items.session.state c.items.session.broken c.items.invariant c.items-test.false told made holds) c.items.invariant.course c.say-said.ensures.course c.say-said.ensures.disk c.say-said.ensures.part told
 
-pub returns-in-Ok-say-clause-moments : goal.returns-in-Ok-say-clause-moments
-returns-in-Ok-say-clause-moments g c = λ made holds told. printed_moments (g.H.Host.told c.args.host.now) (g.H.Host.told c.items.host) (g.H.Host.told c.say.new.self) made (filling c.args.session.now.state c.args.items.now) c.items.session.state (outcome c.args.session.now.state (given c.args.session.now.state c.args.items.now)) c.as_bytes.result.now (c.as_bytes.ensures.value ∙ c.in-Ok-outcome_line.ensures.line ∙ (outcome_is (g.H.Host.told c.args.host.now) (g.H.Host.told c.items.host) c.args.session.now.state c.args.items.now c.items.item-index c.items.refused c.items.session.state c.items.session.broken c.items.invariant c.items-test.false (length c.args.items.now - c.items.refused) refl)) (at_outcome (g.H.Host.told c.args.host.now) (g.H.Host.told c.items.host) c.args.session.now.state c.args.items.now c.items.item-index c.items.refused c.items.session.state c.items.session.broken c.items.invariant c.items-test.false told made holds) c.items.invariant.course c.say.ensures.course c.say.ensures.disk c.say.ensures.part told
+pub returns-in-Ok-said-clause-moments : goal.returns-in-Ok-said-clause-moments
+returns-in-Ok-said-clause-moments g c = λ made holds told. printed_moments (g.H.Host.told c.args.host.now) (g.H.Host.told c.items.host) (g.H.Host.told c.say-said.new.self) made (filling c.args.session.now.state c.args.items.now) c.items.session.state (outcome c.args.session.now.state (given c.args.session.now.state c.args.items.now)) c.as_bytes.result.now (c.as_bytes.ensures.value ∙ c.in-Ok-outcome_line.ensures.line ∙ (outcome_is (g.H.Host.told c.args.host.now) (g.H.Host.told c.items.host) c.args.session.now.state c.args.items.now c.items.item-index c.items.refused c.items.session.state c.items.session.broken c.items.invariant c.items-test.false (length c.args.items.now - c.items.refused) refl)) (at_outcome (g.H.Host.told c.args.host.now) (g.H.Host.told c.items.host) c.args.session.now.state c.args.items.now c.items.item-index c.items.refused c.items.session.state c.items.session.broken c.items.invariant c.items-test.false told made holds) c.items.invariant.course c.say-said.ensures.course c.say-said.ensures.disk c.say-said.ensures.part told
 
 pub returns-clause-ends : goal.returns-clause-ends
-returns-clause-ends g c = λ told made holds. unprinted (g.H.Host.told c.args.host.now) (g.H.Host.told c.items.host) (g.H.Host.told c.say.new.self) made (filling c.args.session.now.state c.args.items.now) c.items.session.state (outcome c.args.session.now.state (given c.args.session.now.state c.args.items.now)) c.as_bytes.result.now (c.as_bytes.ensures.value ∙ c.in-Ok-outcome_line.ensures.line ∙ (outcome_is (g.H.Host.told c.args.host.now) (g.H.Host.told c.items.host) c.args.session.now.state c.args.items.now c.items.item-index c.items.refused c.items.session.state c.items.session.broken c.items.invariant c.items-test.false (length c.args.items.now - c.items.refused) refl)) (at_outcome (g.H.Host.told c.args.host.now) (g.H.Host.told c.items.host) c.args.session.now.state c.args.items.now c.items.item-index c.items.refused c.items.session.state c.items.session.broken c.items.invariant c.items-test.false told made holds) c.items.invariant.course c.say.ensures.course c.say.ensures.disk c.say.ensures.part (told_next (g.H.Host.told c.args.host.now) (g.H.Host.told c.items.host) c.items.invariant.course told)
+returns-clause-ends g c = λ told made holds. unprinted (g.H.Host.told c.args.host.now) (g.H.Host.told c.items.host) (g.H.Host.told c.say-said.new.self) made (filling c.args.session.now.state c.args.items.now) c.items.session.state (outcome c.args.session.now.state (given c.args.session.now.state c.args.items.now)) c.as_bytes.result.now (c.as_bytes.ensures.value ∙ c.in-Ok-outcome_line.ensures.line ∙ (outcome_is (g.H.Host.told c.args.host.now) (g.H.Host.told c.items.host) c.args.session.now.state c.args.items.now c.items.item-index c.items.refused c.items.session.state c.items.session.broken c.items.invariant c.items-test.false (length c.args.items.now - c.items.refused) refl)) (at_outcome (g.H.Host.told c.args.host.now) (g.H.Host.told c.items.host) c.args.session.now.state c.args.items.now c.items.item-index c.items.refused c.items.session.state c.items.session.broken c.items.invariant c.items-test.false told made holds) c.items.invariant.course c.say-said.ensures.course c.say-said.ensures.disk c.say-said.ensures.part (told_next (g.H.Host.told c.args.host.now) (g.H.Host.told c.items.host) c.items.invariant.course told)
 
 pub returns-clause-part : goal.returns-clause-part
-returns-clause-part g c = λ made holds told. printed_part (g.H.Host.told c.args.host.now) (g.H.Host.told c.items.host) (g.H.Host.told c.say.new.self) made (filling c.args.session.now.state c.args.items.now) c.items.session.state (outcome c.args.session.now.state (given c.args.session.now.state c.args.items.now)) c.as_bytes.result.now (c.as_bytes.ensures.value ∙ c.in-Ok-outcome_line.ensures.line ∙ (outcome_is (g.H.Host.told c.args.host.now) (g.H.Host.told c.items.host) c.args.session.now.state c.args.items.now c.items.item-index c.items.refused c.items.session.state c.items.session.broken c.items.invariant c.items-test.false (length c.args.items.now - c.items.refused) refl)) (at_outcome (g.H.Host.told c.args.host.now) (g.H.Host.told c.items.host) c.args.session.now.state c.args.items.now c.items.item-index c.items.refused c.items.session.state c.items.session.broken c.items.invariant c.items-test.false told made holds) c.items.invariant.course c.say.ensures.course c.say.ensures.disk c.say.ensures.part told
+returns-clause-part g c = λ made holds told. printed_part (g.H.Host.told c.args.host.now) (g.H.Host.told c.items.host) (g.H.Host.told c.say-said.new.self) made (filling c.args.session.now.state c.args.items.now) c.items.session.state (outcome c.args.session.now.state (given c.args.session.now.state c.args.items.now)) c.as_bytes.result.now (c.as_bytes.ensures.value ∙ c.in-Ok-outcome_line.ensures.line ∙ (outcome_is (g.H.Host.told c.args.host.now) (g.H.Host.told c.items.host) c.args.session.now.state c.args.items.now c.items.item-index c.items.refused c.items.session.state c.items.session.broken c.items.invariant c.items-test.false (length c.args.items.now - c.items.refused) refl)) (at_outcome (g.H.Host.told c.args.host.now) (g.H.Host.told c.items.host) c.args.session.now.state c.args.items.now c.items.item-index c.items.refused c.items.session.state c.items.session.broken c.items.invariant c.items-test.false told made holds) c.items.invariant.course c.say-said.ensures.course c.say-said.ensures.disk c.say-said.ensures.part told
 
 pub returns-clause-moments : goal.returns-clause-moments
-returns-clause-moments g c = λ made holds told. printed_moments (g.H.Host.told c.args.host.now) (g.H.Host.told c.items.host) (g.H.Host.told c.say.new.self) made (filling c.args.session.now.state c.args.items.now) c.items.session.state (outcome c.args.session.now.state (given c.args.session.now.state c.args.items.now)) c.as_bytes.result.now (c.as_bytes.ensures.value ∙ c.in-Ok-outcome_line.ensures.line ∙ (outcome_is (g.H.Host.told c.args.host.now) (g.H.Host.told c.items.host) c.args.session.now.state c.args.items.now c.items.item-index c.items.refused c.items.session.state c.items.session.broken c.items.invariant c.items-test.false (length c.args.items.now - c.items.refused) refl)) (at_outcome (g.H.Host.told c.args.host.now) (g.H.Host.told c.items.host) c.args.session.now.state c.args.items.now c.items.item-index c.items.refused c.items.session.state c.items.session.broken c.items.invariant c.items-test.false told made holds) c.items.invariant.course c.say.ensures.course c.say.ensures.disk c.say.ensures.part told
+returns-clause-moments g c = λ made holds told. printed_moments (g.H.Host.told c.args.host.now) (g.H.Host.told c.items.host) (g.H.Host.told c.say-said.new.self) made (filling c.args.session.now.state c.args.items.now) c.items.session.state (outcome c.args.session.now.state (given c.args.session.now.state c.args.items.now)) c.as_bytes.result.now (c.as_bytes.ensures.value ∙ c.in-Ok-outcome_line.ensures.line ∙ (outcome_is (g.H.Host.told c.args.host.now) (g.H.Host.told c.items.host) c.args.session.now.state c.args.items.now c.items.item-index c.items.refused c.items.session.state c.items.session.broken c.items.invariant c.items-test.false (length c.args.items.now - c.items.refused) refl)) (at_outcome (g.H.Host.told c.args.host.now) (g.H.Host.told c.items.host) c.args.session.now.state c.args.items.now c.items.item-index c.items.refused c.items.session.state c.items.session.broken c.items.invariant c.items-test.false told made holds) c.items.invariant.course c.say-said.ensures.course c.say-said.ensures.disk c.say-said.ensures.part told
