@@ -16,3 +16,4 @@ pub mod PlaceRefusals
 pub mod Walks
 pub mod ContainerLists
 pub mod Keeps
+pub mod Reached

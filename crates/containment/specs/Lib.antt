@@ -6,4 +6,5 @@ pub mod EditFaults
 pub mod Moves
 pub mod Containers
 pub mod Stays
+pub mod Reached
 pub mod Laws

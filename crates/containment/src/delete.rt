@@ -60,10 +60,9 @@ fn removal<L: Look>(
 {
     let references = slots_of(alloc, look, meta, Sort::Reference, elements)?;
     let attributes = slots_of(alloc, look, meta, Sort::Attribute, elements)?;
-    let references = references.as_slice();
     let mut steps = List::new(alloc);
-    outgoing(alloc, look, meta, references, &mut steps)?;
-    incoming(alloc, look, meta, references, elements, &mut steps)?;
+    let unlinked = outgoing(alloc, look, meta, references.as_slice(), &mut steps)?;
+    incoming(alloc, look, meta, &unlinked, elements, &mut steps)?;
     empty_all(alloc, look, meta, attributes.as_slice(), &mut steps)?;
     gone(alloc, look, elements, &mut steps)?;
     Ok(steps)

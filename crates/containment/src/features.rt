@@ -1,13 +1,12 @@
-//! The features of a subtree's elements that a deletion empties, and the references that begin or end in them.
+//! The features of a subtree's elements that a deletion empties.
 ghost use Rattle.std.specs.Prelude.{◌≡◌, ◌++◌, IfOk, OnOk, map};
-ghost use Rattle.model_state.specs.Typing.{kind_of, opposite_of};
-ghost use Rattle.edit_laws.specs.Rows.{around};
+ghost use Rattle.model_state.specs.Typing.{kind_of};
 ghost use Rattle.containment.specs.Subtree.{features_of};
-ghost use Rattle.containment.specs.Deletes.{is_touched, slots_of};
+ghost use Rattle.containment.specs.Deletes.{slots_of};
 ghost use Rattle.containment.specs.Sorts.{passes};
 
 use ecore_meta::{List, Metamodel};
-use model_state::{Id, Look, class_has, is_attr, is_many, is_plain, opposite_of};
+use model_state::{Id, Look, class_has, is_attr, is_many, is_plain};
 use std::alloc::{AllocError, Global};
 
 /// A feature of an element.
@@ -66,23 +65,4 @@ pub fn slots_of<L: Look>(
         push_slots(alloc, meta, sort, x, look.class(x), &mut slots)?;
     }
     Ok(slots)
-}
-
-/// Whether a row from a to b by f is one of the slot, or the mirror of one.
-fn is_around(meta: &Metamodel, slot: &Slot, a: &Id, f: u32, b: &Id) -> bool
-    ensures { result ≡ around (opposite_of meta.now slot.now.1) slot.now.0 slot.now.1 (a.now, f, b.now) }
-{
-    let is_own = slot.0 == *a && slot.1 == f;
-    let is_mirror = match opposite_of(meta, slot.1) {
-        None => false,
-        Some(g) => g == f && slot.0 == *b,
-    };
-    is_own || is_mirror
-}
-
-/// Whether a row from a to b by f is one of these slots, or the mirror of one.
-pub fn is_touched(meta: &Metamodel, slots: &[Slot], a: &Id, f: u32, b: &Id) -> bool
-    ensures { result ≡ is_touched meta.now slots.now (a.now, f, b.now) }
-{
-    slots.iter().any(|slot| is_around(meta, slot, a, f, b))
 }

@@ -1,27 +1,55 @@
 //! The unlinks of a deletion: first of the references out of a subtree, then of those that are left into it.
-ghost use Rattle.std.specs.Prelude.{◌≡◌, ◌++◌, [], IfOk, OnOk, map, not};
+ghost use Rattle.std.specs.Prelude.{◌≡◌, ◌++◌, ◌∷◌, [], List as Seq, IfOk, OnOk, map, not};
 ghost use Rattle.std.specs.List.{filter};
-ghost use Rattle.containment.specs.Deletes.{incoming_made, incoming_unlink, is_touched, outgoing_made};
+ghost use Rattle.model_state.specs.Keys.{AttrKey};
+ghost use Rattle.model_state.specs.Typing.{opposite_of};
+ghost use Rattle.edit_laws.specs.Rows.{unlinks};
+ghost use Rattle.containment.specs.Deletes.{incoming_left, incoming_made, incoming_unlink, outgoing_made, targets_left};
+ghost use Rattle.containment.specs.Reached.{HasSlots, is_reached};
 
-use crate::features::{Slot, is_touched};
+use crate::features::Slot;
 use ecore_meta::{List, Metamodel};
 use model_state::{Entry, Id, Incoming, Look, Step, opposite_of};
 use opposites::{rank_of_mirror, unlink_step, unlinks};
 use std::alloc::{AllocError, Global};
+use std::collections::BTreeSet;
 
-/// The targets of a slot that are left once the rows of the slots before it are gone.
+/// Features of elements.
+pub type Slots = BTreeSet<Slot>;
+
+/// Whether a row from a to b by f is of one of these features, or the mirror of such a row.
+fn is_reached(
+    alloc: Global,
+    meta: &Metamodel,
+    slots: &Slots,
+    a: &Id,
+    f: u32,
+    b: &Id,
+) -> Result<bool, AllocError>
+    ensures { IfOk result (λ r. r ≡ is_reached meta.now slots.now (a.now, f, b.now)) }
+{
+    if slots.contains(&(a.copy(alloc)?, f)) {
+        return Ok(true);
+    }
+    match opposite_of(meta, f) {
+        None => Ok(false),
+        Some(g) => Ok(slots.contains(&(b.copy(alloc)?, g))),
+    }
+}
+
+/// The targets of a feature of an element whose rows are still there, once the rows of these features are gone.
 fn left_of(
     alloc: Global,
     meta: &Metamodel,
-    before: &[Slot],
+    before: &Slots,
     slot: &Slot,
     targets: &[Entry],
 ) -> Result<List<Entry>, AllocError>
-    ensures { IfOk result (λ l. l ≡ filter (λ x. not (is_touched meta.now before.now (slot.now.0, slot.now.1, x.id))) targets.now) }
+    ensures { IfOk result (λ l. l ≡ filter (λ x. not (is_reached meta.now before.now (slot.now.0, slot.now.1, x.id))) targets.now) }
 {
     let mut left = List::new(alloc);
     for x in targets {
-        if !is_touched(meta, before, &slot.0, slot.1, &x.id) {
+        if !is_reached(alloc, meta, before, &slot.0, slot.1, &x.id)? {
             left.push(Entry {
                 rank: x.rank,
                 id: x.id.copy(alloc)?,
@@ -31,32 +59,58 @@ fn left_of(
     Ok(left)
 }
 
-/// The unlinks of the rows out of the slots, each row once.
+/// The unlinks of the rows of a slot that are left once the rows of the slots before are gone.
+fn unlink_slot<L: Look>(
+    alloc: Global,
+    look: &L,
+    meta: &Metamodel,
+    before: &Slots,
+    slot: &Slot,
+    steps: &mut List<Step>,
+) -> Result<(), AllocError>
+    ensures { OnOk result ((ss : Seq AttrKey) → HasSlots before.now ss → steps.new ≡ steps.old ++ unlinks (L.state look.now).row (opposite_of meta.now slot.now.1) slot.now.0 slot.now.1 (targets_left meta.now (L.state look.now).row ss slot.now)) }
+{
+    meta.sound();
+    let targets = look.targets(alloc, &slot.0, slot.1)?;
+    let left = left_of(alloc, meta, before, slot, targets.as_slice())?;
+    let opposite = opposite_of(meta, slot.1);
+    unlinks(
+        alloc,
+        look,
+        opposite,
+        &slot.0,
+        slot.1,
+        left.as_slice(),
+        steps,
+    )
+}
+
+/// Adds a feature of an element.
+fn add(alloc: Global, slots: &mut Slots, slot: &Slot) -> Result<(), AllocError>
+    ensures { OnOk result ((ss : Seq AttrKey) → HasSlots slots.old ss → HasSlots slots.new (ss ++ slot.now ∷ [])) }
+{
+    slots.insert((slot.0.copy(alloc)?, slot.1))?;
+    Ok(())
+}
+
+/// The unlinks of the rows out of the slots, each row once, and the slots as a set.
 pub fn outgoing<L: Look>(
     alloc: Global,
     look: &L,
     meta: &Metamodel,
     slots: &[Slot],
     steps: &mut List<Step>,
-) -> Result<(), AllocError>
-    ensures { OnOk result (steps.new ≡ steps.old ++ outgoing_made meta.now (L.state look.now).row [] slots.now) }
+) -> Result<Slots, AllocError>
+    ensures steps { OnOk result (steps.new ≡ steps.old ++ outgoing_made meta.now (L.state look.now).row [] slots.now) }
+    ensures slots { IfOk result (λ s. HasSlots s slots.now) }
 {
+    let mut before = BTreeSet::new(alloc);
     for i in 0..slots.len() {
         let slot = &slots[i];
-        let targets = look.targets(alloc, &slot.0, slot.1)?;
-        let left = left_of(alloc, meta, &slots[..i], slot, targets.as_slice())?;
-        let opposite = opposite_of(meta, slot.1);
-        unlinks(
-            alloc,
-            look,
-            opposite,
-            &slot.0,
-            slot.1,
-            left.as_slice(),
-            steps,
-        )?;
+        unlink_slot(alloc, look, meta, &before, slot, steps)?;
+        add(alloc, &mut before, slot)?;
     }
-    Ok(())
+    Ok(before)
 }
 
 /// The unlink of a row to an element.
@@ -87,19 +141,35 @@ fn unlink_incoming<L: Look>(
     alloc: Global,
     look: &L,
     meta: &Metamodel,
-    slots: &[Slot],
+    slots: &Slots,
     e: &Id,
     rows: &[Incoming],
     steps: &mut List<Step>,
 ) -> Result<(), AllocError>
-    ensures { OnOk result (steps.new ≡ steps.old ++ map (incoming_unlink meta.now (L.state look.now).row e.now) (filter (λ i. not (is_touched meta.now slots.now (i.source, i.feature, e.now))) rows.now)) }
+    ensures { OnOk result (steps.new ≡ steps.old ++ map (incoming_unlink meta.now (L.state look.now).row e.now) (filter (λ i. not (is_reached meta.now slots.now (i.source, i.feature, e.now))) rows.now)) }
 {
     for row in rows {
-        if !is_touched(meta, slots, &row.source, row.feature, e) {
+        if !is_reached(alloc, meta, slots, &row.source, row.feature, e)? {
             steps.push(incoming_unlink(alloc, look, meta, e, row)?)?;
         }
     }
     Ok(())
+}
+
+/// The unlinks of the rows to one element that are left once the rows of the slots are gone.
+fn unlink_to<L: Look>(
+    alloc: Global,
+    look: &L,
+    meta: &Metamodel,
+    slots: &Slots,
+    e: &Id,
+    steps: &mut List<Step>,
+) -> Result<(), AllocError>
+    ensures { OnOk result ((ss : Seq AttrKey) → HasSlots slots.now ss → steps.new ≡ steps.old ++ map (incoming_unlink meta.now (L.state look.now).row e.now) (incoming_left meta.now (L.state look.now).row ss e.now)) }
+{
+    meta.sound();
+    let rows = look.incoming(alloc, e)?;
+    unlink_incoming(alloc, look, meta, slots, e, rows.as_slice(), steps)
 }
 
 /// The unlinks of the rows to elements that are left once the rows of the slots are gone.
@@ -107,15 +177,14 @@ pub fn incoming<L: Look>(
     alloc: Global,
     look: &L,
     meta: &Metamodel,
-    slots: &[Slot],
+    slots: &Slots,
     elements: &[Id],
     steps: &mut List<Step>,
 ) -> Result<(), AllocError>
-    ensures { OnOk result (steps.new ≡ steps.old ++ incoming_made meta.now (L.state look.now).row slots.now elements.now) }
+    ensures { OnOk result ((ss : Seq AttrKey) → HasSlots slots.now ss → steps.new ≡ steps.old ++ incoming_made meta.now (L.state look.now).row ss elements.now) }
 {
     for x in elements {
-        let rows = look.incoming(alloc, x)?;
-        unlink_incoming(alloc, look, meta, slots, x, rows.as_slice(), steps)?;
+        unlink_to(alloc, look, meta, slots, x, steps)?;
     }
     Ok(())
 }

@@ -1,4 +1,4 @@
-use Rattle.std.proofs.Common.{◌≡◌, true, false, cond, not, sym, ap, subst, ◌∙◌, arith, length, IfOk, Ok, Err, inr}
+use Rattle.std.proofs.Common.{◌≡◌, false, cond, sym, ap, subst, ◌∙◌, arith, length, IfOk, Ok, Err, inr}
 use Rattle.std.specs.Prelude.{Result, Some, unwrap_or}
 use Rattle.std.specs.FinMap.{get}
 use Rattle.model_state.specs.declared.step.Place.TheVariants.{Root}

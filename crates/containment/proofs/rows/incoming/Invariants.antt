@@ -1,8 +1,10 @@
-use Rattle.std.proofs.Common.{◌≡◌, ◌++◌, drop}
+use Rattle.std.proofs.Common.{◌≡◌, List, ◌++◌, drop}
+use Rattle.model_state.specs.Keys.{AttrKey}
 use Rattle.containment.specs.Deletes.{incoming_made}
+use Rattle.containment.specs.Reached.{HasSlots}
 use Rattle.containment.proofs.rows.incoming.Given as goal
 
 abbrev pub invariant-loop-x : goal.invariant-loop-x
 invariant-loop-x g l =
     let row = (g.L.Look.state l.look).row in
-    l.steps ++ incoming_made l.meta row l.slots (drop l.x-index l.elements) ≡ l.initial.steps ++ incoming_made l.meta row l.slots l.elements
+    (ss : List AttrKey) → HasSlots l.slots ss → l.steps ++ incoming_made l.meta row ss (drop l.x-index l.elements) ≡ l.initial.steps ++ incoming_made l.meta row ss l.elements
