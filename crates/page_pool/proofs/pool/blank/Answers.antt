@@ -1,0 +1,7 @@
+use Rattle.std.proofs.Common.{refl}
+use Rattle.page_pool.specs.Frames.{zeros}
+use Rattle.page_pool.proofs.pool.blank.Goals as goal
+
+pub returns : goal.returns
+unfolding zeros
+returns c = refl
