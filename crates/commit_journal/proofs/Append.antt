@@ -8,7 +8,9 @@ use Rattle.host_port.proofs.Replaying.{whole_write}
 use Rattle.commit_journal.specs.Stop.{IsSettled, Torn, IsWriting}
 use Rattle.commit_journal.specs.Journal.{behind_gate, Holds, Fits, IsReady, IsShort, EndsAt, IsAtRest, IsBeforeOrAfter, IsGateLast}
 use Rattle.commit_journal.proofs.Torn.{torn_part, left_settled, torn_front, torn_back}
-use Rattle.commit_journal.proofs.Ends.{stands, same_end, opened, shut}
+use Rattle.commit_journal.proofs.Ends.{stands, same_end, opened, shut, length-behind_gate}
+use Rattle.page_pool.specs.Frames.{Frames}
+use Rattle.page_pool.specs.Paged.{PagedState, content}
 use Rattle.host_port.proofs.Course.{carry_on, told_next}
 
 pub synced_settled : (disk : Disk) → IsSettled (synced disk)
@@ -120,8 +122,18 @@ pub is_short : (gate : ℕ) (form : List ℕ) → Fits gate (length form) → Is
 is_short gate form fit = omega (arith, fit.short)
 
 -- whatever form a ready record holds fits
-pub fit_of : (prepared : List ℕ) (end : ℕ) → IsReady prepared end → (form : List ℕ) → Holds prepared form → Fits end (length form)
-fit_of prepared end ready form held = subst (λ (n : ℕ). Fits end n) (ap length (sym ready.1 ∙ held)) ready.2
+pub fit_of : (pool : Frames) (prepared : PagedState) (end : ℕ) → IsReady pool prepared end → (form : List ℕ) → Holds pool prepared form → Fits end (length form)
+fit_of pool prepared end ready form held =
+    let a = ready.1.size in
+    let b = held.size in
+    let c = length-behind_gate ready.0 in
+    let d = length-behind_gate form in
+    let same : length ready.0 ≡ length form = omega (arith, a, b, c, d) in
+    subst (λ (n : ℕ). Fits end n) same ready.2
+
+-- what is written is what a ready record holds
+pub bytes_of : (pool : Frames) (prepared paged : PagedState) (form : List ℕ) → paged ≡ prepared → Holds pool prepared form → content pool paged ≡ behind_gate form
+bytes_of pool prepared paged form is held = ap (λ (p : PagedState). content pool p) is ∙ held.content_is
 
 module _ (a b : Told) (gate at : ℕ) (form bytes : List ℕ) (gate_is : at ≡ gate) (bytes_is : bytes ≡ behind_gate form) (fit : Fits gate (length form))
     (during : Throughout a b (λ disk said. IsWriting (disk_now a) (at + 1) bytes disk)) where

@@ -2,6 +2,8 @@
 use Rattle.std.specs.Prelude.{◌≡◌, ◌≢◌, ◌⊎◌, ℕ, ◌+◌, ◌^◌, ◌<◌, ◌≤◌, Bool, List, [], ◌∷◌, ◌++◌, length, take, drop, slice_index, All}
 use Rattle.std.specs.Int.{to_be_bytes, w32}
 use Rattle.host_port.specs.Host.{StopLeaves, Disk}
+use Rattle.page_pool.specs.Frames.{Frames}
+use Rattle.page_pool.specs.Paged.{PagedState, Holds as HoldsBytes}
 use Rattle.commit_journal.specs.Stop.{IsSettled}
 
 -- EMFSTORE, the number 1 and four zero bytes
@@ -118,9 +120,9 @@ pub record WalkState : Type 0 where
   pub next : ℕ
   pub ended : Bool
 
--- the prepared record is that of this form
-abbrev pub Holds : List ℕ → List ℕ → Type 0
-Holds prepared form = prepared ≡ form
+-- the prepared record is that of this form, and lies in frames that are out of the pool, each once
+abbrev pub Holds : Frames → PagedState → List ℕ → Type 0
+Holds pool prepared form = HoldsBytes pool prepared (behind_gate form)
 
 -- a record of this size may be appended at a journal's end
 pub record Fits (end size : ℕ) : Type 0 where
@@ -128,5 +130,5 @@ pub record Fits (end size : ℕ) : Type 0 where
   pub room : end + size + 6 ≤ 2 ^ 40
 
 -- the prepared record may be appended at a journal's end
-abbrev pub IsReady : List ℕ → ℕ → Type 0
-IsReady prepared end = (form : List ℕ) × Holds prepared form × Fits end (length form)
+abbrev pub IsReady : Frames → PagedState → ℕ → Type 0
+IsReady pool prepared end = (form : List ℕ) × Holds pool prepared form × Fits end (length form)

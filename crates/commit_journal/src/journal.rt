@@ -1,11 +1,14 @@
 //! The append of a record: its bytes are made ready first, then written behind a closed gate, and the gate is opened
 //! last.
-ghost use Rattle.std.specs.Prelude.{◌≡◌, ◌+◌, ◌-◌, ◌^◌, ◌<◌, ◌++◌, [], ◌∷◌, List, ℕ, length, take, drop, IsTrue, IfOk, OnOk, OnErr, true, false};
+ghost use Rattle.std.specs.Prelude.{◌≡◌, ◌+◌, ◌^◌, ◌<◌, ◌≤◌, ◌++◌, [], ◌∷◌, List, ℕ, length, take, IsTrue, IfOk, OnOk, OnErr, true, false};
 ghost use Rattle.host_port.specs.Host.{disk_now, Rose, GoesOn, Throughout, KeepsSaid, KeepsInput, RaisesDiskAlone, StopLeaves};
+ghost use Rattle.page_pool.specs.Frames.{out_of, SameFrames};
+ghost use Rattle.page_pool.specs.Paged.{AreOut, AreFree, KeepsOthers, frames_for};
 ghost use Rattle.commit_journal.specs.Journal.{JournalState, behind_gate, four_bytes, IsShort, Holds, IsReady, IsBeforeOrAfter, IsAtRest, IsGateLast};
 
-use crate::write::write_durably;
+use crate::write::{write_durably, write_pages};
 use host_port::{Failed, Host};
+use page_pool::{PagedBytes, Pool};
 use std::alloc::{AllocError, Global};
 use std::marker::Model;
 
@@ -24,23 +27,28 @@ impl Model for Journal {
     ghost invariant = { λ j. j.end < 2 ^ 40 };
 }
 
-/// A record that is ready to be written: all that an append writes behind its gate.
+/// A record that is ready to be written: all that an append writes behind its gate, in frames of a pool.
 #[derive(Drop)]
 pub struct Prepared {
-    bytes: Vec<u8>,
+    paged: PagedBytes,
 }
 
 impl Model for Prepared {
-    ghost Value = { List ℕ };
+    ghost use Rattle.page_pool.specs.Paged.{PagedState};
 
-    ghost view = { λ p. take (length p.bytes.items - 5) (drop 4 p.bytes.items) };
+    ghost Value = { PagedState };
 
-    ghost invariant = { λ p. p.bytes.items ≡ behind_gate (take (length p.bytes.items - 5) (drop 4 p.bytes.items)) };
+    ghost view = { λ p. p.paged };
 }
 
-/// Lets go of a record that is not to be appended.
-pub fn give_up(prepared: Prepared) {
-    drop(prepared);
+/// Gives the frames of a record back that is not to be appended.
+pub fn give_up(prepared: Prepared, pool: &mut Pool)
+    requires out { AreOut pool.old prepared.frames }
+    ensures free { AreFree pool.new prepared.frames }
+    ensures others { KeepsOthers pool.old pool.new prepared.frames }
+    ensures out { out_of pool.new + length prepared.frames ≡ out_of pool.old }
+{
+    prepared.paged.give_up(pool);
 }
 
 fn length_field(n: u32) -> [u8; 4]
@@ -72,26 +80,44 @@ impl Journal {
         self.broken
     }
 
-    /// Makes the record of a form ready, so that an append takes no memory.
-    pub fn prepare(&self, alloc: Global, form: &[u8]) -> Result<Prepared, AllocError>
+    /// Makes the record of a form ready in frames of the pool, so that an append takes no memory.
+    pub fn prepare(
+        &self,
+        alloc: Global,
+        pool: &mut Pool,
+        form: &[u8],
+    ) -> Result<Prepared, AllocError>
         requires short { IsShort form.now }
-        ensures holds { IfOk result (λ prepared. Holds prepared form.now) }
+        requires room { out_of pool.old + frames_for (length form.now + 5) ≤ 8192 }
+        ensures holds { IfOk result (λ prepared. Holds pool.new prepared form.now) }
+        ensures fresh { IfOk result (λ prepared. AreFree pool.old prepared.frames) }
+        ensures others { IfOk result (λ prepared. KeepsOthers pool.old pool.new prepared.frames) }
+        ensures out { OnOk result (out_of pool.new ≡ out_of pool.old + frames_for (length form.now + 5)) }
+        ensures same { OnErr result (SameFrames pool.old pool.new) }
+        ensures err { OnErr result (out_of pool.new ≡ out_of pool.old) }
     {
         let mut bytes = Vec::new(alloc);
         bytes.extend_from_slice(&length_field(form.len() as u32))?;
         bytes.extend_from_slice(form)?;
         bytes.push(0)?;
-        Ok(Prepared { bytes })
+        let paged = PagedBytes::store(alloc, pool, &bytes)?;
+        Ok(Prepared { paged })
     }
 
-    /// Adds a record: writes it and the next closed gate, syncs, opens the gate before it, syncs. A stop at any moment
-    /// leaves the old records, or these with the new one; after `Ok` the new one. After an error the journal is broken.
-    pub fn append<H: Host>(&mut self, host: &mut H, prepared: Prepared) -> Result<(), Failed>
+    /// Adds a record: writes it and the next closed gate, frame by frame, syncs, opens the gate before it, syncs. A stop at
+    /// any moment leaves the old records, or these with the new one; after `Ok` the new one. After an error the journal is
+    /// broken. The record's frames are given back either way.
+    pub fn append<H: Host>(
+        &mut self,
+        pool: &mut Pool,
+        host: &mut H,
+        prepared: Prepared,
+    ) -> Result<(), Failed>
         requires whole { self.old.broken ≡ false }
-        requires ready { IsReady prepared self.old.end }
+        requires ready { IsReady pool.old prepared self.old.end }
         requires at_rest { IsTrue (H.told host.old).tells → ((forms : List (List ℕ)) × IsAtRest (disk_now (H.told host.old)) forms self.old.end) }
 
-        ensures ok { OnOk result ((form : List ℕ) → Holds prepared form → self.new ≡ record { end = self.old.end + 5 + length form; broken = false }) }
+        ensures ok { OnOk result ((form : List ℕ) → Holds pool.old prepared form → self.new ≡ record { end = self.old.end + 5 + length form; broken = false }) }
         ensures err { OnErr result (self.new ≡ record { end = self.old.end; broken = true }) }
         ensures cause { OnErr result (Rose (H.told host.old).disk_faults (H.told host.new).disk_faults) }
         ensures alone { RaisesDiskAlone (H.told host.old) (H.told host.new) }
@@ -99,20 +125,26 @@ impl Journal {
         ensures said { KeepsSaid (H.told host.old) (H.told host.new) }
         ensures input { KeepsInput (H.told host.old) (H.told host.new) }
 
-        ensures added { OnOk result (IsTrue (H.told host.old).tells → (form : List ℕ) → Holds prepared form
+        ensures free { AreFree pool.new prepared.frames }
+        ensures others { KeepsOthers pool.old pool.new prepared.frames }
+        ensures out { out_of pool.new + length prepared.frames ≡ out_of pool.old }
+
+        ensures added { OnOk result (IsTrue (H.told host.old).tells → (form : List ℕ) → Holds pool.old prepared form
             → (forms : List (List ℕ)) → IsAtRest (disk_now (H.told host.old)) forms self.old.end
             → IsAtRest (disk_now (H.told host.new)) (forms ++ form ∷ []) self.new.end) }
-        ensures any_moment { (form : List ℕ) → Holds prepared form
+        ensures any_moment { (form : List ℕ) → Holds pool.old prepared form
             → (forms : List (List ℕ)) → IsAtRest (disk_now (H.told host.old)) forms self.old.end
             → Throughout (H.told host.old) (H.told host.new) (λ disk _. StopLeaves (IsBeforeOrAfter forms form) disk) }
         ensures front { Throughout (H.told host.old) (H.told host.new) (λ disk _. take self.old.end disk.now ≡ take self.old.end (disk_now (H.told host.old)).now) }
-        ensures gate_last { (form : List ℕ) → Holds prepared form
+        ensures gate_last { (form : List ℕ) → Holds pool.old prepared form
             → Throughout (H.told host.old) (H.told host.new) (λ disk _. IsGateLast (disk_now (H.told host.old)) self.old.end (behind_gate form) disk) }
     {
         let gate = self.end;
-        let length = prepared.bytes.len() as u64;
+        let length = prepared.paged.len() as u64;
         self.broken = true;
-        write_durably(host, gate + 1, &prepared.bytes)?;
+        let done = write_pages(host, gate + 1, pool, &prepared.paged);
+        prepared.paged.give_up(pool);
+        done?;
         write_durably(host, gate, &[165])?;
         self.end = gate + length;
         self.broken = false;
