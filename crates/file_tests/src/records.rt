@@ -2,6 +2,7 @@
 use crate::spelling::bytes_of;
 use commit_journal::{Fit, JournalFault, Walk, fits, give_up};
 use host_port::{Host, MemoryHost};
+use page_pool::Pool;
 use std::alloc::Global;
 use std::process::Abort;
 use std::test::Fail;
@@ -11,7 +12,9 @@ fn count<H: Host>(alloc: Global, host: &mut H) -> Result<usize, JournalFault> {
     let mut walk = Walk::mount(host)?;
     match walk.next_bytes(alloc, host)? {
         None => {
-            give_up(walk.finish().prepare(alloc, b"a")?);
+            let mut pool = Pool::new(alloc);
+            let prepared = walk.finish().prepare(alloc, &mut pool, b"a")?;
+            give_up(prepared, &mut pool);
             return Ok(0);
         }
         Some(_) => {}
