@@ -1,12 +1,14 @@
 -- How an event enters the store, at each moment and at the end.
-use Rattle.std.proofs.Common.{◌≡◌, inl, inr, ⊎_elim, ℕ, List, [], ◌∷◌, ◌++◌, length, take, Option, Some, None, refl, sym, ◌∙◌, ap, subst}
+use Rattle.std.proofs.Common.{◌≡◌, inl, inr, ⊎_elim, ℕ, ◌+◌, List, [], ◌∷◌, ◌++◌, length, take, Option, Some, None, refl, sym, ◌∙◌, ap, subst, arith}
 use Rattle.std.specs.Prelude.{IsTrue, IsSome, map}
 use Rattle.std.proofs.lemmas.List.{append-nil}
 use Rattle.host_port.specs.Host.{Told, Disk, MayLeave, Throughout, KeepsDisk, KeepsSaid, AddsPart, disk_now, said_now, StopLeaves}
 use Rattle.host_port.proofs.Course.{still_disk}
-use Rattle.commit_journal.specs.Journal.{StandsFor, IsAtRest, IsBeforeOrAfter, Fits}
+use Rattle.page_pool.specs.Frames.{Frames}
+use Rattle.page_pool.specs.Paged.{PagedState, frames_for}
+use Rattle.commit_journal.specs.Journal.{StandsFor, IsAtRest, IsBeforeOrAfter, Fits, Holds}
 use Rattle.commit_journal.proofs.Torn.{left_settled}
-use Rattle.commit_journal.proofs.Ends.{stands}
+use Rattle.commit_journal.proofs.Ends.{stands, length-behind_gate}
 use Rattle.command_runs.specs.Runs.{listed}
 use Rattle.command_runs.specs.Stops.{IsStepping}
 use Rattle.command_runs.proofs.RunLaws.{played-append}
@@ -16,7 +18,7 @@ use Rattle.plain_repository.specs.State.{State, empty}
 use Rattle.plain_repository.specs.Events.{play, playable, are_playable}
 use Rattle.plain_repository.specs.Store.{Stands}
 use Rattle.plain_repository.proofs.Stores.{map-more, playable-more}
-use Rattle.emf_session.specs.Session.{IsStoreOf, IsEntering, IsRecordOf}
+use Rattle.emf_session.specs.Session.{IsStoreOf, IsEntering, IsRecordOf, frames_held}
 
 pub rest_leaves : (disk : Disk) (state : State) (made : List Event) → IsStoreOf disk state made → StopLeaves (λ x. Stands x made) disk
 rest_leaves disk state made holds x left = record {
@@ -28,34 +30,48 @@ pub holds_stands : (disk : Disk) (state : State) (made : List Event) → IsStore
 holds_stands disk state made holds = record { forms = stands disk.now (map event_form made) state.end holds.rests.journal.ends; playable = holds.rests.playable }
 
 -- no record is ready where there is no event alone
-pub none_ready : (state : State) (event : Option Event) (ready : Option (List ℕ)) → ready ≡ None → IsRecordOf state event ready → event ≡ None
-none_ready state None ready none is = refl
-none_ready state (Some event) ready none is = let form_is = is.0 in cc
+pub none_ready : (pool : Frames) (state : State) (event : Option Event) (ready : Option PagedState) → ready ≡ None → IsRecordOf pool state event ready → event ≡ None
+none_ready pool state None ready none is = refl
+none_ready pool state (Some event) ready none is = let some = is.0.is in cc
 
 -- where there is no event, no record is ready
-pub ready_none : (state : State) (event : Option Event) (ready : Option (List ℕ)) → event ≡ None → IsRecordOf state event ready → ready ≡ None
-ready_none state None ready none is = is
-ready_none state (Some event) ready none is = cc
+pub ready_none : (pool : Frames) (state : State) (event : Option Event) (ready : Option PagedState) → event ≡ None → IsRecordOf pool state event ready → ready ≡ None
+ready_none pool state None ready none is = is
+ready_none pool state (Some event) ready none is = cc
 
 -- a record is ready for an event alone
-pub event_ready : (state : State) (event : Option Event) (ready : Option (List ℕ)) → IsRecordOf state event ready → IsSome ready → IsSome event
-event_ready state None ready is some = subst (λ (o : Option (List ℕ)). IsSome o) is some
-event_ready state (Some event) ready is some = refl
+pub event_ready : (pool : Frames) (state : State) (event : Option Event) (ready : Option PagedState) → IsRecordOf pool state event ready → IsSome ready → IsSome event
+event_ready pool state None ready is some = subst (λ (o : Option PagedState). IsSome o) is some
+event_ready pool state (Some event) ready is some = refl
 
 -- the event of a record that is ready
-pub record IsOf (state : State) (event : Option Event) (form : List ℕ) : Type 0 where
+pub record IsOf (pool : Frames) (state : State) (event : Option Event) (prepared : PagedState) : Type 0 where
   pub made : Event
   pub event_is : event ≡ Some made
-  pub form_is : form ≡ event_form made
+  pub holds : Holds pool prepared (event_form made)
   pub playable : IsTrue (playable state made)
-  pub fits : Fits state.end (length form)
+  pub fits : Fits state.end (length (event_form made))
 
-pub some_ready : (state : State) (event : Option Event) (ready : Option (List ℕ)) (form : List ℕ) → ready ≡ Some form → IsRecordOf state event ready → IsOf state event form
-some_ready state None ready form some is = let none : ready ≡ None = is in absurd cc
-some_ready state (Some event) ready form some is =
-    let form_is = is.0 in
-    let same : form ≡ event_form event = cc in
-    record { made = event; event_is = refl; form_is = same; playable = is.1; fits = subst (λ (l : List ℕ). Fits state.end (length l)) (sym same) is.2 }
+pub some_ready : (pool : Frames) (state : State) (event : Option Event) (ready : Option PagedState) (prepared : PagedState) → ready ≡ Some prepared → IsRecordOf pool state event ready → IsOf pool state event prepared
+some_ready pool state None ready prepared some is = let none : ready ≡ None = is in absurd cc
+some_ready pool state (Some event) ready prepared some is =
+    let there = is.0.is in
+    let same : is.0.prepared ≡ prepared = cc in
+    record { made = event; event_is = refl; holds = subst (λ (p : PagedState). Holds pool p (event_form event)) same is.0.holds; playable = is.1; fits = is.2 }
+
+-- the frames that a record takes that is ready
+pub held_some : (ready : Option PagedState) (prepared : PagedState) → ready ≡ Some prepared → frames_held ready ≡ length prepared.frames
+held_some ready prepared is = ap frames_held is
+
+-- of a record that alone is out
+pub held_alone : (pool : Frames) (prepared : PagedState) (form : List ℕ) (out out_now : ℕ) → Holds pool prepared form → out_now ≡ out + frames_for (length form + 5) → out ≡ 0 → out_now ≡ length prepared.frames
+held_alone pool prepared form out out_now holds more none =
+    let count = holds.count in
+    let size = length-behind_gate form in
+    omega (arith, count, size, more, none)
+
+pub held_none : (ready : Option PagedState) → ready ≡ None → frames_held ready ≡ 0
+held_none ready is = ap frames_held is
 
 -- no event
 pub none_added : (disk : Disk) (state : State) (made : List Event) → IsStoreOf disk state made → IsStoreOf disk state (made ++ [])

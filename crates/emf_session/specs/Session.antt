@@ -1,7 +1,9 @@
 -- What the calls of a session do.
 use Rattle.std.specs.Prelude.{◌≡◌, ◌⊎◌, ℕ, List, ◌++◌, Bool, true, false, IsTrue, length, map, Option, Some, None, Result, Ok, Err}
 use Rattle.host_port.specs.Host.{Disk, StopLeaves}
-use Rattle.commit_journal.specs.Journal.{Fits, IsWalked}
+use Rattle.page_pool.specs.Frames.{Frames}
+use Rattle.page_pool.specs.Paged.{PagedState}
+use Rattle.commit_journal.specs.Journal.{Fits, Holds, IsWalked}
 use Rattle.commit_journal.specs.declared.fault.JournalFault.{JournalFault}
 use Rattle.commit_journal.specs.declared.fault.JournalFault.TheVariants as journals
 use Rattle.command_runs.specs.Runs.{Answer, listed, played}
@@ -46,16 +48,27 @@ IfMade (Err DiskFault) P = Unit {0}
 IfMade (Err Memory) P = Unit {0}
 IfMade (Err (Damaged at)) P = Unit {0}
 
+-- a record is ready: that of this form, in frames that are out of the pool
+pub record IsReadyIn (pool : Frames) (form : List ℕ) (ready : Option PagedState) : Type 0 where
+  pub prepared : PagedState
+  pub is : ready ≡ Some prepared
+  pub holds : Holds pool prepared form
+
 -- the record that is ready is that of an event that can be made, and fits; none is ready where there is no event
-abbrev pub IsRecordOf : State → Option Event → Option (List ℕ) → Type 0
-IsRecordOf state None ready = ready ≡ None
-IsRecordOf state (Some event) ready = (ready ≡ Some (event_form event)) × IsTrue (playable state event) × Fits state.end (length (event_form event))
+abbrev pub IsRecordOf : Frames → State → Option Event → Option PagedState → Type 0
+IsRecordOf pool state None ready = ready ≡ None
+IsRecordOf pool state (Some event) ready = IsReadyIn pool (event_form event) ready × IsTrue (playable state event) × Fits state.end (length (event_form event))
+
+-- how many frames the record takes that is ready
+abbrev pub frames_held : Option PagedState → ℕ
+frames_held None = 0
+frames_held (Some prepared) = length prepared.frames
 
 -- all of a decision is prepared: its reply's bytes, and its event's record
-pub record IsPlan (state : State) (decision : plain.Decision) (plan : Plan) : Type 0 where
+pub record IsPlan (pool : Frames) (state : State) (decision : plain.Decision) (plan : Plan) : Type 0 where
   pub reply : plan.reply.items ≡ printed decision.reply
   pub answered : plan.answered ≡ answered_as (is_refusal decision.reply)
-  pub ready : IsRecordOf state decision.event plan.ready
+  pub ready : IsRecordOf pool state decision.event plan.ready
 
 -- a store while it is read: its records up to a place are those of events, each one that a command could make, and the
 -- state is theirs

@@ -1,5 +1,6 @@
 //! The parts of a command: all that it takes is made ready, its event enters the store, and its reply is printed.
 ghost use Rattle.std.specs.Prelude.{◌≡◌, ◌⊎◌, ◌++◌, ◌^◌, ◌-◌, ◌<◌, ℕ, length, List, Option, IsTrue, IfOk, OnOk, IfErr, OnErr, IsErrOf, IsSome, None, true, false};
+ghost use Rattle.page_pool.specs.Frames.{out_of};
 ghost use Rattle.host_port.specs.Host.{disk_now, said_now, Rose, GoesOn, Throughout, KeepsDisk, KeepsSaid, KeepsInput, AddsPart};
 ghost use Rattle.command_runs.specs.Runs.{listed, after};
 ghost use Rattle.command_runs.specs.Stops.{IsStepping};
@@ -9,13 +10,14 @@ ghost use Rattle.plain_repository.specs.Events.{play};
 ghost use Rattle.plain_repository.specs.Repository.{decide_line};
 ghost use Rattle.plain_repository.specs.Store.{Stands};
 ghost use Rattle.repo_core.specs.Decisions.{IsShortBlock};
-ghost use Rattle.emf_session.specs.Session.{answer_to, answered_as, IsStoreOf, IsEntering, IfMade, IsPlan, IsRecordOf};
+ghost use Rattle.emf_session.specs.Session.{answer_to, answered_as, IsStoreOf, IsEntering, IfMade, IsPlan, IsRecordOf, frames_held};
 ghost use Rattle.emf_session.specs.declared.answered.SessionFault.TheVariants.{DiskFault};
 
 use crate::answered::{Answered, SessionFault, kind_of};
-use commit_journal::{Journal, Prepared};
+use commit_journal::{Journal, Prepared, give_up};
 use ecore_meta::Text;
 use host_port::Host;
+use page_pool::Pool;
 use repo_core::{Decision, Made, Repo};
 use script_lang::print_reply;
 use std::alloc::{AllocError, Global};
@@ -28,9 +30,11 @@ pub struct Plan {
     pub ready: Option<Prepared>,
 }
 
-/// Decides a command, with all the memory that it takes; its event is made in memory, and its record is ready.
+/// Decides a command, with all the memory that it takes; its event is made in memory, and its record is ready in frames
+/// of the pool.
 pub(crate) fn prepare(
     alloc: Global,
+    pool: &mut Pool,
     repo: &mut Repo,
     journal: &Journal,
     line: &str,
@@ -38,7 +42,10 @@ pub(crate) fn prepare(
 ) -> Result<Plan, AllocError>
     requires line { length line.now < 2 ^ 32 - 1 }
     requires block { IsShortBlock block.now }
-    ensures plan { IfOk result (IsPlan repo.old (decide_line repo.old line.now block.now)) }
+    requires none { out_of pool.old ≡ 0 }
+    ensures plan { IfOk result (IsPlan pool.new repo.old (decide_line repo.old line.now block.now)) }
+    ensures held { IfOk result (λ plan. out_of pool.new ≡ frames_held plan.ready) }
+    ensures none { OnErr result (out_of pool.new ≡ 0) }
     ensures state { OnOk result (repo.new ≡ after play repo.old (decide_line repo.old line.now block.now).event) }
     ensures same { OnErr result (repo.new ≡ repo.old) }
 {
@@ -52,29 +59,37 @@ pub(crate) fn prepare(
             ready: None,
         });
     };
-    let prepared = journal.prepare(alloc, &form)?;
-    repo.play(alloc, event, form.len())?;
-    Ok(Plan {
-        reply,
-        answered,
-        ready: Some(prepared),
-    })
+    let prepared = journal.prepare(alloc, pool, &form)?;
+    match repo.play(alloc, event, form.len()) {
+        Ok(()) => Ok(Plan {
+            reply,
+            answered,
+            ready: Some(prepared),
+        }),
+        Err(fault) => {
+            give_up(prepared, pool);
+            Err(fault)
+        }
+    }
 }
 
-/// Writes an event's record, if there is one.
+/// Writes an event's record, if there is one; its frames are given back either way.
 pub(crate) fn enter<H: Host>(
+    pool: &mut Pool,
     journal: &mut Journal,
     host: &mut H,
     ready: Option<Prepared>,
 ) -> Result<(), SessionFault>
     requires whole { journal.old.broken ≡ false }
-    requires ready { (state : State) × (event : Option Event) × IsRecordOf state event ready × (state.end ≡ journal.old.end) }
+    requires ready { (state : State) × (event : Option Event) × IsRecordOf pool.old state event ready × (state.end ≡ journal.old.end) }
     requires holds { IsTrue (H.told host.old).tells → ((state : State) × (made : List Event) × IsStoreOf (disk_now (H.told host.old)) state made × (state.end ≡ journal.old.end)) }
+    requires held { out_of pool.old ≡ frames_held ready }
+    ensures none { out_of pool.new ≡ 0 }
     ensures whole { OnOk result (journal.new.broken ≡ false) }
-    ensures end { OnOk result ((state : State) (event : Option Event) → state.end ≡ journal.old.end → IsRecordOf state event ready → (after play state event).end ≡ journal.new.end) }
-    ensures added { OnOk result (IsTrue (H.told host.old).tells → (state : State) (event : Option Event) → state.end ≡ journal.old.end → IsRecordOf state event ready
+    ensures end { OnOk result ((state : State) (event : Option Event) → state.end ≡ journal.old.end → IsRecordOf pool.old state event ready → (after play state event).end ≡ journal.new.end) }
+    ensures added { OnOk result (IsTrue (H.told host.old).tells → (state : State) (event : Option Event) → state.end ≡ journal.old.end → IsRecordOf pool.old state event ready
         → (made : List Event) → IsStoreOf (disk_now (H.told host.old)) state made → IsStoreOf (disk_now (H.told host.new)) (after play state event) (made ++ listed event)) }
-    ensures entering { (state : State) (event : Option Event) → state.end ≡ journal.old.end → IsRecordOf state event ready
+    ensures entering { (state : State) (event : Option Event) → state.end ≡ journal.old.end → IsRecordOf pool.old state event ready
         → (made : List Event) → IsStoreOf (disk_now (H.told host.old)) state made → Throughout (H.told host.old) (H.told host.new) (λ disk _. IsEntering made event disk) }
     ensures fault { IfErr result (λ e. e ≡ DiskFault) }
     ensures broken { OnErr result (journal.new.broken ≡ true) }
@@ -88,7 +103,7 @@ pub(crate) fn enter<H: Host>(
     let Some(prepared) = ready else {
         return Ok(());
     };
-    match journal.append(host, prepared) {
+    match journal.append(pool, host, prepared) {
         Ok(()) => Ok(()),
         Err(_) => Err(SessionFault::DiskFault),
     }
@@ -105,6 +120,7 @@ pub(crate) struct Carried {
 fn carry_out<H: Host>(
     alloc: Global,
     host: &mut H,
+    pool: &mut Pool,
     repo: &mut Repo,
     journal: &mut Journal,
     line: &str,
@@ -115,6 +131,8 @@ fn carry_out<H: Host>(
     requires whole { journal.old.broken ≡ false }
     requires end { repo.old.end ≡ journal.old.end }
     requires open { IsTrue (H.told host.old).tells → ((made : List Event) × IsStoreOf (disk_now (H.told host.old)) repo.old made) }
+    requires none { out_of pool.old ≡ 0 }
+    ensures none { out_of pool.new ≡ 0 }
     ensures reply { IfOk result (λ c. c.reply.items ≡ (answer_to repo.old line.now block.now).reply) }
     ensures refused { IfOk result (λ c. c.answered ≡ answered_as (answer_to repo.old line.now block.now).refused) }
     ensures state { OnOk result (repo.new ≡ after play repo.old (answer_to repo.old line.now block.now).event) }
@@ -137,7 +155,7 @@ fn carry_out<H: Host>(
     ensures said { KeepsSaid (H.told host.old) (H.told host.new) }
     ensures input { KeepsInput (H.told host.old) (H.told host.new) }
 {
-    let Ok(plan) = prepare(alloc, repo, journal, line, block) else {
+    let Ok(plan) = prepare(alloc, pool, repo, journal, line, block) else {
         return Err(SessionFault::Memory);
     };
     let Plan {
@@ -145,7 +163,7 @@ fn carry_out<H: Host>(
         answered,
         ready,
     } = plan;
-    match enter(journal, host, ready) {
+    match enter(pool, journal, host, ready) {
         Ok(()) => Ok(Carried { reply, answered }),
         Err(_) => Err(SessionFault::DiskFault),
     }
@@ -155,6 +173,7 @@ fn carry_out<H: Host>(
 pub(crate) fn answer<H: Host>(
     alloc: Global,
     host: &mut H,
+    pool: &mut Pool,
     repo: &mut Repo,
     journal: &mut Journal,
     line: &str,
@@ -165,6 +184,8 @@ pub(crate) fn answer<H: Host>(
     requires whole { journal.old.broken ≡ false }
     requires end { repo.old.end ≡ journal.old.end }
     requires open { IsTrue (H.told host.old).tells → ((made : List Event) × IsStoreOf (disk_now (H.told host.old)) repo.old made) }
+    requires none { out_of pool.old ≡ 0 }
+    ensures none { out_of pool.new ≡ 0 }
     ensures refused { IfOk result (λ a. a ≡ answered_as (answer_to repo.old line.now block.now).refused) }
     ensures replied { OnOk result (IsTrue (H.told host.old).tells → said_now (H.told host.new) ≡ said_now (H.told host.old) ++ (answer_to repo.old line.now block.now).reply) }
     ensures state { IfMade result (repo.new ≡ after play repo.old (answer_to repo.old line.now block.now).event) }
@@ -189,7 +210,7 @@ pub(crate) fn answer<H: Host>(
     ensures same_journal { IsErrOf result SessionFault.Memory → journal.new ≡ journal.old }
     ensures never { IfErr result (λ e. (at : ℕ) → e ≡ SessionFault.Damaged at → ⊥) }
 {
-    let carried = match carry_out(alloc, host, repo, journal, line, block) {
+    let carried = match carry_out(alloc, host, pool, repo, journal, line, block) {
         Ok(carried) => carried,
         Err(fault) => return Err(fault),
     };
@@ -203,6 +224,7 @@ pub(crate) fn answer<H: Host>(
 pub(crate) fn answer_quietly<H: Host>(
     alloc: Global,
     host: &mut H,
+    pool: &mut Pool,
     repo: &mut Repo,
     journal: &mut Journal,
     line: &str,
@@ -213,6 +235,8 @@ pub(crate) fn answer_quietly<H: Host>(
     requires whole { journal.old.broken ≡ false }
     requires end { repo.old.end ≡ journal.old.end }
     requires open { IsTrue (H.told host.old).tells → ((made : List Event) × IsStoreOf (disk_now (H.told host.old)) repo.old made) }
+    requires none { out_of pool.old ≡ 0 }
+    ensures none { out_of pool.new ≡ 0 }
     ensures refused { IfOk result (λ a. a ≡ answered_as (answer_to repo.old line.now block.now).refused) }
     ensures state { OnOk result (repo.new ≡ after play repo.old (answer_to repo.old line.now block.now).event) }
     ensures added { OnOk result (IsTrue (H.told host.old).tells → (made : List Event) → IsStoreOf (disk_now (H.told host.old)) repo.old made
@@ -234,7 +258,7 @@ pub(crate) fn answer_quietly<H: Host>(
     ensures said { KeepsSaid (H.told host.old) (H.told host.new) }
     ensures input { KeepsInput (H.told host.old) (H.told host.new) }
 {
-    match carry_out(alloc, host, repo, journal, line, block) {
+    match carry_out(alloc, host, pool, repo, journal, line, block) {
         Ok(carried) => Ok(carried.answered),
         Err(fault) => Err(fault),
     }

@@ -16,26 +16,29 @@ use crate::plan::{answer, answer_quietly};
 use commit_journal::{Journal, Walk};
 use ecore_meta::Text;
 use host_port::Host;
+use page_pool::Pool;
 use repo_core::{Counts, ReplayFault, Repo};
 use std::alloc::{AllocError, Global};
 use std::marker::Model;
 
-/// A store that is open, and its repository.
+/// A store that is open, its repository, and the frames for its records, none of which is out between two commands.
 #[derive(Drop)]
 pub struct Session {
     repo: Repo,
     journal: Journal,
+    pool: Pool,
 }
 
 impl Model for Session {
     ghost use Rattle.std.specs.Prelude.{◌≡◌, false};
+    ghost use Rattle.page_pool.specs.Frames.{out_of};
     ghost use Rattle.emf_session.specs.State.{SessionState};
 
     ghost Value = { SessionState };
 
     ghost view = { λ s. record { state = s.repo; end = s.journal.end; broken = s.journal.broken } };
 
-    ghost invariant = { λ s. s.journal.broken ≡ false → s.repo.end ≡ s.journal.end };
+    ghost invariant = { λ s. (s.journal.broken ≡ false → s.repo.end ≡ s.journal.end) × (out_of s.pool ≡ 0) };
 }
 
 impl Session {
@@ -65,6 +68,7 @@ impl Session {
                     return Ok(Session {
                         repo,
                         journal: walk.finish(),
+                        pool: Pool::new(alloc),
                     });
                 }
                 Ok(Some(bytes)) => match repo.replay(alloc, &bytes) {
@@ -152,7 +156,15 @@ impl Session {
         ensures same { IsErrOf result SessionFault.Memory → self.new ≡ self.old }
         ensures never { IfErr result (λ e. (at : ℕ) → e ≡ SessionFault.Damaged at → ⊥) }
     {
-        answer(alloc, host, &mut self.repo, &mut self.journal, line, block)
+        answer(
+            alloc,
+            host,
+            &mut self.pool,
+            &mut self.repo,
+            &mut self.journal,
+            line,
+            block,
+        )
     }
 
     /// Answers a command as `step` does, and prints nothing.
@@ -193,6 +205,14 @@ impl Session {
         ensures said { KeepsSaid (H.told host.old) (H.told host.new) }
         ensures input { KeepsInput (H.told host.old) (H.told host.new) }
     {
-        answer_quietly(alloc, host, &mut self.repo, &mut self.journal, line, block)
+        answer_quietly(
+            alloc,
+            host,
+            &mut self.pool,
+            &mut self.repo,
+            &mut self.journal,
+            line,
+            block,
+        )
     }
 }

@@ -43,16 +43,16 @@ pub returns-in-Err-clause-entering : goal.returns-in-Err-clause-entering
 returns-in-Err-clause-entering g c = λ made holds. c.enter.ensures.entering c.args.repo.now (decide_line c.args.repo.now c.args.line.now c.args.block.now).event c.requires.end c.in-Ok.ensures.plan.ready made holds
 
 pub returns-in-Err-clause-event : goal.returns-in-Err-clause-event
-returns-in-Err-clause-event g c = λ is. event_ready c.args.repo.now (decide_line c.args.repo.now c.args.line.now c.args.block.now).event c.in-Ok.plan.ready c.in-Ok.ensures.plan.ready c.in-Err.ensures.event
+returns-in-Err-clause-event g c = λ is. event_ready c.prepare.new.pool c.args.repo.now (decide_line c.args.repo.now c.args.line.now c.args.block.now).event c.in-Ok.plan.ready c.in-Ok.ensures.plan.ready c.in-Err.ensures.event
 
 pub returns-in_default-clause-still : goal.returns-in_default-clause-still
 returns-in_default-clause-still g c = λ none. still_disk (g.H.Host.told c.args.host.now)
 
 pub returns-in-Ok-enter-clause-still : goal.returns-in-Ok-enter-clause-still
-returns-in-Ok-enter-clause-still g c = λ none. c.enter.ensures.still (ready_none c.args.repo.now (decide_line c.args.repo.now c.args.line.now c.args.block.now).event c.in-Ok.plan.ready none c.in-Ok.ensures.plan.ready)
+returns-in-Ok-enter-clause-still g c = λ none. c.enter.ensures.still (ready_none c.prepare.new.pool c.args.repo.now (decide_line c.args.repo.now c.args.line.now c.args.block.now).event c.in-Ok.plan.ready none c.in-Ok.ensures.plan.ready)
 
 pub returns-in-Err-clause-still : goal.returns-in-Err-clause-still
-returns-in-Err-clause-still g c = λ none. c.enter.ensures.still (ready_none c.args.repo.now (decide_line c.args.repo.now c.args.line.now c.args.block.now).event c.in-Ok.plan.ready none c.in-Ok.ensures.plan.ready)
+returns-in-Err-clause-still g c = λ none. c.enter.ensures.still (ready_none c.prepare.new.pool c.args.repo.now (decide_line c.args.repo.now c.args.line.now c.args.block.now).event c.in-Ok.plan.ready none c.in-Ok.ensures.plan.ready)
 
 pub returns-in-Err-clause-faulted : goal.returns-in-Err-clause-faulted
 returns-in-Err-clause-faulted g c = λ is. c.in-Ok.ensures.state

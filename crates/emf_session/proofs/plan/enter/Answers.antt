@@ -5,7 +5,7 @@ use Rattle.host_port.proofs.Course.{still_disk}
 use Rattle.commit_journal.specs.Journal.{JournalState, IsAtRest, Fits}
 use Rattle.op_form.specs.Events.{event_form}
 use Rattle.plain_repository.specs.Events.{play}
-use Rattle.emf_session.proofs.Entering.{none_added, none_entering, event_added, event_entering, none_ready, some_ready}
+use Rattle.emf_session.proofs.Entering.{none_added, none_entering, event_added, event_entering, none_ready, some_ready, held_none, held_some}
 use Rattle.emf_session.proofs.Playing.{play_end}
 use Rattle.emf_session.proofs.plan.enter.Goals as goal
 
@@ -14,8 +14,8 @@ end_of j = j.end
 
 pub append-requires-clause-ready : goal.append-requires-clause-ready
 append-requires-clause-ready g c =
-    let of = some_ready c.requires.ready.0 c.requires.ready.1 c.args.ready c.in-Some.prepared c.in-Some.is c.requires.ready.2 in
-    (c.in-Some.prepared, refl, subst (λ (n : ℕ). Fits n (length c.in-Some.prepared)) c.requires.ready.3 of.fits)
+    let of = some_ready c.args.pool.now c.requires.ready.0 c.requires.ready.1 c.args.ready c.in-Some.prepared c.in-Some.is c.requires.ready.2 in
+    (event_form of.made, of.holds, subst (λ (n : ℕ). Fits n (length (event_form of.made))) c.requires.ready.3 of.fits)
 
 pub append-requires-clause-at_rest : goal.append-requires-clause-at_rest
 append-requires-clause-at_rest g c = λ told.
@@ -23,41 +23,41 @@ append-requires-clause-at_rest g c = λ told.
     (map event_form had.1, subst (λ (n : ℕ). IsAtRest (disk_now (g.H.Host.told c.args.host.now)) (map event_form had.1) n) had.3 had.2.rests.journal)
 
 pub returns-in_default-clause-end : goal.returns-in_default-clause-end
-returns-in_default-clause-end g c = λ state event at' is. rw (none_ready state event c.args.ready c.in_default.is is) at'
+returns-in_default-clause-end g c = λ state event at' is. rw (none_ready c.args.pool.now state event c.args.ready c.in_default.is is) at'
 
 pub returns-in_default-clause-added : goal.returns-in_default-clause-added
 returns-in_default-clause-added g c = λ told state event at' is made holds.
-    rw (none_ready state event c.args.ready c.in_default.is is) (none_added (disk_now (g.H.Host.told c.args.host.now)) state made holds)
+    rw (none_ready c.args.pool.now state event c.args.ready c.in_default.is is) (none_added (disk_now (g.H.Host.told c.args.host.now)) state made holds)
 
 pub returns-in_default-clause-entering : goal.returns-in_default-clause-entering
 returns-in_default-clause-entering g c = λ state event at' is made holds.
-    rw (none_ready state event c.args.ready c.in_default.is is) (none_entering (g.H.Host.told c.args.host.now) state made holds)
+    rw (none_ready c.args.pool.now state event c.args.ready c.in_default.is is) (none_entering (g.H.Host.told c.args.host.now) state made holds)
 
 pub returns-in-Ok-clause-end : goal.returns-in-Ok-clause-end
 returns-in-Ok-clause-end g c = λ state event at' is.
-    let of = some_ready state event c.args.ready c.in-Some.prepared c.in-Some.is is in
-    let same : state.end + 5 + length (event_form of.made) ≡ c.args.journal.now.end + 5 + length c.in-Some.prepared = omega (arith, at', ap length of.form_is) in
-    rw of.event_is (play_end state of.made ∙ same ∙ sym (ap end_of (c.in-Ok.ensures.ok c.in-Some.prepared refl)))
+    let of = some_ready c.args.pool.now state event c.args.ready c.in-Some.prepared c.in-Some.is is in
+    let same : state.end + 5 + length (event_form of.made) ≡ c.args.journal.now.end + 5 + length (event_form of.made) = omega (arith, at') in
+    rw of.event_is (play_end state of.made ∙ same ∙ sym (ap end_of (c.in-Ok.ensures.ok (event_form of.made) of.holds)))
 
 pub returns-in-Ok-clause-added : goal.returns-in-Ok-clause-added
 returns-in-Ok-clause-added g c = λ told state event at' is made holds.
-    let of = some_ready state event c.args.ready c.in-Some.prepared c.in-Some.is is in
-    let same : state.end + 5 + length (event_form of.made) ≡ c.args.journal.now.end + 5 + length c.in-Some.prepared = omega (arith, at', ap length of.form_is) in
+    let of = some_ready c.args.pool.now state event c.args.ready c.in-Some.prepared c.in-Some.is is in
+    let same : state.end + 5 + length (event_form of.made) ≡ c.args.journal.now.end + 5 + length (event_form of.made) = omega (arith, at') in
     rw of.event_is (event_added (g.H.Host.told c.args.host.now) (g.H.Host.told c.append.new.host) state made of.made of.playable holds
-    (disk_now (g.H.Host.told c.append.new.host)) (play state of.made) c.append.new.self.end c.in-Some.prepared of.form_is refl (play_end state of.made ∙ same ∙ sym (ap end_of (c.in-Ok.ensures.ok c.in-Some.prepared refl)))
-    (c.in-Ok.ensures.added told c.in-Some.prepared refl (map event_form made) (subst (λ (n : ℕ). IsAtRest (disk_now (g.H.Host.told c.args.host.now)) (map event_form made) n) at' holds.rests.journal)))
+    (disk_now (g.H.Host.told c.append.new.host)) (play state of.made) c.append.new.self.end (event_form of.made) refl refl (play_end state of.made ∙ same ∙ sym (ap end_of (c.in-Ok.ensures.ok (event_form of.made) of.holds)))
+    (c.in-Ok.ensures.added told (event_form of.made) of.holds (map event_form made) (subst (λ (n : ℕ). IsAtRest (disk_now (g.H.Host.told c.args.host.now)) (map event_form made) n) at' holds.rests.journal)))
 
 pub returns-in-Ok-clause-entering : goal.returns-in-Ok-clause-entering
 returns-in-Ok-clause-entering g c = λ state event at' is made holds.
-    let of = some_ready state event c.args.ready c.in-Some.prepared c.in-Some.is is in
+    let of = some_ready c.args.pool.now state event c.args.ready c.in-Some.prepared c.in-Some.is is in
     rw of.event_is (event_entering (g.H.Host.told c.args.host.now) (g.H.Host.told c.append.new.host) state made of.made of.playable holds
-    c.in-Some.prepared of.form_is (c.append.ensures.any_moment c.in-Some.prepared refl (map event_form made) (subst (λ (n : ℕ). IsAtRest (disk_now (g.H.Host.told c.args.host.now)) (map event_form made) n) at' holds.rests.journal)))
+    (event_form of.made) refl (c.append.ensures.any_moment (event_form of.made) of.holds (map event_form made) (subst (λ (n : ℕ). IsAtRest (disk_now (g.H.Host.told c.args.host.now)) (map event_form made) n) at' holds.rests.journal)))
 
 pub returns-in-Err-clause-entering : goal.returns-in-Err-clause-entering
 returns-in-Err-clause-entering g c = λ state event at' is made holds.
-    let of = some_ready state event c.args.ready c.in-Some.prepared c.in-Some.is is in
+    let of = some_ready c.args.pool.now state event c.args.ready c.in-Some.prepared c.in-Some.is is in
     rw of.event_is (event_entering (g.H.Host.told c.args.host.now) (g.H.Host.told c.append.new.host) state made of.made of.playable holds
-    c.in-Some.prepared of.form_is (c.append.ensures.any_moment c.in-Some.prepared refl (map event_form made) (subst (λ (n : ℕ). IsAtRest (disk_now (g.H.Host.told c.args.host.now)) (map event_form made) n) at' holds.rests.journal)))
+    (event_form of.made) refl (c.append.ensures.any_moment (event_form of.made) of.holds (map event_form made) (subst (λ (n : ℕ). IsAtRest (disk_now (g.H.Host.told c.args.host.now)) (map event_form made) n) at' holds.rests.journal)))
 
 pub returns-in_default-clause-still : goal.returns-in_default-clause-still
 returns-in_default-clause-still g c = λ none. still_disk (g.H.Host.told c.args.host.now)
@@ -67,3 +67,12 @@ returns-in-Ok-clause-still g c = λ none. let some = c.in-Some.is in absurd (cc 
 
 pub returns-in-Err-clause-still : goal.returns-in-Err-clause-still
 returns-in-Err-clause-still g c = λ none. let some = c.in-Some.is in absurd (cc (some, none))
+
+pub returns-in_default-clause-none : goal.returns-in_default-clause-none
+returns-in_default-clause-none g c = c.requires.held ∙ held_none c.args.ready c.in_default.is
+
+pub returns-in-Ok-clause-none : goal.returns-in-Ok-clause-none
+returns-in-Ok-clause-none g c = let h = held_some c.args.ready c.in-Some.prepared c.in-Some.is in omega (arith, h, c.requires.held, c.append.ensures.out)
+
+pub returns-in-Err-clause-none : goal.returns-in-Err-clause-none
+returns-in-Err-clause-none g c = let h = held_some c.args.ready c.in-Some.prepared c.in-Some.is in omega (arith, h, c.requires.held, c.append.ensures.out)
