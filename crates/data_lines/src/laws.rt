@@ -1,3 +1,4 @@
+//! Laws of the crate: functions without a body, whose contracts are the laws.
 ghost use Rattle.data_lines.specs.Laws.{TakenPackagesAreTyped, TakenStepsAreTyped};
 
 /// The law of steps that were taken: what can be taken from a good state, one by one, is of the metamodel, as the lines
