@@ -1,3 +1,4 @@
+//! The events of a store.
 use ecore_meta::Text;
 use model_state::Package;
 

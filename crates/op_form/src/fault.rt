@@ -1,3 +1,4 @@
+//! Why bytes are no package or no event.
 use byte_form::ReadFault;
 use std::alloc::AllocError;
 use thiserror::Error;

@@ -1,3 +1,4 @@
+//! Laws of the crate: functions without a body, whose contracts are the laws.
 ghost use Rattle.op_form.specs.Reversals.{PackageReversalUndoes, PackagesKeepGood, TwiceReversedIsSame, OperationTwiceReversedIsSame};
 ghost use Rattle.op_form.specs.Laws.{PackagesAreReadAgain, PackagesAreSpelledSo, NoPackageBeginsAnother, EventsAreReadAgain, EventsAreSpelledSo, NoEventBeginsAnother, EventsAreTested};
 

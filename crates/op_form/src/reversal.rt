@@ -1,3 +1,4 @@
+//! The reversal of an operation: its steps taken back, the last one first.
 ghost use Rattle.std.specs.Prelude.{◌≡◌, IfOk};
 ghost use Rattle.model_state.specs.Steps.{rev, rev_all};
 ghost use Rattle.model_state.specs.Packages.{rev_kind, rev_op, rev_package};
