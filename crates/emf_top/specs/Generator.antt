@@ -22,13 +22,15 @@ workspace_in seed k = 1 + (k + seed % 2) % 2
 abbrev pub pages_in : ℕ → ℕ → ℕ
 pages_in seed k = 1 + (seed % 1000 * k) % 1000
 
--- a book is made, gets its title, and its pages
+-- the line that makes a round's book
 abbrev pub create_text : ℕ → ℕ → List ℕ
 create_text ws k = codes "create " ++ (decimal ws ++ (codes " Book lib books b" ++ decimal k))
 
+-- the line that gives it a title
 abbrev pub title_text : ℕ → ℕ → List ℕ
 title_text ws k = codes "set " ++ (decimal ws ++ (codes " b" ++ (decimal k ++ (codes " title " ++ (34 ∷ 116 ∷ decimal k ++ 34 ∷ [])))))
 
+-- the line that gives it pages
 abbrev pub pages_text : ℕ → ℕ → ℕ → List ℕ
 pages_text ws k pages = codes "set " ++ (decimal ws ++ (codes " b" ++ (decimal k ++ (codes " pages " ++ decimal pages))))
 
