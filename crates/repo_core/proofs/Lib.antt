@@ -6,6 +6,7 @@ pub mod Folding
 pub mod Grown
 pub mod Initial
 pub mod Merges
+pub mod Naming
 pub mod Models
 pub mod Needed
 pub mod Ordered

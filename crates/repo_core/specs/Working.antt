@@ -1,5 +1,5 @@
 -- A model that is the working model of a workspace.
-use Rattle.std.specs.Prelude.{◌≡◌, ℕ, Option, Some, None}
+use Rattle.std.specs.Prelude.{◌≡◌, ℕ, List, Option, Some, None}
 use Rattle.ecore_meta.specs.Meta.{Meta}
 use Rattle.model_state.specs.Good.{Good}
 use Rattle.step_apply.specs.declared.plain.Plain.{Plain}
@@ -7,6 +7,9 @@ use Rattle.step_apply.specs.View.{plain_state}
 use Rattle.script_lang.specs.declared.command.Command.{Command}
 use Rattle.script_lang.specs.declared.command.Command.TheVariants as commands
 use Rattle.plain_repository.specs.State.{State, Workspace, workspace_of, model_of}
+use Rattle.model_state.specs.State as models
+use Rattle.edits.specs.FreshIds.{fresh_id}
+use Rattle.edits.specs.declared.edit.Edit.TheVariants.{Create}
 
 -- the model is the working model of the workspace of that number, and good
 abbrev pub IsWorkingModel : State → ℕ → Plain → Type 0
@@ -27,3 +30,17 @@ IsModelFor s command m = (ws : ℕ) → model_for command ≡ Some ws → IsWork
 -- the command needs no model, or that of no workspace that is there
 abbrev pub NeedsNone : State → Command → Type 0
 NeedsNone s command = (ws : ℕ) → model_for command ≡ Some ws → workspace_of s ws ≡ None
+
+-- the workspace of a creation without an id
+abbrev pub creation_without_id : Command → Option ℕ
+creation_without_id (commands.Edit ws (Create class destination None)) = Some ws
+creation_without_id command = None
+
+-- the command, in which a creation has this id
+abbrev pub given_id : List ℕ → Command → Command
+given_id id (commands.Edit ws (Create class destination old)) = commands.Edit ws (Create class destination (Some id))
+given_id id command = command
+
+-- the command, in which a creation without an id has the fresh one
+abbrev pub with_id : models.State → Command → Command
+with_id m command = elim (creation_without_id command) [ Some ws ↦ given_id (fresh_id m ws) command | None ↦ command ]

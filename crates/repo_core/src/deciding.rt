@@ -1,8 +1,8 @@
 //! What a command is answered, and the event that it makes: one line a command.
-ghost use Rattle.std.specs.Prelude.{◌≡◌, ◌-◌, ◌<◌, ◌^◌, IfOk, IfNone, IfSome, length};
+ghost use Rattle.std.specs.Prelude.{◌≡◌, ◌-◌, ◌<◌, ◌^◌, IfOk, IfNone, IfSome, Some, length};
 ghost use Rattle.plain_repository.specs.Repository.{decide_command, decide_line, block_text};
 ghost use Rattle.script_lang.specs.Spelling.{IsCommand};
-ghost use Rattle.repo_core.specs.Working.{IsModelFor, NeedsNone};
+ghost use Rattle.repo_core.specs.Working.{IsModelFor, IsWorkingModel, NeedsNone, model_for};
 ghost use Rattle.repo_core.specs.Decisions.{seen, CanMakeIt, IsShortBlock};
 
 mod answers;
@@ -24,10 +24,11 @@ use crate::repo::Repo;
 use answers::refuse;
 pub use answers::{Decision, Made};
 use ecore_meta::Text;
-use models::model_for;
+use models::{model_for, name_creation};
 use script_lang::{Command, ParseFault, Refusal, parse_line};
 use std::alloc::{AllocError, Global};
 use step_apply::Plain;
+use working_model::Working;
 
 /// The text of a block, empty where there is none.
 fn block_text(block: &Option<Text>) -> &str
@@ -57,7 +58,7 @@ impl Repo {
         ensures made { IfOk result (λ d. CanMakeIt self.old d.made) }
     {
         match parse_line(alloc, line) {
-            Ok(command) => self.decide_command(alloc, &command, block),
+            Ok(mut command) => self.decide_command(alloc, &mut command, block),
             Err(ParseFault::BadLine { column }) => Ok(refuse(alloc, Refusal::BadLine { column })),
             Err(ParseFault::Memory) => Err(AllocError),
         }
@@ -67,13 +68,13 @@ impl Repo {
     fn decide_command(
         &mut self,
         alloc: Global,
-        command: &Command,
+        command: &mut Command,
         block: &Option<Text>,
     ) -> Result<Decision, AllocError>
-        requires command { IsCommand command.now }
+        requires command { IsCommand command.old }
         requires block { IsShortBlock block.now }
         ensures same { self.new ≡ self.old }
-        ensures decision { IfOk result (λ d. seen d ≡ decide_command self.old block.now command.now) }
+        ensures decision { IfOk result (λ d. seen d ≡ decide_command self.old block.now command.old) }
         ensures made { IfOk result (λ d. CanMakeIt self.old d.made) }
     {
         let Some(ws) = model_for(command) else {
@@ -82,10 +83,31 @@ impl Repo {
         if self.workspace(ws).is_none() {
             return self.decide_on(alloc, command, block, None);
         }
-        let model = self.take_model(alloc, ws)?;
-        let decision = self.decide_on(alloc, command, block, Some(&model));
+        let mut model = self.take_model(alloc, ws)?;
+        let decision = self.decide_over(alloc, ws, command, block, &mut model);
         self.keep_model(ws, model);
         decision
+    }
+
+    /// The answer to a command that needs the working model of this workspace. A creation without an id has the fresh one from now on.
+    fn decide_over(
+        &self,
+        alloc: Global,
+        ws: u32,
+        command: &mut Command,
+        block: &Option<Text>,
+        model: &mut Working,
+    ) -> Result<Decision, AllocError>
+        requires command { IsCommand command.old }
+        requires needs { model_for command.old ≡ Some ws }
+        requires block { IsShortBlock block.now }
+        requires model { IsWorkingModel self.now ws model.old }
+        ensures model { model.new ≡ model.old }
+        ensures decision { IfOk result (λ d. seen d ≡ decide_command self.now block.now command.old) }
+        ensures made { IfOk result (λ d. CanMakeIt self.now d.made) }
+    {
+        name_creation(alloc, command, model)?;
+        self.decide_on(alloc, command, block, Some(model.plain()))
     }
 
     /// The same, with the model of the workspace that needs it, where that is there.

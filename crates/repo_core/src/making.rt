@@ -20,7 +20,7 @@ use ecore_meta::Text;
 use history_tree::History;
 use model_state::Package;
 use std::alloc::{AllocError, Global};
-use step_apply::Plain;
+use working_model::Working;
 
 /// The metamodel of a text, and the history that begins with it.
 fn read_begun(alloc: Global, text: &Text) -> Result<Begun, ReplayFault>
@@ -104,7 +104,7 @@ impl Repo {
     }
 
     /// Takes the steps of operations on the working model of a workspace. After an error the model is of no use.
-    fn advance(&self, ws: u32, model: &mut Plain, package: &Package) -> Result<(), ReplayFault>
+    fn advance(&self, ws: u32, model: &mut Working, package: &Package) -> Result<(), ReplayFault>
         requires takes { can_take self.now.meta (workspace_of self.now ws) «package».now ≡ true }
         requires model { IsWorkingModel self.now ws model.old }
         ensures could { OnOk result (playable_with self.now self.now.meta (Edit ws «package».now) ≡ true) }
@@ -127,7 +127,7 @@ impl Repo {
         alloc: Global,
         ws: u32,
         package: Package,
-        model: Plain,
+        model: Working,
     ) -> Result<(), AllocError>
         requires there { is_some (workspace_of self.old ws) ≡ true }
         requires could { playable_with self.old self.old.meta (Edit ws «package») ≡ true }

@@ -12,7 +12,7 @@ use ecore_meta::Metamodel;
 use history_tree::History;
 use std::alloc::{AllocError, Global};
 use std::marker::Model;
-use step_apply::Plain;
+use working_model::Working;
 
 const MOST_EVENTS: u32 = u32::MAX;
 
@@ -103,7 +103,7 @@ impl Repo {
     }
 
     /// The working model of a workspace, which doesn't keep it meanwhile.
-    pub(crate) fn take_model(&mut self, alloc: Global, ws: u32) -> Result<Plain, AllocError>
+    pub(crate) fn take_model(&mut self, alloc: Global, ws: u32) -> Result<Working, AllocError>
         requires there { is_some (workspace_of self.old ws) ≡ true }
         ensures same { self.new ≡ self.old }
         ensures model { IfOk result (λ m. IsWorkingModel self.old ws m) }
@@ -122,7 +122,7 @@ impl Repo {
     }
 
     /// The workspace keeps its working model.
-    pub(crate) fn keep_model(&mut self, ws: u32, model: Plain)
+    pub(crate) fn keep_model(&mut self, ws: u32, model: Working)
         requires there { is_some (workspace_of self.old ws) ≡ true }
         requires model { IsWorkingModel self.old ws model }
         ensures same { self.new ≡ self.old }

@@ -10,10 +10,9 @@ ghost use Rattle.history_tree.specs.States.{state_folded, state_of};
 
 use ecore_meta::Metamodel;
 use history_tree::History;
-use model_laws::replay;
 use model_state::{Operation, Step, StepFault};
 use std::alloc::{AllocError, Global};
-use step_apply::Plain;
+use working_model::Working;
 
 /// The steps of an operation, simple or composite.
 pub(crate) fn steps_in(operation: &Operation) -> &[Step]
@@ -27,7 +26,7 @@ pub(crate) fn steps_in(operation: &Operation) -> &[Step]
 
 /// Takes the steps one by one, up to the first that can't be taken, whose fault it gives.
 pub(crate) fn take_steps(
-    model: &mut Plain,
+    model: &mut Working,
     meta: &Metamodel,
     steps: &[Step],
 ) -> Result<(), StepFault>
@@ -37,7 +36,7 @@ pub(crate) fn take_steps(
     ensures cannot { IfErr result (λ e. IsFault (fault_along meta.now (plain_state model.old) steps.now) e) }
     ensures good { Good meta.now (plain_state model.new) }
 {
-    match replay(model, meta, steps) {
+    match model.replay(meta, steps) {
         Ok(()) => Ok(()),
         Err(stop) => Err(stop.fault),
     }
@@ -45,7 +44,7 @@ pub(crate) fn take_steps(
 
 /// Takes the steps of operations one by one, up to the first that can't be taken. After an error the model is of no use.
 pub(crate) fn follow(
-    model: &mut Plain,
+    model: &mut Working,
     meta: &Metamodel,
     operations: &[Operation],
 ) -> Result<(), StepFault>
@@ -63,7 +62,7 @@ pub(crate) fn follow(
 
 /// The number, from 0 over all operations, of the first step that can't be taken, None where each can. The steps before it are taken on the model.
 pub(crate) fn stop_in(
-    model: &mut Plain,
+    model: &mut Working,
     meta: &Metamodel,
     operations: &[Operation],
 ) -> Result<Option<u64>, AllocError>
@@ -75,7 +74,7 @@ pub(crate) fn stop_in(
     let mut before = 0;
     for operation in operations {
         let steps = steps_in(operation);
-        if let Err(stop) = replay(model, meta, steps) {
+        if let Err(stop) = model.replay(meta, steps) {
             return match stop.fault {
                 StepFault::Memory => Err(AllocError),
                 _ => Ok(Some(before + stop.at)),
@@ -92,14 +91,14 @@ pub fn state_at(
     meta: &Metamodel,
     history: &History,
     v: u32,
-) -> Result<Plain, AllocError>
+) -> Result<Working, AllocError>
     requires sound { Sound meta.now }
     requires there { v < length history.now.history.versions }
     requires leads { is_some (state_folded meta.now history.now.history v) ≡ true }
     ensures state { IfOk result (λ m. plain_state m ≡ state_of meta.now history.now.history v) }
     ensures good { IfOk result (λ m. Good meta.now (plain_state m)) }
 {
-    let mut model = Plain::new(alloc);
+    let mut model = Working::new(alloc);
     let path = history.path(alloc, v)?;
     for u in path.as_slice() {
         match follow(&mut model, meta, history.version(*u).package.as_slice()) {

@@ -20,12 +20,11 @@ use crate::merged::{Local, Merged};
 use crate::states::{follow, state_at, steps_in, take_steps};
 use ecore_meta::{List, Metamodel, Text};
 use history_tree::{History, Version};
-use model_laws::replay;
 use model_state::{Operation, Package, Step, StepFault};
 use op_form::reverse_op;
 use std::alloc::{AllocError, Global};
 use std::mem::replace;
-use step_apply::Plain;
+use working_model::Working;
 
 /// A composite that is open: its name, and the steps recorded in it so far.
 #[derive(Drop)]
@@ -42,11 +41,16 @@ pub(crate) struct Workspace {
     pub(crate) operations: Vec<Operation>,
     pub(crate) composite: Option<Composite>,
     pub(crate) pending: List<u32>,
-    pub(crate) model: Option<Plain>,
+    pub(crate) model: Option<Working>,
 }
 
 /// The model before an operation, whose steps were the last taken; none when out of memory.
-fn take_back(alloc: Global, meta: &Metamodel, model: Plain, operation: &Operation) -> Option<Plain>
+fn take_back(
+    alloc: Global,
+    meta: &Metamodel,
+    model: Working,
+    operation: &Operation,
+) -> Option<Working>
     requires sound { Sound meta.now }
     requires good { Good meta.now (plain_state model) }
     ensures back { IfSome result (λ m. fold meta.now (plain_state model) (steps_of (rev_op operation.now)) ≡ Some (plain_state m)) }
@@ -56,7 +60,7 @@ fn take_back(alloc: Global, meta: &Metamodel, model: Plain, operation: &Operatio
         return None;
     };
     let mut model = model;
-    match replay(&mut model, meta, steps_in(&reversal)) {
+    match model.replay(meta, steps_in(&reversal)) {
         Ok(()) => Some(model),
         Err(_) => None,
     }
@@ -126,7 +130,7 @@ impl Workspace {
         alloc: Global,
         meta: &Metamodel,
         history: &History,
-    ) -> Result<Plain, AllocError>
+    ) -> Result<Working, AllocError>
         requires sound { Sound meta.now }
         requires there { self.old.base < length history.now.history.versions }
         requires base { is_some (state_folded meta.now history.now.history self.old.base) ≡ true }
@@ -149,7 +153,7 @@ impl Workspace {
         &mut self,
         alloc: Global,
         package: Package,
-        model: Plain,
+        model: Working,
     ) -> Result<(), AllocError>
         requires takes { takes (plain_of self.old).composite «package» ≡ true }
         ensures more { OnOk result (plain_of self.new ≡ with_more «package» (plain_of self.old)) }
@@ -281,7 +285,7 @@ impl Workspace {
     }
 
     /// The workspace keeps a model.
-    pub(crate) fn keep_model(&mut self, model: Plain)
+    pub(crate) fn keep_model(&mut self, model: Working)
         ensures same { plain_of self.new ≡ plain_of self.old }
         ensures kept { self.new.model ≡ Some model }
     {
@@ -294,7 +298,7 @@ impl Workspace {
         alloc: Global,
         meta: &Metamodel,
         history: &History,
-    ) -> Result<Plain, AllocError>
+    ) -> Result<Working, AllocError>
         requires sound { Sound meta.now }
         requires there { self.now.base < length history.now.history.versions }
         requires base { is_some (state_folded meta.now history.now.history self.now.base) ≡ true }
@@ -313,7 +317,7 @@ impl Workspace {
     }
 
     /// Takes all that is recorded on the state of the base. After an error the model is of no use.
-    fn retake(&self, model: &mut Plain, meta: &Metamodel) -> Result<(), StepFault>
+    fn retake(&self, model: &mut Working, meta: &Metamodel) -> Result<(), StepFault>
         requires sound { Sound meta.now }
         requires good { Good meta.now (plain_state model.old) }
         ensures done { OnOk result (fold meta.now (plain_state model.old) (recorded_steps (plain_of self.now)) ≡ Some (plain_state model.new)) }

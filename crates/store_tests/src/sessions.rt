@@ -2,6 +2,7 @@
 //! stands what is said to it, and a session's last line is how it ends: the exit status and its name.
 mod composites;
 mod crowds;
+mod frames;
 mod imports;
 mod library;
 mod links;
@@ -174,6 +175,29 @@ ok w1n2
 > create 1 Book /
 ok w1n3
 0 Accepted
+
+> create 1 Book /
+ok w1n1
+> create 1 Book /
+ok w1n2
+> delete 1 w1n1
+ok
+> create 1 Book /
+ok w1n1
+> undo 1
+ok
+> create 1 Book / "
+no 12 BadId
+> create 1 Book /
+ok w1n1
+> create 1 Book /
+ok w1n3
+> checkout trunk
+[]
+ok 2 0 trunk
+> create 2 Book /
+ok w2n1
+1 Refused
 
 > create 1 Book / a
 ok a

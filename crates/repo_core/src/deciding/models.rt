@@ -1,15 +1,20 @@
 //! The working model that a command needs.
-ghost use Rattle.std.specs.Prelude.{◌≡◌, Some};
+ghost use Rattle.std.specs.Prelude.{◌≡◌, OnOk, Some};
 ghost use Rattle.plain_repository.specs.State.{model_of, workspace_of};
 ghost use Rattle.model_state.specs.Good.{Good};
 ghost use Rattle.step_apply.specs.View.{plain_state};
 ghost use Rattle.repo_core.specs.Keeping.{plain_of};
-ghost use Rattle.repo_core.specs.Working.{IsWorkingModel, model_for};
+ghost use Rattle.repo_core.specs.Working.{IsWorkingModel, creation_without_id, given_id, model_for, with_id};
+ghost use Rattle.script_lang.specs.Spelling.{IsCommand};
 
 use crate::repo::{Begun, Repo};
 use crate::workspace::Workspace;
+use ecore_meta::Text;
+use edits::Edit;
 use script_lang::Command;
+use std::alloc::{AllocError, Global};
 use step_apply::Plain;
+use working_model::Working;
 
 /// The workspace whose working model a command needs.
 pub(crate) fn model_for(command: &Command) -> Option<u32>
@@ -22,6 +27,54 @@ pub(crate) fn model_for(command: &Command) -> Option<u32>
         Command::Validate { ws } => Some(*ws),
         _ => None,
     }
+}
+
+/// The workspace of a creation without an id.
+fn creation_without_id(command: &Command) -> Option<u32>
+    ensures { result ≡ creation_without_id command.now }
+{
+    match command {
+        Command::Edit {
+            ws,
+            edit: Edit::Create { id: None, .. },
+        } => Some(*ws),
+        _ => None,
+    }
+}
+
+/// A creation has this id from now on.
+fn give_id(command: &mut Command, id: Text)
+    ensures { command.new ≡ given_id id command.old }
+{
+    match command {
+        Command::Edit {
+            edit: Edit::Create { id: place, .. },
+            ..
+        } => {
+            *place = Some(id);
+        }
+        _ => {}
+    }
+}
+
+/// A creation without an id gets the fresh one of its workspace, which the model finds without a search from the first.
+pub(crate) fn name_creation(
+    alloc: Global,
+    command: &mut Command,
+    model: &mut Working,
+) -> Result<(), AllocError>
+    requires command { IsCommand command.old }
+    ensures named { OnOk result (command.new ≡ with_id (plain_state model.old) command.old) }
+    ensures command { OnOk result (IsCommand command.new) }
+    ensures model { model.new ≡ model.old }
+{
+    let Some(ws) = creation_without_id(command) else {
+        return Ok(());
+    };
+    let fresh = model.fresh_id(alloc, ws)?;
+    let id = Text::new(alloc, fresh.as_str())?;
+    give_id(command, id);
+    Ok(())
 }
 
 impl Repo {

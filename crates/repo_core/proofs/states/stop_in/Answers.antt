@@ -33,7 +33,7 @@ loop-operation-preserved c =
     let i = c.loop-operation.operation-index in
     let before = c.loop-operation.before in
     let m = plain_state c.loop-operation.model in
-    let n = plain_state c.replay.new.model in
+    let n = plain_state c.replay.new.self in
     let same = c.steps_in-steps.ensures ∙ ap steps_of c.operation-item.is in
     record {
       good = c.replay.ensures.good;

@@ -1,0 +1,16 @@
+-- Which ids with numbers are live, and which steps leave them so.
+use Rattle.std.specs.Prelude.{◌≡◌, ◌<◌, ◌≤◌, ℕ, Bool, true, false}
+use Rattle.model_state.specs.State.{State, is_live}
+use Rattle.model_state.specs.declared.step.Step.{Step}
+use Rattle.model_state.specs.declared.step.Step.TheVariants.{Gone}
+use Rattle.edits.specs.FreshIds.{numbered}
+
+-- each id that the workspace gives to a number from 1 on and less than this one is live
+pub record AreTaken (m : State) (ws next : ℕ) : Type 0 where
+  pub from : 1 ≤ next
+  pub taken : (j : ℕ) → 1 ≤ j → j < next → is_live m (numbered ws j) ≡ true
+
+-- the step deletes an element
+abbrev pub is_deletion : Step → Bool
+is_deletion (Gone e class place rank) = true
+is_deletion step = false
