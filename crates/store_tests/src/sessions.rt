@@ -2,6 +2,7 @@
 //! stands what is said to it, and a session's last line is how it ends: the exit status and its name.
 mod composites;
 mod crowds;
+mod faults;
 mod frames;
 mod imports;
 mod library;

@@ -50,7 +50,7 @@ fn stopped(alloc: Global, title: &str, calls: u64) -> Result<(MemoryHost, bool),
 fn sorts(rt: &impl Abort, alloc: Global, title: &str) -> Result<(u64, u64), Fail> {
     let without = text(alloc, "")?;
     let with = text(alloc, format!(in alloc; ",\"title\":\"{title}\"")?.as_str())?;
-    let (mut early, mut late) = (0, 0);
+    let (mut early, mut late) = (0_u64, 0_u64);
     for calls in 0..40 {
         let (host, is_whole) = stopped(alloc, title, calls)?;
         let (is_book, is_both) = (
@@ -66,8 +66,8 @@ fn sorts(rt: &impl Abort, alloc: Global, title: &str) -> Result<(u64, u64), Fail
                 "{calls}"
             );
         }
-        early += u64::from(is_book);
-        late += u64::from(is_both);
+        early = u64::saturating_add(early, u64::from(is_book));
+        late = u64::saturating_add(late, u64::from(is_both));
         if is_whole {
             return Ok((early, late));
         }

@@ -1,0 +1,153 @@
+//! A run over a project of which each call fails once, or is the last before a crash, and its store cut at each length.
+use crate::sessions::library::LIBRARY;
+use crate::sessions::{asked, beginning, over, ran, serve};
+use emf_top::Status;
+use host_port::{FuseHost, MemoryHost};
+use std::alloc::Global;
+use std::process::Abort;
+use std::test::Fail;
+
+const LINES: &str = r#"create 1 Library / l
+create 1 Book l books b
+set 1 b title "Emma"
+commit 1 first book
+checkout trunk
+log
+"#;
+
+// The events of the run, with those of its opening.
+const EVENTS: usize = 7;
+
+const CALLS: u64 = 44;
+
+fn script(alloc: Global) -> Result<Vec<u8>, Fail> {
+    Ok(beginning(alloc, LIBRARY, LINES)?.into_bytes())
+}
+
+// The status where a call fails. Six calls open the store, one takes the input, five are for each event (record, sync, gate, sync, reply), one is
+// for the reply of the log, and one finds the input's end.
+fn status_at(call: u64) -> Status {
+    match call {
+        6 | 43 => Status::ReadFault,
+        11 | 16 | 21 | 26 | 31 | 36 | 41 | 42 => Status::WriteFault,
+        CALLS => Status::Accepted,
+        _ => Status::DiskFault,
+    }
+}
+
+// How many events a file has, as `--check` counts them.
+fn events_in(alloc: Global, file: Vec<u8>) -> Result<usize, Fail> {
+    let mut host = over(alloc, Vec::new(alloc), file);
+    if asked(alloc, "--check", &mut host)? != Status::Accepted {
+        return Err("no store")?;
+    }
+    let said = std::str::from_utf8(host.said())?;
+    let count = said.split(' ').nth(2).ok_or("no count")?;
+    Ok(count.parse::<usize>()?)
+}
+
+// How many events have their reply among what was said.
+fn replied(said: &[u8]) -> Result<usize, Fail> {
+    let replies = std::str::from_utf8(said)?
+        .lines()
+        .filter(|line| line.starts_with("ok"))
+        .count();
+    Ok(replies.min(EVENTS))
+}
+
+// The file has the events whose reply was said, and at most one more.
+fn holds_a_prefix(rt: &impl Abort, alloc: Global, said: &[u8], file: Vec<u8>) -> Result<(), Fail> {
+    let (kept, least) = (events_in(alloc, file)?, replied(said)?);
+    assert!(rt;
+        kept == least || kept.checked_sub(1) == Some(least),
+        "{kept} {least}"
+    );
+    Ok(())
+}
+
+// A run of which the call of a number fails.
+fn failed(rt: &impl Abort, alloc: Global, call: u64) -> Result<MemoryHost, Fail> {
+    let fails = vec![in alloc; call; 1]?;
+    let mut host = MemoryHost::new(alloc, script(alloc)?, 4096, Vec::new(alloc), fails);
+    assert_eq!(rt; serve(alloc, &mut host), status_at(call), "{call}");
+    Ok(host)
+}
+
+#[test]
+fn a_call_that_fails_leaves_the_first_events_whole(rt: HostRuntime) -> Result<(), Fail> {
+    let alloc = rt.alloc();
+    for call in 0..=CALLS {
+        let host = failed(&rt, alloc, call)?;
+        holds_a_prefix(&rt, alloc, host.said(), host.file().to_vec(alloc)?)?;
+    }
+    Ok(())
+}
+
+// A run that crashes after so many calls.
+fn crashed(rt: &impl Abort, alloc: Global, calls: u64) -> Result<MemoryHost, Fail> {
+    let host = over(alloc, script(alloc)?, Vec::new(alloc));
+    let mut fuse = FuseHost::new(host, calls);
+    assert_eq!(rt; serve(alloc, &mut fuse), status_at(calls), "{calls}");
+    Ok(fuse.into_inner())
+}
+
+#[test]
+fn a_crash_between_two_calls_leaves_the_first_events_whole(rt: HostRuntime) -> Result<(), Fail> {
+    let alloc = rt.alloc();
+    for calls in 0..=CALLS {
+        let host = crashed(&rt, alloc, calls)?;
+        for fill in [0, 165, 255] {
+            holds_a_prefix(&rt, alloc, host.said(), host.stop_image(fill)?)?;
+        }
+    }
+    Ok(())
+}
+
+// Where the record ends that begins at a place of a store.
+fn end_of(file: &[u8], place: usize) -> Option<usize> {
+    match file.get(place..)? {
+        [_, a, b, c, d, ..] => {
+            let size = u32::from_be_bytes([*a, *b, *c, *d]);
+            place.checked_add(5)?.checked_add(size as usize)
+        }
+        _ => None,
+    }
+}
+
+// How the store ends that is cut at a length, where the record or gate that is cut begins at a place.
+fn cut_status(length: usize, place: usize) -> Status {
+    if length <= 17 {
+        Status::Accepted
+    } else {
+        Status::Damaged { at: place as u64 }
+    }
+}
+
+fn is_cut(rt: &impl Abort, alloc: Global, file: &[u8], place: usize) -> Result<(), Fail> {
+    let length = file.len();
+    let mut host = over(alloc, Vec::new(alloc), file.to_vec(alloc)?);
+    assert_eq!(rt;
+        serve(alloc, &mut host),
+        cut_status(length, place),
+        "{length}"
+    );
+    Ok(())
+}
+
+fn are_cut(rt: &impl Abort, alloc: Global, file: &[u8]) -> Result<(), Fail> {
+    let mut place = 16;
+    for length in 0..file.len() {
+        let end = end_of(file, place).ok_or("no record")?;
+        if length >= end {
+            place = end;
+        }
+        is_cut(rt, alloc, &file[..length], place)?;
+    }
+    Ok(())
+}
+
+#[test]
+fn a_store_that_is_cut_is_damaged_at_its_last_boundary(rt: HostRuntime) -> Result<(), Fail> {
+    let run = ran(&rt, rt.alloc(), script(rt.alloc())?, Vec::new(rt.alloc()))?;
+    are_cut(&rt, rt.alloc(), &run.file)
+}
