@@ -144,8 +144,12 @@ fn check_names(rt: &impl Abort, alloc: Global, meta: &Metamodel, names: &str) ->
 #[test]
 fn names_are_found_where_they_stand_and_above(rt: HostRuntime) -> Result<(), Fail> {
     let alloc = rt.alloc();
-    check_names(&rt, alloc, &read(alloc, LIBRARY)??, LIBRARY_NAMES)?;
-    check_names(&rt, alloc, &package(alloc, INHERITED)??, INHERITED_NAMES)
+    let library = read(alloc, LIBRARY)??;
+    let inherited = package(alloc, INHERITED)??;
+    for (meta, names) in [(&library, LIBRARY_NAMES), (&inherited, INHERITED_NAMES)] {
+        check_names(&rt, alloc, meta, names)?;
+    }
+    Ok(())
 }
 
 // Features of Named come after those of Titled, though a class names Named first.
@@ -198,11 +202,17 @@ const PLAIN: [(&str, &str); 4] = [
     (", Feature", ",\nFeature"),
 ];
 
+fn replace_all(alloc: Global, text: &mut String) -> Result<(), Fail> {
+    for (old, new) in PLAIN {
+        let replaced = text.as_str().replace(alloc, old, new)?;
+        *text = replaced;
+    }
+    Ok(())
+}
+
 fn shown(alloc: Global, meta: &Metamodel) -> Result<String, Fail> {
     let mut shown = format!(in alloc; "{meta:?}")?;
-    for (old, new) in PLAIN {
-        shown = shown.as_str().replace(alloc, old, new)?;
-    }
+    replace_all(alloc, &mut shown)?;
     Ok(shown)
 }
 
@@ -263,15 +273,19 @@ pub(crate) fn scalar(name: &str) -> Scalar {
     }
 }
 
-#[test]
-fn texts_stand_for_values_of_their_types(rt: HostRuntime) -> Result<(), Fail> {
-    let alloc = rt.alloc();
-    let meta = package(alloc, INHERITED)??;
+fn check_values(rt: &impl Abort, alloc: Global, meta: &Metamodel) -> Result<(), Fail> {
     for line in VALUES.lines() {
         let (wanted, rest) = line.split_once(" <= ").unwrap_or((line, ""));
         let (name, text) = worded(rest);
         let value = meta.parse_value(alloc, &scalar(name), text);
-        assert_eq!(&rt; format!(in alloc; "{value:?}")?.as_str(), wanted, "{rest}");
+        assert_eq!(rt; format!(in alloc; "{value:?}")?.as_str(), wanted, "{rest}");
     }
     Ok(())
+}
+
+#[test]
+fn texts_stand_for_values_of_their_types(rt: HostRuntime) -> Result<(), Fail> {
+    let alloc = rt.alloc();
+    let meta = package(alloc, INHERITED)??;
+    check_values(&rt, alloc, &meta)
 }

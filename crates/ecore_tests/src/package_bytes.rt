@@ -1,4 +1,5 @@
 //! Events, byte for byte as the format's tables have them. Bytes are written in hex, a field a word.
+use model_state::Operation;
 use op_form::{
     Event, FormFault, decode, decode_event, encode_event, has_form, reverse, reverse_op,
 };
@@ -63,17 +64,22 @@ fn add_field(
     Ok(())
 }
 
-fn with_every_prefix(rt: &impl Abort, alloc: Global, text: &str) -> Result<Vec<u8>, Fail> {
-    let mut prefix = Vec::new(alloc);
+fn add_fields(
+    rt: &impl Abort,
+    alloc: Global,
+    prefix: &mut Vec<u8>,
+    text: &str,
+) -> Result<(), Fail> {
     for field in text.split_whitespace() {
-        add_field(rt, alloc, &mut prefix, field)?;
+        add_field(rt, alloc, prefix, field)?;
     }
-    Ok(prefix)
+    Ok(())
 }
 
 fn check_event(rt: &impl Abort, alloc: Global, line: &str) -> Result<(), Fail> {
     let (text, wanted) = line.split_once(" = ").unwrap_or((line, ""));
-    let bytes = with_every_prefix(rt, alloc, text)?;
+    let mut bytes = Vec::new(alloc);
+    add_fields(rt, alloc, &mut bytes, text)?;
     let event = decode_event(alloc, bytes.as_slice())?;
     assert_eq!(rt; format!(in alloc; "{event:?}")?.as_str(), wanted, "{text}");
     assert!(rt; has_form(&event), "{text}");
@@ -136,15 +142,22 @@ const REVERSED: &str =
 const SETTING: &str =
     r#"Simple { kind: Attribute, steps: List { items: [Put { e: Id { text: Text { text: "b" } }, f: 1, old: None, new: Some(Text(Text { text: "Emma" })) }] } }"#;
 
+fn are_shown(
+    rt: &impl Abort,
+    alloc: Global,
+    operations: &[Operation],
+    wanted: &str,
+) -> Result<(), Fail> {
+    assert_eq!(rt; format!(in alloc; "{operations:?}")?.as_str(), wanted);
+    Ok(())
+}
+
 #[test]
 fn packages_and_operations_reverse(rt: HostRuntime) -> Result<(), Fail> {
     let alloc = rt.alloc();
     let package = decode(alloc, read(alloc, TWO)?.as_slice())?;
     let reversed = reverse(alloc, &package)?;
-    assert_eq!(&rt;
-        format!(in alloc; "{:?}", reversed.as_slice())?.as_str(),
-        REVERSED
-    );
+    are_shown(&rt, alloc, reversed.as_slice(), REVERSED)?;
     let first = reversed.get(0).ok_or("no operation")?;
     let again = reverse_op(alloc, first)?;
     assert_eq!(&rt; format!(in alloc; "{again:?}")?.as_str(), SETTING);

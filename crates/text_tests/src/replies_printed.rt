@@ -92,26 +92,52 @@ ok
 ";
 
 // Puts the bytes of a reply after those of others.
-fn print(alloc: Global, printed: &mut Vec<u8>, lines: List<Text>, last: Last) -> Result<(), Fail> {
-    let reply = Reply { lines, last };
-    let bytes = print_reply(alloc, &reply)?;
+fn print(alloc: Global, printed: &mut Vec<u8>, reply: &Reply) -> Result<(), Fail> {
+    let bytes = print_reply(alloc, reply)?;
     printed.extend_from_slice(bytes.as_slice())?;
     Ok(())
+}
+
+fn print_refusals(alloc: Global, printed: &mut Vec<u8>) -> Result<(), Fail> {
+    for refusal in REFUSALS {
+        let reply = Reply {
+            lines: List::new(alloc),
+            last: Last::No(refusal),
+        };
+        print(alloc, printed, &reply)?;
+    }
+    Ok(())
+}
+
+// A reply of words, after a data line where there is one.
+fn accepted(alloc: Global, line: Option<&str>, words: &str) -> Result<Reply, Fail> {
+    let mut lines = List::new(alloc);
+    if let Some(line) = line {
+        lines.push(Text::new(alloc, line)?)?;
+    }
+    Ok(Reply {
+        lines,
+        last: Last::Ok(Text::new(alloc, words)?),
+    })
+}
+
+fn print_accepted(
+    alloc: Global,
+    printed: &mut Vec<u8>,
+    line: Option<&str>,
+    words: &str,
+) -> Result<(), Fail> {
+    let reply = accepted(alloc, line, words)?;
+    print(alloc, printed, &reply)
 }
 
 #[test]
 fn replies_are_printed(rt: HostRuntime) -> Result<(), Fail> {
     let alloc = rt.alloc();
     let mut printed = Vec::new(alloc);
-    for refusal in REFUSALS {
-        print(alloc, &mut printed, List::new(alloc), Last::No(refusal))?;
-    }
-    let mut lines = List::new(alloc);
-    lines.push(Text::new(alloc, "[]")?)?;
-    let opened = Last::Ok(Text::new(alloc, "1 0 trunk")?);
-    print(alloc, &mut printed, lines, opened)?;
-    let done = Last::Ok(Text::new(alloc, "")?);
-    print(alloc, &mut printed, List::new(alloc), done)?;
+    print_refusals(alloc, &mut printed)?;
+    print_accepted(alloc, &mut printed, Some("[]"), "1 0 trunk")?;
+    print_accepted(alloc, &mut printed, None, "")?;
     assert_eq!(&rt; printed.as_slice(), REPLIES.as_bytes());
     Ok(())
 }

@@ -1,6 +1,6 @@
 //! The forms of lines, as the language is written down for its users.
 use crate::metamodels::plain;
-use script_lang::{ParseFault, parse_line};
+use script_lang::{Command, ParseFault, parse_line};
 use std::alloc::Global;
 use std::process::Abort;
 use std::test::Fail;
@@ -315,16 +315,22 @@ Revert { ws: 1, version: 4294967295 } |revert 1 4294967295|
 10 |revert 1 trunk|
 12 |revert 1 1 1|"#;
 
-// What reading a line gives: the command, or the column alone.
-fn read_of(alloc: Global, line: &str) -> Result<String, Fail> {
-    if line.len() > 100 {
-        return Err("too long a line")?;
-    }
-    match parse_line(alloc, line) {
+// What is shown of a line that was read: the command, or the column alone.
+fn shown(alloc: Global, read: &Result<Command, ParseFault>) -> Result<String, Fail> {
+    match read {
         Ok(command) => plain(alloc, format!(in alloc; "{command:?}")?.as_str()),
         Err(ParseFault::BadLine { column }) => Ok(format!(in alloc; "{column}")?),
         Err(ParseFault::Memory) => Err("no memory")?,
     }
+}
+
+// What reading a line gives.
+fn read_of(alloc: Global, line: &str) -> Result<String, Fail> {
+    if line.len() > 100 {
+        return Err("too long a line")?;
+    }
+    let read = parse_line(alloc, line);
+    shown(alloc, &read)
 }
 
 fn are_read(rt: &impl Abort, alloc: Global, rows: &str) -> Result<(), Fail> {
