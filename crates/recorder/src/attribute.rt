@@ -1,4 +1,4 @@
-//! The recording of `set`, and of `unset` of single attributes; a default is held as no value.
+//! The recording of `set` and `unset`, by the kind of the feature; a default is held as no value.
 ghost use Rattle.std.specs.Prelude.{◌≡◌, IfOk, None, true};
 ghost use Rattle.std.specs.FinMap.{get};
 ghost use Rattle.finite_maps.specs.Equal.{option_eq};
@@ -8,16 +8,16 @@ ghost use Rattle.model_state.specs.Typing.{kind_of, value_eq};
 ghost use Rattle.model_state.specs.declared.operation.OpKind.TheVariants.{Attribute};
 ghost use Rattle.emfjson_io.specs.Values.{value_of};
 ghost use Rattle.edit_laws.specs.Attributes.{held, put_made, taken};
-ghost use Rattle.edits.specs.Edits.{operation_of, recording_of, set_effect};
+ghost use Rattle.edits.specs.Edits.{operation_of, recording_of, set_effect, unset_effect};
 ghost use Rattle.edits.specs.Answers.{Answers};
 
 use crate::feature::{Named, read};
 use crate::operation::operation;
-use crate::reference;
+use crate::{many, reference};
 use ecore_meta::{Kind, List, Metamodel, Text, Value};
 use edit_laws::EditFault;
 use edits::Recorded;
-use model_state::{Id, Look, OpKind, Step, is_default, is_same_value};
+use model_state::{Id, Look, OpKind, Step, is_attr, is_default, is_many, is_plain, is_same_value};
 use opposites::is_one;
 use std::alloc::{AllocError, Global};
 
@@ -120,5 +120,26 @@ pub fn set<L: Look>(
             }
             _ => Err(EditFault::WrongKind),
         },
+    }
+}
+
+/// Records that all values of an attribute go, or all targets of a plain reference. Refused with WrongKind.
+pub fn unset<L: Look>(
+    alloc: Global,
+    look: &L,
+    meta: &Metamodel,
+    named: &Named,
+) -> Result<Recorded, EditFault>
+    requires good { Good meta.now (L.state look.now) }
+    ensures { Answers result (recording_of meta.now (L.state look.now) (unset_effect named.now.id named.now.feature (kind_of meta.now named.now.feature))) }
+{
+    if is_attr(meta, named.feature) {
+        Ok(put(alloc, look, named, None)?)
+    } else if is_many(meta, named.feature) {
+        Ok(many::clear(alloc, look, meta, named)?)
+    } else if is_plain(meta, named.feature) {
+        Ok(reference::unset(alloc, look, meta, named)?)
+    } else {
+        Err(EditFault::WrongKind)
     }
 }

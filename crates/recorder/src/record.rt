@@ -1,8 +1,6 @@
 //! The recording of any edit: the call of the crate, which finds the recording of its kind.
 ghost use Rattle.std.specs.Prelude.{IfOk};
 ghost use Rattle.model_state.specs.Good.{Good};
-ghost use Rattle.model_state.specs.Typing.{kind_of};
-ghost use Rattle.edits.specs.Edits.{recording_of, unset_effect};
 ghost use Rattle.recorder.specs.Laws.{KeepsGood};
 ghost use Rattle.recorder.specs.Recording.{recorded};
 ghost use Rattle.edits.specs.Answers.{Answers};
@@ -12,29 +10,8 @@ use crate::{attribute, create, many, place, reference};
 use ecore_meta::Metamodel;
 use edit_laws::EditFault;
 use edits::{Edit, Recorded};
-use model_state::{Look, is_attr, is_many, is_plain};
+use model_state::Look;
 use std::alloc::Global;
-
-/// Records that all values of an attribute go, or all targets of a plain reference. Refused with WrongKind.
-fn unset<L: Look>(
-    alloc: Global,
-    look: &L,
-    meta: &Metamodel,
-    named: &Named,
-) -> Result<Recorded, EditFault>
-    requires good { Good meta.now (L.state look.now) }
-    ensures { Answers result (recording_of meta.now (L.state look.now) (unset_effect named.now.id named.now.feature (kind_of meta.now named.now.feature))) }
-{
-    if is_attr(meta, named.feature) {
-        Ok(attribute::put(alloc, look, named, None)?)
-    } else if is_many(meta, named.feature) {
-        Ok(many::clear(alloc, look, meta, named)?)
-    } else if is_plain(meta, named.feature) {
-        Ok(reference::unset(alloc, look, meta, named)?)
-    } else {
-        Err(EditFault::WrongKind)
-    }
-}
 
 #[tactic(auto, unfolding(edits::specs::Edits::recorded_of, edits::specs::Edits::effect_of))]
 fn record<L: Look>(
@@ -60,7 +37,7 @@ fn record<L: Look>(
         }
         Edit::Unset { id, feature } => {
             let named = Named::find(alloc, look, meta, id, feature)?;
-            unset(alloc, look, meta, &named)
+            attribute::unset(alloc, look, meta, &named)
         }
         Edit::Add {
             id,
