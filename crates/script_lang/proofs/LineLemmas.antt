@@ -1,5 +1,6 @@
 -- A line and the command that it spells.
-use Rattle.std.proofs.Common.{◌≡◌, ℕ, suc, List, [], ◌∷◌, refl, sym, ap, subst, ◌∙◌, true, false, Bool, cond, Some, Result, Ok, Err, arith, codes}
+use Rattle.std.proofs.Common.{◌≡◌, ℕ, suc, List, [], ◌∷◌, refl, sym, ap, subst, ◌∙◌, true, false, Bool, cond, Some, Result, Ok, arith, codes}
+use Rattle.std.specs.Prelude.{map}
 use Rattle.std.specs.List.{AllPass, list_any}
 use Rattle.std.proofs.lemmas.Bool.{eqb-true}
 use Rattle.hex.specs.Hex.{encode_lower, is_hex_digit}
@@ -11,7 +12,7 @@ use Rattle.edits.specs.declared.edit.Edit.{Edit}
 use Rattle.edits.specs.declared.edit.Edit.TheVariants.{Create, Delete, Set, Unset, Add, Remove, Shift, Link, Unlink, Reorder, Move}
 use Rattle.script_lang.specs.Left.{Left}
 use Rattle.script_lang.specs.Words.{is_space, is_word, word_at}
-use Rattle.script_lang.specs.Command.{init_at, import_at, checkout_at, create_at, delete_at, move_at, set_at, unset_at, add_at, remove_at, shift_at, link_at, unlink_at, reorder_at, begin_at, end_line_at, undo_at, discard_at, tidy_at, apply_at, changes_at, show_at, cat_at, validate_at, commit_at, branch_at, tag_at, log_at, package_at, update_at, merge_at, revert_at, drop_at, command_of}
+use Rattle.script_lang.specs.Command.{init_at, import_at, checkout_at, create_at, delete_at, move_at, set_at, unset_at, add_at, remove_at, shift_at, link_at, unlink_at, reorder_at, begin_at, end_line_at, undo_at, discard_at, tidy_at, apply_at, changes_at, show_at, cat_at, validate_at, commit_at, branch_at, tag_at, log_at, package_at, update_at, merge_at, revert_at, drop_at, chosen, command_of}
 use Rattle.script_lang.specs.Spelling.{IsWord, IsCommand, CommandsHaveLines, edit_word, edit_fields, spec_word, optional_word, words_of, spaced, Spells}
 use Rattle.script_lang.proofs.WordLemmas.{word_back}
 use Rattle.script_lang.proofs.Readings.{reads, reached, word_kind, joined, spaced_joined, some_is, Tells}
@@ -118,55 +119,66 @@ chosen_or : (first word : List ℕ) (left : Left) (command : Command) (read next
 chosen_or first word left command read next true is this other e = subst (λ w. Tells w left command) (sym (same_word first word is)) (this e)
 chosen_or first word left command read next false is this other e = other e
 
-no_command : (first : List ℕ) (left : Left) (command : Command) → ◌≡◌ {A = Result Command ℕ} (Err 1) (Ok command) → Tells first left command
-no_command first left command e = cc
+-- a word, how what stands behind it is read, and that what is read so is spelled behind the word
+record Row : Type 0 where
+  word : List ℕ
+  read : Left → Result Command ℕ
+  spelled : (left : Left) (command : Command) → read left ≡ Ok command → Tells word left command
+
+abbrev known : (word : List ℕ) (read : Left → Result Command ℕ) → ((left : Left) (command : Command) → read left ≡ Ok command → Tells word left command) → Row
+known word read spelled = record { word = word; read = read; spelled = spelled }
+
+abbrev plain : Row → List ℕ × (Left → Result Command ℕ)
+plain row = (row.word, row.read)
 
 -- what the first word chooses is spelled behind it
-first_spelled : (first : List ℕ) (left : Left) (command : Command)
-    → cond (is_word first (codes "init")) (init_at left) (cond (is_word first (codes "import")) (import_at left) (cond (is_word first (codes "checkout")) (checkout_at left) (cond (is_word first (codes "create")) (create_at left) (cond (is_word first (codes "delete")) (delete_at left) (cond (is_word first (codes "move")) (move_at left) (cond (is_word first (codes "set")) (set_at left) (cond (is_word first (codes "unset")) (unset_at left) (cond (is_word first (codes "add")) (add_at left) (cond (is_word first (codes "remove")) (remove_at left) (cond (is_word first (codes "shift")) (shift_at left) (cond (is_word first (codes "link")) (link_at left) (cond (is_word first (codes "unlink")) (unlink_at left) (cond (is_word first (codes "reorder")) (reorder_at left) (cond (is_word first (codes "begin")) (begin_at left) (cond (is_word first (codes "end")) (end_line_at left) (cond (is_word first (codes "undo")) (undo_at left) (cond (is_word first (codes "discard")) (discard_at left) (cond (is_word first (codes "tidy")) (tidy_at left) (cond (is_word first (codes "apply")) (apply_at left) (cond (is_word first (codes "changes")) (changes_at left) (cond (is_word first (codes "show")) (show_at left) (cond (is_word first (codes "cat")) (cat_at left) (cond (is_word first (codes "validate")) (validate_at left) (cond (is_word first (codes "commit")) (commit_at left) (cond (is_word first (codes "branch")) (branch_at left) (cond (is_word first (codes "tag")) (tag_at left) (cond (is_word first (codes "log")) (log_at left) (cond (is_word first (codes "package")) (package_at left) (cond (is_word first (codes "update")) (update_at left) (cond (is_word first (codes "merge")) (merge_at left) (cond (is_word first (codes "revert")) (revert_at left) (cond (is_word first (codes "drop")) (drop_at left) (Err 1))))))))))))))))))))))))))))))))) ≡ Ok command
-    → Tells first left command
-first_spelled first left command =
-    chosen_or first (codes "init") left command _ _ _ refl (init_spelled left command) (
-    chosen_or first (codes "import") left command _ _ _ refl (import_spelled left command) (
-    chosen_or first (codes "checkout") left command _ _ _ refl (checkout_spelled left command) (
-    chosen_or first (codes "create") left command _ _ _ refl (create_spelled left command) (
-    chosen_or first (codes "delete") left command _ _ _ refl (delete_spelled left command) (
-    chosen_or first (codes "move") left command _ _ _ refl (move_spelled left command) (
-    chosen_or first (codes "set") left command _ _ _ refl (set_spelled left command) (
-    chosen_or first (codes "unset") left command _ _ _ refl (unset_spelled left command) (
-    chosen_or first (codes "add") left command _ _ _ refl (add_spelled left command) (
-    chosen_or first (codes "remove") left command _ _ _ refl (remove_spelled left command) (
-    chosen_or first (codes "shift") left command _ _ _ refl (shift_spelled left command) (
-    chosen_or first (codes "link") left command _ _ _ refl (link_spelled left command) (
-    chosen_or first (codes "unlink") left command _ _ _ refl (unlink_spelled left command) (
-    chosen_or first (codes "reorder") left command _ _ _ refl (reorder_spelled left command) (
-    chosen_or first (codes "begin") left command _ _ _ refl (begin_spelled left command) (
-    chosen_or first (codes "end") left command _ _ _ refl (end_spelled left command) (
-    chosen_or first (codes "undo") left command _ _ _ refl (undo_spelled left command) (
-    chosen_or first (codes "discard") left command _ _ _ refl (discard_spelled left command) (
-    chosen_or first (codes "tidy") left command _ _ _ refl (tidy_spelled left command) (
-    chosen_or first (codes "apply") left command _ _ _ refl (apply_spelled left command) (
-    chosen_or first (codes "changes") left command _ _ _ refl (changes_spelled left command) (
-    chosen_or first (codes "show") left command _ _ _ refl (show_spelled left command) (
-    chosen_or first (codes "cat") left command _ _ _ refl (cat_spelled left command) (
-    chosen_or first (codes "validate") left command _ _ _ refl (validate_spelled left command) (
-    chosen_or first (codes "commit") left command _ _ _ refl (commit_spelled left command) (
-    chosen_or first (codes "branch") left command _ _ _ refl (branch_spelled left command) (
-    chosen_or first (codes "tag") left command _ _ _ refl (tag_spelled left command) (
-    chosen_or first (codes "log") left command _ _ _ refl (log_spelled left command) (
-    chosen_or first (codes "package") left command _ _ _ refl (package_spelled left command) (
-    chosen_or first (codes "update") left command _ _ _ refl (update_spelled left command) (
-    chosen_or first (codes "merge") left command _ _ _ refl (merge_spelled left command) (
-    chosen_or first (codes "revert") left command _ _ _ refl (revert_spelled left command) (
-    chosen_or first (codes "drop") left command _ _ _ refl (drop_spelled left command) (
-    no_command first left command)))))))))))))))))))))))))))))))))
+chosen_spelled : (rows : List Row) (first : List ℕ) (left : Left) (command : Command) → chosen (map plain rows) first left ≡ Ok command → Tells first left command
+chosen_spelled [] first left command e = cc
+chosen_spelled (row ∷ rows) first left command e =
+    chosen_or first row.word left command (row.read left) (chosen (map plain rows) first left) (is_word first row.word) refl (row.spelled left command) (chosen_spelled rows first left command) e
+
+abbrev all_rows : List Row
+all_rows =
+    known (codes "init") init_at init_spelled ∷
+    known (codes "import") import_at import_spelled ∷
+    known (codes "checkout") checkout_at checkout_spelled ∷
+    known (codes "create") create_at create_spelled ∷
+    known (codes "delete") delete_at delete_spelled ∷
+    known (codes "move") move_at move_spelled ∷
+    known (codes "set") set_at set_spelled ∷
+    known (codes "unset") unset_at unset_spelled ∷
+    known (codes "add") add_at add_spelled ∷
+    known (codes "remove") remove_at remove_spelled ∷
+    known (codes "shift") shift_at shift_spelled ∷
+    known (codes "link") link_at link_spelled ∷
+    known (codes "unlink") unlink_at unlink_spelled ∷
+    known (codes "reorder") reorder_at reorder_spelled ∷
+    known (codes "begin") begin_at begin_spelled ∷
+    known (codes "end") end_line_at end_spelled ∷
+    known (codes "undo") undo_at undo_spelled ∷
+    known (codes "discard") discard_at discard_spelled ∷
+    known (codes "tidy") tidy_at tidy_spelled ∷
+    known (codes "apply") apply_at apply_spelled ∷
+    known (codes "changes") changes_at changes_spelled ∷
+    known (codes "show") show_at show_spelled ∷
+    known (codes "cat") cat_at cat_spelled ∷
+    known (codes "validate") validate_at validate_spelled ∷
+    known (codes "commit") commit_at commit_spelled ∷
+    known (codes "branch") branch_at branch_spelled ∷
+    known (codes "tag") tag_at tag_spelled ∷
+    known (codes "log") log_at log_spelled ∷
+    known (codes "package") package_at package_spelled ∷
+    known (codes "update") update_at update_spelled ∷
+    known (codes "merge") merge_at merge_spelled ∷
+    known (codes "revert") revert_at revert_spelled ∷
+    known (codes "drop") drop_at drop_spelled ∷ []
 
 pub line_spelled : (line : List ℕ) (command : Command) → command_of line ≡ Ok command → Spells line command
 unfolding command_of
 line_spelled line command e =
     let k = reached (word_at (record { rest = Some line; column = 1 })) _ command e in
     let w = word_back (record { rest = Some line; column = 1 }) k.0.0 k.0.1 k.1 in
-    let t = first_spelled k.0.0 k.0.1 command k.2 in
+    let t = chosen_spelled all_rows k.0.0 k.0.1 command k.2 in
     record { form = t.0; words = t.1 line w.1 }
 
 -- no digit is a space

@@ -328,44 +328,53 @@ drop_at left = do
   end ← end_at ws.1
   Ok (commands.Drop ws.0)
 
+-- each command: its word, and how what stands behind it is read
+abbrev pub commands_by_word : List (List ℕ × (Left → Result Command ℕ))
+commands_by_word =
+    (codes "init", init_at) ∷
+    (codes "import", import_at) ∷
+    (codes "checkout", checkout_at) ∷
+    (codes "create", create_at) ∷
+    (codes "delete", delete_at) ∷
+    (codes "move", move_at) ∷
+    (codes "set", set_at) ∷
+    (codes "unset", unset_at) ∷
+    (codes "add", add_at) ∷
+    (codes "remove", remove_at) ∷
+    (codes "shift", shift_at) ∷
+    (codes "link", link_at) ∷
+    (codes "unlink", unlink_at) ∷
+    (codes "reorder", reorder_at) ∷
+    (codes "begin", begin_at) ∷
+    (codes "end", end_line_at) ∷
+    (codes "undo", undo_at) ∷
+    (codes "discard", discard_at) ∷
+    (codes "tidy", tidy_at) ∷
+    (codes "apply", apply_at) ∷
+    (codes "changes", changes_at) ∷
+    (codes "show", show_at) ∷
+    (codes "cat", cat_at) ∷
+    (codes "validate", validate_at) ∷
+    (codes "commit", commit_at) ∷
+    (codes "branch", branch_at) ∷
+    (codes "tag", tag_at) ∷
+    (codes "log", log_at) ∷
+    (codes "package", package_at) ∷
+    (codes "update", update_at) ∷
+    (codes "merge", merge_at) ∷
+    (codes "revert", revert_at) ∷
+    (codes "drop", drop_at) ∷ []
+
+-- what the word chooses of these
+abbrev pub chosen : List (List ℕ × (Left → Result Command ℕ)) → List ℕ → Left → Result Command ℕ
+chosen [] word left = Err 1
+chosen (row ∷ rows) word left = if is_word word row.0 then row.1 left else chosen rows word left
+
 -- a whole line: the first word names the command
 unfoldable pub command_of : List ℕ → Result Command ℕ
 command_of line = do
   first ← word_at (record { rest = Some line; column = 1 })
-  if is_word first.0 (codes "init") then init_at first.1
-      else if is_word first.0 (codes "import") then import_at first.1
-      else if is_word first.0 (codes "checkout") then checkout_at first.1
-      else if is_word first.0 (codes "create") then create_at first.1
-      else if is_word first.0 (codes "delete") then delete_at first.1
-      else if is_word first.0 (codes "move") then move_at first.1
-      else if is_word first.0 (codes "set") then set_at first.1
-      else if is_word first.0 (codes "unset") then unset_at first.1
-      else if is_word first.0 (codes "add") then add_at first.1
-      else if is_word first.0 (codes "remove") then remove_at first.1
-      else if is_word first.0 (codes "shift") then shift_at first.1
-      else if is_word first.0 (codes "link") then link_at first.1
-      else if is_word first.0 (codes "unlink") then unlink_at first.1
-      else if is_word first.0 (codes "reorder") then reorder_at first.1
-      else if is_word first.0 (codes "begin") then begin_at first.1
-      else if is_word first.0 (codes "end") then end_line_at first.1
-      else if is_word first.0 (codes "undo") then undo_at first.1
-      else if is_word first.0 (codes "discard") then discard_at first.1
-      else if is_word first.0 (codes "tidy") then tidy_at first.1
-      else if is_word first.0 (codes "apply") then apply_at first.1
-      else if is_word first.0 (codes "changes") then changes_at first.1
-      else if is_word first.0 (codes "show") then show_at first.1
-      else if is_word first.0 (codes "cat") then cat_at first.1
-      else if is_word first.0 (codes "validate") then validate_at first.1
-      else if is_word first.0 (codes "commit") then commit_at first.1
-      else if is_word first.0 (codes "branch") then branch_at first.1
-      else if is_word first.0 (codes "tag") then tag_at first.1
-      else if is_word first.0 (codes "log") then log_at first.1
-      else if is_word first.0 (codes "package") then package_at first.1
-      else if is_word first.0 (codes "update") then update_at first.1
-      else if is_word first.0 (codes "merge") then merge_at first.1
-      else if is_word first.0 (codes "revert") then revert_at first.1
-      else if is_word first.0 (codes "drop") then drop_at first.1
-      else Err 1
+  chosen commands_by_word first.0 first.1
 
 -- a call gave the command that reading gives, or its column
 abbrev pub GivesCommand : Result Command ParseFault → Result Command ℕ → Type 0
