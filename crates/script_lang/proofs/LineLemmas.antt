@@ -13,7 +13,7 @@ use Rattle.edits.specs.declared.edit.Edit.TheVariants.{Create, Delete, Set, Unse
 use Rattle.script_lang.specs.Left.{Left}
 use Rattle.script_lang.specs.Words.{is_space, is_word, word_at}
 use Rattle.script_lang.specs.Command.{init_at, import_at, checkout_at, create_at, delete_at, move_at, set_at, unset_at, add_at, remove_at, shift_at, link_at, unlink_at, reorder_at, begin_at, end_line_at, undo_at, discard_at, tidy_at, apply_at, changes_at, show_at, cat_at, validate_at, commit_at, branch_at, tag_at, log_at, package_at, update_at, merge_at, revert_at, drop_at, chosen, command_of}
-use Rattle.script_lang.specs.Spelling.{IsWord, IsCommand, CommandsHaveLines, edit_word, edit_fields, spec_word, optional_word, words_of, spaced, Spells}
+use Rattle.script_lang.specs.Spelling.{IsWord, IsCommand, IsLineOf, CommandsHaveLines, LinesAreSpelled, edit_word, edit_fields, spec_word, optional_word, words_of, spaced, Spells}
 use Rattle.script_lang.proofs.WordLemmas.{word_back}
 use Rattle.script_lang.proofs.Readings.{reads, reached, word_kind, joined, spaced_joined, some_is, Tells}
 use Rattle.script_lang.proofs.FieldLemmas.{same_word}
@@ -173,13 +173,17 @@ all_rows =
     known (codes "revert") revert_at revert_spelled ∷
     known (codes "drop") drop_at drop_spelled ∷ []
 
-pub line_spelled : (line : List ℕ) (command : Command) → command_of line ≡ Ok command → Spells line command
+-- a line that is read as a command has its words
+pub line_tells : (line : List ℕ) (command : Command) → command_of line ≡ Ok command → IsCommand command × IsLineOf line command
 unfolding command_of
-line_spelled line command e =
+line_tells line command e =
     let k = reached (word_at (record { rest = Some line; column = 1 })) _ command e in
     let w = word_back (record { rest = Some line; column = 1 }) k.0.0 k.0.1 k.1 in
     let t = chosen_spelled all_rows k.0.0 k.0.1 command k.2 in
-    record { form = t.0; words = t.1 line w.1 }
+    (t.0, t.1 line w.1)
+
+pub line_spelled : LinesAreSpelled
+line_spelled line command is e = let t = line_tells line command e in record { is_line = is; form = t.0; words = t.1 }
 
 -- no digit is a space
 no_space : (c : ℕ) (b : Bool) → is_space c ≡ b → is_hex_digit c ≡ true → b ≡ false
@@ -196,10 +200,10 @@ no_spaces (c ∷ cs) all =
 
 -- the line of a command's words spells it
 pub commands_have_lines : CommandsHaveLines
-commands_have_lines (commands.Apply ws bytes) is =
+commands_have_lines (commands.Apply ws bytes) is is_line =
     let digits = encode_lower bytes in
     let decoded = decode_of-encode_lower bytes is.1.1 in
     let ok = decode_of-ok digits bytes decoded in
     let word : IsWord digits = (omega (arith, ok.2, is.1.0), no_spaces digits ok.1) in
-    record { form = is; words = (digits, word, decoded, refl) }
-commands_have_lines command is = record { form = is; words = refl }
+    record { is_line = is_line; form = is; words = (digits, word, decoded, refl) }
+commands_have_lines command is is_line = record { is_line = is_line; form = is; words = refl }

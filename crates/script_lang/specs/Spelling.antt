@@ -1,5 +1,5 @@
 -- How a command is spelled: the words of its line, one after another.
-use Rattle.std.specs.Prelude.{◌≡◌, ◌≢◌, ℕ, ◌<◌, ◌≤◌, ◌^◌, List, [], ◌∷◌, ◌++◌, codes, Option, Some, None, Ok, length, true, false}
+use Rattle.std.specs.Prelude.{◌≡◌, ◌≢◌, ◌==◌, ℕ, Bool, ◌<◌, ◌≤◌, ◌^◌, List, [], ◌∷◌, ◌++◌, codes, Option, Some, None, Ok, length, true, false}
 use Rattle.std.specs.List.{list_any}
 use Rattle.std.specs.Fmt.{decimal}
 use Rattle.script_lang.specs.declared.command.Spec.{Spec}
@@ -14,6 +14,14 @@ use Rattle.model_state.specs.Names.{is_name}
 use Rattle.hex.specs.Hex.{IsBytes, decode_of, encode_lower}
 use Rattle.script_lang.specs.Words.{is_space}
 use Rattle.script_lang.specs.Command.{command_of}
+
+-- a line feed
+abbrev pub is_line_feed : ℕ → Bool
+is_line_feed b = b == 10
+
+-- the bytes of a line: no line feed is among them
+abbrev pub IsLine : List ℕ → Type 0
+IsLine line = list_any is_line_feed line ≡ false
 
 -- a word: at least one byte, and no space
 abbrev pub IsWord : List ℕ → Type 0
@@ -195,17 +203,18 @@ IsLineOf line command = line ≡ spaced (words_of command)
 
 -- the line spells the command
 pub record Spells (line : List ℕ) (command : Command) : Type 0 where
+  pub is_line : IsLine line
   pub form : IsCommand command
   pub words : IsLineOf line command
 
 -- a line that is read as a command spells it
 abbrev pub LinesAreSpelled : Type 0
-LinesAreSpelled = (line : List ℕ) (command : Command) → command_of line ≡ Ok command → Spells line command
+LinesAreSpelled = (line : List ℕ) (command : Command) → IsLine line → command_of line ≡ Ok command → Spells line command
 
 -- a line that spells a command is read as that one
 abbrev pub LinesAreRead : Type 0
 LinesAreRead = (line : List ℕ) (command : Command) → Spells line command → command_of line ≡ Ok command
 
--- each command that a line can spell is spelled by the line of its words
+-- each command that a line can spell is spelled by the line of its words, which must hold no line feed
 abbrev pub CommandsHaveLines : Type 0
-CommandsHaveLines = (command : Command) → IsCommand command → Spells (spaced (words_of command)) command
+CommandsHaveLines = (command : Command) → IsCommand command → IsLine (spaced (words_of command)) → Spells (spaced (words_of command)) command
