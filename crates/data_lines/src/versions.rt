@@ -6,7 +6,7 @@ ghost use Rattle.serde_json.specs.Written.{compact_text};
 ghost use Rattle.hex.specs.Hex.{encode_lower};
 ghost use Rattle.history_tree.specs.Found.{branch_name, tags_of};
 ghost use Rattle.op_form.specs.Packages.{package_form};
-ghost use Rattle.op_form.specs.Sizes.{FitsPackage};
+ghost use Rattle.op_form.specs.Laws.{IsPackage};
 ghost use Rattle.data_lines.specs.Lines.{optional, operation_lines, spaced};
 ghost use Rattle.data_lines.specs.Typed.{IsTypedPackage};
 ghost use Rattle.data_lines.specs.Versions.{after_commas, listed, log_lines, package_lines, version_line};
@@ -43,7 +43,7 @@ pub fn package_lines(
     meta: &Metamodel,
 ) -> Result<List<Text>, AllocError>
     requires typed { IsTypedPackage meta.now «package».now }
-    requires fits { FitsPackage «package».now }
+    requires spelled { IsPackage «package».now }
     ensures lines { IfOk result (λ lines. lines ≡ package_lines meta.now «package».now) }
 {
     let mut lines = operation_lines(alloc, package.as_slice(), meta)?;
@@ -53,7 +53,7 @@ pub fn package_lines(
 
 /// `hex` and the bytes of a package.
 fn hex_line(alloc: Global, package: &Package) -> Result<Text, AllocError>
-    requires { FitsPackage «package».now }
+    requires { IsPackage «package».now }
     ensures { IfOk result (λ t. t ≡ codes "hex " ++ encode_lower (package_form «package».now)) }
 {
     let bytes = encode(alloc, package)?;

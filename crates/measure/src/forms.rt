@@ -3,7 +3,6 @@ ghost use Rattle.std.specs.Prelude.{◌≡◌, ◌-◌, ◌+◌, ◌*◌, ◌<�
 ghost use Rattle.std.specs.Str.{IsUtf8};
 ghost use Rattle.op_form.specs.Packages.{package_form};
 ghost use Rattle.op_form.specs.Laws.{IsStep, IsOperation, IsPackage};
-ghost use Rattle.op_form.specs.Sizes.{FitsStep, FitsOperation, FitsPackage};
 ghost use Rattle.model_state.specs.Packages.{steps_of};
 ghost use Rattle.measure.specs.Steps.{step_count};
 
@@ -34,7 +33,6 @@ fn short_text(number: u32) -> &'static str
 /// The step of that number: each tenth makes an element, and the nine after it set its attributes.
 fn step(alloc: Global, number: u32) -> Result<Step, MeasureFault>
     ensures is { IfOk result IsStep }
-    ensures fits { IfOk result FitsStep }
 {
     let element = number / 10;
     let e = Id::read(alloc, format!(in alloc; "n{element}")?.as_str())?;
@@ -59,7 +57,6 @@ fn step(alloc: Global, number: u32) -> Result<Step, MeasureFault>
 fn operation(alloc: Global, first: u32, end: u32) -> Result<Operation, MeasureFault>
     requires { first < end }
     ensures is { IfOk result IsOperation }
-    ensures fits { IfOk result FitsOperation }
     ensures count { IfOk result (λ o. length (steps_of o) ≡ end - first) }
 {
     let mut steps = List::new(alloc);
@@ -75,7 +72,6 @@ fn operation(alloc: Global, first: u32, end: u32) -> Result<Operation, MeasureFa
 /// A package of so many steps, a hundred in each operation and the rest in the last.
 pub(crate) fn package_of(alloc: Global, steps: u32) -> Result<Package, MeasureFault>
     ensures is { IfOk result IsPackage }
-    ensures fits { IfOk result FitsPackage }
     ensures count { IfOk result (λ p. step_count p ≡ steps) }
 {
     let mut package = List::new(alloc);

@@ -1,4 +1,4 @@
--- The tests of what has a spelling: they hold of just these values, and what passes them is of the sizes that writing asks.
+-- The tests of what has a spelling: they hold of just these values.
 use Rattle.std.proofs.Common.{◌≡◌, ℕ, ℤ, pos, negsuc, ◌^◌, ◌<◌, ◌≤◌, nat_le, nat_lt, Bool, true, false, ◌&&◌, List, length, All, Option, Some, None, refl, sym, ap, ◌∙◌}
 use Rattle.std.specs.Prelude.{FitsSigned}
 use Rattle.std.specs.Int.{w64}
@@ -22,9 +22,7 @@ use Rattle.model_state.specs.declared.operation.Operation.TheVariants.{Simple, C
 use Rattle.op_form.specs.declared.event.Event.{Event}
 use Rattle.op_form.specs.declared.event.Event.TheVariants.{Init, Checkout, Edit, Begin, End, Undo, Discard, Tidy, Commit, Branch, Tag, Update, Merge, Drop}
 use Rattle.op_form.specs.Laws.{EventsAreTested, IsU32, IsU64, IsIdText, IsNameText, IsGiven, IsList, IsSomeList, IsValue, IsPlace, IsStep, IsOperation, IsPackage, IsEvent}
-use Rattle.op_form.specs.Sizes.{FitsValue, FitsIfAny, FitsStep, FitsSteps, FitsOperation, FitsPackage, FitsEvent}
 use Rattle.op_form.specs.Formed.{is_u32, is_u64, is_i64, is_short_text, is_given, is_list, is_some_list, is_value, is_place, is_step, is_operation, is_package, is_event}
-use Rattle.op_form.proofs.PackageCodes.{name_short}
 
 -- a test holds just where the fact does
 pub record Told (test : Bool) (Fact : Type 0) : Type 0 where
@@ -165,49 +163,9 @@ is_event_holds e h = (event_told e).holds h
 pub events_tested : EventsAreTested
 events_tested e = (is_event_is e, is_event_holds e)
 
-value_fits : (v : Value) → IsValue v → FitsValue v
-value_fits (Text t) is = is.0
-value_fits v is = tt
-
-value_fits_if_any : (o : Option Value) → IsGiven IsValue o → FitsIfAny o
-value_fits_if_any None is = tt
-value_fits_if_any (Some v) is = value_fits v is
-
-step_fits : (s : Step) → IsStep s → FitsStep s
-step_fits (Put e f old new) is = (value_fits_if_any old is.1.1.0, value_fits_if_any new is.1.1.1)
-step_fits (Ins e f at v) is = value_fits v is.1.1.1
-step_fits (Del e f at v) is = value_fits v is.1.1.1
-step_fits (Move e from from_rank to to_rank above_from above_to) is = (is.1.1.1.1.1.0.0, is.1.1.1.1.1.1.0)
-step_fits s is = tt
-
-steps_fit : (steps : List Step) → IsSomeList IsStep steps → FitsSteps steps
-steps_fit steps is = (is.0, is.1, All-weaker IsStep FitsStep step_fits steps is.2)
-
-operation_fits : (o : Operation) → IsOperation o → FitsOperation o
-operation_fits (Simple kind steps) is = steps_fit steps is.1
-operation_fits (Composite name steps) is = (is.0, (name_short name is.0).0, steps_fit steps is.1)
-
-package_fits : (operations : List Operation) → IsPackage operations → FitsPackage operations
-package_fits operations is = (is.0, All-weaker IsOperation FitsOperation operation_fits operations is.1)
-
--- a package that has a spelling is of the sizes that writing asks
-pub is_package_fits : (operations : List Operation) → is_package operations ≡ true → FitsPackage operations
-is_package_fits operations h = package_fits operations ((package_told operations).is h)
-
--- so is an event that has one
-pub event_fits : (e : Event) → IsEvent e → FitsEvent e
-event_fits (Init text) is = is.0
-event_fits (Edit ws operations) is = package_fits operations is.1
-event_fits (Begin ws name) is = is.1.0
-event_fits (Commit ws message) is = is.1.0
-event_fits (Branch ws name) is = is.1.0
-event_fits (Tag name version) is = is.0.0
-event_fits (Update ws choices) is = is.1.0
-event_fits (Merge ws branch choices) is = is.1.1.0
-event_fits e is = tt
-
-pub is_event_fits : (e : Event) → is_event e ≡ true → FitsEvent e
-is_event_fits e h = event_fits e (is_event_is e h)
+-- what passes the test of packages has a spelling
+pub is_package_is : (operations : List Operation) → is_package operations ≡ true → IsPackage operations
+is_package_is operations h = (package_told operations).is h
 
 with_true : (a b : Bool) → b ≡ true → a && b ≡ a
 with_true true b h = h

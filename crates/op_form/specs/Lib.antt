@@ -4,7 +4,6 @@ pub mod Steps
 pub mod Packages
 pub mod Events
 pub mod Given
-pub mod Sizes
 pub mod Formed
 pub mod Reversals
 pub mod Laws

@@ -4,7 +4,7 @@ ghost use Rattle.std.specs.Prelude.{◌≡◌, ◌&&◌, IsTrue};
 ghost use Rattle.model_state.specs.Ident.{is_id};
 ghost use Rattle.std.specs.List.{list_all};
 ghost use Rattle.op_form.specs.Formed.{is_u32, is_u64, is_i64, is_short_text, is_given, is_list, is_some_list, is_value, is_place, is_step, is_operation, is_package, is_event};
-ghost use Rattle.op_form.specs.Sizes.{FitsEvent, FitsPackage};
+ghost use Rattle.op_form.specs.Laws.{IsEvent, IsPackage};
 
 use crate::Event;
 use ecore_meta::{List, Text, Value};
@@ -14,7 +14,7 @@ use model_state::{Id, Operation, Package, Place, Step, is_name};
 /// text and list fewer than 2^32 bytes or items.
 pub fn has_form(event: &Event) -> bool
     ensures form { result ≡ is_event event.now }
-    ensures fits { IsTrue result → FitsEvent event.now }
+    ensures spelled { IsTrue result → IsEvent event.now }
 {
     is_event(event)
 }
@@ -23,7 +23,7 @@ pub fn has_form(event: &Event) -> bool
 /// name of its form, and each text and list of fewer than 2^32 bytes or items.
 pub fn is_package(package: &Package) -> bool
     ensures form { result ≡ is_package «package».now }
-    ensures fits { IsTrue result → FitsPackage «package».now }
+    ensures spelled { IsTrue result → IsPackage «package».now }
 {
     are_operations(package)
 }

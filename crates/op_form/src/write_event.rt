@@ -5,7 +5,7 @@ ghost use Rattle.op_form.specs.Reading.{items_form, list_form};
 ghost use Rattle.op_form.specs.Steps.{step_form};
 ghost use Rattle.op_form.specs.Packages.{kind_form, operation_form, package_form};
 ghost use Rattle.op_form.specs.Events.{event_form};
-ghost use Rattle.op_form.specs.Sizes.{FitsStep, FitsSteps, FitsOperation, FitsPackage, FitsEvent};
+ghost use Rattle.op_form.specs.Laws.{IsSomeList, IsStep, IsOperation, IsPackage, IsEvent};
 
 use crate::Event;
 use crate::write_step::put_step;
@@ -16,7 +16,7 @@ use std::alloc::{AllocError, Global};
 
 /// The spelling of a package.
 pub fn encode(alloc: Global, package: &Package) -> Result<Vec<u8>, AllocError>
-    requires fits { FitsPackage «package».now }
+    requires spelled { IsPackage «package».now }
     ensures form { IfOk result (λ bytes. bytes.items ≡ package_form «package».now) }
 {
     let mut form = Form::new(alloc);
@@ -26,7 +26,7 @@ pub fn encode(alloc: Global, package: &Package) -> Result<Vec<u8>, AllocError>
 
 /// The spelling of an event.
 pub fn encode_event(alloc: Global, event: &Event) -> Result<Vec<u8>, AllocError>
-    requires fits { FitsEvent event.now }
+    requires spelled { IsEvent event.now }
     ensures form { IfOk result (λ bytes. bytes.items ≡ event_form event.now) }
 {
     let mut form = Form::new(alloc);
@@ -48,7 +48,7 @@ fn put_kind(form: &mut Form, kind: OpKind) -> Result<(), AllocError>
 }
 
 fn put_step_items(form: &mut Form, steps: &[Step]) -> Result<(), AllocError>
-    requires { All FitsStep steps.now }
+    requires { All IsStep steps.now }
     ensures { OnOk result (form.new ≡ form.old ++ items_form step_form steps.now) }
 {
     for step in steps {
@@ -58,7 +58,7 @@ fn put_step_items(form: &mut Form, steps: &[Step]) -> Result<(), AllocError>
 }
 
 fn put_steps(form: &mut Form, steps: &List<Step>) -> Result<(), AllocError>
-    requires { FitsSteps steps.now }
+    requires { IsSomeList IsStep steps.now }
     ensures { OnOk result (form.new ≡ form.old ++ list_form step_form steps.now) }
 {
     form.put_u32(steps.len() as u32)?;
@@ -67,7 +67,7 @@ fn put_steps(form: &mut Form, steps: &List<Step>) -> Result<(), AllocError>
 
 #[tactic(auto, unfolding(crate::specs::Packages::operation_form))]
 fn put_operation(form: &mut Form, operation: &Operation) -> Result<(), AllocError>
-    requires { FitsOperation operation.now }
+    requires { IsOperation operation.now }
     ensures { OnOk result (form.new ≡ form.old ++ operation_form operation.now) }
 {
     match operation {
@@ -85,7 +85,7 @@ fn put_operation(form: &mut Form, operation: &Operation) -> Result<(), AllocErro
 }
 
 fn put_operation_items(form: &mut Form, operations: &[Operation]) -> Result<(), AllocError>
-    requires { All FitsOperation operations.now }
+    requires { All IsOperation operations.now }
     ensures { OnOk result (form.new ≡ form.old ++ items_form operation_form operations.now) }
 {
     for operation in operations {
@@ -96,7 +96,7 @@ fn put_operation_items(form: &mut Form, operations: &[Operation]) -> Result<(), 
 
 #[tactic(auto, unfolding(crate::specs::Packages::package_form))]
 fn put_package(form: &mut Form, package: &Package) -> Result<(), AllocError>
-    requires { FitsPackage «package».now }
+    requires { IsPackage «package».now }
     ensures { OnOk result (form.new ≡ form.old ++ package_form «package».now) }
 {
     form.put_u32(package.len() as u32)?;
@@ -105,7 +105,7 @@ fn put_package(form: &mut Form, package: &Package) -> Result<(), AllocError>
 
 #[tactic(auto, unfolding(crate::specs::Events::event_form))]
 fn put_event(form: &mut Form, event: &Event) -> Result<(), AllocError>
-    requires { FitsEvent event.now }
+    requires { IsEvent event.now }
     ensures { OnOk result (form.new ≡ form.old ++ event_form event.now) }
 {
     match event {

@@ -4,7 +4,7 @@ ghost use Rattle.byte_form.specs.Fields.{text_form, u32_form, u64_form};
 ghost use Rattle.op_form.specs.Reading.{option_form, items_form, list_form};
 ghost use Rattle.op_form.specs.Values.{value_form, place_form, flag_form};
 ghost use Rattle.op_form.specs.Steps.{step_form};
-ghost use Rattle.op_form.specs.Sizes.{FitsValue, FitsIfAny, FitsStep, IsShort};
+ghost use Rattle.op_form.specs.Laws.{IsGiven, IsIdText, IsList, IsValue, IsStep};
 
 use byte_form::Form;
 use ecore_meta::{List, Value};
@@ -27,7 +27,7 @@ fn put_flag(form: &mut Form, flag: bool) -> Result<(), AllocError>
 /// Writes the byte of a value's kind, from 1 to 4, and what that kind has. The error is want of memory.
 #[tactic(auto, unfolding(crate::specs::Values::value_form))]
 pub(crate) fn put_value(form: &mut Form, value: &Value) -> Result<(), AllocError>
-    requires { FitsValue value.now }
+    requires { IsValue value.now }
     ensures { OnOk result (form.new ≡ form.old ++ value_form value.now) }
 {
     match value {
@@ -51,7 +51,7 @@ pub(crate) fn put_value(form: &mut Form, value: &Value) -> Result<(), AllocError
 }
 
 fn put_value_if_any(form: &mut Form, value: &Option<Value>) -> Result<(), AllocError>
-    requires { FitsIfAny value.now }
+    requires { IsGiven IsValue value.now }
     ensures { OnOk result (form.new ≡ form.old ++ option_form value_form value.now) }
 {
     match value {
@@ -100,7 +100,7 @@ fn put_id_items(form: &mut Form, ids: &[Id]) -> Result<(), AllocError>
 }
 
 fn put_ids(form: &mut Form, ids: &List<Id>) -> Result<(), AllocError>
-    requires { IsShort ids.now }
+    requires { IsList IsIdText ids.now }
     ensures { OnOk result (form.new ≡ form.old ++ list_form text_form ids.now) }
 {
     form.put_u32(ids.len() as u32)?;
@@ -110,7 +110,7 @@ fn put_ids(form: &mut Form, ids: &List<Id>) -> Result<(), AllocError>
 /// A step: its kind's byte, and its fields.
 #[tactic(auto, unfolding(crate::specs::Steps::step_form))]
 pub(crate) fn put_step(form: &mut Form, step: &Step) -> Result<(), AllocError>
-    requires { FitsStep step.now }
+    requires { IsStep step.now }
     ensures { OnOk result (form.new ≡ form.old ++ step_form step.now) }
 {
     match step {
@@ -155,8 +155,8 @@ fn put_change(
     old: &Option<Value>,
     new: &Option<Value>,
 ) -> Result<(), AllocError>
-    requires old { FitsIfAny old.now }
-    requires new { FitsIfAny new.now }
+    requires old { IsGiven IsValue old.now }
+    requires new { IsGiven IsValue new.now }
     ensures { OnOk result (form.new ≡ form.old ++ 1 ∷ (text_form e.now ++ (u32_form f ++ (option_form value_form old.now ++ option_form value_form new.now)))) }
 {
     form.put_u8(1)?;
@@ -203,8 +203,8 @@ fn put_move(
     above_from: &List<Id>,
     above_to: &List<Id>,
 ) -> Result<(), AllocError>
-    requires above_from { IsShort above_from.now }
-    requires above_to { IsShort above_to.now }
+    requires above_from { IsList IsIdText above_from.now }
+    requires above_to { IsList IsIdText above_to.now }
     ensures { OnOk result (form.new ≡ form.old ++ 10 ∷ (text_form e.now ++ (place_form from.now ++ (u64_form from_rank ++ (place_form to.now ++ (u64_form to_rank ++ (list_form text_form above_from.now ++ list_form text_form above_to.now))))))) }
 {
     form.put_u8(10)?;
@@ -231,7 +231,7 @@ fn put_at_index(
     at: u32,
     v: &Value,
 ) -> Result<(), AllocError>
-    requires { FitsValue v.now }
+    requires { IsValue v.now }
     ensures { OnOk result (form.new ≡ form.old ++ kind ∷ (text_form e.now ++ (u32_form f ++ (u32_form at ++ value_form v.now)))) }
 {
     form.put_u8(kind)?;

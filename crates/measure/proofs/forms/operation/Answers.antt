@@ -1,6 +1,5 @@
 use Rattle.std.proofs.Common.{arith}
 use Rattle.op_form.specs.Laws.{IsStep}
-use Rattle.op_form.specs.Sizes.{FitsStep}
 use Rattle.measure.proofs.Grown.{all_more, one_more}
 use Rattle.measure.proofs.forms.operation.Goals as goal
 
@@ -9,4 +8,4 @@ loop-number-preserved c =
     let e = c.in_ok-push.ensures.ok in
     let kept = c.loop-number.invariant in
     let made = c.in_ok-step.ensures in
-    (omega (arith, one_more _ _ _ e, kept.0), all_more IsStep _ _ _ e kept.1 made.is, all_more FitsStep _ _ _ e kept.2 made.fits)
+    (omega (arith, one_more _ _ _ e, kept.0), all_more IsStep _ _ _ e kept.1 made.is)

@@ -1,6 +1,5 @@
 use Rattle.std.proofs.Common.{arith}
 use Rattle.op_form.specs.Laws.{IsOperation}
-use Rattle.op_form.specs.Sizes.{FitsOperation}
 use Rattle.measure.proofs.Grown.{all_more, one_more, count_more}
 use Rattle.measure.proofs.forms.package_of.Goals as goal
 
@@ -11,6 +10,5 @@ loop-number-preserved c =
     let made = c.in_ok-operation.ensures in (
       omega (arith, one_more _ _ _ e, kept.0),
       all_more IsOperation _ _ _ e kept.1 made.is,
-      all_more FitsOperation _ _ _ e kept.2 made.fits,
-      omega (arith, count_more _ _ _ e, made.count, kept.3),
+      omega (arith, count_more _ _ _ e, made.count, kept.2),
     )
