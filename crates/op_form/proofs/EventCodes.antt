@@ -1,15 +1,13 @@
 -- Events: read again, and spelled so.
-use Rattle.std.proofs.Common.{◌≡◌, inl, inr, ℕ, List, ◌∷◌, cond, nat_eq, true, Result, Ok, Err, refl}
+use Rattle.std.proofs.Common.{◌≡◌, inl, inr, ℕ, List, [], ◌∷◌, map, nat_eq, true, Ok, refl}
 use Rattle.byte_form.specs.Rest.{Rest}
 use Rattle.byte_form.specs.Fields.{byte_at}
 use Rattle.byte_form.specs.Laws.{IsReadAgain, IsSpelledSo, StoodThere, AreBytes, IsBelow, byte_form}
 use Rattle.byte_form.proofs.FieldLemmas.{reached}
-use Rattle.op_form.specs.declared.fault.FormFault.{FormFault}
-use Rattle.op_form.specs.declared.fault.FormFault.TheVariants.{NotForm}
 use Rattle.op_form.specs.declared.event.Event.{Event}
 use Rattle.op_form.specs.declared.event.Event.TheVariants.{Init, Checkout, Edit, Begin, End, Undo, Discard, Tidy, Commit, Branch, Tag, Update, Merge, Drop}
 use Rattle.op_form.specs.Reading.{Reading, made, u8_at}
-use Rattle.op_form.specs.Events.{init_at, checkout_at, edit_at, begin_at, commit_at, branch_at, tag_at, update_at, merge_at, event_of, event_at, event_form}
+use Rattle.op_form.specs.Events.{init_at, checkout_at, edit_at, begin_at, commit_at, branch_at, tag_at, update_at, merge_at, events_by_kind, chosen, event_at, event_form}
 use Rattle.op_form.specs.Laws.{IsEvent}
 use Rattle.op_form.proofs.Codes.{Codes, both, either, u32_codes, text_codes, made_again, made_spelled, byte_stood}
 use Rattle.op_form.proofs.PackageCodes.{package_codes}
@@ -32,42 +30,55 @@ event_again (Merge ws branch choices) is rest place =
     made_again (both u32_codes (both u32_codes text_codes)) (λ t. Merge t.0 t.1.0 t.1.1) 13 (ws, (branch, choices)) is rest place
 event_again (Drop ws) is rest place = made_again u32_codes (λ ws. Drop ws) 14 ws is rest place
 
--- an event of a kind stood there, or reading went on to the next kind
-spelled_or : {X : Type 0} {Is : X → Type 0} {form : X → List ℕ} {read : Reading X} (codes : Codes Is form read) (make : X → Event) (tag : ℕ)
-    → ((x : X) → Is x → IsEvent (make x)) → ((x : X) → Is x → event_form (make x) ≡ tag ∷ form x)
-    → (before mid after : Rest) (event : Event) (n : ℕ) (next : Result (Event × Rest) FormFault) → AreBytes before.bytes
-    → ((tag : ℕ) → nat_eq n tag ≡ true → StoodThere (IsBelow 256) byte_form before mid tag)
-    → (next ≡ Ok (event, after) → StoodThere IsEvent event_form before after event)
-    → cond (nat_eq n tag) (made make (read mid)) next ≡ Ok (event, after) → StoodThere IsEvent event_form before after event
-spelled_or {read} codes make tag is_made form_made before mid after event n next bytes stood other e =
-    elim (either (nat_eq n tag) (made make (read mid)) next (Ok (event, after)) e) [
-      | inl h ↦ made_spelled codes make tag IsEvent event_form is_made form_made before mid after event bytes (stood tag h.0) h.1
-      | inr h ↦ other h.1
-    ]
+-- a kind's byte, how its fields are read, and that an event of the kind stood where they are read behind that byte
+record Row : Type 0 where
+  tag : ℕ
+  read : Reading Event
+  spelled : (before mid after : Rest) (event : Event) → AreBytes before.bytes → StoodThere (IsBelow 256) byte_form before mid tag → read mid ≡ Ok (event, after)
+      → StoodThere IsEvent event_form before after event
 
-no_event : (before after : Rest) (event : Event) → ◌≡◌ {A = Result (Event × Rest) FormFault} (Err (NotForm before.place)) (Ok (event, after)) → StoodThere IsEvent event_form before after event
-no_event before after event e = cc
+abbrev known : {X : Type 0} {Is : X → Type 0} {form : X → List ℕ} {read : Reading X} → Codes Is form read → (make : X → Event) (tag : ℕ)
+    → ((x : X) → Is x → IsEvent (make x)) → ((x : X) → Is x → event_form (make x) ≡ tag ∷ form x) → Row
+known {read} codes make tag is_made form_made = record {
+  tag = tag;
+  read = λ r. made make (read r);
+  spelled = λ before mid after event bytes stood e. made_spelled codes make tag IsEvent event_form is_made form_made before mid after event bytes stood e;
+}
+
+abbrev plain : Row → ℕ × Reading Event
+plain row = (row.tag, row.read)
+
+-- an event of the kind that the byte chooses stood there
+chosen_spelled : (rows : List Row) (before mid after : Rest) (event : Event) (n : ℕ) → AreBytes before.bytes
+    → ((tag : ℕ) → nat_eq n tag ≡ true → StoodThere (IsBelow 256) byte_form before mid tag)
+    → chosen (map plain rows) before.place (n, mid) ≡ Ok (event, after) → StoodThere IsEvent event_form before after event
+chosen_spelled [] before mid after event n bytes stood e = cc
+chosen_spelled (row ∷ rows) before mid after event n bytes stood e =
+    elim (either (nat_eq n row.tag) (row.read mid) (chosen (map plain rows) before.place (n, mid)) (Ok (event, after)) e) [
+      | inl h ↦ row.spelled before mid after event bytes (stood row.tag h.0) h.1
+      | inr h ↦ chosen_spelled rows before mid after event n bytes stood h.1
+    ]
 
 event_spelled : IsSpelledSo IsEvent event_form event_at
 unfolding event_at event_form init_at checkout_at edit_at begin_at commit_at branch_at tag_at update_at merge_at
 event_spelled before bytes event after e =
-    let k = reached (u8_at before) (event_of before.place) (event, after) e in
+    let k = reached (u8_at before) (chosen events_by_kind before.place) (event, after) e in
     let stood = byte_stood before k.0.0 k.0.1 bytes k.1 in
-    spelled_or text_codes (λ t. Init t) 1 (λ t is. is) (λ t is. refl) before k.0.1 after event k.0.0 _ bytes stood (
-    spelled_or (both u32_codes u32_codes) (λ t. Checkout t.0 t.1) 2 (λ t is. is) (λ t is. refl) before k.0.1 after event k.0.0 _ bytes stood (
-    spelled_or (both u32_codes package_codes) (λ t. Edit t.0 t.1) 3 (λ t is. is) (λ t is. refl) before k.0.1 after event k.0.0 _ bytes stood (
-    spelled_or (both u32_codes text_codes) (λ t. Begin t.0 t.1) 4 (λ t is. is) (λ t is. refl) before k.0.1 after event k.0.0 _ bytes stood (
-    spelled_or u32_codes (λ t. End t) 5 (λ t is. is) (λ t is. refl) before k.0.1 after event k.0.0 _ bytes stood (
-    spelled_or u32_codes (λ t. Undo t) 6 (λ t is. is) (λ t is. refl) before k.0.1 after event k.0.0 _ bytes stood (
-    spelled_or u32_codes (λ t. Discard t) 7 (λ t is. is) (λ t is. refl) before k.0.1 after event k.0.0 _ bytes stood (
-    spelled_or u32_codes (λ t. Tidy t) 8 (λ t is. is) (λ t is. refl) before k.0.1 after event k.0.0 _ bytes stood (
-    spelled_or (both u32_codes text_codes) (λ t. Commit t.0 t.1) 9 (λ t is. is) (λ t is. refl) before k.0.1 after event k.0.0 _ bytes stood (
-    spelled_or (both u32_codes text_codes) (λ t. Branch t.0 t.1) 10 (λ t is. is) (λ t is. refl) before k.0.1 after event k.0.0 _ bytes stood (
-    spelled_or (both text_codes u32_codes) (λ t. Tag t.0 t.1) 11 (λ t is. is) (λ t is. refl) before k.0.1 after event k.0.0 _ bytes stood (
-    spelled_or (both u32_codes text_codes) (λ t. Update t.0 t.1) 12 (λ t is. is) (λ t is. refl) before k.0.1 after event k.0.0 _ bytes stood (
-    spelled_or (both u32_codes (both u32_codes text_codes)) (λ t. Merge t.0 t.1.0 t.1.1) 13 (λ t is. is) (λ t is. refl) before k.0.1 after event k.0.0 _ bytes stood (
-    spelled_or u32_codes (λ t. Drop t) 14 (λ t is. is) (λ t is. refl) before k.0.1 after event k.0.0 _ bytes stood (
-    no_event before after event)))))))))))))) k.2
+    chosen_spelled (
+    known text_codes (λ t. Init t) 1 (λ t is. is) (λ t is. refl) ∷
+    known (both u32_codes u32_codes) (λ t. Checkout t.0 t.1) 2 (λ t is. is) (λ t is. refl) ∷
+    known (both u32_codes package_codes) (λ t. Edit t.0 t.1) 3 (λ t is. is) (λ t is. refl) ∷
+    known (both u32_codes text_codes) (λ t. Begin t.0 t.1) 4 (λ t is. is) (λ t is. refl) ∷
+    known u32_codes (λ t. End t) 5 (λ t is. is) (λ t is. refl) ∷
+    known u32_codes (λ t. Undo t) 6 (λ t is. is) (λ t is. refl) ∷
+    known u32_codes (λ t. Discard t) 7 (λ t is. is) (λ t is. refl) ∷
+    known u32_codes (λ t. Tidy t) 8 (λ t is. is) (λ t is. refl) ∷
+    known (both u32_codes text_codes) (λ t. Commit t.0 t.1) 9 (λ t is. is) (λ t is. refl) ∷
+    known (both u32_codes text_codes) (λ t. Branch t.0 t.1) 10 (λ t is. is) (λ t is. refl) ∷
+    known (both text_codes u32_codes) (λ t. Tag t.0 t.1) 11 (λ t is. is) (λ t is. refl) ∷
+    known (both u32_codes text_codes) (λ t. Update t.0 t.1) 12 (λ t is. is) (λ t is. refl) ∷
+    known (both u32_codes (both u32_codes text_codes)) (λ t. Merge t.0 t.1.0 t.1.1) 13 (λ t is. is) (λ t is. refl) ∷
+    known u32_codes (λ t. Drop t) 14 (λ t is. is) (λ t is. refl) ∷ []) before k.0.1 after event k.0.0 bytes stood k.2
 
 pub event_codes : Codes IsEvent event_form event_at
 event_codes = record { again = event_again; spelled = event_spelled }

@@ -1,5 +1,5 @@
 -- The bytes of events: a byte for the kind, and the fields in their order.
-use Rattle.std.specs.Prelude.{ℕ, ◌==◌, List, ◌∷◌, ◌++◌, Result, Ok, Err, if◌then◌else◌}
+use Rattle.std.specs.Prelude.{ℕ, ◌==◌, List, [], ◌∷◌, ◌++◌, Result, Ok, Err, if◌then◌else◌}
 use Rattle.byte_form.specs.Rest.{Rest}
 use Rattle.byte_form.specs.Fields.{◌>>=◌, text_form, ends_at, u32_form}
 use Rattle.op_form.specs.declared.fault.FormFault.{FormFault}
@@ -45,28 +45,36 @@ update_at r = made (λ t. Update t.0 t.1) ((u32_at ⊗ any_text_at) r)
 unfoldable pub merge_at : Reading Event
 merge_at r = made (λ t. Merge t.0 t.1.0 t.1.1) ((u32_at ⊗ u32_at ⊗ any_text_at) r)
 
--- the kind's byte chooses
-abbrev pub event_of : ℕ → ℕ × Rest → Result (Event × Rest) FormFault
-event_of place kind =
-    if kind.0 == 1 then init_at kind.1
-    else if kind.0 == 2 then checkout_at kind.1
-    else if kind.0 == 3 then edit_at kind.1
-    else if kind.0 == 4 then begin_at kind.1
-    else if kind.0 == 5 then made (λ ws. End ws) (u32_at kind.1)
-    else if kind.0 == 6 then made (λ ws. Undo ws) (u32_at kind.1)
-    else if kind.0 == 7 then made (λ ws. Discard ws) (u32_at kind.1)
-    else if kind.0 == 8 then made (λ ws. Tidy ws) (u32_at kind.1)
-    else if kind.0 == 9 then commit_at kind.1
-    else if kind.0 == 10 then branch_at kind.1
-    else if kind.0 == 11 then tag_at kind.1
-    else if kind.0 == 12 then update_at kind.1
-    else if kind.0 == 13 then merge_at kind.1
-    else if kind.0 == 14 then made (λ ws. Drop ws) (u32_at kind.1)
-    else Err (NotForm place)
+-- an event that has a workspace alone
+abbrev pub of_workspace : (ℕ → Event) → Reading Event
+of_workspace make r = made make (u32_at r)
+
+-- each kind of event: its byte, and how its fields are read
+abbrev pub events_by_kind : List (ℕ × Reading Event)
+events_by_kind =
+    (1, init_at) ∷
+    (2, checkout_at) ∷
+    (3, edit_at) ∷
+    (4, begin_at) ∷
+    (5, of_workspace (λ ws. End ws)) ∷
+    (6, of_workspace (λ ws. Undo ws)) ∷
+    (7, of_workspace (λ ws. Discard ws)) ∷
+    (8, of_workspace (λ ws. Tidy ws)) ∷
+    (9, commit_at) ∷
+    (10, branch_at) ∷
+    (11, tag_at) ∷
+    (12, update_at) ∷
+    (13, merge_at) ∷
+    (14, of_workspace (λ ws. Drop ws)) ∷ []
+
+-- what the byte chooses of these
+abbrev pub chosen : List (ℕ × Reading Event) → ℕ → ℕ × Rest → Result (Event × Rest) FormFault
+chosen [] place kind = Err (NotForm place)
+chosen (row ∷ rows) place kind = if kind.0 == row.0 then row.1 kind.1 else chosen rows place kind
 
 -- an event: its kind's byte, and the fields of that kind
 unfoldable pub event_at : Reading Event
-event_at r = u8_at r >>= event_of r.place
+event_at r = u8_at r >>= chosen events_by_kind r.place
 
 -- the spelling of an event
 unfoldable pub event_form : Event → List ℕ
