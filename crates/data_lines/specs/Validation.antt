@@ -12,7 +12,7 @@ use Rattle.model_state.specs.declared.step.Place.TheVariants.{Root, Inside}
 use Rattle.model_state.specs.Keys.{Name}
 use Rattle.model_state.specs.Listing.{children, ids, targets, values_at}
 use Rattle.model_state.specs.State.{State}
-use Rattle.data_lines.specs.Lines.{feature_name, spaced}
+use Rattle.data_lines.specs.Lines.{feature_name, behind_spaces}
 
 -- the element stands in that feature of the element around
 abbrev pub stands_in : ℕ → Option Place → Bool
@@ -50,7 +50,7 @@ lower_of meta f = lower_in (kind_of meta f) (option_map_or (λ feature. feature.
 
 -- the element, its feature, what it holds and what it has to hold
 abbrev pub shortage_line : Meta → State → Name → ℕ → List ℕ
-shortage_line meta m e f = e ++ spaced (feature_name meta f ∷ decimal (held_in meta m e f) ∷ decimal (lower_of meta f) ∷ [])
+shortage_line meta m e f = e ++ behind_spaces (feature_name meta f ∷ decimal (held_in meta m e f) ∷ decimal (lower_of meta f) ∷ [])
 
 -- the line of a feature that holds less than it has to, none of another
 abbrev pub line_if_short : Meta → State → Name → ℕ → List (List ℕ)

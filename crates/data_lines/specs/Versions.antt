@@ -10,7 +10,7 @@ use Rattle.op_form.specs.Packages.{package_form}
 use Rattle.history_tree.specs.declared.version.Version.{Version}
 use Rattle.history_tree.specs.History.{History}
 use Rattle.history_tree.specs.Found.{branch_name, tags_of}
-use Rattle.data_lines.specs.Lines.{optional, operation_lines, spaced}
+use Rattle.data_lines.specs.Lines.{optional, operation_lines, behind_spaces}
 
 -- words, each after a comma
 abbrev pub after_commas : List (List ℕ) → List ℕ
@@ -26,7 +26,7 @@ listed (word ∷ words) = word ++ after_commas words
 abbrev pub version_line : History → ℕ → Version → List ℕ
 version_line h n v =
     decimal n
-    ++ spaced (branch_name h v.branch ∷ optional decimal v.parent ∷ listed (map decimal v.merged) ∷ decimal (length v.«package»)
+    ++ behind_spaces (branch_name h v.branch ∷ optional decimal v.parent ∷ listed (map decimal v.merged) ∷ decimal (length v.«package»)
     ∷ listed (tags_of h n) ∷ compact_text (string v.message) ∷ [])
 
 -- the lines of versions, the first of them with the number n

@@ -1,6 +1,6 @@
 //! The lines of operations, and those of an open composite.
 ghost use Rattle.std.specs.Prelude.{◌≡◌, ◌++◌, ◌∷◌, [], IfOk, OnOk, codes, map};
-ghost use Rattle.data_lines.specs.Lines.{kind_word, kind_words, open_lines, operation_line, operation_lines, spaced, step_line};
+ghost use Rattle.data_lines.specs.Lines.{kind_word, kind_words, open_lines, operation_line, operation_lines, behind_spaces, step_line};
 ghost use Rattle.data_lines.specs.Typed.{AreTyped, IsTypedPackage};
 ghost use Rattle.model_state.specs.Packages.{steps_of};
 
@@ -48,7 +48,7 @@ pub fn open_lines(
 }
 
 fn open_line(alloc: Global, name: &Text) -> Result<Text, AllocError>
-    ensures { IfOk result (λ t. t ≡ codes "open" ++ spaced (name.now ∷ [])) }
+    ensures { IfOk result (λ t. t ≡ codes "open" ++ behind_spaces (name.now ∷ [])) }
 {
     let mut line = Line::new(alloc);
     line.push("open")?;
@@ -95,7 +95,7 @@ fn kind_word(kind: OpKind) -> &'static str
 }
 
 fn push_kind(line: &mut Line, operation: &Operation) -> Result<(), AllocError>
-    ensures { OnOk result (line.new ≡ line.old ++ spaced (kind_words operation.now)) }
+    ensures { OnOk result (line.new ≡ line.old ++ behind_spaces (kind_words operation.now)) }
 {
     match operation {
         Operation::Simple { kind, .. } => line.push_word(kind_word(*kind)),

@@ -5,7 +5,7 @@ ghost use Rattle.std.specs.Option.{option_copied, option_map};
 ghost use Rattle.std.specs.FinMap.{get};
 ghost use Rattle.model_state.specs.Listing.{children};
 ghost use Rattle.model_state.specs.declared.step.Place.TheVariants.{Inside};
-ghost use Rattle.data_lines.specs.Lines.{spaced};
+ghost use Rattle.data_lines.specs.Lines.{behind_spaces};
 ghost use Rattle.data_lines.specs.Validation.{feature_lines, features_at, held, line_if_short, lower_in, stands_in, validate_lines};
 
 use crate::line::Line;
@@ -89,7 +89,7 @@ fn shortage_line(
     count: u64,
     lower: u64,
 ) -> Result<Text, AllocError>
-    ensures { IfOk result (λ t. t ≡ e.now ++ spaced (feature.now.name ∷ decimal count ∷ decimal lower ∷ [])) }
+    ensures { IfOk result (λ t. t ≡ e.now ++ behind_spaces (feature.now.name ∷ decimal count ∷ decimal lower ∷ [])) }
 {
     let mut line = Line::new(alloc);
     line.push(e.as_str())?;

@@ -7,7 +7,7 @@ ghost use Rattle.hex.specs.Hex.{encode_lower};
 ghost use Rattle.history_tree.specs.Found.{branch_name, tags_of};
 ghost use Rattle.op_form.specs.Packages.{package_form};
 ghost use Rattle.op_form.specs.Laws.{IsPackage};
-ghost use Rattle.data_lines.specs.Lines.{optional, operation_lines, spaced};
+ghost use Rattle.data_lines.specs.Lines.{optional, operation_lines, behind_spaces};
 ghost use Rattle.data_lines.specs.Typed.{IsTypedPackage};
 ghost use Rattle.data_lines.specs.Versions.{after_commas, listed, log_lines, package_lines, version_line};
 
@@ -90,7 +90,7 @@ fn push_origin(
     version: &Version,
 ) -> Result<(), AllocError>
     requires { version.now.branch < length history.now.history.branches }
-    ensures { OnOk result (line.new ≡ line.old ++ spaced (branch_name history.now.history version.now.branch ∷ optional decimal version.now.parent ∷ listed (map decimal version.now.merged) ∷ [])) }
+    ensures { OnOk result (line.new ≡ line.old ++ behind_spaces (branch_name history.now.history version.now.branch ∷ optional decimal version.now.parent ∷ listed (map decimal version.now.merged) ∷ [])) }
 {
     line.push_word(history.branch_name(version.branch))?;
     push_number_if_any(line, version.parent)?;
@@ -107,7 +107,7 @@ fn push_content(
     version: &Version,
 ) -> Result<(), AllocError>
     requires { n < length history.now.history.versions }
-    ensures { OnOk result (line.new ≡ line.old ++ spaced (decimal (length version.now.«package») ∷ listed (tags_of history.now.history n) ∷ compact_text (string version.now.message) ∷ [])) }
+    ensures { OnOk result (line.new ≡ line.old ++ behind_spaces (decimal (length version.now.«package») ∷ listed (tags_of history.now.history n) ∷ compact_text (string version.now.message) ∷ [])) }
 {
     line.push_number(version.package.len() as u64)?;
     let tags = history.tags_of(alloc, n)?;
