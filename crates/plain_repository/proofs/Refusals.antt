@@ -37,7 +37,7 @@ use Rattle.script_lang.specs.declared.command.Command.{Command}
 use Rattle.script_lang.specs.declared.command.Command.TheVariants as commands
 use Rattle.script_lang.specs.Command.{command_of}
 use Rattle.plain_repository.specs.State.{State, Workspace, workspace_of, model_of, is_open, has_local, has_operations}
-use Rattle.plain_repository.specs.Answers.{Decision, accepted, most_events, fits_record, with_room}
+use Rattle.plain_repository.specs.Answers.{Decision, accepted, most_events, is_too_large, with_room}
 use Rattle.plain_repository.specs.Specs.{named}
 use Rattle.plain_repository.specs.Metamodels.{with_metamodel, decide_init}
 use Rattle.plain_repository.specs.Checkouts.{checkout_of, decide_checkout, drop_of, decide_drop}
@@ -77,7 +77,7 @@ module _ (s : State) where
   unfolding with_room
   room lines words event =
       either (nat_le most_events s.events) (silent refl)
-      (either (not (fits_record event)) (silent refl) (either (nat_lt (2 ^ 40) (s.end + length (event_form event) + 6)) (silent refl) (made lines words event)))
+      (either (is_too_large event) (silent refl) (either (nat_lt (2 ^ 40) (s.end + length (event_form event) + 6)) (silent refl) (made lines words event)))
 
   -- ---- the metamodel, workspaces, the history
   init_read : (text : List ℕ) (read : Result Meta EcoreFault) → NoneIfRefused (with_metamodel s text read)

@@ -1,5 +1,5 @@
 -- What a command is answered, and the event that it makes.
-use Rattle.std.specs.Prelude.{ℕ, ◌+◌, ◌^◌, ◌&&◌, nat_lt, nat_le, not, List, [], Bool, true, false, length, Option, Some, None, if◌then◌else◌}
+use Rattle.std.specs.Prelude.{ℕ, ◌+◌, ◌^◌, ◌&&◌, nat_lt, nat_le, List, [], Bool, true, false, length, Option, Some, None, if◌then◌else◌}
 use Rattle.op_form.specs.declared.event.Event.{Event}
 use Rattle.op_form.specs.Events.{event_form}
 use Rattle.op_form.specs.Formed.{is_event}
@@ -39,6 +39,10 @@ most_events = 4294967295
 abbrev pub most_bytes : ℕ
 most_bytes = 16777211
 
+-- the event has more bytes than a record takes
+abbrev pub is_too_large : Event → Bool
+is_too_large event = nat_lt most_bytes (length (event_form event))
+
 -- the event has a form, of no more bytes than a record takes
 abbrev pub fits_record : Event → Bool
 fits_record event = is_event event && nat_le (length (event_form event)) most_bytes
@@ -47,7 +51,7 @@ fits_record event = is_event event && nat_le (length (event_form event)) most_by
 unfoldable pub with_room : State → List (List ℕ) → List ℕ → Event → Decision
 with_room s lines words event =
     if nat_le most_events s.events then refused refusals.HistoryFull
-    else if not (fits_record event) then refused refusals.TooLarge
+    else if is_too_large event then refused refusals.TooLarge
     else if nat_lt (2 ^ 40) (s.end + length (event_form event) + 6) then refused refusals.JournalFull
     else accepted lines words event
 

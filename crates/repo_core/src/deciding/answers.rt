@@ -73,7 +73,7 @@ pub(crate) fn number_words(alloc: Global, n: u64) -> Result<Text, AllocError>
 }
 
 impl Repo {
-    /// Makes an event, where the history and the journal have room.
+    /// Makes an event, where the history and the journal have room. Of one that has no form it answers out of memory.
     #[tactic(auto, unfolding(plain_repository::specs::Answers::with_room, plain_repository::specs::Events::playable))]
     pub(crate) fn with_room(
         &self,
@@ -89,8 +89,9 @@ impl Repo {
         if self.is_full() {
             return Ok(refuse(alloc, Refusal::HistoryFull));
         }
+        // Such an event has a text or a list of 2^32 items, for which no memory is large enough.
         if !has_form(&event) {
-            return Ok(refuse(alloc, Refusal::TooLarge));
+            return Err(AllocError);
         }
         let form = encode_event(alloc, &event)?;
         if form.len() > MOST_BYTES {
