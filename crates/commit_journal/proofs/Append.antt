@@ -122,8 +122,8 @@ pub is_short : (gate : ℕ) (form : List ℕ) → Fits gate (length form) → Is
 is_short gate form fit = omega (arith, fit.short)
 
 -- whatever form a ready record holds fits
-pub fit_of : (pool : Frames) (prepared : PagedState) (end : ℕ) → IsReady pool prepared end → (form : List ℕ) → Holds pool prepared form → Fits end (length form)
-fit_of pool prepared end ready form held =
+pub fits_held : (pool : Frames) (prepared : PagedState) (end : ℕ) → IsReady pool prepared end → (form : List ℕ) → Holds pool prepared form → Fits end (length form)
+fits_held pool prepared end ready form held =
     let a = ready.1.size in
     let b = held.size in
     let c = length-behind_gate ready.0 in

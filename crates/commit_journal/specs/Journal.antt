@@ -1,10 +1,12 @@
 -- What the bytes of a journal stand for.
-use Rattle.std.specs.Prelude.{◌≡◌, ◌≢◌, ◌⊎◌, ℕ, ◌+◌, ◌^◌, ◌<◌, ◌≤◌, Bool, List, [], ◌∷◌, ◌++◌, length, take, drop, slice_index, All}
+use Rattle.std.specs.Prelude.{◌≡◌, ◌≢◌, ◌⊎◌, ℕ, ◌+◌, ◌^◌, ◌<◌, ◌≤◌, nat_lt, Bool, if◌then◌else◌, List, [], ◌∷◌, ◌++◌, length, take, drop, slice_index, All}
 use Rattle.std.specs.Int.{to_be_bytes, w32}
 use Rattle.host_port.specs.Host.{StopLeaves, Disk}
 use Rattle.page_pool.specs.Frames.{Frames}
 use Rattle.page_pool.specs.Paged.{PagedState, Holds as HoldsBytes}
 use Rattle.commit_journal.specs.Stop.{IsSettled}
+use Rattle.commit_journal.specs.declared.fit.Fit.{Fit}
+use Rattle.commit_journal.specs.declared.fit.Fit.TheVariants.{Yes, TooLarge, Full}
 
 -- EMFSTORE, the number 1 and four zero bytes
 unfoldable pub header : List ℕ
@@ -31,9 +33,21 @@ records (form ∷ forms) = record_of form ++ records forms
 abbrev pub behind_gate : List ℕ → List ℕ
 behind_gate form = four_bytes (length form) ++ form ++ 0 ∷ []
 
--- a form that a record may hold: with its gate and its length it has at most 2 ^ 24 bytes
+-- the place of the first gate: behind the header
+abbrev pub first_gate : ℕ
+first_gate = 16
+
+-- the place of the next gate behind the record of a form of that size
+abbrev pub next_gate : ℕ → ℕ → ℕ
+next_gate gate size = gate + 5 + size
+
+-- the most bytes of a form: with its gate and its length a record has at most 2 ^ 24 bytes
+abbrev pub most_bytes : ℕ
+most_bytes = 16777211
+
+-- a form that a record may hold
 abbrev pub IsShort : List ℕ → Type 0
-IsShort form = length form ≤ 16777211
+IsShort form = length form ≤ most_bytes
 
 -- the file begins with the header and the records of these forms, which end at a place
 pub record ReadsTo (file : List ℕ) (forms : List (List ℕ)) (place : ℕ) : Type 0 where
@@ -128,6 +142,10 @@ Holds pool prepared form = HoldsBytes pool prepared (behind_gate form)
 pub record Fits (end size : ℕ) : Type 0 where
   pub short : size + 5 ≤ 16777216
   pub room : end + size + 6 ≤ 2 ^ 40
+
+-- whether such a record may be appended there, or which limit stands in its way; a journal has at most 2 ^ 40 bytes with the gate behind the record
+abbrev pub fit_of : ℕ → ℕ → Fit
+fit_of end size = if nat_lt most_bytes size then TooLarge else if nat_lt (2 ^ 40) (end + size + 6) then Full else Yes
 
 -- the prepared record may be appended at a journal's end
 abbrev pub IsReady : Frames → PagedState → ℕ → Type 0

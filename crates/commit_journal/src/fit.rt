@@ -1,12 +1,19 @@
-//! The size limits of a record and of a journal, and the test of both before an append.
-ghost use Rattle.std.specs.Prelude.{◌≡◌, ◌+◌, ◌^◌, ◌<◌, ◌≤◌, ◌↔◌};
-ghost use Rattle.commit_journal.specs.Journal.{Fits};
+//! The numbers of a journal: where records stand in it, the limits of a record and of a journal, and the test of both
+//! before an append.
+ghost use Rattle.std.specs.Prelude.{◌≡◌, ◌+◌, ◌^◌, ◌<◌, ◌↔◌};
+ghost use Rattle.commit_journal.specs.Journal.{Fits, fit_of, next_gate};
+
+/// The place of the first gate: behind the header.
+pub const FIRST_GATE: u64 = 16;
 
 /// The most bytes of a record: its gate, its length and its form.
-pub const RECORD_LIMIT: u64 = 1 << 24;
+const RECORD_LIMIT: u64 = 1 << 24;
+
+/// The most bytes of a form.
+pub const MOST_BYTES: u64 = RECORD_LIMIT - 5;
 
 /// The most bytes of a journal.
-pub const JOURNAL_LIMIT: u64 = 1 << 40;
+pub(crate) const JOURNAL_LIMIT: u64 = 1 << 40;
 
 /// Whether a record of a form may be appended.
 #[derive(Clone, Copy, Debug, PartialEq, Eq)]
@@ -20,15 +27,22 @@ pub enum Fit {
 
 /// Whether a form of `n` bytes may be appended to a journal whose closed gate is at `end`.
 pub fn fits(end: u64, n: u64) -> Fit
+    ensures fit { result ≡ fit_of end n }
     ensures yes { (result ≡ Fit.Yes) ↔ Fits end n }
-    ensures too_large { (result ≡ Fit.TooLarge) ↔ (16777216 < n + 5) }
-    ensures full { (result ≡ Fit.Full) ↔ ((n + 5 ≤ 16777216) × (2 ^ 40 < end + n + 6)) }
 {
-    if n > RECORD_LIMIT - 5 {
+    if n > MOST_BYTES {
         return Fit::TooLarge;
     }
     if end > JOURNAL_LIMIT - 6 - n {
         return Fit::Full;
     }
     Fit::Yes
+}
+
+/// The place of the gate behind a record of a form of `n` bytes, whose own gate is at `gate`.
+pub fn next_gate(gate: u64, n: u64) -> u64
+    requires low { next_gate gate n < 2 ^ 40 }
+    ensures place { result ≡ next_gate gate n }
+{
+    gate + 5 + n
 }

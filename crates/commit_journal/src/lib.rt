@@ -10,6 +10,6 @@ mod walk;
 mod write;
 
 pub use fault::JournalFault;
-pub use fit::{Fit, fits};
+pub use fit::{FIRST_GATE, Fit, MOST_BYTES, fits, next_gate};
 pub use journal::{Journal, Prepared, give_up};
 pub use walk::Walk;

@@ -6,6 +6,7 @@ ghost use Rattle.commit_journal.specs.Journal.{WalkState, header, four_bytes, Is
 ghost use Rattle.commit_journal.specs.Walk.{IfDamaged};
 
 use crate::fault::JournalFault;
+use crate::fit::{FIRST_GATE, JOURNAL_LIMIT, MOST_BYTES};
 use crate::journal::Journal;
 use crate::write::write_durably;
 use host_port::{Failed, Host};
@@ -57,7 +58,7 @@ fn has_room(length: u64, gate: u64, size: u64) -> bool
     ensures room { OnTrue result ((size ≤ 16777211) × (gate + 5 + size < 2 ^ 40) × (gate + 5 + size ≤ length)) }
     ensures none { OnFalse result ((size ≤ 16777211) → (gate + 5 + size < 2 ^ 40) → length < gate + 5 + size) }
 {
-    size <= 16_777_211 && gate + 5 + size < 1 << 40 && size <= length - gate - 5
+    size <= MOST_BYTES && gate + 5 + size < JOURNAL_LIMIT && size <= length - gate - 5
 }
 
 /// What stands at the place where a record's gate may stand.
@@ -149,8 +150,8 @@ impl Walk {
         ensures { result ≡ record { place = 16; next = 16; ended = false } }
     {
         Walk {
-            place: 16,
-            next: 16,
+            place: FIRST_GATE,
+            next: FIRST_GATE,
             ended: false,
         }
     }

@@ -1,6 +1,6 @@
 -- When a commit is refused as stale, and what one that is made leaves.
 use Rattle.std.proofs.Common.{◌≡◌, ◌≢◌, ℕ, ◌&&◌, List, [], ◌++◌, Bool, nat_eq, true, false, cond, length, Option, None, Some, is_some, refl, sym, ◌∙◌, ap, subst, append-nil}
-use Rattle.std.specs.Prelude.{IsTrue, unwrap_or, not}
+use Rattle.std.specs.Prelude.{IsTrue, nat_le, unwrap_or, not}
 use Rattle.std.specs.Fmt.{decimal}
 use Rattle.std.proofs.lemmas.Bool.{eqb-true}
 use Rattle.std.proofs.lemmas.Option.{same_Some}
@@ -10,13 +10,17 @@ use Rattle.model_state.specs.Steps.{fold}
 use Rattle.model_state.specs.declared.step.Step.{Step}
 use Rattle.history_tree.specs.History.{History, with_version, head}
 use Rattle.history_tree.proofs.Heads as heads
+use Rattle.commit_journal.specs.Journal.{fit_of}
+use Rattle.commit_journal.specs.declared.fit.Fit.{Fit}
+use Rattle.commit_journal.specs.declared.fit.Fit.TheVariants as fits
 use Rattle.op_form.specs.declared.event.Event.{Event}
 use Rattle.op_form.specs.declared.event.Event.TheVariants.{Commit}
+use Rattle.op_form.specs.Events.{event_form}
 use Rattle.script_lang.specs.declared.command.Command.TheVariants as commands
 use Rattle.script_lang.specs.declared.reply.Refusal.TheVariants as refusals
 use Rattle.script_lang.specs.declared.reply.Last.TheVariants as last
 use Rattle.plain_repository.specs.State.{State, Workspace, Composite as Open, workspace_of, open_steps, recorded_steps, model_of, is_closed, is_open, has_local}
-use Rattle.plain_repository.specs.Answers.{Decision, refused, accepted, with_room}
+use Rattle.plain_repository.specs.Answers.{Decision, refused, most_events, by_fit, with_room}
 use Rattle.plain_repository.specs.Commits.{version_of, committed, with_commit, can_commit, commit_of, decide_commit}
 use Rattle.plain_repository.specs.Events.{play, playable, playable_with}
 use Rattle.plain_repository.specs.Repository.{decide_with, decide_command}
@@ -37,13 +41,13 @@ Says d base at = d.reply.last ≡ last.No (refusals.Stale base at)
 -- an event for which there may be no room is never stale
 room_not_stale : (s : State) (lines : List (List ℕ)) (words : List ℕ) (event : Event) (base at : ℕ) → Says (with_room s lines words event) base at → ⊥
 unfolding with_room
-room_not_stale s lines words event base at = by _ _ _
+room_not_stale s lines words event base at = by (nat_le most_events s.events) (fit_of s.end (length (event_form event)))
   where
-    by : (x y z : Bool) → Says (cond x (refused refusals.HistoryFull) (cond y (refused refusals.TooLarge) (cond z (refused refusals.JournalFull) (accepted lines words event)))) base at → ⊥
-    by true y z e = cc
-    by false true z e = cc
-    by false false true e = cc
-    by false false false e = cc
+    by : (full : Bool) (fit : Fit) → Says (cond full (refused refusals.HistoryFull) (by_fit fit lines words event)) base at → ⊥
+    by true fit e = cc
+    by false fits.Yes e = cc
+    by false fits.TooLarge e = cc
+    by false fits.Full e = cc
 
 module _ (s : State) (meta : Meta) (begun : s.meta ≡ Some meta) (ws : ℕ) (message : List ℕ) (base at : ℕ) where
   stale_of : (o : Option Workspace) → workspace_of s ws ≡ o → Says (commit_of s ws message o) base at → IsStale s ws base at

@@ -4,6 +4,7 @@ use Rattle.std.specs.Prelude.{IsTrue, map}
 use Rattle.std.proofs.lemmas.Bool.{leb-true}
 use Rattle.byte_form.proofs.FieldLemmas.{apart}
 use Rattle.byte_form.specs.Fields.{text_form, u32_form}
+use Rattle.commit_journal.specs.Journal.{most_bytes}
 use Rattle.op_form.specs.declared.event.Event.{Event}
 use Rattle.op_form.specs.declared.event.Event.TheVariants.{Init}
 use Rattle.op_form.specs.Events.{event_form, event_at}
@@ -12,7 +13,7 @@ use Rattle.op_form.specs.Formed.{is_event}
 use Rattle.op_form.proofs.FormedLaws.{is_event_is}
 use Rattle.op_form.proofs.EventCodes.{event_codes}
 use Rattle.plain_repository.specs.State.{State}
-use Rattle.plain_repository.specs.Answers.{fits_record, most_bytes, most_events}
+use Rattle.plain_repository.specs.Answers.{fits_record, most_events}
 use Rattle.plain_repository.specs.Events.{play, playable, playable_with, are_playable}
 
 pub and_left : (a b : Bool) → IsTrue (a && b) → IsTrue a

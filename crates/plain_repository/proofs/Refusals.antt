@@ -1,6 +1,6 @@
 -- A decision whose reply is a refusal makes no event.
-use Rattle.std.proofs.Common.{◌≡◌, refl, ℕ, ◌+◌, ◌^◌, ◌==◌, List, [], ◌∷◌, length, Bool, true, false, Option, Some, None, Result, Ok, Err}
-use Rattle.std.specs.Prelude.{nat_lt, nat_le, not, unwrap_or, if◌then◌else◌}
+use Rattle.std.proofs.Common.{◌≡◌, refl, ℕ, ◌==◌, List, [], ◌∷◌, length, Bool, true, false, Option, Some, None, Result, Ok, Err}
+use Rattle.std.specs.Prelude.{nat_le, not, unwrap_or, if◌then◌else◌}
 use Rattle.std.specs.Fmt.{decimal}
 use Rattle.ecore_meta.specs.Meta.{Meta}
 use Rattle.ecore_json.specs.declared.fault.EcoreFault.{EcoreFault}
@@ -28,6 +28,9 @@ use Rattle.emfjson_model.specs.declared.fault.ModelFault.{ModelFault}
 use Rattle.emfjson_model.specs.Document.{doc_of}
 use Rattle.model_import.specs.Import.{recorded_import}
 use Rattle.footprint.specs.declared.bucket.Bucket.{Bucket}
+use Rattle.commit_journal.specs.Journal.{fit_of}
+use Rattle.commit_journal.specs.declared.fit.Fit.{Fit}
+use Rattle.commit_journal.specs.declared.fit.Fit.TheVariants as fits
 use Rattle.op_form.specs.declared.event.Event.{Event}
 use Rattle.op_form.specs.declared.fault.FormFault.{FormFault}
 use Rattle.op_form.specs.Packages.{package_at as package_form_at}
@@ -37,7 +40,7 @@ use Rattle.script_lang.specs.declared.command.Command.{Command}
 use Rattle.script_lang.specs.declared.command.Command.TheVariants as commands
 use Rattle.script_lang.specs.Command.{command_of}
 use Rattle.plain_repository.specs.State.{State, Workspace, workspace_of, model_of, is_open, has_local, has_operations}
-use Rattle.plain_repository.specs.Answers.{Decision, accepted, most_events, is_too_large, with_room}
+use Rattle.plain_repository.specs.Answers.{Decision, accepted, most_events, by_fit, with_room}
 use Rattle.plain_repository.specs.Specs.{named}
 use Rattle.plain_repository.specs.Metamodels.{with_metamodel, decide_init}
 use Rattle.plain_repository.specs.Checkouts.{checkout_of, decide_checkout, drop_of, decide_drop}
@@ -66,6 +69,11 @@ either false first second = second
 made : (lines : List (List ℕ)) (words : List ℕ) (event : Event) → NoneIfRefused (accepted lines words event)
 made lines words event = record { none = λ refuses. absurd cc }
 
+fit_none : (fit : Fit) (lines : List (List ℕ)) (words : List ℕ) (event : Event) → NoneIfRefused (by_fit fit lines words event)
+fit_none fits.Yes lines words event = made lines words event
+fit_none fits.TooLarge lines words event = silent refl
+fit_none fits.Full lines words event = silent refl
+
 chosen_none : (rows : List Bucket) (choices : Option (List ℕ)) {d : Decision} → NoneIfRefused d → NoneIfRefused (chosen rows choices d)
 chosen_none [] None none = none
 chosen_none (b ∷ bs) None none = silent refl
@@ -75,9 +83,7 @@ chosen_none (b ∷ bs) (Some letters) none = either (are_choices letters (b ∷ 
 module _ (s : State) where
   room : (lines : List (List ℕ)) (words : List ℕ) (event : Event) → NoneIfRefused (with_room s lines words event)
   unfolding with_room
-  room lines words event =
-      either (nat_le most_events s.events) (silent refl)
-      (either (is_too_large event) (silent refl) (either (nat_lt (2 ^ 40) (s.end + length (event_form event) + 6)) (silent refl) (made lines words event)))
+  room lines words event = either (nat_le most_events s.events) (silent refl) (fit_none (fit_of s.end (length (event_form event))) lines words event)
 
   -- ---- the metamodel, workspaces, the history
   init_read : (text : List ℕ) (read : Result Meta EcoreFault) → NoneIfRefused (with_metamodel s text read)

@@ -1,6 +1,6 @@
 -- A revert that is accepted leads to the model without the version's package.
 use Rattle.std.proofs.Common.{◌≡◌, ◌≢◌, ℕ, ◌<◌, ◌&&◌, ◌||◌, nat_eq, List, [], ◌∷◌, ◌++◌, Bool, true, false, cond, length, Option, None, Some, is_some, refl, sym, ◌∙◌, ap, subst, arith, append_assoc, append-nil}
-use Rattle.std.specs.Prelude.{All, Contains, not, unwrap_or, slice_get}
+use Rattle.std.specs.Prelude.{All, Contains, nat_le, not, unwrap_or, slice_get}
 use Rattle.std.specs.List.{filter, list_any}
 use Rattle.std.proofs.lemmas.Bool.{ne_eqb}
 use Rattle.std.proofs.lemmas.List.Elements.{All-head, All-tail, All-weaker, filter-append}
@@ -30,12 +30,16 @@ use Rattle.footprint.specs.Interference.{interferes, Free, NoPair}
 use Rattle.footprint.proofs.Runs.{Leads, join}
 use Rattle.merge_laws.proofs.Merges.{revert_takes_out}
 use Rattle.merge_plans.specs.Pairs.{have_pair, first_interfering}
+use Rattle.commit_journal.specs.Journal.{fit_of}
+use Rattle.commit_journal.specs.declared.fit.Fit.{Fit}
+use Rattle.commit_journal.specs.declared.fit.Fit.TheVariants as fits
 use Rattle.op_form.specs.declared.event.Event.{Event}
 use Rattle.op_form.specs.declared.event.Event.TheVariants.{Edit}
+use Rattle.op_form.specs.Events.{event_form}
 use Rattle.script_lang.specs.declared.command.Command.TheVariants as commands
 use Rattle.script_lang.specs.declared.reply.Refusal.TheVariants as refusals
 use Rattle.plain_repository.specs.State.{State, Workspace, Composite as Open, workspace_of, recorded_steps, model_of, is_closed, is_open}
-use Rattle.plain_repository.specs.Answers.{refused, accepted, with_room}
+use Rattle.plain_repository.specs.Answers.{refused, most_events, by_fit, with_room}
 use Rattle.plain_repository.specs.Applying.{with_operations, taken_out, revert_found, revert_in, decide_revert}
 use Rattle.plain_repository.specs.Edits.{added, with_more, takes, can_follow}
 use Rattle.plain_repository.specs.Events.{play}
@@ -181,13 +185,13 @@ more_model meta h more w n r leads (Some c) is =
 -- an event for which there is room is the one that was asked for
 room_event : (s : State) (lines : List (List ℕ)) (words : List ℕ) (event made : Event) → (with_room s lines words event).event ≡ Some made → event ≡ made
 unfolding with_room
-room_event s lines words event made = by _ _ _
+room_event s lines words event made = by (nat_le most_events s.events) (fit_of s.end (length (event_form event)))
   where
-    by : (x y z : Bool) → (cond x (refused refusals.HistoryFull) (cond y (refused refusals.TooLarge) (cond z (refused refusals.JournalFull) (accepted lines words event)))).event ≡ Some made → event ≡ made
-    by true y z e = cc
-    by false true z e = cc
-    by false false true e = cc
-    by false false false e = cc
+    by : (full : Bool) (fit : Fit) → (cond full (refused refusals.HistoryFull) (by_fit fit lines words event)).event ≡ Some made → event ≡ made
+    by true fit e = cc
+    by false fits.Yes e = cc
+    by false fits.TooLarge e = cc
+    by false fits.Full e = cc
 
 -- what an accepted revert tells of its workspace and its version
 record Accepted (s : State) (meta : Meta) (ws v : ℕ) (w : Workspace) (event : Event) : Type 0 where

@@ -1,5 +1,8 @@
 -- What a command is answered, and the event that it makes.
-use Rattle.std.specs.Prelude.{ℕ, ◌+◌, ◌^◌, ◌&&◌, nat_lt, nat_le, List, [], Bool, true, false, length, Option, Some, None, if◌then◌else◌}
+use Rattle.std.specs.Prelude.{ℕ, ◌&&◌, nat_le, List, [], Bool, true, false, length, Option, Some, None, if◌then◌else◌}
+use Rattle.commit_journal.specs.Journal.{most_bytes, fit_of}
+use Rattle.commit_journal.specs.declared.fit.Fit.{Fit}
+use Rattle.commit_journal.specs.declared.fit.Fit.TheVariants.{Yes, TooLarge, Full}
 use Rattle.op_form.specs.declared.event.Event.{Event}
 use Rattle.op_form.specs.Events.{event_form}
 use Rattle.op_form.specs.Formed.{is_event}
@@ -35,25 +38,21 @@ accepted lines words event = record { reply = record { lines = lines; last = las
 abbrev pub most_events : ℕ
 most_events = 4294967295
 
--- the most bytes of an event, so that its record has at most 2^24 bytes with its gate and its length
-abbrev pub most_bytes : ℕ
-most_bytes = 16777211
-
--- the event has more bytes than a record takes
-abbrev pub is_too_large : Event → Bool
-is_too_large event = nat_lt most_bytes (length (event_form event))
-
 -- the event has a form, of no more bytes than a record takes
 abbrev pub fits_record : Event → Bool
 fits_record event = is_event event && nat_le (length (event_form event)) most_bytes
+
+-- the event is made where the journal has room for its record
+abbrev pub by_fit : Fit → List (List ℕ) → List ℕ → Event → Decision
+by_fit Yes lines words event = accepted lines words event
+by_fit TooLarge lines words event = refused refusals.TooLarge
+by_fit Full lines words event = refused refusals.JournalFull
 
 -- the event is made where the history and the journal have room for it
 unfoldable pub with_room : State → List (List ℕ) → List ℕ → Event → Decision
 with_room s lines words event =
     if nat_le most_events s.events then refused refusals.HistoryFull
-    else if is_too_large event then refused refusals.TooLarge
-    else if nat_lt (2 ^ 40) (s.end + length (event_form event) + 6) then refused refusals.JournalFull
-    else accepted lines words event
+    else by_fit (fit_of s.end (length (event_form event))) lines words event
 
 -- the last line is a refusal
 abbrev pub ends_refused : Last → Bool

@@ -1,5 +1,6 @@
 -- What an event makes of the repository, and which events a command could make: one line an event.
 use Rattle.std.specs.Prelude.{◌+◌, ◌&&◌, nat_lt, List, [], ◌∷◌, Bool, true, false, length, Option, Some, None, is_some}
+use Rattle.commit_journal.specs.Journal.{next_gate}
 use Rattle.ecore_meta.specs.Meta.{Meta}
 use Rattle.model_state.specs.Names.{is_name}
 use Rattle.op_form.specs.declared.event.Event.{Event}
@@ -41,7 +42,7 @@ effect s (Drop ws) = dropped ws s
 
 -- the state that an event makes
 unfoldable pub play : State → Event → State
-play s event = record (effect s event) { events = s.events + 1; end = s.end + 5 + length (event_form event) }
+play s event = record (effect s event) { events = s.events + 1; end = next_gate s.end (length (event_form event)) }
 
 -- what each event asks of the state, by the metamodel
 abbrev pub playable_with : State → Option Meta → Event → Bool

@@ -1,5 +1,6 @@
 -- What the repository holds: the metamodel, the history, and the workspaces with what is recorded in them.
 use Rattle.std.specs.Prelude.{ℕ, zero, suc, ◌||◌, List, [], ◌∷◌, ◌++◌, Bool, false, nat_lt, not, length, slice_get, Option, Some, None, is_some, unwrap_or, option_map}
+use Rattle.commit_journal.specs.Journal.{first_gate}
 use Rattle.ecore_meta.specs.Meta.{Meta}
 use Rattle.model_state.specs.State as models
 use Rattle.model_state.specs.State.{nothing}
@@ -35,7 +36,7 @@ pub record State : Type 0 where
 
 -- the repository before its first event
 abbrev pub empty : State
-empty = record { meta = None; history = no_history; workspaces = []; events = 0; end = 16 }
+empty = record { meta = None; history = no_history; workspaces = []; events = 0; end = first_gate }
 
 -- the one of these, where it is there
 abbrev pub there : Option (Option Workspace) → Option Workspace

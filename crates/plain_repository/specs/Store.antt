@@ -1,7 +1,7 @@
 -- What the bytes of a file stand for.
-use Rattle.std.specs.Prelude.{◌≡◌, ◌⊎◌, ℕ, ◌+◌, ◌^◌, ◌<◌, List, [], ◌∷◌, ◌++◌, IsTrue, length, map}
+use Rattle.std.specs.Prelude.{◌≡◌, ◌⊎◌, ℕ, ◌^◌, ◌<◌, List, [], ◌∷◌, ◌++◌, IsTrue, length, map}
 use Rattle.host_port.specs.Host.{Disk}
-use Rattle.commit_journal.specs.Journal.{StandsFor, ReadsTo, IsStuck, IsNoHeader, IsAtRest}
+use Rattle.commit_journal.specs.Journal.{StandsFor, ReadsTo, IsStuck, IsNoHeader, IsAtRest, next_gate}
 use Rattle.op_form.specs.declared.event.Event.{Event}
 use Rattle.op_form.specs.Events.{event_form}
 use Rattle.plain_repository.specs.State.{empty}
@@ -19,7 +19,7 @@ StandsForNoEvents file = (events : List Event) → ¬ Stands file events
 -- the record that stands behind those of some events is whole, and its bytes are no event that could be made there
 pub record IsUnplayable (file : List ℕ) (events : List Event) (at : ℕ) : Type 0 where
   pub bytes : List ℕ
-  pub reads : ReadsTo file (map event_form events ++ bytes ∷ []) (at + 5 + length bytes)
+  pub reads : ReadsTo file (map event_form events ++ bytes ∷ []) (next_gate at (length bytes))
   pub no_event : (more : List Event) → IsTrue (are_playable empty more) → map event_form more ≡ map event_form events ++ bytes ∷ [] → ⊥
 
 -- the records up to a place below 2^40 are those of events, and there neither a closed gate nor a record of an event stands

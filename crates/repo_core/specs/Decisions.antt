@@ -1,5 +1,6 @@
 -- A decision of the repository in memory, beside the plain repository's.
-use Rattle.std.specs.Prelude.{◌≡◌, ℕ, ◌+◌, ◌≤◌, ◌<◌, ◌-◌, ◌^◌, List, length, Option, Some, None, IsTrue}
+use Rattle.std.specs.Prelude.{◌≡◌, ℕ, ◌<◌, ◌-◌, ◌^◌, List, length, Option, Some, None, IsTrue}
+use Rattle.commit_journal.specs.Journal.{Fits}
 use Rattle.op_form.specs.declared.event.Event.{Event}
 use Rattle.op_form.specs.Events.{event_form}
 use Rattle.plain_repository.specs.State.{State}
@@ -21,8 +22,7 @@ seen decision = record { reply = decision.reply; event = event_of decision.made 
 pub record CanMake (state : State) (made : Made) : Type 0 where
   pub form_is : made.form.items ≡ event_form made.event
   pub playable : IsTrue (playable state made.event)
-  pub short : length (event_form made.event) ≤ 16777211
-  pub fits : state.end + length (event_form made.event) + 6 ≤ 2 ^ 40
+  pub fits : Fits state.end (length (event_form made.event))
 
 -- such an event, or none
 abbrev pub CanMakeIt : State → Option Made → Type 0

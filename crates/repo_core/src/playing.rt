@@ -1,17 +1,18 @@
 //! Which events a command could make, and what is made of them, one by one and read again from their bytes.
 ghost use Rattle.std.specs.Prelude.{◌≡◌, ◌≢◌, ◌+◌, ◌<◌, ◌≤◌, ◌^◌, ◌||◌, OnOk, OnErr, IsErrOf, IsTrue, length, is_some, true, false};
+ghost use Rattle.commit_journal.specs.Journal.{most_bytes, next_gate};
 ghost use Rattle.op_form.specs.declared.event.Event.{Event};
 ghost use Rattle.op_form.specs.declared.event.Event.TheVariants.{Begin, Branch, Checkout, Commit, Drop, End, Tag, Undo, Discard};
 ghost use Rattle.op_form.specs.Events.{event_form};
 ghost use Rattle.op_form.specs.Formed.{is_event};
 ghost use Rattle.op_form.specs.Laws.{IsEvent};
-ghost use Rattle.plain_repository.specs.Answers.{most_bytes};
 ghost use Rattle.plain_repository.specs.State.{workspace_of, is_closed, is_open, has_operations, has_local};
 ghost use Rattle.plain_repository.specs.Events.{effect, play, playable, playable_with};
 ghost use Rattle.repo_core.specs.Making.{can_take, is_at_head, is_tested_late};
 
 use crate::fault::ReplayFault;
-use crate::repo::{MOST_BYTES, Repo};
+use crate::repo::Repo;
+use commit_journal::{MOST_BYTES, next_gate};
 use ecore_meta::Text;
 use model_state::{Package, is_name};
 use op_form::{Event, FormFault, decode_event};
@@ -233,20 +234,20 @@ impl Repo {
     fn make(&mut self, alloc: Global, event: Event, size: usize) -> Result<(), ReplayFault>
         requires event { is_event event ≡ true }
         requires size { size ≡ length (event_form event) }
-        requires room { self.old.end + 5 + size < 2 ^ 40 }
+        requires room { next_gate self.old.end size < 2 ^ 40 }
         ensures could { OnOk result (IsTrue (playable self.old event)) }
         ensures made { OnOk result (self.new ≡ play self.old event) }
         ensures same { OnErr result (self.new ≡ self.old) }
         ensures cannot { IsErrOf result ReplayFault.NotPlayable → playable self.old event ≡ false }
     {
-        if self.is_full() || size > MOST_BYTES {
+        if self.is_full() || size as u64 > MOST_BYTES {
             return Err(ReplayFault::NotPlayable);
         }
         if !self.could(&event) {
             return Err(ReplayFault::NotPlayable);
         }
         let events = self.events + 1;
-        let end = self.end + 5 + size as u64;
+        let end = next_gate(self.end, size as u64);
         self.change(alloc, event)?;
         self.events = events;
         self.end = end;
@@ -258,7 +259,7 @@ impl Repo {
     pub fn play(&mut self, alloc: Global, event: Event, size: usize) -> Result<(), AllocError>
         requires can { IsTrue (playable self.old event) }
         requires size { size ≡ length (event_form event) }
-        requires room { self.old.end + 5 + size < 2 ^ 40 }
+        requires room { next_gate self.old.end size < 2 ^ 40 }
         ensures played { OnOk result (self.new ≡ play self.old event) }
         ensures same { OnErr result (self.new ≡ self.old) }
     {
@@ -275,7 +276,7 @@ impl Repo {
     ///
     /// `NotPlayable` where they are no event that a command could make here, and out of memory. The repository stays as it is.
     pub fn replay(&mut self, alloc: Global, bytes: &[u8]) -> Result<(), ReplayFault>
-        requires room { self.old.end + 5 + length bytes.now < 2 ^ 40 }
+        requires room { next_gate self.old.end (length bytes.now) < 2 ^ 40 }
         ensures played { OnOk result ((event : Event) × IsTrue (playable self.old event) × (bytes.now ≡ event_form event) × (self.new ≡ play self.old event)) }
         ensures refused { IsErrOf result ReplayFault.NotPlayable → (event : Event) → IsTrue (playable self.old event) → bytes.now ≢ event_form event }
         ensures same { OnErr result (self.new ≡ self.old) }

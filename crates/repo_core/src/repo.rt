@@ -8,6 +8,7 @@ ghost use Rattle.repo_core.specs.Keeping.{plain_of};
 ghost use Rattle.repo_core.specs.Working.{IsWorkingModel};
 
 use crate::workspace::Workspace;
+use commit_journal::FIRST_GATE;
 use ecore_meta::Metamodel;
 use history_tree::History;
 use std::alloc::{AllocError, Global};
@@ -15,9 +16,6 @@ use std::marker::Model;
 use working_model::Working;
 
 const MOST_EVENTS: u32 = u32::MAX;
-
-/// The most bytes of an event.
-pub const MOST_BYTES: usize = 16_777_211;
 
 /// What `init` makes: the metamodel, and the history.
 #[derive(Drop)]
@@ -58,7 +56,7 @@ impl Repo {
             begun: None,
             workspaces: Vec::new(alloc),
             events: 0,
-            end: 16,
+            end: FIRST_GATE,
         }
     }
 

@@ -1,18 +1,17 @@
 //! A decision: the reply to a command, and the event that it makes.
-ghost use Rattle.std.specs.Prelude.{◌≡◌, IfOk, true};
+ghost use Rattle.std.specs.Prelude.{◌≡◌, IfOk, Some, true};
 ghost use Rattle.std.specs.Fmt.{decimal};
 ghost use Rattle.plain_repository.specs.State.{State};
-ghost use Rattle.plain_repository.specs.Answers.{refused, refused_with, told, with_room};
+ghost use Rattle.plain_repository.specs.Answers.{accepted, refused, refused_with, told, with_room};
 ghost use Rattle.plain_repository.specs.Events.{playable_with};
 ghost use Rattle.repo_core.specs.Decisions.{seen, CanMakeIt};
 
-use crate::repo::{MOST_BYTES, Repo};
+use crate::repo::Repo;
+use commit_journal::{Fit, fits};
 use ecore_meta::{List, Text};
 use op_form::{Event, encode_event, has_form};
 use script_lang::{Last, Refusal, Reply};
 use std::alloc::{AllocError, Global};
-
-const JOURNAL_LIMIT: u64 = 1 << 40;
 
 /// An event that is to be made, and its bytes.
 #[derive(Drop)]
@@ -64,6 +63,20 @@ pub(crate) fn tell(lines: List<Text>, words: Text) -> Decision
     }
 }
 
+/// An answer, with the event that the command makes.
+fn accept(lines: List<Text>, words: Text, made: Made) -> Decision
+    ensures decision { seen result ≡ accepted lines words made.event }
+    ensures made { result.made ≡ Some made }
+{
+    Decision {
+        reply: Reply {
+            lines,
+            last: Last::Ok(words),
+        },
+        made: Some(made),
+    }
+}
+
 /// A number in decimal digits.
 pub(crate) fn number_words(alloc: Global, n: u64) -> Result<Text, AllocError>
     ensures { IfOk result (λ words. words ≡ decimal n) }
@@ -94,18 +107,10 @@ impl Repo {
             return Err(AllocError);
         }
         let form = encode_event(alloc, &event)?;
-        if form.len() > MOST_BYTES {
-            return Ok(refuse(alloc, Refusal::TooLarge));
+        match fits(self.end, form.len() as u64) {
+            Fit::Yes => Ok(accept(lines, words, Made { event, form })),
+            Fit::TooLarge => Ok(refuse(alloc, Refusal::TooLarge)),
+            Fit::Full => Ok(refuse(alloc, Refusal::JournalFull)),
         }
-        if self.end + form.len() as u64 + 6 > JOURNAL_LIMIT {
-            return Ok(refuse(alloc, Refusal::JournalFull));
-        }
-        Ok(Decision {
-            reply: Reply {
-                lines,
-                last: Last::Ok(words),
-            },
-            made: Some(Made { event, form }),
-        })
     }
 }
