@@ -1,6 +1,7 @@
 pub mod Apart
 pub mod Changing
 pub mod Commits
+pub mod DataLines
 pub mod Forms
 pub mod Growth
 pub mod Kept

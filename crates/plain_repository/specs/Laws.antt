@@ -1,5 +1,5 @@
 -- What holds in every repository that events make.
-use Rattle.std.specs.Prelude.{◌≡◌, ◌≢◌, ◌↔◌, ℕ, ◌<◌, ◌≤◌, ◌==◌, List, [], ◌∷◌, ◌++◌, map, Bool, true, false, Option, Some, None, IsTrue, length, slice_get}
+use Rattle.std.specs.Prelude.{◌≡◌, ◌≢◌, ◌↔◌, ℕ, ◌<◌, ◌≤◌, ◌==◌, ◌||◌, List, [], ◌∷◌, ◌++◌, All, codes, map, take, Bool, true, false, Option, Some, None, IsTrue, length, slice_get}
 use Rattle.command_runs.specs.Runs.{played}
 use Rattle.ecore_meta.specs.Meta.{Meta}
 use Rattle.ecore_meta.specs.Sound.{Sound}
@@ -13,9 +13,13 @@ use Rattle.history_tree.specs.States.{state_folded, state_of}
 use Rattle.history_tree.specs.Whole.{IsWhole}
 use Rattle.op_form.specs.declared.event.Event.{Event}
 use Rattle.op_form.specs.declared.event.Event.TheVariants.{Init, Checkout, Edit, Begin, End, Undo, Discard, Tidy, Commit, Branch, Tag, Update, Merge, Drop}
+use Rattle.script_lang.specs.declared.command.Command.{Command}
 use Rattle.script_lang.specs.declared.command.Command.TheVariants as commands
 use Rattle.script_lang.specs.declared.reply.Refusal.TheVariants as refusals
+use Rattle.script_lang.specs.declared.reply.Last.{Last}
 use Rattle.script_lang.specs.declared.reply.Last.TheVariants as last
+use Rattle.script_lang.specs.Reply.{last_line}
+use Rattle.script_lang.specs.Words.{is_word}
 use Rattle.plain_repository.specs.State.{State, Workspace, empty, workspace_of, folded, model_of}
 use Rattle.plain_repository.specs.Orderly.{IsOrderly, Stands}
 use Rattle.plain_repository.specs.Answers.{Decision, is_refusal}
@@ -166,6 +170,23 @@ pub record NoneIfRefused (decision : Decision) : Type 0 where
 -- a line that is refused makes no event, so the repository and its file stay as they are
 abbrev pub RefusalsMakeNone : Type 0
 RefusalsMakeNone = (s : State) (line : List ℕ) (block : Option (List ℕ)) → NoneIfRefused (decide_line s line block)
+
+-- the line begins as the last line of a reply does: with the bytes of `ok` or of `no`
+abbrev pub looks_last : List ℕ → Bool
+looks_last line = is_word (take 2 line) (codes "ok") || is_word (take 2 line) (codes "no")
+
+-- the last line of each reply looks so
+abbrev pub LastLinesLook : Type 0
+LastLinesLook = (last : Last) → looks_last (last_line last) ≡ true
+
+-- the command is `validate`, whose data lines begin with ids
+abbrev pub is_validate : Command → Bool
+is_validate (commands.Validate ws) = true
+is_validate command = false
+
+-- no data line looks so but those of `validate`
+abbrev pub DataLinesAreApart : Type 0
+DataLinesAreApart = (s : State) (block : Option (List ℕ)) (command : Command) → is_validate command ≡ false → All (λ line. looks_last line ≡ false) (decide_command s block command).reply.lines
 
 -- there is a metamodel and the workspace, and its base, the first number, is not its branch's head, the second
 pub record IsStale (s : State) (ws base head_of_branch : ℕ) : Type 0 where
