@@ -100,6 +100,22 @@ pub record NextForm (a b : List (List ℕ)) (s t : List ℕ) : Type 0 where
   pub stands : s ≡ record_of form ++ (records more ++ t)
   pub within : length (records a) + (5 + length form) ≤ length (records b)
 
+-- so it is behind one form more
+longer_form : (f h : List ℕ) (a b : List (List ℕ)) (s t : List ℕ) → f ≡ h → NextForm a b s t → NextForm (f ∷ a) (h ∷ b) s t
+longer_form f h a b s t one next =
+    let within = next.within in
+    let size_f : length (records (f ∷ a)) ≡ 5 + length f + length (records a) = omega (arith, length-append (record_of f) (records a), length-record_of f) in
+    let size_h : length (records (h ∷ b)) ≡ 5 + length h + length (records b) = omega (arith, length-append (record_of h) (records b), length-record_of h) in
+    let size_same : length f ≡ length h = ap length one in
+    record {
+      form = next.form;
+      more = next.more;
+      is = ap (λ (l : List ℕ). l ∷ b) (sym one) ∙ ap (λ (l : List (List ℕ)). f ∷ l) next.is;
+      short = next.short;
+      stands = next.stands;
+      within = omega (arith, within, size_f, size_h, size_same);
+    }
+
 next_form : (a b : List (List ℕ)) (s t : List ℕ) → records a ++ s ≡ records b ++ t → length (records a) < length (records b) → All IsShort a → All IsShort b → NextForm a b s t
 next_form [] [] s t same longer short_a short_b = absurd (omega (arith, longer))
 next_form [] (h ∷ b) s t same longer short_a short_b = record {
@@ -121,16 +137,7 @@ next_form (f ∷ a) (h ∷ b) s t same longer short_a short_b =
     let size_f : length (records (f ∷ a)) ≡ 5 + length f + length (records a) = omega (arith, length-append (record_of f) (records a), length-record_of f) in
     let size_h : length (records (h ∷ b)) ≡ 5 + length h + length (records b) = omega (arith, length-append (record_of h) (records b), length-record_of h) in
     let size_same : length f ≡ length h = ap length one in
-    let next = next_form a b s t rest (omega (arith, longer, size_f, size_h, size_same)) (rest_of a f short_a) (rest_of b h short_b) in
-    let within = next.within in
-    record {
-      form = next.form;
-      more = next.more;
-      is = ap (λ (l : List ℕ). l ∷ b) (sym one) ∙ ap (λ (l : List (List ℕ)). f ∷ l) next.is;
-      short = next.short;
-      stands = next.stands;
-      within = omega (arith, within, size_f, size_h, size_same);
-    }
+    longer_form f h a b s t one (next_form a b s t rest (omega (arith, longer, size_f, size_h, size_same)) (rest_of a f short_a) (rest_of b h short_b))
 
 last_same : (a more : List (List ℕ)) (x y : List ℕ) → a ++ x ∷ [] ≡ a ++ y ∷ more → x ≡ y
 last_same [] more x y is = cc
