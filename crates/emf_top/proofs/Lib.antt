@@ -2,6 +2,7 @@ pub mod Asked
 pub mod Digits
 pub mod Few
 pub mod Graphic
+pub mod Halting
 pub mod Headlines
 pub mod Items
 pub mod Plain

@@ -9,7 +9,7 @@ use Rattle.host_port.specs.Cut.{Item}
 use Rattle.host_port.proofs.Course.{at_last, course_on, course_still, still_input, keeps_input_on, adds_none, told_next, kept_now, said_kept_now}
 use Rattle.command_runs.specs.Runs.{Answer, listed, after, answers, replies, events, played, answered}
 use Rattle.command_runs.specs.Stops.{IsRunning}
-use Rattle.command_runs.proofs.RunLaws.{played-append, events-more}
+use Rattle.command_runs.proofs.RunLaws.{played-append}
 use Rattle.command_runs.proofs.Going.{Going, Steps, quietly, begins, one_more, stepped_part, stepped_moments}
 use Rattle.op_form.specs.declared.event.Event.{Event}
 use Rattle.plain_repository.specs.Lines.{is_skipped}
@@ -20,11 +20,12 @@ use Rattle.plain_repository.specs.Store.{Stands}
 use Rattle.emf_session.specs.declared.answered.SessionFault.{SessionFault}
 use Rattle.emf_session.specs.declared.answered.SessionFault.TheVariants as session
 use Rattle.emf_session.specs.Session.{IsStoreOf, IsEntering}
-use Rattle.emf_session.proofs.Entering.{rest_leaves, holds_stands}
+use Rattle.emf_session.proofs.Entering.{rest_leaves}
 use Rattle.emf_top.specs.Items.{IsAnswered}
 use Rattle.emf_top.specs.Headline.{IsUnanswered, IsHalted, Ends, session_status}
-use Rattle.emf_top.specs.Tasks.{Task, filling, silenced, printing, outcome, outcome_line, refusals_in, others_in}
+use Rattle.emf_top.specs.Tasks.{filling, silenced, printing, outcome, outcome_line, refusals_in, others_in}
 use Rattle.emf_top.specs.Tasks as tasks
+use Rattle.emf_top.proofs.Halting.{halted, unanswered}
 
 -- what some items are answered with
 abbrev pub given : State → List Item → List (Answer Event)
@@ -58,36 +59,6 @@ fills_start entry s0 items broken unbroken holds = record {
   leads = refl;
   going = λ told made rest. begins Stands entry made (filling s0 items).answers (λ events. IsStoreOf (disk_now entry) s0 events) (λ still. rest_leaves (disk_now entry) s0 made still) rest;
 }
-
--- no more is printed and kept
-pub halted : (entry b : Told) (made : List Event) (task : Task) (left : List (Answer Event)) (state : State)
-    → Going Stands entry b made task.answers left (λ events. IsStoreOf (disk_now b) state events) → IsHalted task made entry b
-halted entry b made task left state going = record {
-  done = going.done;
-  left = left;
-  whole = going.whole_is;
-  said = going.said;
-  stands = holds_stands (disk_now b) state (made ++ events going.done) going.rest;
-}
-
--- an answer's event was being written, and is kept or not
-module _ (entry b d : Told) (made : List Event) (task : Task) (answer : Answer Event) (next : List (Answer Event)) (state : State)
-    (going : Going Stands entry b made task.answers (answer ∷ next) (λ events. IsStoreOf (disk_now b) state events)) (on : GoesOn b d) (said : KeepsSaid b d)
-    (entering : Throughout b d (λ disk said. IsEntering (made ++ events going.done) answer.event disk)) where
-  kept_too : Stands (disk_now d).now ((made ++ events going.done) ++ listed answer.event) → Stands (disk_now d).now (made ++ events (going.done ++ answer ∷ []))
-  kept_too stood = subst (λ (l : List Event). Stands (disk_now d).now l)
-      (append_assoc made (events going.done) (listed answer.event) ∙ ap (λ (l : List Event). made ++ l) (sym (events-more going.done answer))) stood
-
-  pub unanswered : IsTrue b.tells → IsSome answer.event → MayLeave (disk_now d) (disk_now d).now → IsUnanswered task made entry d
-  unanswered told_b event left = record {
-    done = going.done;
-    answer = answer;
-    left = next;
-    whole = going.whole_is ∙ sym (append_assoc going.done (answer ∷ []) next);
-    event = event;
-    said = said_kept_now b d on said told_b ∙ going.said;
-    stands = ⊎_elim (λ stood. inl stood) (λ stood. inr (kept_too stood)) (at_last b d (λ disk said. IsEntering (made ++ events going.done) answer.event disk) on entering told_b (disk_now d).now left);
-  }
 
 -- the item at a place gets a reply
 pub gets_reply : (items : List Item) (at : ℕ) (item : Item) → All IsAnswered items → at < length items → item ≡ get_or items at item → is_skipped item.line ≡ false
@@ -144,8 +115,10 @@ module _ (entry b : Told) (s0 : State) (items : List Item) (at refused : ℕ) (s
   fault_on_disk : IsSome answer.event → MayLeave (disk_now d) (disk_now d).now → IsTrue entry.tells → (made : List Event) → IsStoreOf (disk_now entry) s0 made → IsUnanswered (filling s0 items) made entry d
   fault_on_disk event left told made holds =
       let here = going_here told made holds in
-      unanswered entry b d made (filling s0 items) (silenced answer) (ahead s0 items (after play state answer.event) (drop (at + 1) items)) state here on said (entering (made ++ events here.done) here.rest)
-      (told_next entry b fills.course told) event left
+      let next = ahead s0 items (after play state answer.event) (drop (at + 1) items) in
+      let told_b = told_next entry b fills.course told in
+      unanswered entry b d made (filling s0 items) here.done (silenced answer) next (here.whole_is ∙ sym (append_assoc here.done (silenced answer ∷ []) next)) here.said on said told_b event
+      (at_last b d (λ disk said. IsEntering (made ++ events here.done) answer.event disk) on (entering (made ++ events here.done) here.rest) told_b (disk_now d).now left)
 
   -- or memory ran out
   fault_of_memory : KeepsDisk b d → IsTrue entry.tells → (made : List Event) → IsStoreOf (disk_now entry) s0 made → IsHalted (filling s0 items) made entry d

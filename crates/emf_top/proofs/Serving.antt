@@ -1,15 +1,15 @@
 -- The loop over the lines of the input.
-use Rattle.std.proofs.Common.{◌≡◌, inl, inr, ⊎_elim, ℕ, List, [], ◌∷◌, ◌++◌, Bool, true, false, ◌||◌, Option, Some, None, Err, append_assoc, refl, sym, ◌∙◌, ap, subst}
+use Rattle.std.proofs.Common.{◌≡◌, inl, inr, ⊎_elim, ℕ, List, [], ◌∷◌, ◌++◌, Bool, true, false, ◌||◌, Option, Some, None, Err, refl, sym, ◌∙◌, ap, subst}
 use Rattle.std.specs.Prelude.{IsTrue, IsSome}
 use Rattle.std.proofs.lemmas.List.{append-nil}
 use Rattle.host_port.specs.Host.{MayLeave, Told, GoesOn, Throughout, KeepsDisk, KeepsSaid, KeepsInput, AddsPart, disk_now, said_now}
 use Rattle.host_port.specs.Cut.{Item, Script, script_from, with_item, ends_by}
 use Rattle.host_port.specs.declared.lines.LineFault.{LineFault}
 use Rattle.host_port.specs.declared.lines.LineFault.TheVariants as faults
-use Rattle.host_port.proofs.Course.{at_last, course_on, course_still, still_disk, still_said, still_input, adds_none, told_next, kept_now, said_kept_now}
+use Rattle.host_port.proofs.Course.{at_last, course_on, course_still, still_disk, still_said, still_input, adds_none, told_next, kept_now}
 use Rattle.command_runs.specs.Runs.{Answer, listed, after, answers, replies, events, refuses, answered}
 use Rattle.command_runs.specs.Stops.{IsRunning, IsStepping}
-use Rattle.command_runs.proofs.RunLaws.{or_assoc, or_false, events-more}
+use Rattle.command_runs.proofs.RunLaws.{or_assoc, or_false}
 use Rattle.command_runs.proofs.Going.{Going, Steps, quietly, begins, one_more, stepped_part, stepped_moments, answers_more}
 use Rattle.op_form.specs.declared.event.Event.{Event}
 use Rattle.plain_repository.specs.Lines.{takes_block, is_skipped}
@@ -25,6 +25,7 @@ use Rattle.emf_top.specs.declared.top.Status.TheVariants.{ReadFault}
 use Rattle.emf_top.specs.Items.{GotItem}
 use Rattle.emf_top.specs.Headline.{IsServed, IsUnsaid, IsUnanswered, IsHalted, Ends, session_status}
 use Rattle.emf_top.specs.Tasks.{Task, serving, input_status, end_of}
+use Rattle.emf_top.proofs.Halting.{halted, kept_too, unanswered}
 
 -- a run between two commands, where the store rests
 pub record Between (entry now : Told) (made : List Event) (task : Task) (left : Script) (state : State) (refused : Bool) : Type 0 where
@@ -78,16 +79,6 @@ module _ (entry b : Told) (made : List Event) (task : Task) (state : State) (ref
   pub end_is : task.end ≡ end_of fault refused
   end_is = between.end ∙ ap (λ (r : Bool). end_of fault r) (or_false refused)
 
--- no more is printed and kept
-pub halted : (entry b : Told) (made : List Event) (task : Task) (left : Script) (state : State) (refused : Bool) → Between entry b made task left state refused → IsHalted task made entry b
-halted entry b made task left state refused between = record {
-  done = between.going.done;
-  left = answers decide play state left.items;
-  whole = between.going.whole_is;
-  said = between.going.said;
-  stands = holds_stands (disk_now b) state (made ++ events between.going.done) between.going.rest;
-}
-
 -- an item was asked for
 module _ (entry a b : Told) (made : List Event) (task : Task) (left : Script) (state : State) (refused : Bool) (between : Between entry a made task left state refused)
     (course : GoesOn entry a) (on : GoesOn a b) (disk : KeepsDisk a b) (said : KeepsSaid a b) (told : IsTrue entry.tells) where
@@ -97,7 +88,7 @@ module _ (entry a b : Told) (made : List Event) (task : Task) (left : Script) (s
       (served entry b made task state refused (Some fault) there, end_is entry b made task state refused (Some fault) there)
 
   halted_here : IsHalted task made entry b
-  halted_here = halted entry b made task left state refused (looked entry a b made task left state refused between course on disk said told left refl)
+  halted_here = halted entry b made task (answers decide play state left.items) state (looked entry a b made task left state refused between course on disk said told left refl).going
 
   pub fault_ends : (fault : LineFault) (rest : Script) → IsTrue task.reads → GotItem (Err fault) left rest → Ends task made entry b (input_status fault)
   fault_ends (faults.LineTooLong at) rest reads is = at_fault (faults.LineTooLong at) is
@@ -142,24 +133,12 @@ module _ (entry b d : Told) (made : List Event) (task : Task) (next : Script) (i
   whole_more = answers_more Stands entry made task.answers b d (answers decide play state (item ∷ next.items)) (λ events. IsStoreOf (disk_now b) state events) between.going course answer
       (answers decide play (after play state answer.event) next.items) left_is steps
 
-  kept_too : Stands (disk_now d).now ((made ++ events between.going.done) ++ listed answer.event) → Stands (disk_now d).now (made ++ events (between.going.done ++ answer ∷ []))
-  kept_too stood = subst (λ (l : List Event). Stands (disk_now d).now l)
-      (append_assoc made (events between.going.done) (listed answer.event) ∙ ap (λ (l : List Event). made ++ l) (sym (events-more between.going.done answer))) stood
-
   -- it was being written, and is kept or not
-  pub unanswered : IsTrue b.tells → KeepsSaid b d × IsSome answer.event → MayLeave (disk_now d) (disk_now d).now → IsUnanswered task made entry d
-  unanswered told_b quiet left = record {
-    done = between.going.done;
-    answer = answer;
-    left = answers decide play (after play state answer.event) next.items;
-    whole = whole_more;
-    event = quiet.1;
-    said = said_kept_now b d on quiet.0 told_b ∙ between.going.said;
-    stands = ⊎_elim
-        (λ (stood, same). inl stood)
-        (λ stood. inr (kept_too stood))
-        (at_last b d (IsStepping Stands (made ++ events between.going.done) answer.event (said_now b)) on (moments (made ++ events between.going.done) between.going.rest) told_b (disk_now d).now left);
-  }
+  pub unanswered_here : IsTrue b.tells → KeepsSaid b d × IsSome answer.event → MayLeave (disk_now d) (disk_now d).now → IsUnanswered task made entry d
+  unanswered_here told_b quiet left =
+      let stood = at_last b d (IsStepping Stands (made ++ events between.going.done) answer.event (said_now b)) on (moments (made ++ events between.going.done) between.going.rest) told_b (disk_now d).now left in
+      unanswered entry b d made task between.going.done answer (answers decide play (after play state answer.event) next.items) whole_more between.going.said on quiet.0 told_b quiet.1
+      (⊎_elim (λ (before, same). inl before) (λ both. inr both) stood)
 
   module _ (now : State) (added : (made : List Event) → IsStoreOf (disk_now b) state made → IsStoreOf (disk_now d) now (made ++ listed answer.event)) where
     -- its reply was not printed whole, and it is kept
@@ -170,7 +149,7 @@ module _ (entry b d : Told) (made : List Event) (task : Task) (next : Script) (i
       left = answers decide play (after play state answer.event) next.items;
       whole = whole_more;
       said = subst (λ (l : List ℕ). AddsPart l answer.reply (said_now d)) between.going.said (at_last b d (λ disk said. AddsPart (said_now b) answer.reply said) on part told_b);
-      stands = kept_too (holds_stands (disk_now d) now ((made ++ events between.going.done) ++ listed answer.event) (added (made ++ events between.going.done) between.going.rest));
+      stands = kept_too d made between.going.done answer (holds_stands (disk_now d) now ((made ++ events between.going.done) ++ listed answer.event) (added (made ++ events between.going.done) between.going.rest));
     }
 
     -- the reply was printed
@@ -238,7 +217,7 @@ module _ (entry a b : Told) (s0 : State) (whole : Script) (failed : Bool) (place
         → IsTrue entry.tells → (made : List Event) → IsStoreOf (disk_now entry) s0 made → Ends (serving s0 whole) made entry d (session_status fault)
     step_fault_ends session.DiskFault now added never quiet unsaid_yet left told made holds =
         let told_b = told_next entry b course_b told in
-        inr (unanswered entry b d made (serving s0 whole) (script_from takes_block place_b (pending_b ++ b.left)) item state refused answer answer_is (item_between told made holds) course_b step_on part moments told_b (unsaid_yet refl) (left (told_next b d step_on told_b)))
+        inr (unanswered_here entry b d made (serving s0 whole) (script_from takes_block place_b (pending_b ++ b.left)) item state refused answer answer_is (item_between told made holds) course_b step_on part moments told_b (unsaid_yet refl) (left (told_next b d step_on told_b)))
     step_fault_ends session.SayFault now added never quiet unsaid_yet left told made holds =
         let told_b = told_next entry b course_b told in
         unsaid entry b d made (serving s0 whole) (script_from takes_block place_b (pending_b ++ b.left)) item state refused answer answer_is (item_between told made holds) course_b step_on part moments now (added told_b) told_b
@@ -246,7 +225,7 @@ module _ (entry a b : Told) (s0 : State) (whole : Script) (failed : Bool) (place
     step_fault_ends session.Memory now added never quiet unsaid_yet left told made holds =
         let item_left = with_item item.line item.block (script_from takes_block place_b (pending_b ++ b.left)) in
         let keeps = quiet refl in
-        halted entry d made (serving s0 whole) item_left state refused (looked entry b d made (serving s0 whole) item_left state refused (item_between told made holds) course_b step_on keeps.0 keeps.1 told item_left refl)
+        halted entry d made (serving s0 whole) (answers decide play state item_left.items) state (looked entry b d made (serving s0 whole) item_left state refused (item_between told made holds) course_b step_on keeps.0 keeps.1 told item_left refl).going
 
     pub serving_on : (failed_b : Bool) (now : State) (broken_d refused_d : Bool) → failed_b ≡ false → broken_d ≡ false → KeepsInput b d → (refused || answer.refused) ≡ refused_d → now ≡ after play state answer.event
         → (IsTrue b.tells → said_now d ≡ said_now b ++ answer.reply)

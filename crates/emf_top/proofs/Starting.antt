@@ -10,9 +10,10 @@ use Rattle.plain_repository.specs.Lines.{takes_block}
 use Rattle.plain_repository.specs.State.{State}
 use Rattle.plain_repository.specs.Store.{Stands}
 use Rattle.emf_session.specs.Session.{IsStoreOf}
-use Rattle.emf_session.proofs.Entering.{rest_leaves, holds_stands}
+use Rattle.emf_session.proofs.Entering.{rest_leaves}
 use Rattle.emf_top.specs.Headline.{IsHalted}
 use Rattle.emf_top.specs.Tasks.{Task, script, serving}
+use Rattle.emf_top.proofs.Halting.{halted}
 
 -- a reader that begins reads the input's script
 pub from_start : (s : State) (input : List ℕ) (place : ℕ) (pending : List ℕ) → place ≡ 0 → pending ≡ [] → serving s (script_from takes_block place (pending ++ input)) ≡ serving s (script input)
@@ -23,13 +24,7 @@ module _ (a : Told) (state : State) (task : Task) (made : List Event) (holds : I
   at_start = begins Stands a made task.answers (λ events. IsStoreOf (disk_now a) state events) (λ rest. rest_leaves (disk_now a) state made rest) holds
 
   pub halted_at_start : IsHalted task made a a
-  halted_at_start = record {
-    done = at_start.done;
-    left = task.answers;
-    whole = at_start.whole_is;
-    said = at_start.said;
-    stands = holds_stands (disk_now a) state (made ++ events at_start.done) at_start.rest;
-  }
+  halted_at_start = halted a a made task task.answers state at_start
 
   pub part_at_start : Throughout a a (λ disk said. AddsPart (said_now a) (replies task.answers) said)
   part_at_start = at_start.part
