@@ -6,7 +6,7 @@ ghost use Rattle.model_state.specs.Typing.{child_upper, contains_kind, kind_of};
 ghost use Rattle.containment.specs.Refusals.{is_place};
 
 use ecore_meta::{Kind, Metamodel};
-use model_state::{Look, Place, child_upper, class_has, may_contain};
+use model_state::{Look, Place, child_upper, class_has, is_below_bound, may_contain};
 
 /// Whether the feature is a containment.
 pub fn is_containment(meta: &Metamodel, f: u32) -> bool
@@ -60,10 +60,7 @@ pub fn may_move<L: Look>(look: &L, meta: &Metamodel, class: Option<u32>, place: 
 fn is_roomy(meta: &Metamodel, f: u32, n: usize) -> bool
     ensures { result ≡ is_below n (child_upper meta.now f) }
 {
-    match child_upper(meta, f) {
-        None => true,
-        Some(upper) => n < upper as usize,
-    }
+    is_below_bound(n, child_upper(meta, f))
 }
 
 /// Whether the place has room for one more than the elements there.

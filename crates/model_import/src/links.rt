@@ -1,6 +1,5 @@
 //! The links of an import: each reference with its opposite is one step, with the rank on either side.
-ghost use Rattle.std.specs.Prelude.{◌≡◌, ◌++◌, IfOk, OnOk, length, Some, option_copied, slice_get};
-ghost use Rattle.edit_laws.specs.Rows.{link_step};
+ghost use Rattle.std.specs.Prelude.{◌≡◌, ◌++◌, OnOk, length, Some, option_copied, slice_get};
 ghost use Rattle.emfjson_model.specs.Merged.{targets_at};
 ghost use Rattle.model_import.specs.Links.{index_in, is_made, link_to, links_made, mirror_of, refs_at, refs_made, targets_made};
 
@@ -9,6 +8,7 @@ use crate::news::rank_of;
 use ecore_meta::{List, Metamodel};
 use emfjson_model::{DocRefs, DocRow};
 use model_state::{Id, Step, opposite_of};
+use opposites::link_step;
 use std::alloc::{AllocError, Global};
 
 /// Whether the link was made from the other side.
@@ -62,50 +62,6 @@ fn mirror_of(rows: &[DocRow], opposite: Option<u32>, n: usize, b: usize) -> u64
     match opposite {
         None => 0,
         Some(g) => rank_of(index_in(targets_at(refs_at(rows, b), g), n)),
-    }
-}
-
-/// The link of a row and its mirror, written from the side whose feature has the lesser number.
-fn link_step(
-    alloc: Global,
-    opposite: Option<u32>,
-    a: &Id,
-    f: u32,
-    ra: u64,
-    b: &Id,
-    rb: u64,
-) -> Result<Step, AllocError>
-    ensures { IfOk result (λ s. s ≡ link_step opposite a.now f ra b.now rb) }
-{
-    let a = a.copy(alloc)?;
-    let b = b.copy(alloc)?;
-    match opposite {
-        None => Ok(Step::Link {
-            a,
-            f,
-            ra,
-            b,
-            rb: None,
-        }),
-        Some(g) => {
-            if g < f {
-                Ok(Step::Link {
-                    a: b,
-                    f: g,
-                    ra: rb,
-                    b: a,
-                    rb: Some(ra),
-                })
-            } else {
-                Ok(Step::Link {
-                    a,
-                    f,
-                    ra,
-                    b,
-                    rb: Some(rb),
-                })
-            }
-        }
     }
 }
 

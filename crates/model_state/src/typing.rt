@@ -1,10 +1,21 @@
 //! The typing rules: which features and values a metamodel lets an element have, and the bounds of its lists.
 ghost use Rattle.std.specs.Prelude.{◌≡◌, Some};
+ghost use Rattle.finite_maps.specs.Maps.{is_below};
 ghost use Rattle.model_state.specs.Typing.{is_concrete, contains_to, kind_of, upper_of, child_upper, row_upper, plain_to, opposite_of, is_plain, fits, in_width, is_attr, attr_fits, is_many, is_unique, many_fits, is_default, value_eq};
 ghost use Rattle.model_state.specs.Steps.{class_has, may_link};
 ghost use Rattle.ecore_meta.specs.Typing.{is_one};
 
 use ecore_meta::{Kind, Metamodel, Scalar, Value};
+
+/// Whether a list of n entries has room for one more under the bound.
+pub fn is_below_bound(n: usize, upper: Option<u32>) -> bool
+    ensures { result ≡ is_below n upper }
+{
+    match upper {
+        None => true,
+        Some(upper) => n < upper as usize,
+    }
+}
 
 /// Whether the class exists and is not abstract.
 pub fn is_concrete(meta: &Metamodel, c: u32) -> bool

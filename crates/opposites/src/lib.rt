@@ -18,7 +18,7 @@ mod unset_ref;
 pub use bounds::is_one;
 pub use fault::LinkFault;
 pub use laws::law_of_calls;
-pub use link::{index_or_end, link_steps};
+pub use link::{index_or_end, link_step, link_steps};
 pub use look_up::rank_of_mirror;
 pub use openings::Opening;
 pub use reorder::{reorder_steps, stands_at, without_entry};

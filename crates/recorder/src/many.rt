@@ -18,7 +18,7 @@ use crate::operation::operation;
 use ecore_meta::{Kind, List, Metamodel, Text, Value};
 use edit_laws::EditFault;
 use edits::Recorded;
-use model_state::{Id, Look, OpKind, Step, is_many, is_same_value, upper_of};
+use model_state::{Id, Look, OpKind, Step, is_below_bound, is_many, is_same_value, upper_of};
 use std::alloc::{AllocError, Global};
 
 fn contains(values: &[Value], v: &Value) -> bool
@@ -31,10 +31,7 @@ fn contains(values: &[Value], v: &Value) -> bool
 fn has_room(meta: &Metamodel, f: u32, n: usize) -> bool
     ensures { result ≡ is_below n (upper_of meta.now f) }
 {
-    match upper_of(meta, f) {
-        None => true,
-        Some(upper) => n < upper as usize,
-    }
+    is_below_bound(n, upper_of(meta, f))
 }
 
 /// How many values a many-valued attribute has: fewer than 2^32.

@@ -1,4 +1,4 @@
-//! A model over ordered maps, with each step's tests and effect as plain as they can be written.
+//! A model over ordered maps, and the application of steps to it, each after its tests.
 #![tactic(auto)]
 
 mod attrs;

@@ -10,10 +10,12 @@ ghost use Rattle.model_state.specs.declared.step.Step.TheVariants.{Link, Unlink,
 ghost use Rattle.step_apply.specs.View.{plain_state};
 
 use crate::Plain;
-use crate::plain::{is_below_bound, is_rank};
+use crate::plain::is_rank;
 use crate::rows::row_key;
 use ecore_meta::Metamodel;
-use model_state::{Id, StepFault, class_has, is_plain, may_link, opposite_of, row_upper};
+use model_state::{
+    Id, StepFault, class_has, is_below_bound, is_plain, may_link, opposite_of, row_upper,
+};
 use std::alloc::AllocError;
 
 /// Whether the mirror's rank is given where it is to be.

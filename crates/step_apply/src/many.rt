@@ -12,10 +12,10 @@ ghost use Rattle.model_state.specs.declared.step.Step.TheVariants.{Ins, Del, Shi
 ghost use Rattle.step_apply.specs.View.{plain_state, values_at};
 
 use crate::Plain;
-use crate::plain::is_below_bound;
 use ecore_meta::{List, Metamodel, Value};
 use model_state::{
-    Id, StepFault, class_has, is_many, is_same_value, is_unique, many_fits, upper_of,
+    Id, StepFault, class_has, is_below_bound, is_many, is_same_value, is_unique, many_fits,
+    upper_of,
 };
 use std::alloc::{AllocError, Global};
 

@@ -1,8 +1,7 @@
-//! The model over four ordered maps, and its implementation of the trait `Look`.
+//! The model over ordered maps, and its implementation of the trait `Look`.
 ghost use Rattle.std.specs.Prelude.{◌≡◌, Some, nat_eq};
 ghost use Rattle.std.specs.FinMap.{get};
 ghost use Rattle.finite_maps.specs.Equal.{option_eq};
-ghost use Rattle.finite_maps.specs.Maps.{is_below};
 ghost use Rattle.ecore_meta.specs.Meta.{Meta};
 ghost use Rattle.model_state.specs.State.{nothing, place_eq};
 ghost use Rattle.model_state.specs.Good.{Good};
@@ -14,10 +13,13 @@ use crate::kinds::Kinds;
 use crate::places::Places;
 use crate::rows::Rows;
 use ecore_meta::{List, Metamodel, Value};
-use model_state::{Entry, Id, Incoming, Look, Place, Placed, child_upper, class_has, may_contain};
+use model_state::{
+    Entry, Id, Incoming, Look, Place, Placed, child_upper, class_has, is_below_bound, may_contain,
+};
 use std::alloc::{AllocError, Global};
 
-/// A model over four ordered maps: classes, places with ranks, values of attributes, and references.
+/// A model over ordered maps: classes, places with ranks, values of attributes, and references, with indexes of places and
+/// references.
 #[derive(Drop)]
 pub struct Plain {
     pub(crate) alloc: Global,
@@ -25,16 +27,6 @@ pub struct Plain {
     pub(crate) places: Places,
     pub(crate) attrs: Attrs,
     pub(crate) rows: Rows,
-}
-
-/// Whether a list of n entries has room for one more under the bound.
-pub fn is_below_bound(n: usize, upper: Option<u32>) -> bool
-    ensures { result ≡ is_below n upper }
-{
-    match upper {
-        None => true,
-        Some(upper) => n < upper as usize,
-    }
 }
 
 /// Whether a number that may be missing is just that one.
