@@ -1,7 +1,7 @@
 -- The buckets, by the labels of the two sides.
 use Rattle.std.proofs.Common.{◌≡◌, ℕ, zero, suc, ◌+◌, ◌<◌, ◌≤◌, Bool, true, false, cond, List, [], ◌∷◌, ◌++◌, refl, sym, ap, subst, ◌∙◌, ◌&&◌, ◌||◌, map, take, drop, length, nat_eq, arith, rules, inl, inr}
 use Rattle.std.specs.Prelude.{Option, None, Some, slice_get}
-use Rattle.std.proofs.lemmas.Bool.{cases_lt}
+use Rattle.std.proofs.lemmas.Bool.{cases_lt, or_left, or_right}
 use Rattle.std.proofs.lemmas.Option.{slice_get_within}
 use Rattle.std.proofs.lemmas.List.Folds.{list_any-append}
 use Rattle.finite_maps.proofs.EqualLaws.{and_both, nat_equality}
@@ -99,13 +99,6 @@ pub rows_mine : (ts ms : List ℕ) (n i j : ℕ) → slice_get ms i ≡ slice_ge
 rows_mine ts ms zero i j h = tt
 rows_mine ts ms (suc n) i j h = mine_join (rows ts ms n) (mixed (places n ts) (places n ms)) i j (rows_mine ts ms n i j h)
     (mixed_mine (places n ts) (places n ms) i j (in_places n ms i ∙ ap (has_label n) h ∙ sym (in_places n ms j)))
-
-or_left : (a b : Bool) → a ≡ true → a || b ≡ true
-or_left a b h = ap (λ x. x || b) h
-
-or_right : (a b : Bool) → b ≡ true → a || b ≡ true
-or_right true b h = refl
-or_right false b h = h
 
 pub rows_share : (ts ms : List ℕ) (n i k l : ℕ) → l < n → slice_get ts i ≡ Some l → slice_get ms k ≡ Some l → shares (rows ts ms n) i k ≡ true
 rows_share ts ms zero i k l low h g = absurd (omega (arith, low))

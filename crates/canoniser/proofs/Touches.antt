@@ -6,7 +6,7 @@ use Rattle.std.proofs.Math.Bool.{or_comm}
 use Rattle.std.proofs.lemmas.List.{map-append}
 use Rattle.finite_maps.specs.Equal.{text_eq}
 use Rattle.finite_maps.proofs.EqualLaws.{and_first, and_second, and_both, nat_equality, text_equality, list_equality}
-use Rattle.finite_maps.proofs.Cases.{true_false, not_so, some_none}
+use Rattle.finite_maps.proofs.Cases.{true_false, not_so, some_none, or_first, or_second}
 use Rattle.ecore_meta.specs.Meta.{Meta}
 use Rattle.model_state.specs.declared.step.Step.{Step}
 use Rattle.model_state.specs.declared.step.Step.TheVariants.{Put, Ins, Del, Shift, Link, Unlink, RerankRow, New, Gone, Move, RerankPlace}
@@ -15,7 +15,7 @@ use Rattle.model_state.specs.declared.operation.Operation.TheVariants.{Simple}
 use Rattle.model_state.specs.Packages.{steps_of}
 use Rattle.model_state.specs.Steps.{rev, rev_all}
 use Rattle.model_laws.specs.Cells.{Cell, OfKind, OfPlace, OfRank, OfAttr, OfRow, OfWhole, About, cell_eq, has, side, place_list, parent_kind, step_writes, step_reads, writes_all, reads_all}
-use Rattle.model_laws.proofs.Exchange.{has_append, or_first, or_second}
+use Rattle.model_laws.proofs.Exchange.{has_append}
 use Rattle.footprint.specs.Interference.{op_writes, op_reads, interferes}
 use Rattle.footprint.proofs.Pairs.{keep_apart, interferes_not}
 use Rattle.cell_index.specs.Standing.{is_none}

@@ -10,7 +10,7 @@ use Rattle.std.specs.FinMap.Entries.{below_all}
 use Rattle.finite_maps.specs.Equal.{text_eq}
 use Rattle.finite_maps.specs.Maps.{set}
 use Rattle.finite_maps.specs.Sorts.{without}
-use Rattle.finite_maps.proofs.Cases.{not_false, not_so, true_false}
+use Rattle.finite_maps.proofs.Cases.{not_false, not_so, true_false, or_first}
 use Rattle.finite_maps.proofs.EqualLaws.{apart, text_equality}
 use Rattle.finite_maps.proofs.MapLaws.{same, same_key, by_key, get-set_same, get-set_other}
 use Rattle.finite_maps.proofs.NestedLaws.{get-without}
@@ -223,15 +223,11 @@ module _ (meta : Meta) (sound : Sound meta) (row : Rows) (slots : List AttrKey) 
         turned : (x y : Name) → text_eq x y ≡ true → text_eq y x ≡ true
         turned x y h = ap (λ (z : Name). text_eq z x) (sym (text_equality.exact x y h)) ∙ text_equality.own x
 
-        or_left : (b c : Bool) → b || c ≡ false → b ≡ false
-        or_left true c h = h
-        or_left false c h = refl
-
         here : (k : RowKey) → text_eq x k.2 ≡ true → (o : Option ℕ) → get m.row k ≡ o → get (swept meta sound row slots x (entries row) m.row) k ≡ None
         here k is None none = swept_none meta sound row slots x (entries row) m.row k none
         here k is (Some r) some =
             let at = still_there (is_gone meta slots done k) (get row k) r (sym (read k) ∙ some) in
-            let test : wanted meta sound row slots x (k, r) ≡ true = ap (λ b. b && not (is_touched meta slots k)) is ∙ not_false (is_touched meta slots k) (or_left (is_touched meta slots k) _ at.0) in
+            let test : wanted meta sound row slots x (k, r) ≡ true = ap (λ b. b && not (is_touched meta slots k)) is ∙ not_false (is_touched meta slots k) (or_first (is_touched meta slots k) _ at.0) in
             swept_gone meta sound row slots x (entries row) m.row k r (sym (get-entries row k) ∙ at.1) test
 
     pub one_leads : Leads meta m (map (incoming_unlink meta row x) (incoming_left meta row slots x)) (without (is_gone meta slots (x ∷ done)) row)

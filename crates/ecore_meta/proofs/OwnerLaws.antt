@@ -6,6 +6,7 @@ use Rattle.std.specs.Option.{option_map_or}
 use Rattle.std.proofs.lemmas.List.{length-map}
 use Rattle.std.proofs.lemmas.List.Folds.{list_any-append}
 use Rattle.std.proofs.lemmas.Map.Views.{any-filter_same}
+use Rattle.std.proofs.lemmas.Bool.{or_left, or_right}
 use Rattle.ecore_meta.specs.Build.{classes_from, meta_of}
 use Rattle.ecore_meta.specs.Document.{Rows, supers_in}
 use Rattle.ecore_meta.specs.Drafts.{draft, drafts, drafts_from}
@@ -18,7 +19,7 @@ use Rattle.ecore_meta.specs.declared.rows.FeatureRow.{FeatureRow}
 use Rattle.ecore_meta.specs.declared.rows.MetaRows.{MetaRows}
 use Rattle.ecore_meta.specs.declared.rows.ClassifierRow.TheVariants.{Class, Enum, Plain}
 use Rattle.ecore_meta.proofs.RisingLaws.{in_range}
-use Rattle.ecore_meta.proofs.SuperLaws.{nat_itself, nat_same, or_left, or_right, or_split, same_bool}
+use Rattle.ecore_meta.proofs.SuperLaws.{nat_itself, nat_same, or_split, same_bool}
 use Rattle.ecore_meta.proofs.TableLaws.{above_none}
 
 split : (k n : ℕ) → (k < n) ⊎ (n ≤ k)

@@ -12,6 +12,7 @@ use Rattle.std.proofs.lemmas.Map.Steps.{length-le_from_distinct_below}
 use Rattle.std.proofs.lemmas.List.{get_or-take}
 use Rattle.std.proofs.Math.Seq.{take-length, take-append_seam}
 use Rattle.std.proofs.lemmas.List.Folds.{list_any-append}
+use Rattle.std.proofs.lemmas.Bool.{or_left, or_right}
 use Rattle.ecore_meta.specs.Supers.{supers_of, IsPath, Leads, within, is_above, Inside, Reached, Grown}
 
 pub nat_same : (m n : ℕ) → nat_eq m n ≡ true → m ≡ n
@@ -19,13 +20,6 @@ nat_same m n h = search rules
 
 pub nat_itself : (n : ℕ) → nat_eq n n ≡ true
 nat_itself n = search rules
-
-pub or_left : (a b : Bool) → a ≡ true → a || b ≡ true
-or_left a b h = ap (λ x. x || b) h
-
-pub or_right : (a b : Bool) → b ≡ true → a || b ≡ true
-or_right true b h = refl
-or_right false b h = h
 
 pub or_split : {P : Type 0} (a b : Bool) → a || b ≡ true → (a ≡ true → P) → (b ≡ true → P) → P
 or_split true b h f g = f refl

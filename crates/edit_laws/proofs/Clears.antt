@@ -21,7 +21,7 @@ use Rattle.model_state.specs.Good.{Good, Sound}
 use Rattle.model_state.specs.Listing.{is_of, targets}
 use Rattle.model_state.proofs.Orders.{row_order}
 use Rattle.model_laws.proofs.Runs.{undoes, fold_more}
-use Rattle.finite_maps.proofs.Cases.{not_so, true_false, no_some}
+use Rattle.finite_maps.proofs.Cases.{not_so, true_false, no_some, or_first, or_second}
 use Rattle.edit_laws.specs.Rows.{Rows, set_pair, around, is_mirror, clear, ranked, unlink_step, mirror_rank, unlinks, reranks}
 use Rattle.edit_laws.proofs.Lists.{Apart, targets_held, targets_has, targets_apart, of_exact}
 use Rattle.edit_laws.proofs.Pairs.{Takes, unlink_takes, rerank_takes, rows_apart}
@@ -58,14 +58,6 @@ abbrev pub cleared : Option ℕ → Name → ℕ → List Entry → Rows → Row
 cleared o a f [] row = row
 cleared o a f (x ∷ xs) row = cleared o a f xs (set_pair row a f x.id o None None)
 
-pub or_left : (b c : Bool) → b || c ≡ false → b ≡ false
-or_left true c h = h
-or_left false c h = refl
-
-pub or_right : (b c : Bool) → b || c ≡ false → c ≡ false
-or_right true c h = cc
-or_right false c h = h
-
 -- rows to different elements, and from different elements
 pub targets_differ : (a : Name) (f : ℕ) (x y : Name) → text_eq x y ≡ false → eq_by_cmp row_cmp (a, f, y) (a, f, x) ≡ false
 targets_differ a f x y differ = not_so (eq_by_cmp row_cmp (a, f, y) (a, f, x)) (λ same.
@@ -93,11 +85,11 @@ module _ (meta : Meta) (sound : Sound meta) (a : Name) (f : ℕ) where
   held_still : (before row : Rows) (x : Name) (v w : Option ℕ) (xs : List Entry) → list_any (λ (y : Entry). text_eq x y.id) xs ≡ false → Held before row (opposite_of meta f) a f xs → Held before (set_pair row a f x (opposite_of meta f) v w) (opposite_of meta f) a f xs
   held_still before row x v w [] differ held = tt
   held_still before row x v w (y ∷ ys) differ held =
-      let other : text_eq x y.id ≡ false = or_left (text_eq x y.id) (list_any (λ (y : Entry). text_eq x y.id) ys) differ in (
+      let other : text_eq x y.id ≡ false = or_first (text_eq x y.id) (list_any (λ (y : Entry). text_eq x y.id) ys) differ in (
         row_still (opposite_of meta f) refl row x y.id v w other ∙ held.0,
         mirror_still (opposite_of meta f) refl row x y.id v w other ∙ held.1,
         held.2,
-        held_still before row x v w ys (or_right (text_eq x y.id) _ differ) held.3,
+        held_still before row x v w ys (or_second (text_eq x y.id) _ differ) held.3,
       )
 
   -- the unlinks of a list's entries
@@ -114,12 +106,12 @@ module _ (meta : Meta) (sound : Sound meta) (a : Name) (f : ℕ) where
   -- ---- what is left
   pub pair_other : (o : Option ℕ) (row : Rows) (x : Name) (v w : Option ℕ) (q : RowKey) → around o a f q ≡ false → get (set_pair row a f x o v w) q ≡ get row q
   pair_other None row x v w q away = get-set_other row_order row (a, f, x) v q (not_so (eq_by_cmp row_cmp q (a, f, x)) (λ same.
-      true_false (is_of a f q) (ap (is_of a f) (same_key row_order q (a, f, x) same) ∙ and_both _ _ (text_equality.own a) (nat_equality.own f)) (or_left (is_of a f q) false away)))
+      true_false (is_of a f q) (ap (is_of a f) (same_key row_order q (a, f, x) same) ∙ and_both _ _ (text_equality.own a) (nat_equality.own f)) (or_first (is_of a f q) false away)))
   pair_other (Some g) row x v w q away =
       get-set_other row_order (set row (a, f, x) v) (x, g, a) w q (not_so (eq_by_cmp row_cmp q (x, g, a)) (λ same.
-      true_false (is_mirror (Some g) a q) (ap (is_mirror (Some g) a) (same_key row_order q (x, g, a) same) ∙ and_both _ _ (nat_equality.own g) (text_equality.own a)) (or_right (is_of a f q) _ away)))
+      true_false (is_mirror (Some g) a q) (ap (is_mirror (Some g) a) (same_key row_order q (x, g, a) same) ∙ and_both _ _ (nat_equality.own g) (text_equality.own a)) (or_second (is_of a f q) _ away)))
       ∙ get-set_other row_order row (a, f, x) v q (not_so (eq_by_cmp row_cmp q (a, f, x)) (λ same.
-      true_false (is_of a f q) (ap (is_of a f) (same_key row_order q (a, f, x) same) ∙ and_both _ _ (text_equality.own a) (nat_equality.own f)) (or_left (is_of a f q) _ away)))
+      true_false (is_of a f q) (ap (is_of a f) (same_key row_order q (a, f, x) same) ∙ and_both _ _ (text_equality.own a) (nat_equality.own f)) (or_first (is_of a f q) _ away)))
 
   cleared_other : (o : Option ℕ) (xs : List Entry) (row : Rows) (q : RowKey) → around o a f q ≡ false → get (cleared o a f xs row) q ≡ get row q
   cleared_other o [] row q away = refl
@@ -213,11 +205,11 @@ module _ (meta : Meta) (sound : Sound meta) (a : Name) (f : ℕ) where
   pub ranks_still : (row : Rows) (x : Name) (v : Option ℕ) (xs : List Entry) → list_any (λ (y : Entry). text_eq x y.id) xs ≡ false → Held row row None a f xs → (row' : Rows) → row' ≡ set row (a, f, x) v → Held row' row' None a f xs
   ranks_still row x v [] differ held row' is = tt
   ranks_still row x v (y ∷ ys) differ held row' is =
-      let other : text_eq x y.id ≡ false = or_left (text_eq x y.id) (list_any (λ (y : Entry). text_eq x y.id) ys) differ in (
+      let other : text_eq x y.id ≡ false = or_first (text_eq x y.id) (list_any (λ (y : Entry). text_eq x y.id) ys) differ in (
         ap (λ r. get r (a, f, y.id)) is ∙ get-set_other row_order row (a, f, x) v (a, f, y.id) (targets_differ a f x y.id other) ∙ held.0,
         refl,
         held.2,
-        ranks_still row x v ys (or_right (text_eq x y.id) _ differ) held.3 row' is,
+        ranks_still row x v ys (or_second (text_eq x y.id) _ differ) held.3 row' is,
       )
 
   pub reranks_lead : (xs : List Entry) (rs : List ℕ) (m : State) → Good meta m → Held m.row m.row None a f xs → Leads meta m (reranks a f xs rs) (ranked a f xs rs m.row)

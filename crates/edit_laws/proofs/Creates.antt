@@ -23,14 +23,13 @@ use Rattle.model_state.specs.Good.{Good, Sound, PlaceOk}
 use Rattle.model_state.specs.Listing.{children, rank_at, entry_cmp}
 use Rattle.model_state.proofs.Orders.{id_order}
 use Rattle.model_state.proofs.StepTests.{pass, number_equality}
-use Rattle.finite_maps.proofs.Cases.{not_false, not_so, true_false, some_none}
+use Rattle.finite_maps.proofs.Cases.{not_false, not_so, true_false, some_none, or_first, or_second}
 use Rattle.model_laws.proofs.Runs.{undoes, fold_more, fold_append}
 use Rattle.edit_laws.specs.Spot.{end_spot}
 use Rattle.edit_laws.specs.Places.{Ranks, ranked_places, rerank_places}
 use Rattle.edit_laws.specs.Laws.{CreateMeets}
 use Rattle.edit_laws.proofs.Lists.{Apart, apart_from, all-in_order, tally-filter, entries_held}
 use Rattle.edit_laws.proofs.Pairs.{some_of}
-use Rattle.edit_laws.proofs.Clears.{or_left, or_right}
 
 -- the elements have these ranks, and each is there once
 abbrev pub Stand : State → List Entry → Type 0
@@ -44,9 +43,9 @@ stand_still : (m : State) (x : Name) (v : Option ℕ) (xs : List Entry) → list
 stand_still m x v [] differ stand = tt
 stand_still m x v (y ∷ ys) differ stand = (
   stand.0,
-  get-set_other id_order m.prank x v y.id (names_differ x y.id (or_left (text_eq x y.id) _ differ)) ∙ stand.1,
+  get-set_other id_order m.prank x v y.id (names_differ x y.id (or_first (text_eq x y.id) _ differ)) ∙ stand.1,
   stand.2,
-  stand_still m x v ys (or_right (text_eq x y.id) _ differ) stand.3,
+  stand_still m x v ys (or_second (text_eq x y.id) _ differ) stand.3,
 )
 
 place_can : (meta : Meta) (m : State) (e : Name) (old new : ℕ) → is_live m e ≡ true → get m.prank e ≡ Some old → nat_eq old new ≡ false → Can meta m (RerankPlace e old new)

@@ -1,8 +1,9 @@
 -- Where no step is made for an edit of a reference.
-use Rattle.std.proofs.Common.{◌≡◌, ℕ, Bool, true, false, cond, List, [], ◌∷◌, ◌++◌, refl, sym, ap, ◌∙◌, ◌||◌, nat_eq}
+use Rattle.std.proofs.Common.{◌≡◌, ℕ, true, false, cond, List, [], ◌∷◌, ◌++◌, refl, sym, ap, ◌∙◌, nat_eq}
 use Rattle.std.specs.Prelude.{Option, None, Some, is_some, unwrap_or}
 use Rattle.std.specs.List.{list_any, AllByRecursion}
 use Rattle.std.specs.FinMap.{get}
+use Rattle.std.proofs.lemmas.Bool.{or_left, or_right}
 use Rattle.finite_maps.specs.Maps.{set}
 use Rattle.finite_maps.specs.Equal.{text_eq}
 use Rattle.finite_maps.proofs.MapLaws.{get-set_other, get-set_same, set_here}
@@ -19,6 +20,7 @@ use Rattle.model_state.specs.Good.{Good, Sound}
 use Rattle.model_state.specs.Listing.{targets}
 use Rattle.model_state.proofs.Orders.{row_order}
 use Rattle.finite_maps.proofs.Cases.{not_so, some_none, true_false}
+use Rattle.model_laws.proofs.Runs.{same_state}
 use Rattle.edit_laws.specs.Spot.{spot, end_spot}
 use Rattle.edit_laws.specs.Rows.{Rows, clear, ranked, reranks, unlinks}
 use Rattle.edit_laws.specs.References.{join, clear_there, set_ref_made, set_ref_after, link_made, link_after, MayLink, unlink_made, unlink_after, backwards, unset_made, unset_after, without_entry, stands_at, reorder_made, reorder_after, MayReorder}
@@ -28,9 +30,6 @@ use Rattle.edit_laws.proofs.Pairs.{rows_apart, some_of}
 use Rattle.edit_laws.proofs.Clears.{Held, pair_row, targets_differ}
 use Rattle.edit_laws.proofs.Sets.{set_ref_meets, clear_gone, own_near}
 use Rattle.edit_laws.proofs.LinkEdits.{left_targets, ranked_missing, none_without, others_held}
-
-same_state : (m n : State) → Some m ≡ Some n → m ≡ n
-same_state m n e = cc
 
 -- a run of no step changes nothing
 pub idle_from : (meta : Meta) (m : State) (ss : List Step) (row : Rows) → fold meta m ss ≡ Some (record m { row = row }) → ss ≡ [] → row ≡ m.row
@@ -93,13 +92,6 @@ module _ (meta : Meta) (sound : Sound meta) (m : State) (good : Good meta m) (a 
       ap (λ xs. unlinks m.row o a f (backwards xs)) (no_entries (targets m.row a f) (targets_held m.row a f) none)
 
 -- ---- reorder: each entry has the rank that it had
-or_first : (b c : Bool) → b ≡ true → b || c ≡ true
-or_first b c h = ap (λ x. x || c) h
-
-or_second : (b c : Bool) → c ≡ true → b || c ≡ true
-or_second true c h = refl
-or_second false c h = h
-
 same_number : (x y : ℕ) → Some x ≡ Some y → x ≡ y
 same_number x y e = cc
 
@@ -110,9 +102,9 @@ no_reranks a f (x ∷ xs) [] row held alike = refl
 no_reranks a f (x ∷ xs) (r ∷ rs) row held alike =
     let next = set row (a, f, x.id) (Some r) in
     let here : get (ranked a f xs rs next) (a, f, x.id) ≡ Some r = ranked_missing a f x.id xs rs next held.2 ∙ get-set_same row_order row (a, f, x.id) (Some r) in
-    let rank : x.rank ≡ r = same_number x.rank r (sym held.0 ∙ sym (alike x.id (or_first (text_eq x.id x.id) _ (text_equality.own x.id))) ∙ here) in
+    let rank : x.rank ≡ r = same_number x.rank r (sym held.0 ∙ sym (alike x.id (or_left (text_eq x.id x.id) _ (text_equality.own x.id))) ∙ here) in
     let stays : next ≡ row = set_here row_order row (a, f, x.id) (Some r) (held.0 ∙ ap Some rank) in
-    let rest : reranks a f xs rs ≡ [] = no_reranks a f xs rs row held.3 (λ y among. ap (λ w. get (ranked a f xs rs w) (a, f, y)) (sym stays) ∙ alike y (or_second (text_eq y x.id) _ among)) in
+    let rest : reranks a f xs rs ≡ [] = no_reranks a f xs rs row held.3 (λ y among. ap (λ w. get (ranked a f xs rs w) (a, f, y)) (sym stays) ∙ alike y (or_right (text_eq y x.id) _ among)) in
     ap (λ t. cond {A = List Step} t (reranks a f xs rs) (RerankRow a f x.id x.rank r ∷ reranks a f xs rs)) (ap (nat_eq x.rank) (sym rank) ∙ nat_equality.own x.rank) ∙ rest
 
 no_rerank : (a : Name) (f : ℕ) (b : Name) (r s : ℕ) → r ≡ s → reranks a f (record { rank = r; id = b } ∷ []) (s ∷ []) ≡ []

@@ -17,14 +17,14 @@ use Rattle.model_state.specs.Steps.{fold}
 use Rattle.model_state.specs.Good.{Good, Sound}
 use Rattle.model_state.specs.Listing.{is_of, targets}
 use Rattle.model_state.proofs.Orders.{row_order}
-use Rattle.finite_maps.proofs.Cases.{no_some}
+use Rattle.finite_maps.proofs.Cases.{no_some, or_first, or_second}
 use Rattle.edit_laws.specs.Spot.{spot, end_spot}
 use Rattle.edit_laws.specs.Rows.{Rows, clear, ranked, link_step, reranks}
 use Rattle.edit_laws.specs.References.{is_one, clear_there, join, displace, others_there, rank_there, reranks_there, room_there, MayLink, MayReorder, backwards, without_entry, stands_at}
 use Rattle.edit_laws.specs.Laws.{LinkMeets, UnlinkMeets, UnsetMeets, ReorderMeets}
 use Rattle.edit_laws.proofs.Lists.{Apart, targets_held, targets_has, targets_apart, targets_alike, apart_from, one_passes}
 use Rattle.edit_laws.proofs.Pairs.{some_of}
-use Rattle.edit_laws.proofs.Clears.{Leads, Held, held_from, unlinks_lead, cleared_is, reranks_lead, or_left, or_right, targets_differ}
+use Rattle.edit_laws.proofs.Clears.{Leads, Held, held_from, unlinks_lead, cleared_is, reranks_lead, targets_differ}
 use Rattle.edit_laws.proofs.Joins.{leads_on, join_leads, join_steps, CanJoin, targets_there, count_at, count_there, one_room, no_targets, ranked_other, ranked_there, not_of}
 use Rattle.edit_laws.proofs.Sets.{clear_gone, own_near, no_mirror, there_kept, displace_leads}
 
@@ -192,8 +192,8 @@ pub ranked_missing : (a : Name) (f : ℕ) (b : Name) (xs : List Entry) (rs : Lis
 ranked_missing a f b [] rs row h = refl
 ranked_missing a f b (x ∷ _) [] row h = refl
 ranked_missing a f b (x ∷ xs) (r ∷ rs) row h =
-    ranked_missing a f b xs rs (set row (a, f, x.id) (Some r)) (or_right (text_eq b x.id) _ h)
-    ∙ get-set_other row_order row (a, f, x.id) (Some r) (a, f, b) (targets_differ a f x.id b (apart text_eq text_equality b x.id (or_left (text_eq b x.id) _ h)))
+    ranked_missing a f b xs rs (set row (a, f, x.id) (Some r)) (or_second (text_eq b x.id) _ h)
+    ∙ get-set_other row_order row (a, f, x.id) (Some r) (a, f, b) (targets_differ a f x.id b (apart text_eq text_equality b x.id (or_first (text_eq b x.id) _ h)))
 
 pub at_most : (n k : ℕ) → n ≤ k → k ≤ 1 → n ≤ 1
 at_most n k h g = omega arith

@@ -3,6 +3,7 @@ use Rattle.std.proofs.Common.{◌≡◌, ℕ, true, false, cond, not, List, [], 
 use Rattle.std.specs.Prelude.{Some, is_some, unwrap_or}
 use Rattle.std.specs.List.{list_any, filter, AllByRecursion}
 use Rattle.std.specs.FinMap.{get, entries}
+use Rattle.std.proofs.lemmas.Option.{same_Some}
 use Rattle.finite_maps.specs.Equal.{option_eq, text_eq}
 use Rattle.finite_maps.specs.Maps.{set}
 use Rattle.finite_maps.proofs.MapLaws.{get-set_other}
@@ -16,7 +17,7 @@ use Rattle.model_state.specs.State.{State, is_live, place_eq}
 use Rattle.model_state.specs.Steps.{tests, Can, fold}
 use Rattle.model_state.specs.Good.{Good, Sound, PlaceOk}
 use Rattle.model_state.specs.Listing.{children, rank_at, entry_cmp}
-use Rattle.finite_maps.proofs.Cases.{not_so, true_false, not_false}
+use Rattle.finite_maps.proofs.Cases.{not_so, true_false, not_false, or_first, or_second}
 use Rattle.model_state.proofs.Orders.{id_order}
 use Rattle.model_state.proofs.StepTests.{pass, number_equality, place_equality}
 use Rattle.model_laws.proofs.Runs.{fold_more, fold_append}
@@ -26,7 +27,6 @@ use Rattle.edit_laws.specs.Places.{Ranks, ranked_places, rerank_places, MayMoveW
 use Rattle.edit_laws.specs.Laws.{MoveWithinMeets, MoveToMeets}
 use Rattle.edit_laws.proofs.Lists.{apart_from, all-in_order, entries_held}
 use Rattle.edit_laws.proofs.Pairs.{some_of}
-use Rattle.edit_laws.proofs.Clears.{or_left, or_right}
 use Rattle.edit_laws.proofs.LinkEdits.{all_filter, fewer, none_without, at_most}
 use Rattle.edit_laws.proofs.Creates.{spot_of, Stand, names_differ, rerank_leads, placed_live, LiveHere, children_live, one_child, stand_from, children_stand}
 
@@ -34,8 +34,8 @@ pub ranked_missing : (e : Name) (xs : List Entry) (rs : List ℕ) (prank : Ranks
 ranked_missing e [] rs prank h = refl
 ranked_missing e (x ∷ xs) [] prank h = refl
 ranked_missing e (x ∷ xs) (r ∷ rs) prank h =
-    ranked_missing e xs rs (set prank x.id (Some r)) (or_right (text_eq e x.id) _ h)
-    ∙ get-set_other id_order prank x.id (Some r) e (names_differ x.id e (apart text_eq text_equality e x.id (or_left (text_eq e x.id) _ h)))
+    ranked_missing e xs rs (set prank x.id (Some r)) (or_second (text_eq e x.id) _ h)
+    ∙ get-set_other id_order prank x.id (Some r) e (names_differ x.id e (apart text_eq text_equality e x.id (or_first (text_eq e x.id) _ h)))
 
 -- what is known of an element that stands in a place
 pub placed : (meta : Meta) (m : State) → Good meta m → (e : Name) (p : Place) → get m.place e ≡ Some p → (is_live m e ≡ true) × (get m.prank e ≡ Some (rank_at m.prank e))
@@ -86,9 +86,6 @@ module _ (m : State) (p : Place) where
 
   pub children_there : AllByRecursion (λ (x : Entry). get m.place x.id ≡ Some p) (children m.place m.prank p)
   children_there = all-in_order entry_cmp (λ (x : Entry). get m.place x.id ≡ Some p) _ (mapped (entries m.place) (entries_held id_order m.place))
-
-same_Some : (x y : Place) → Some x ≡ Some y → x ≡ y
-same_Some x y e = cc
 
 -- an element of another place is not among them
 none_such : (m : State) (e : Name) (from to : Place) → get m.place e ≡ Some from → place_eq from to ≡ false → (xs : List Entry) → AllByRecursion (λ (x : Entry). get m.place x.id ≡ Some to) xs → list_any (λ (x : Entry). text_eq e x.id) xs ≡ false

@@ -7,7 +7,7 @@ use Rattle.std.specs.FinMap.{get}
 use Rattle.finite_maps.specs.Equal.{text_eq}
 use Rattle.finite_maps.specs.Maps.{set}
 use Rattle.finite_maps.specs.Sorts.{picked}
-use Rattle.finite_maps.proofs.Cases.{not_so, some_none, true_false}
+use Rattle.finite_maps.proofs.Cases.{not_so, some_none, true_false, or_first, or_second}
 use Rattle.finite_maps.proofs.EqualLaws.{text_equality}
 use Rattle.finite_maps.proofs.MapLaws.{get-set_other, get-set_same}
 use Rattle.finite_maps.proofs.SortLaws.{rises-in_order}
@@ -28,7 +28,6 @@ use Rattle.edit_laws.specs.Standing.{reranked, StandsAt, Placed}
 use Rattle.edit_laws.specs.Laws.{CreateStands, MoveWithinStands, MoveToStands}
 use Rattle.edit_laws.proofs.Lists.{Apart, apart_from, any-in_order, any-map, picked_has}
 use Rattle.edit_laws.proofs.Pairs.{some_of}
-use Rattle.edit_laws.proofs.Clears.{or_left, or_right}
 use Rattle.edit_laws.proofs.LinkEdits.{all_filter, none_without}
 use Rattle.edit_laws.proofs.Creates.{LiveHere, children_live, names_differ, one_child, spot_of, create_meets}
 use Rattle.edit_laws.proofs.MoveEdits.{children_there, placed, ranked_missing, not_there, move_within_meets, move_to_meets}
@@ -84,8 +83,8 @@ module _ (meta : Meta) (m : State) (good : Good meta m) (p : Place) where
 set_on : (e : Name) (v : Option ℕ) (prank : Ranks) (xs : List Entry) → has_id e xs ≡ false → AllByRecursion (λ (x : Entry). get prank x.id ≡ Some x.rank) xs → AllByRecursion (λ (x : Entry). get (set prank e v) x.id ≡ Some x.rank) xs
 set_on e v prank [] far held = tt
 set_on e v prank (x ∷ xs) far held = (
-  get-set_other id_order prank e v x.id (names_differ e x.id (or_left (text_eq e x.id) _ far)) ∙ held.0,
-  set_on e v prank xs (or_right (text_eq e x.id) _ far) held.1,
+  get-set_other id_order prank e v x.id (names_differ e x.id (or_first (text_eq e x.id) _ far)) ∙ held.0,
+  set_on e v prank xs (or_second (text_eq e x.id) _ far) held.1,
 )
 
 ranked_held : (xs : List Entry) (rs : List ℕ) (prank : Ranks) → Apart xs → AllByRecursion (λ (x : Entry). get prank x.id ≡ Some x.rank) xs → AllByRecursion (λ (x : Entry). get (ranked_places xs rs prank) x.id ≡ Some x.rank) (reranked xs rs)
@@ -99,12 +98,12 @@ ranked_held (x ∷ xs) (r ∷ rs) prank once held =
 
 placed_still : (m n : State) (p : Place) (e : Name) → ((y : Name) → text_eq e y ≡ false → get n.place y ≡ get m.place y) → (xs : List Entry) (rs : List ℕ) → has_id e xs ≡ false → AllByRecursion (λ (x : Entry). get m.place x.id ≡ Some p) xs → AllByRecursion (λ (x : Entry). get n.place x.id ≡ Some p) (reranked xs rs)
 placed_still m n p e alike [] rs far all = tt
-placed_still m n p e alike (x ∷ xs) [] far all = (alike x.id (or_left (text_eq e x.id) _ far) ∙ all.0, whole xs (or_right (text_eq e x.id) _ far) all.1)
+placed_still m n p e alike (x ∷ xs) [] far all = (alike x.id (or_first (text_eq e x.id) _ far) ∙ all.0, whole xs (or_second (text_eq e x.id) _ far) all.1)
   where
     whole : (xs : List Entry) → has_id e xs ≡ false → AllByRecursion (λ (x : Entry). get m.place x.id ≡ Some p) xs → AllByRecursion (λ (x : Entry). get n.place x.id ≡ Some p) xs
     whole [] far all = tt
-    whole (x ∷ xs) far all = (alike x.id (or_left (text_eq e x.id) _ far) ∙ all.0, whole xs (or_right (text_eq e x.id) _ far) all.1)
-placed_still m n p e alike (x ∷ xs) (r ∷ rs) far all = (alike x.id (or_left (text_eq e x.id) _ far) ∙ all.0, placed_still m n p e alike xs rs (or_right (text_eq e x.id) _ far) all.1)
+    whole (x ∷ xs) far all = (alike x.id (or_first (text_eq e x.id) _ far) ∙ all.0, whole xs (or_second (text_eq e x.id) _ far) all.1)
+placed_still m n p e alike (x ∷ xs) (r ∷ rs) far all = (alike x.id (or_first (text_eq e x.id) _ far) ∙ all.0, placed_still m n p e alike xs rs (or_second (text_eq e x.id) _ far) all.1)
 
 same_place : (x y : Place) → Some x ≡ Some y → x ≡ y
 same_place x y e = cc

@@ -5,10 +5,11 @@ use Rattle.std.specs.Prelude.{Option, None, Some, is_some, unwrap_or}
 use Rattle.std.specs.List.{filter}
 use Rattle.std.specs.Ordering.{eq_by_cmp}
 use Rattle.std.specs.FinMap.{get}
+use Rattle.std.proofs.lemmas.Bool.{or_right}
 use Rattle.finite_maps.specs.Equal.{text_eq}
 use Rattle.finite_maps.specs.Maps.{set}
 use Rattle.finite_maps.specs.Sorts.{without, picked}
-use Rattle.finite_maps.proofs.Cases.{not_so, some_none, true_false}
+use Rattle.finite_maps.proofs.Cases.{not_so, some_none, true_false, or_first, or_second}
 use Rattle.finite_maps.proofs.EqualLaws.{apart, and_both, nat_equality, text_equality}
 use Rattle.finite_maps.proofs.MapLaws.{get-set, get-set_other, get-set_same, same, same_key}
 use Rattle.finite_maps.proofs.NestedLaws.{get-without}
@@ -27,7 +28,7 @@ use Rattle.edit_laws.specs.References.{is_one, clear_there, join, rank_there, wi
 use Rattle.edit_laws.specs.Standing.{reranked, StandsAt, StandsLast, is_displaced, staying, is_list, is_end, Joined}
 use Rattle.edit_laws.proofs.Lists.{Apart, targets_held, targets_has, targets_apart, targets_alike}
 use Rattle.edit_laws.proofs.Pairs.{rows_apart, some_of}
-use Rattle.edit_laws.proofs.Clears.{or_left, or_right, targets_differ}
+use Rattle.edit_laws.proofs.Clears.{targets_differ}
 use Rattle.edit_laws.proofs.Joins.{no_targets, not_of, ranked_other}
 use Rattle.edit_laws.specs.Laws.{LinkStands, SetRefStands, ReorderStands}
 use Rattle.edit_laws.proofs.LinkEdits as links
@@ -52,8 +53,8 @@ targets_tell row a f = record {
 held_on : (row : Rows) (a : Name) (f : ℕ) (e : Name) (v : Option ℕ) (xs : List Entry) → has_id e xs ≡ false → AllHeld (ranks_in row a f) xs → AllHeld (ranks_in (set row (a, f, e) v) a f) xs
 held_on row a f e v [] far held = tt
 held_on row a f e v (x ∷ xs) far held = (
-  get-set_other row_order row (a, f, e) v (a, f, x.id) (targets_differ a f e x.id (or_left (text_eq e x.id) _ far)) ∙ held.0,
-  held_on row a f e v xs (or_right (text_eq e x.id) _ far) held.1,
+  get-set_other row_order row (a, f, e) v (a, f, x.id) (targets_differ a f e x.id (or_first (text_eq e x.id) _ far)) ∙ held.0,
+  held_on row a f e v xs (or_second (text_eq e x.id) _ far) held.1,
 )
 
 ranked_held : (a : Name) (f : ℕ) (xs : List Entry) (rs : List ℕ) (row : Rows) → Apart xs → AllHeld (ranks_in row a f) xs → AllHeld (ranks_in (ranked a f xs rs row) a f) (reranked xs rs)
@@ -104,7 +105,7 @@ filter_has p y r g (x ∷ xs) held is has pass =
       | false ↦ λ differ.
           let later : has_id y (filter p xs) ≡ true = filter_has p y r g xs held.1 is (other_or (text_eq y x.id) _ has differ) pass in
           elim (p x) as (λ b. has_id y (cond {A = List Entry} b (x ∷ filter p xs) (filter p xs)) ≡ true) [
-            | true ↦ or_second (text_eq y x.id) _ later
+            | true ↦ or_right (text_eq y x.id) _ later
             | false ↦ later
           ]
     ] refl
@@ -118,10 +119,6 @@ filter_has p y r g (x ∷ xs) held is has pass =
     other_or : (b c : Bool) → b || c ≡ true → b ≡ false → c ≡ true
     other_or true c h g = cc
     other_or false c h g = h
-
-    or_second : (b c : Bool) → c ≡ true → b || c ≡ true
-    or_second true c h = refl
-    or_second false c h = h
 
 module _ (gone : RowKey → Bool) (row : Rows) (x : Name) (h : ℕ) where
   kept_held : (es : List Entry) → AllHeld (ranks_in row x h) es → AllHeld (ranks_in (without gone row) x h) (filter (λ (e : Entry). not (gone (x, h, e.id))) es)
@@ -217,9 +214,9 @@ module _ (meta : Meta) (sound : Sound meta) (a : Name) (f : ℕ) (ra : Option �
   pub join_others : (o : Option ℕ) (x : Name) (h : ℕ) → is_end o a f b x h ≡ false → targets (join o a f ra b row) x h ≡ targets row x h
   join_others None x h away = targets_alike (set row (a, f, b) ra) row x h (λ y. get-set_other row_order row (a, f, b) ra (x, h, y) (other_list a f b x h y away))
   join_others (Some g) x h away = targets_alike (join (Some g) a f ra b row) row x h (λ y.
-      get-set_other row_order (set (evened_row g) (a, f, b) ra) (b, g, a) (end_spot (there g)).rank (x, h, y) (other_list b g a x h y (or_right (is_list a f x h) _ away))
-      ∙ get-set_other row_order (evened_row g) (a, f, b) ra (x, h, y) (other_list a f b x h y (or_left (is_list a f x h) _ away))
-      ∙ ranked_other b g (there g) (end_spot (there g)).ranks row (x, h, y) (or_right (is_list a f x h) _ away))
+      get-set_other row_order (set (evened_row g) (a, f, b) ra) (b, g, a) (end_spot (there g)).rank (x, h, y) (other_list b g a x h y (or_second (is_list a f x h) _ away))
+      ∙ get-set_other row_order (evened_row g) (a, f, b) ra (x, h, y) (other_list a f b x h y (or_first (is_list a f x h) _ away))
+      ∙ ranked_other b g (there g) (end_spot (there g)).ranks row (x, h, y) (or_second (is_list a f x h) _ away))
 
 -- ---- link
 number_le : (n k : ℕ) → nat_le n k ≡ true → n ≤ k
@@ -266,7 +263,7 @@ module _ (meta : Meta) (sound : Sound meta) (m : State) (good : Good meta m) (a 
 
     own_away : (x : Name) (h : ℕ) (o : Option ℕ) → is_end o a f b x h ≡ false → is_list a f x h ≡ false
     own_away x h None away = away
-    own_away x h (Some g) away = or_left (is_list a f x h) _ away
+    own_away x h (Some g) away = or_first (is_list a f x h) _ away
 
     link_others : (x : Name) (h : ℕ) → is_end o a f b x h ≡ false → targets (linked o) x h ≡ staying (is_displaced meta o f b) m.row x h
     link_others x h away =

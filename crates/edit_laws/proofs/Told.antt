@@ -6,10 +6,11 @@ use Rattle.std.specs.declared.cmp.Ordering.{Ordering}
 use Rattle.std.specs.declared.cmp.Ordering.TheVariants.{Less, Equal, Greater}
 use Rattle.std.specs.Ordering.{is_lt, ordering_reverse}
 use Rattle.std.specs.Cmp.{tied_itself}
+use Rattle.std.proofs.lemmas.Bool.{or_right}
 use Rattle.finite_maps.specs.Equal.{text_eq}
 use Rattle.finite_maps.specs.Maps.{tally}
 use Rattle.finite_maps.specs.Sorts.{in_order}
-use Rattle.finite_maps.proofs.Cases.{not_so, true_false}
+use Rattle.finite_maps.proofs.Cases.{not_so, true_false, or_first, or_second}
 use Rattle.finite_maps.proofs.EqualLaws.{apart, text_equality}
 use Rattle.finite_maps.proofs.SortLaws.{Rises, rises-in_order, tally-in_order}
 use Rattle.model_state.specs.declared.entry.Entry.{Entry}
@@ -20,7 +21,6 @@ use Rattle.edit_laws.specs.Spot.{spot}
 use Rattle.edit_laws.specs.References.{without_entry, stands_at}
 use Rattle.edit_laws.specs.Standing.{ids_of, reranked, StandsAt}
 use Rattle.edit_laws.proofs.Lists.{Apart, apart_from, any-in_order, all-in_order}
-use Rattle.edit_laws.proofs.Clears.{or_left, or_right}
 use Rattle.edit_laws.proofs.LinkEdits.{none_without, all_filter}
 use Rattle.edit_laws.proofs.Spots.{spot_opens}
 
@@ -79,7 +79,7 @@ but e g y = cond (text_eq e y) None (g y)
 
 held_but : (g : Ranking) (e : Name) (xs : List Entry) → has_id e xs ≡ false → AllHeld g xs → AllHeld (but e g) xs
 held_but g e [] far held = tt
-held_but g e (x ∷ xs) far held = (ap (λ b. cond b None (g x.id)) (or_left (text_eq e x.id) _ far) ∙ held.0, held_but g e xs (or_right (text_eq e x.id) _ far) held.1)
+held_but g e (x ∷ xs) far held = (ap (λ b. cond b None (g x.id)) (or_first (text_eq e x.id) _ far) ∙ held.0, held_but g e xs (or_second (text_eq e x.id) _ far) held.1)
 
 tail_tells : (g : Ranking) (x : Entry) (xs : List Entry) → Tells g (x ∷ xs) → Tells (but x.id g) xs
 tail_tells g x xs t = record {
@@ -113,7 +113,7 @@ one_list (x ∷ xs) (y ∷ ys) g t u =
 -- ---- an element comes into the list, and the others are ranked anew
 none_tallied : (p : Entry → Bool) (xs : List Entry) → list_any p xs ≡ false → tally p xs ≡ 0
 none_tallied p [] h = refl
-none_tallied p (x ∷ xs) h = ap (λ b. cond b 1 0 + tally p xs) (or_left (p x) _ h) ∙ ap (λ n. 0 + n) (none_tallied p xs (or_right (p x) _ h))
+none_tallied p (x ∷ xs) h = ap (λ b. cond b 1 0 + tally p xs) (or_first (p x) _ h) ∙ ap (λ n. 0 + n) (none_tallied p xs (or_second (p x) _ h))
 
 at_most_one : (i : Name) (xs : List Entry) → Apart xs → tally (λ (x : Entry). text_eq i x.id) xs ≤ 1
 at_most_one i [] once = omega arith
@@ -157,8 +157,8 @@ has-without e y (x ∷ xs) differ =
 pub without_none : (e : Name) (xs : List Entry) → has_id e xs ≡ false → without_entry e xs ≡ xs
 without_none e [] far = refl
 without_none e (x ∷ xs) far =
-    ap (λ b. cond {A = List Entry} (not b) (x ∷ without_entry e xs) (without_entry e xs)) (or_left (text_eq e x.id) _ far)
-    ∙ ap (λ l. x ∷ l) (without_none e xs (or_right (text_eq e x.id) _ far))
+    ap (λ b. cond {A = List Entry} (not b) (x ∷ without_entry e xs) (without_entry e xs)) (or_first (text_eq e x.id) _ far)
+    ∙ ap (λ l. x ∷ l) (without_none e xs (or_second (text_eq e x.id) _ far))
 
 -- a list without what doesn't pass
 module _ (p : Entry → Bool) where
@@ -166,8 +166,8 @@ module _ (p : Entry → Bool) where
   far_filter y [] far = refl
   far_filter y (x ∷ xs) far =
       elim (p x) as (λ b. has_id y (cond {A = List Entry} b (x ∷ filter p xs) (filter p xs)) ≡ false) [
-        | true ↦ ap (λ b. b || has_id y (filter p xs)) (or_left (text_eq y x.id) _ far) ∙ far_filter y xs (or_right (text_eq y x.id) _ far)
-        | false ↦ far_filter y xs (or_right (text_eq y x.id) _ far)
+        | true ↦ ap (λ b. b || has_id y (filter p xs)) (or_first (text_eq y x.id) _ far) ∙ far_filter y xs (or_second (text_eq y x.id) _ far)
+        | false ↦ far_filter y xs (or_second (text_eq y x.id) _ far)
       ]
 
   pub apart_filter : (xs : List Entry) → Apart xs → Apart (filter p xs)
@@ -202,11 +202,7 @@ stands_in e zero (x ∷ xs) at = ap (λ b. b || has_id e xs) (flipped at)
   where
     flipped : text_eq x.id e ≡ true → text_eq e x.id ≡ true
     flipped h = ap (λ (w : Name). text_eq w x.id) (sym (text_equality.exact x.id e h)) ∙ text_equality.own x.id
-stands_in e (suc k) (x ∷ xs) at = or_second (text_eq e x.id) _ (stands_in e k xs at)
-  where
-    or_second : (b c : Bool) → c ≡ true → b || c ≡ true
-    or_second true c h = refl
-    or_second false c h = h
+stands_in e (suc k) (x ∷ xs) at = or_right (text_eq e x.id) _ (stands_in e k xs at)
 
 -- an element that stands at the index already
 pub stands_still : (e : Name) (k : ℕ) (xs : List Entry) → Apart xs → stands_at e k xs ≡ true → StandsAt xs xs e k

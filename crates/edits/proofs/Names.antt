@@ -5,6 +5,7 @@ use Rattle.std.specs.List.{list_any}
 use Rattle.std.specs.Option.{option_map_or}
 use Rattle.std.specs.Str.{bytes_eq}
 use Rattle.std.specs.FinMap.{get}
+use Rattle.std.proofs.lemmas.Bool.{or_left}
 use Rattle.finite_maps.proofs.EqualLaws.{nat_equality}
 use Rattle.ecore_meta.specs.Meta.{Meta, feature_named, first_named, name_at}
 use Rattle.ecore_meta.specs.declared.meta.Class.{Class}
@@ -26,9 +27,6 @@ class_held m e h =
     ] h
 
 -- ---- the feature of an element
-or_left : (a b : Bool) → a ≡ true → a || b ≡ true
-or_left a b h = ap (λ x. x || b) h
-
 or_more : (a b : Bool) → b ≡ true → a || b ≡ true
 or_more true b h = refl
 or_more false b h = h

@@ -3,6 +3,7 @@ use Rattle.std.proofs.Common.{◌≡◌, ℕ, Bool, true, false, cond, List, [],
 use Rattle.std.specs.Prelude.{Option, None, Some, is_some, unwrap_or}
 use Rattle.std.specs.List.{list_any}
 use Rattle.std.specs.FinMap.{get}
+use Rattle.std.proofs.lemmas.Bool.{or_left, or_right}
 use Rattle.finite_maps.specs.Maps.{set}
 use Rattle.finite_maps.specs.Equal.{text_eq}
 use Rattle.finite_maps.proofs.Cases.{not_so, true_false}
@@ -36,13 +37,6 @@ use Rattle.containment.proofs.Refused.{AllPass, passed}
 use Rattle.containment.specs.Containers.{containers_of}
 use Rattle.edits.proofs.Allowed.{MayMove}
 
-or_first : (b c : Bool) → b ≡ true → b || c ≡ true
-or_first b c h = ap (λ x. x || c) h
-
-or_second : (b c : Bool) → c ≡ true → b || c ≡ true
-or_second true c h = refl
-or_second false c h = h
-
 left_or : (b c : Bool) → b || c ≡ true → b ≡ false → c ≡ true
 left_or true c h g = cc
 left_or false c h g = h
@@ -56,7 +50,7 @@ some_place x y e = cc
 -- ---- delete: the element was there, and is there no more
 pub deleted : (meta : Meta) (m : State) (e : Name) → is_live m e ≡ true → delete_after meta m e ≡ m → ⊥
 deleted meta m e live same =
-    let here : is_among (subtree_of meta m e) e ≡ true = or_first (text_eq e e) _ (text_equality.own e) in
+    let here : is_among (subtree_of meta m e) e ≡ true = or_left (text_eq e e) _ (text_equality.own e) in
     let gone : get m.kind e ≡ None = ap (λ (x : State). get x.kind e) (sym same) ∙ get-without id_order (is_among (subtree_of meta m e)) m.kind e ∙ ap (λ b. cond b None (get m.kind e)) here in
     true_false (is_live m e) live (ap is_some gone)
 
@@ -67,12 +61,12 @@ no_reranks m [] rs prank old stand alike = refl
 no_reranks m (x ∷ xs) [] prank old stand alike = refl
 no_reranks m (x ∷ xs) (r ∷ rs) prank old stand alike =
     let next = set prank x.id (Some r) in
-    let own : text_eq x.id x.id || list_any (λ (y : Entry). text_eq x.id y.id) xs ≡ true = or_first (text_eq x.id x.id) _ (text_equality.own x.id) in
+    let own : text_eq x.id x.id || list_any (λ (y : Entry). text_eq x.id y.id) xs ≡ true = or_left (text_eq x.id x.id) _ (text_equality.own x.id) in
     let held : get prank x.id ≡ Some x.rank = old x.id own ∙ stand.1 in
     let here : get (ranked_places xs rs next) x.id ≡ Some r = ranked_missing x.id xs rs next stand.2 ∙ get-set_same id_order prank x.id (Some r) in
     let rank : x.rank ≡ r = same_number x.rank r (sym held ∙ sym (alike x.id own) ∙ here) in
     let stays : next ≡ prank = set_here id_order prank x.id (Some r) (held ∙ ap Some rank) in
-    let rest : rerank_places xs rs ≡ [] = no_reranks m xs rs prank (λ y among. old y (or_second (text_eq y x.id) _ among)) stand.3 (λ y among. ap (λ w. get (ranked_places xs rs w) y) (sym stays) ∙ alike y (or_second (text_eq y x.id) _ among)) in
+    let rest : rerank_places xs rs ≡ [] = no_reranks m xs rs prank (λ y among. old y (or_right (text_eq y x.id) _ among)) stand.3 (λ y among. ap (λ w. get (ranked_places xs rs w) y) (sym stays) ∙ alike y (or_right (text_eq y x.id) _ among)) in
     ap (λ t. cond {A = List Step} t (rerank_places xs rs) (RerankPlace x.id x.rank r ∷ rerank_places xs rs)) (ap (nat_eq x.rank) (sym rank) ∙ nat_equality.own x.rank) ∙ rest
 
 no_rerank : (e : Name) (r s : ℕ) → r ≡ s → rerank_places (record { rank = r; id = e } ∷ []) (s ∷ []) ≡ []

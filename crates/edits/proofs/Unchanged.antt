@@ -19,6 +19,7 @@ use Rattle.model_state.specs.Steps.{fold, single}
 use Rattle.model_state.specs.Good.{Good, Sound}
 use Rattle.model_state.specs.Typing.{value_eq}
 use Rattle.model_state.proofs.Orders.{id_order, attr_order}
+use Rattle.model_laws.proofs.Runs.{same_state}
 use Rattle.edit_laws.specs.Attributes.{held}
 use Rattle.edit_laws.specs.Rows.{Rows}
 use Rattle.edit_laws.specs.References.{set_ref_after, link_after, unlink_after, unset_after, reorder_after}
@@ -32,9 +33,6 @@ use Rattle.containment.specs.Containers.{containers_of}
 use Rattle.edits.proofs.Allowed.{Allowed}
 use Rattle.edits.proofs.Stays.{move_still, deleted}
 use Rattle.edits.proofs.Taken.{allowed, made_leads}
-
-same_state : (m n : State) → Some m ≡ Some n → m ≡ n
-same_state m n e = cc
 
 -- a run of no step changes nothing
 nothing_made : (meta : Meta) (m n : State) (ss : List Step) → fold meta m ss ≡ Some n → ss ≡ [] → n ≡ m

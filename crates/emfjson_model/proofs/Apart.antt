@@ -6,7 +6,7 @@ use Rattle.serde_json.specs.Data.{Data, null, boolean, number, string, array, ob
 use Rattle.serde_json.specs.Find.{get_member}
 use Rattle.serde_json.specs.Read.{read}
 use Rattle.finite_maps.specs.Equal.{option_eq, text_eq}
-use Rattle.finite_maps.proofs.Cases.{not_so, true_false}
+use Rattle.finite_maps.proofs.Cases.{not_so, true_false, or_first, or_second}
 use Rattle.finite_maps.proofs.EqualLaws.{text_equality}
 use Rattle.ecore_json.specs.Rows.{list_of}
 use Rattle.ecore_meta.specs.Meta.{Meta}
@@ -46,14 +46,6 @@ among (Some id) ids = list_any (option_eq text_eq (Some id)) ids
 abbrev repeats : Ids → Bool
 repeats [] = false
 repeats (x ∷ xs) = among x xs || repeats xs
-
-or_first : (a b : Bool) → a || b ≡ false → a ≡ false
-or_first true b h = cc
-or_first false b h = refl
-
-or_second : (a b : Bool) → a || b ≡ false → b ≡ false
-or_second true b h = cc
-or_second false b h = h
 
 neither : (a b : Bool) → a ≡ false → b ≡ false → a || b ≡ false
 neither a b p q = ap (λ c. c || b) p ∙ q

@@ -1,6 +1,7 @@
 -- Lists of references with the targets that either side gives.
 use Rattle.std.proofs.Common.{◌≡◌, ℕ, zero, suc, ◌+◌, Bool, true, false, ◌&&◌, ◌||◌, not, cond, List, [], ◌∷◌, ◌++◌, length, map, nat_eq, refl, sym, ap, ap₂, subst, ◌∙◌, inl, inr, arith}
 use Rattle.std.specs.Prelude.{Option, None, Some, Ok, slice_get}
+use Rattle.std.proofs.lemmas.Bool.{or_left, or_right}
 use Rattle.finite_maps.proofs.Cases.{not_so, true_false}
 use Rattle.finite_maps.proofs.EqualLaws.{and_both, and_first, and_second, nat_equality}
 use Rattle.ecore_meta.specs.Meta.{Meta}
@@ -12,7 +13,7 @@ use Rattle.emfjson_model.specs.Fits.{are_apart}
 use Rattle.emfjson_model.specs.Merged.{merged, merged_all, merged_at, merged_within, naming, others, targets_at}
 use Rattle.emfjson_model.specs.Reads.{Read}
 use Rattle.emfjson_model.proofs.Apart.{then_ok, unless_ok, unless_true}
-use Rattle.emfjson_model.proofs.Numbers.{apart_append, has, not_is, not_not, or_left, or_right, or_split}
+use Rattle.emfjson_model.proofs.Numbers.{apart_append, has, not_is, not_not, or_split}
 use Rattle.emfjson_model.proofs.Pairs.{Paired, all_pairs}
 
 -- the features of lists

@@ -8,6 +8,7 @@ use Rattle.std.specs.BTreeMap.{BTreeMap, get, is_at}
 use Rattle.std.proofs.lemmas.List.{length-take-le, take_more}
 use Rattle.std.proofs.lemmas.List.Folds.{list_any-append}
 use Rattle.std.proofs.lemmas.Option.{slice_get_within}
+use Rattle.std.proofs.lemmas.Bool.{or_left, or_right}
 use Rattle.finite_maps.proofs.Cases.{not_so}
 use Rattle.finite_maps.proofs.EqualLaws.{and_both, and_first, and_second, nat_equality}
 use Rattle.emfjson_model.specs.declared.doc.DocParent.{DocParent}
@@ -19,7 +20,7 @@ use Rattle.emfjson_model.specs.Sources.{also, ends_with, push_once}
 use Rattle.emfjson_model.proofs.Bounds.{parent_exact}
 use Rattle.emfjson_model.proofs.Finding.{same_place}
 use Rattle.emfjson_model.proofs.Merging.{features, listed, named_in}
-use Rattle.emfjson_model.proofs.Numbers.{has, has_at, or_left, or_right, or_split, same_bool}
+use Rattle.emfjson_model.proofs.Numbers.{has, has_at, or_split, same_bool}
 
 -- ---- a number that comes once
 last_there : (xs : List ℕ) (n : ℕ) → slice_get (xs ++ n ∷ []) (length xs) ≡ Some n

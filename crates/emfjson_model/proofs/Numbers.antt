@@ -3,6 +3,7 @@ use Rattle.std.proofs.Common.{◌≡◌, ℕ, Bool, true, false, ◌||◌, not, 
 use Rattle.std.specs.Prelude.{Some, slice_get, zero, suc}
 use Rattle.std.specs.List.{list_any}
 use Rattle.std.proofs.lemmas.List.Folds.{list_any-append}
+use Rattle.std.proofs.lemmas.Bool.{or_left, or_right}
 use Rattle.finite_maps.proofs.Cases.{not_so, true_false}
 use Rattle.finite_maps.proofs.EqualLaws.{and_both, and_first, and_second, nat_equality}
 use Rattle.emfjson_model.specs.Fits.{are_apart}
@@ -14,13 +15,6 @@ pub same_bool : (a b : Bool) → (a ≡ true → b ≡ true) → (b ≡ true →
 same_bool true b f g = sym (f refl)
 same_bool false true f g = g refl
 same_bool false false f g = refl
-
-pub or_left : (a b : Bool) → a ≡ true → a || b ≡ true
-or_left a b h = ap (λ c. c || b) h
-
-pub or_right : (a b : Bool) → b ≡ true → a || b ≡ true
-or_right true b h = refl
-or_right false b h = h
 
 pub or_split : (a b : Bool) → a || b ≡ true → (a ≡ true) ⊎ (b ≡ true)
 or_split true b h = inl refl

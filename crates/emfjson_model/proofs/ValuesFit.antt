@@ -18,6 +18,7 @@ use Rattle.emfjson_io.proofs.Fits.{in_type}
 use Rattle.emfjson_model.specs.declared.doc.DocAttr.{DocAttr}
 use Rattle.emfjson_model.specs.declared.fault.ModelFault.TheVariants.{BadValue, Bound}
 use Rattle.finite_maps.specs.Maps.{is_within}
+use Rattle.finite_maps.proofs.Cases.{or_first, or_second}
 use Rattle.emfjson_model.specs.Attributes.{elements, is_null, many_part, may_hold, new_value, next_value, set_part, single_part, values_in, values_part}
 use Rattle.emfjson_model.specs.Fits.{AttrFits}
 use Rattle.emfjson_model.specs.Parts.{Part, no_part}
@@ -46,14 +47,6 @@ not_both false h = refl
 list_all_last : (p : Value → Bool) (xs : List Value) (y : Value) → list_all p xs ≡ true → p y ≡ true → list_all p (xs ++ y ∷ []) ≡ true
 list_all_last p [] y h g = and_both (p y) true g refl
 list_all_last p (x ∷ xs) y h g = and_both (p x) (list_all p (xs ++ y ∷ [])) (and_first (p x) (list_all p xs) h) (list_all_last p xs y (and_second (p x) (list_all p xs) h) g)
-
-or_first : (a b : Bool) → a || b ≡ false → a ≡ false
-or_first true b h = cc
-or_first false b h = refl
-
-or_second : (a b : Bool) → a || b ≡ false → b ≡ false
-or_second true b h = cc
-or_second false b h = h
 
 neither : (a b : Bool) → a ≡ false → b ≡ false → a || b ≡ false
 neither a b p q = ap (λ c. c || b) p ∙ q

@@ -7,9 +7,9 @@ use Rattle.finite_maps.proofs.EqualLaws.{and_first, and_second, and_both, nat_eq
 use Rattle.ecore_meta.specs.Meta.{Meta}
 use Rattle.model_state.specs.declared.step.Step.{Step}
 use Rattle.model_laws.specs.Cells.{Cell, OfKind, OfPlace, OfRank, OfAttr, OfRow, OfWhole, About, cell_eq, has, step_writes, step_reads, writes_all, reads_all, KeepApart}
-use Rattle.finite_maps.proofs.Cases.{not_so, true_false}
+use Rattle.finite_maps.proofs.Cases.{not_so, true_false, or_first, or_second}
 use Rattle.model_laws.proofs.Apart.{turned}
-use Rattle.model_laws.proofs.Exchange.{has_append, or_first, or_second, or_cases}
+use Rattle.model_laws.proofs.Exchange.{has_append, or_cases}
 use Rattle.model_state.specs.declared.operation.Operation.{Operation}
 use Rattle.model_state.specs.Packages.{steps_of, steps_all}
 use Rattle.footprint.specs.Interference.{op_writes, op_reads, meets, interferes, Free, NoPair}

@@ -2,8 +2,8 @@
 use Rattle.std.proofs.Common.{◌≡◌, ℕ, suc, true, false, List, [], ◌∷◌, refl, sym, ◌∙◌, ◌&&◌, ◌||◌, length}
 use Rattle.finite_maps.proofs.EqualLaws.{and_first, and_second}
 use Rattle.ecore_meta.specs.Meta.{Meta}
-use Rattle.finite_maps.proofs.Cases.{not_so, true_false}
-use Rattle.model_laws.proofs.Exchange.{or_first, or_second, or_cases}
+use Rattle.finite_maps.proofs.Cases.{not_so, true_false, or_first, or_second}
+use Rattle.model_laws.proofs.Exchange.{or_cases}
 use Rattle.model_state.specs.declared.operation.Operation.{Operation}
 use Rattle.footprint.specs.Interference.{interferes, NoPair}
 use Rattle.footprint.specs.declared.bucket.Bucket.{Bucket}

@@ -4,10 +4,9 @@ use Rattle.std.specs.Prelude.{Some, slice_get}
 use Rattle.std.specs.List.{list_any, count_by}
 use Rattle.std.proofs.lemmas.List.Sums.{sum_by-append}
 use Rattle.finite_maps.specs.Equal.{text_eq}
-use Rattle.finite_maps.proofs.Cases.{not_so, not_true, true_false}
+use Rattle.finite_maps.proofs.Cases.{not_so, not_true, true_false, or_first, or_second}
 use Rattle.finite_maps.proofs.EqualLaws.{and_first, and_second, apart, nat_equality, text_equality}
 use Rattle.model_state.specs.Keys.{Name}
-use Rattle.model_laws.proofs.Inserts.{or_first, or_second}
 use Rattle.model_import.specs.Names.{name_at}
 use Rattle.model_import.specs.Laws.{are_apart}
 

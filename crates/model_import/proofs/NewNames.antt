@@ -4,7 +4,7 @@ use Rattle.std.specs.Prelude.{Option, None, Some}
 use Rattle.std.specs.List.{list_any}
 use Rattle.finite_maps.specs.Equal.{option_eq, text_eq}
 use Rattle.finite_maps.proofs.EqualLaws.{and_both, text_equality}
-use Rattle.finite_maps.proofs.Cases.{not_so, true_false}
+use Rattle.finite_maps.proofs.Cases.{not_so, true_false, or_first, or_second}
 use Rattle.model_state.specs.Keys.{Name}
 use Rattle.model_state.specs.State.{State, is_live}
 use Rattle.edits.specs.FreshIds.{numbered}
@@ -15,14 +15,6 @@ use Rattle.model_import.specs.Names.{AreNames, IsName, any_in_use, in_use, is_ta
 use Rattle.model_import.specs.Laws.{NamesAreNew, are_apart}
 
 -- ---- tests
-or_first : (a b : Bool) → a || b ≡ false → a ≡ false
-or_first true b h = cc
-or_first false b h = refl
-
-or_second : (a b : Bool) → a || b ≡ false → b ≡ false
-or_second true b h = cc
-or_second false b h = h
-
 neither : (a b : Bool) → a ≡ false → b ≡ false → a || b ≡ false
 neither a b p q = ap (λ c. c || b) p ∙ q
 

@@ -5,7 +5,7 @@ use Rattle.std.specs.List.{list_any}
 use Rattle.std.specs.FinMap.{get}
 use Rattle.finite_maps.specs.Equal.{text_eq}
 use Rattle.finite_maps.specs.Maps.{set}
-use Rattle.finite_maps.proofs.Cases.{not_false, not_so, true_false}
+use Rattle.finite_maps.proofs.Cases.{not_false, not_so, true_false, or_first, or_second}
 use Rattle.finite_maps.proofs.EqualLaws.{apart, text_equality}
 use Rattle.finite_maps.proofs.MapLaws.{get-set_other, get-set_same}
 use Rattle.ecore_meta.specs.Meta.{Meta}
@@ -26,7 +26,7 @@ use Rattle.edit_laws.specs.Places.{Ranks, ranked_places, rerank_places}
 use Rattle.edit_laws.specs.Spot.{end_spot}
 use Rattle.edit_laws.proofs.Creates.{Stand, names_differ, rerank_leads}
 use Rattle.edit_laws.proofs.Pairs.{some_of}
-use Rattle.model_laws.proofs.Inserts.{or_first, or_none, or_second}
+use Rattle.model_laws.proofs.Inserts.{or_none}
 use Rattle.model_import.specs.After.{ranks_after}
 use Rattle.model_import.specs.News as news
 use Rattle.model_import.specs.Roots.{with_ranks}

@@ -7,7 +7,7 @@ use Rattle.std.specs.Ordering.{eq_by_cmp}
 use Rattle.std.specs.FinMap.{get}
 use Rattle.finite_maps.specs.Equal.{text_eq, option_eq, list_eq}
 use Rattle.finite_maps.specs.Maps.{set, is_below, is_within}
-use Rattle.finite_maps.proofs.Cases.{not_so, not_true, true_false}
+use Rattle.finite_maps.proofs.Cases.{not_so, not_true, true_false, or_first, or_second}
 use Rattle.finite_maps.proofs.EqualLaws.{and_first, and_second, apart, nat_equality, text_equality}
 use Rattle.finite_maps.proofs.MapLaws.{get-set_other, get-set_same, same_key, set_here, set_twice}
 use Rattle.ecore_meta.specs.Meta.{Meta, has_feature}
@@ -26,7 +26,6 @@ use Rattle.model_state.proofs.Orders.{attr_order}
 use Rattle.model_state.proofs.StepTests.{pass, value_equality}
 use Rattle.model_laws.proofs.Many.{part}
 use Rattle.model_laws.proofs.Runs.{fold_append, fold_more}
-use Rattle.model_laws.proofs.Inserts.{or_first, or_second}
 use Rattle.emfjson_model.specs.declared.doc.DocAttr.{DocAttr}
 use Rattle.emfjson_model.specs.declared.doc.DocRow.{DocRow}
 use Rattle.emfjson_model.specs.Fits.{AttrFits, Fits, are_apart}

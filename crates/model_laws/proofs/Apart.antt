@@ -10,13 +10,12 @@ use Rattle.model_state.specs.declared.step.Place.TheVariants.{Root, Inside}
 use Rattle.model_state.specs.Typing.{opposite_of}
 use Rattle.std.specs.Prelude.{Option, None}
 use Rattle.model_state.specs.Keys.{Name}
-use Rattle.model_state.specs.State.{State}
 use Rattle.model_state.specs.Steps.{fold}
 use Rattle.model_laws.specs.Laws.{ExchangeHolds, SideBySide}
 use Rattle.model_laws.specs.Cells.{Cell, OfKind, OfPlace, OfRow, OfWhole, About, cell_eq, side, mirror_side, place_list, is_bounded, is_finite, parent_kind, has, step_writes, step_reads, kinds_read, kinds_written, others_read, needs, touches, needs_all, touches_all, writes_all, reads_all, KeepApart}
 use Rattle.finite_maps.proofs.Cases.{not_so, true_false}
 use Rattle.model_laws.proofs.Exchange.{IsReal, real_apart, has_append, has_first, has_second, or_cases, exchange, run_leaves, run_goes}
-use Rattle.model_laws.proofs.Runs.{steps_keep_good}
+use Rattle.model_laws.proofs.Runs.{steps_keep_good, same_state}
 use Rattle.model_laws.proofs.StepNeeds.{goes_by_needs, further}
 use Rattle.model_laws.proofs.StepTouches.{leaves_others}
 
@@ -162,6 +161,3 @@ side_by_side meta sound ps qs m n k good apart first second =
     let back = exchange_holds meta sound ps qs m n on.0 good apart first on.1 in
     let same : back.0 ≡ k = same_state back.0 k (sym back.1 ∙ second) in
     (on.0, on.1, subst (λ x. fold meta x ps ≡ Some on.0) same back.2)
-  where
-    same_state : (m n : State) → Some m ≡ Some n → m ≡ n
-    same_state m n e = cc

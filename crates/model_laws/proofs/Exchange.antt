@@ -1,8 +1,10 @@
 -- Runs that do not touch what the other needs may change places.
-use Rattle.std.proofs.Common.{◌≡◌, Bool, true, false, List, [], ◌∷◌, ◌++◌, refl, sym, ap, subst, ◌∙◌, ◌||◌, map}
+use Rattle.std.proofs.Common.{◌≡◌, Bool, true, false, List, [], ◌∷◌, ◌++◌, refl, sym, subst, ◌∙◌, ◌||◌, map}
 use Rattle.std.specs.Prelude.{Some}
 use Rattle.std.specs.FinMap.{get}
+use Rattle.std.proofs.lemmas.Bool.{or_left, or_right}
 use Rattle.finite_maps.proofs.MapLaws.{same, set_all_alike}
+use Rattle.finite_maps.proofs.Cases.{or_first, or_second}
 use Rattle.ecore_meta.specs.Meta.{Meta}
 use Rattle.model_state.specs.declared.step.Place.TheVariants.{Inside}
 use Rattle.model_state.specs.declared.step.Step.{Step}
@@ -12,7 +14,7 @@ use Rattle.model_state.specs.Steps.{Can, fault, writes, apply, fold}
 use Rattle.model_state.specs.Good.{Good, Sound}
 use Rattle.model_laws.specs.Cells.{Cell, OfKind, OfPlace, OfRank, OfAttr, OfRow, OfWhole, About, is_bounded, cell_eq, has, stands_in, stands_inside, Agree, AgreeAt, step_writes, step_reads, kinds_written, kinds_read, needs, touches, needs_all, touches_all}
 use Rattle.model_state.proofs.Orders.{id_order, attr_order, row_order}
-use Rattle.model_laws.proofs.Runs.{undoes, fold_more, fold_first, steps_keep_good}
+use Rattle.model_laws.proofs.Runs.{undoes, fold_more, fold_first, steps_keep_good, same_state}
 
 agree_turn : (meta : Meta) (m n : State) (c : Cell) → Agree meta m n c → Agree meta n m c
 agree_turn meta m n (OfKind e) h = sym h
@@ -63,21 +65,6 @@ agree_written meta m n w (About e) h = (
 pub has_append : (xs ys : List Cell) (c : Cell) → has (xs ++ ys) c ≡ has xs c || has ys c
 has_append [] ys c = refl
 has_append (x ∷ xs) ys c = elim (cell_eq c x) as (λ b. b || has (xs ++ ys) c ≡ (b || has xs c) || has ys c) [ true ↦ refl | false ↦ has_append xs ys c ]
-
-pub or_first : (a b : Bool) → a || b ≡ false → a ≡ false
-or_first true b h = h
-or_first false b h = refl
-
-pub or_second : (a b : Bool) → a || b ≡ false → b ≡ false
-or_second true b h = cc
-or_second false b h = h
-
-or_left : (a b : Bool) → a ≡ true → a || b ≡ true
-or_left a b h = ap (λ x. x || b) h
-
-or_right : (a b : Bool) → b ≡ true → a || b ≡ true
-or_right true b h = refl
-or_right false b h = h
 
 pub or_cases : (a b : Bool) {G : Type 0} → a || b ≡ true → (a ≡ true → G) → (b ≡ true → G) → G
 or_cases true b h g k = g refl
@@ -154,9 +141,6 @@ GoesByNeeds meta = (m n : State) → Good meta m → Good meta n → (s : Step) 
 module _ (meta : Meta) (sound : Sound meta) (leaves : LeavesOthers meta) (goes : GoesByNeeds meta) where
   pub run_leaves : (ss : List Step) (m n : State) → Good meta m → fold meta m ss ≡ Some n → (c : Cell) → has (touches_all meta ss) c ≡ false → Agree meta m n c
   run_leaves [] m n good is c out = subst (λ x. Agree meta m x c) (same_state m n is) (agree_self meta m c)
-    where
-      same_state : (m n : State) → Some m ≡ Some n → m ≡ n
-      same_state m n e = cc
   run_leaves (s ∷ ss) m n good is c out =
       let p = fold_first meta m n s ss is in
       agree_join meta m (apply meta m s) n c
@@ -165,9 +149,6 @@ module _ (meta : Meta) (sound : Sound meta) (leaves : LeavesOthers meta) (goes :
 
   pub run_goes : (ss : List Step) (m n k : State) → Good meta m → Good meta n → AgreeAt meta m n (needs_all meta ss) → fold meta m ss ≡ Some k → (l : State) × (fold meta n ss ≡ Some l) × ((c : Cell) → Agree meta m n c → Agree meta k l c)
   run_goes [] m n k good goodn alike is = (n, refl, λ c h. subst (λ x. Agree meta x n c) (same_state m k is) h)
-    where
-      same_state : (m n : State) → Some m ≡ Some n → m ≡ n
-      same_state m n e = cc
   run_goes (s ∷ ss) m n k good goodn alike is =
       let p = fold_first meta m k s ss is in
       let q = goes m n good goodn s (λ c h. alike c (has_first (needs meta s) (needs_all meta ss) c h)) in

@@ -2,15 +2,8 @@
 use Rattle.std.proofs.Common.{◌≡◌, ℕ, zero, suc, ◌≤◌, Bool, true, false, List, [], ◌∷◌, length, refl, sym, ap, ◌∙◌, arith, ◌&&◌, ◌||◌}
 use Rattle.std.specs.Prelude.{Some, slice_get}
 use Rattle.finite_maps.proofs.EqualLaws.{and_first, and_second, and_both}
+use Rattle.finite_maps.proofs.Cases.{or_first, or_second}
 use Rattle.std.specs.List.{insert, remove, list_all, list_any}
-
-pub or_first : (a b : Bool) → a || b ≡ false → a ≡ false
-or_first true b h = h
-or_first false b h = refl
-
-pub or_second : (a b : Bool) → a || b ≡ false → b ≡ false
-or_second true b h = cc
-or_second false b h = h
 
 pub or_none : (a b : Bool) → a ≡ false → b ≡ false → a || b ≡ false
 or_none a b h k = ap (λ x. x || b) h ∙ k

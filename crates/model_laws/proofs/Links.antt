@@ -3,6 +3,7 @@ use Rattle.std.proofs.Common.{◌≡◌, ℕ, Bool, true, false, cond, not, refl
 use Rattle.std.specs.Prelude.{Option, None, Some, is_some}
 use Rattle.std.specs.Ordering.{eq_by_cmp}
 use Rattle.std.specs.FinMap.{FinMap, get}
+use Rattle.std.proofs.lemmas.Option.{same_Some}
 use Rattle.finite_maps.specs.Equal.{option_eq, text_eq}
 use Rattle.finite_maps.specs.Maps.{is_below, is_within, set, set_all, count, counts}
 use Rattle.finite_maps.proofs.MapLaws.{set_back, set_two_back, get-set, get-set_same, get-set_other, by_key, same_key, own_key}
@@ -54,9 +55,6 @@ same_tests : (b c : Bool) → (b ≡ true → c ≡ true) → (c ≡ true → b 
 same_tests true c to from = sym (to refl)
 same_tests false true to from = from refl
 same_tests false false to from = refl
-
-same_Some : (x y : ℕ) → Some x ≡ Some y → x ≡ y
-same_Some x y e = cc
 
 -- what two writes leave at a row and at its mirror
 both_there : (s t : Bool) (v w r r' : Option ℕ) → is_some v ≡ is_some w → is_some r ≡ is_some r' → is_some (cond t w (cond s v r)) ≡ is_some (cond s w (cond t v r'))

@@ -21,8 +21,8 @@ use Rattle.model_state.specs.Steps.{tests, Can, apply, class_has}
 use Rattle.model_state.specs.Good.{AttrOk, ValuesOk, Good, is_distinct}
 use Rattle.model_state.proofs.Orders.{attr_order}
 use Rattle.model_state.proofs.StepTests.{passed, pass, value_equality}
-use Rattle.finite_maps.proofs.Cases.{not_false, not_true}
-use Rattle.model_laws.proofs.Inserts.{remove-insert, insert-remove, length-insert, slice_get-insert, list_all-insert, list_any-insert, list_all-remove, list_any-remove, or_first, or_second, or_none}
+use Rattle.finite_maps.proofs.Cases.{not_false, not_true, or_first, or_second}
+use Rattle.model_laws.proofs.Inserts.{remove-insert, insert-remove, length-insert, slice_get-insert, list_all-insert, list_any-insert, list_all-remove, list_any-remove, or_none}
 
 -- what a many-valued attribute's values meet
 pub record ManyOk (meta : Meta) (k : Kind) (upper : Option ℕ) (vs : List Value) : Type 0 where

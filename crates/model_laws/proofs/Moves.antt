@@ -22,15 +22,7 @@ use Rattle.model_state.specs.Good.{StandsOk, PlaceOk, IsChain, Good}
 use Rattle.model_state.proofs.Orders.{id_order}
 use Rattle.model_state.proofs.StepTests.{passed, pass, place_equality, number_equality}
 use Rattle.model_laws.proofs.Births.{has_class, other_key}
-use Rattle.finite_maps.proofs.Cases.{not_false, not_so, not_true}
-
-or_first : (a b : Bool) → a || b ≡ false → a ≡ false
-or_first true b h = h
-or_first false b h = refl
-
-or_second : (a b : Bool) → a || b ≡ false → b ≡ false
-or_second true b h = cc
-or_second false b h = h
+use Rattle.finite_maps.proofs.Cases.{not_false, not_so, not_true, or_first, or_second}
 
 -- the test of a chain and the chain
 is_chain : (place : FinMap id_cmp Place) (o : Option Place) (xs : List Name) → chain_is place o xs ≡ true → IsChain place o xs

@@ -17,6 +17,10 @@ use Rattle.model_laws.proofs.RowRanks.{row_undone, row_back, row_keeps}
 use Rattle.model_laws.proofs.Moves.{move_undone, move_back, move_keeps}
 use Rattle.model_laws.proofs.Ranks.{place_undone, place_back, place_keeps}
 
+-- equal options hold equal states
+pub same_state : (m n : State) → Some m ≡ Some n → m ≡ n
+same_state m n e = cc
+
 -- what is proved of each step that can be taken
 pub record Undoes (meta : Meta) (m : State) (s : Step) : Type 0 where
   pub keeps : Good meta (apply meta m s)
@@ -58,9 +62,6 @@ fold_first meta m n s ss h =
 -- one run after another
 pub fold_append : (meta : Meta) (m n : State) (ss ts : List Step) → fold meta m ss ≡ Some n → fold meta m (ss ++ ts) ≡ fold meta n ts
 fold_append meta m n [] ts h = ap (λ x. fold meta x ts) (same_state m n h)
-  where
-    same_state : (m n : State) → Some m ≡ Some n → m ≡ n
-    same_state m n e = cc
 fold_append meta m n (s ∷ ss) ts h =
     let p = fold_first meta m n s ss h in
     fold_more meta m s (ss ++ ts) p.0 ∙ fold_append meta (apply meta m s) n ss ts p.1
@@ -75,9 +76,6 @@ reversal_undoes meta sound m n good (s ∷ ss) h =
 
 pub steps_keep_good : StepsKeepGood
 steps_keep_good meta sound m n good [] h = subst (λ x. Good meta x) (same_state m n h) good
-  where
-    same_state : (m n : State) → Some m ≡ Some n → m ≡ n
-    same_state m n e = cc
 steps_keep_good meta sound m n good (s ∷ ss) h =
     let p = fold_first meta m n s ss h in
     steps_keep_good meta sound (apply meta m s) n (undoes meta sound m good s p.0).keeps ss p.1

@@ -23,9 +23,9 @@ use Rattle.model_laws.specs.Cells.{Cell, OfKind, OfPlace, OfRank, OfAttr, OfRow,
 use Rattle.model_state.proofs.Orders.{id_order, attr_order, row_order}
 use Rattle.model_state.proofs.StepTests.{passed, place_equality}
 use Rattle.model_laws.proofs.Births.{dead_place}
-use Rattle.model_laws.proofs.Exchange.{LeavesOthers, or_first, or_second, not_first, not_second, has_first}
+use Rattle.model_laws.proofs.Exchange.{LeavesOthers, not_first, not_second, has_first}
 use Rattle.model_laws.proofs.StepNeeds.{at_first, further}
-use Rattle.finite_maps.proofs.Cases.{no_some, not_so, not_true, true_false}
+use Rattle.finite_maps.proofs.Cases.{no_some, not_so, not_true, true_false, or_first, or_second}
 
 -- keys that a failed test tells apart
 apart_key : {K : Type 0} {R : K → K → Ordering} (o : IsKeyOrder R) (t : Bool) (q k : K) → (q ≡ k → t ≡ true) → t ≡ false → eq_by_cmp R q k ≡ false

@@ -9,7 +9,7 @@ use Rattle.model_state.specs.declared.step.StepFault.{StepFault}
 use Rattle.model_state.specs.State.{State}
 use Rattle.model_state.specs.Steps.{Can, fault, apply, fold, first_stop, fault_along, further_on}
 use Rattle.model_laws.specs.Laws.{Stops, StopIsFirst, FirstIsStop, NoStopLeads, LeadsNoStop, StopIsFault}
-use Rattle.model_laws.proofs.Runs.{fold_more, fold_first, fold_append}
+use Rattle.model_laws.proofs.Runs.{fold_more, fold_first, fold_append, same_state}
 
 -- a stop further on is that of the whole where the step can be taken, and the step's own where it can't
 pub stop_more : (meta : Meta) (m : State) (s : Step) (ss : List Step) → Can meta m s → first_stop meta m (s ∷ ss) ≡ further_on 1 (first_stop meta (apply meta m s) ss)
@@ -64,9 +64,6 @@ stop_is_first meta m (s ∷ ss) x is =
           ] refl there
       | Some e ↦ λ cannot same. subst (Stops meta m (s ∷ ss)) (same_stop _ x same) (record { before = m; step = s; taken = refl; here = refl; cannot = cannot })
     ] refl is
-
-same_state : (m n : State) → Some m ≡ Some n → m ≡ n
-same_state m n e = cc
 
 same_step : (s t : Step) → Some s ≡ Some t → s ≡ t
 same_step s t e = cc

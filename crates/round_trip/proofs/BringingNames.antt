@@ -6,7 +6,7 @@ use Rattle.std.specs.FinMap.{get}
 use Rattle.std.proofs.lemmas.List.Sums.{sum_by-cons}
 use Rattle.finite_maps.specs.Equal.{option_eq, text_eq}
 use Rattle.finite_maps.specs.Maps.{tally}
-use Rattle.finite_maps.proofs.Cases.{not_false}
+use Rattle.finite_maps.proofs.Cases.{not_false, or_first, or_second}
 use Rattle.finite_maps.proofs.EqualLaws.{and_both, text_equality}
 use Rattle.ecore_meta.specs.Meta.{Meta}
 use Rattle.model_state.specs.declared.entry.Entry.{Entry}
@@ -18,7 +18,7 @@ use Rattle.model_state.specs.Listing.{children, entry_cmp, rank_at}
 use Rattle.model_state.specs.State.{State, is_live, place_eq}
 use Rattle.model_state.proofs.Orders.{id_order}
 use Rattle.model_state.proofs.StepTests.{place_equality}
-use Rattle.model_laws.proofs.Inserts.{or_first, or_none, or_second}
+use Rattle.model_laws.proofs.Inserts.{or_none}
 use Rattle.edit_laws.proofs.Lists.{any-in_order, any-map, picked_has}
 use Rattle.emfjson_model.specs.declared.doc.DocParent.{DocParent}
 use Rattle.emfjson_model.specs.declared.doc.DocRow.{DocRow}

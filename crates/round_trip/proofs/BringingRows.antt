@@ -5,7 +5,7 @@ use Rattle.std.specs.List.{AllByRecursion, IsDistinct, list_any}
 use Rattle.std.specs.Option.{option_map_or}
 use Rattle.std.specs.FinMap.{empty, get, get-empty}
 use Rattle.std.proofs.lemmas.Map.Steps.{length-le_from_distinct_below}
-use Rattle.finite_maps.proofs.Cases.{not_true, true_false}
+use Rattle.finite_maps.proofs.Cases.{not_true, true_false, or_first, or_second}
 use Rattle.finite_maps.proofs.EqualLaws.{and_first, and_second}
 use Rattle.ecore_meta.specs.Meta.{Meta}
 use Rattle.model_state.specs.declared.entry.Entry.{Entry}
@@ -13,7 +13,6 @@ use Rattle.model_state.specs.Good.{Good, RowOk}
 use Rattle.model_state.specs.Keys.{Name, RowKey, row_cmp}
 use Rattle.model_state.specs.Listing.{targets}
 use Rattle.model_state.specs.State.{State}
-use Rattle.model_laws.proofs.Inserts.{or_first, or_second}
 use Rattle.edit_laws.specs.Rows.{Rows}
 use Rattle.edit_laws.proofs.Lists.{targets_has, targets_held}
 use Rattle.emfjson_model.specs.declared.doc.DocRefs.{DocRefs}

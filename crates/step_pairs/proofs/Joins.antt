@@ -1,6 +1,7 @@
 -- Two steps on one entry are one step: the tests of three kinds, and two writes of one key.
 use Rattle.std.proofs.Common.{◌≡◌, ℕ, Bool, true, false, cond, refl, sym, ap, subst, ◌∙◌, ◌&&◌, nat_eq}
 use Rattle.std.specs.Prelude.{Option, None, Some}
+use Rattle.std.proofs.lemmas.Option.{same_Some}
 use Rattle.finite_maps.specs.Equal.{option_eq, text_eq}
 use Rattle.finite_maps.proofs.MapLaws.{set_twice, get-set_same}
 use Rattle.finite_maps.proofs.EqualLaws.{nat_equality, text_equality}
@@ -29,9 +30,6 @@ same_single None (Some y) h = cc
 same_single (Some x) None h = cc
 same_single (Some x) (Some y) h = cc
 
-same_some : (x y : ℕ) → Some x ≡ Some y → x ≡ y
-same_some x y h = cc
-
 put_joins : (meta : Meta) (m : State) (e : Name) (f : ℕ) (old mid mid' new : Option Value) → Can meta m (Put e f old mid) → Can meta (apply meta m (Put e f old mid)) (Put e f mid' new) → step_eq (Put e f mid' new) (Put e f mid old) ≡ false → Stands meta m (Put e f old mid) (Put e f mid' new) (Put e f old new)
 put_joins meta m e f old mid mid' new can next other =
     let p = passed (tests meta m (Put e f old mid)) can in
@@ -49,7 +47,7 @@ row_joins : (meta : Meta) (m : State) (a : Name) (f : ℕ) (b : Name) (old mid m
 row_joins meta m a f b old mid mid' new can next other =
     let p = passed (tests meta m (RerankRow a f b old mid)) can in
     let q = passed (tests meta (apply meta m (RerankRow a f b old mid)) (RerankRow a f b mid' new)) next in
-    let is : mid ≡ mid' = same_some mid mid' (sym (get-set_same row_order m.row (a, f, b) (Some mid)) ∙ number_equality.exact _ _ q.1.1.1.1.1.0) in
+    let is : mid ≡ mid' = same_Some mid mid' (sym (get-set_same row_order m.row (a, f, b) (Some mid)) ∙ number_equality.exact _ _ q.1.1.1.1.1.0) in
     let differ : nat_eq old new ≡ false =
     not_so (nat_eq old new) (λ h. let back = nat_equality.exact old new h in
     true_false _ (ap (λ o. step_eq (RerankRow a f b mid' new) (RerankRow a f b mid o)) back ∙ ap (λ o. step_eq (RerankRow a f b o new) (RerankRow a f b mid new)) (sym is) ∙ step_equality.own (RerankRow a f b mid new)) other) in (
@@ -61,7 +59,7 @@ place_joins : (meta : Meta) (m : State) (e : Name) (old mid mid' new : ℕ) → 
 place_joins meta m e old mid mid' new can next other =
     let p = passed (tests meta m (RerankPlace e old mid)) can in
     let q = passed (tests meta (apply meta m (RerankPlace e old mid)) (RerankPlace e mid' new)) next in
-    let is : mid ≡ mid' = same_some mid mid' (sym (get-set_same id_order m.prank e (Some mid)) ∙ number_equality.exact _ _ q.1.1.0) in
+    let is : mid ≡ mid' = same_Some mid mid' (sym (get-set_same id_order m.prank e (Some mid)) ∙ number_equality.exact _ _ q.1.1.0) in
     let differ : nat_eq old new ≡ false =
     not_so (nat_eq old new) (λ h. let back = nat_equality.exact old new h in
     true_false _ (ap (λ o. step_eq (RerankPlace e mid' new) (RerankPlace e mid o)) back ∙ ap (λ o. step_eq (RerankPlace e o new) (RerankPlace e mid new)) (sym is) ∙ step_equality.own (RerankPlace e mid new)) other) in (

@@ -13,7 +13,7 @@ use Rattle.model_state.specs.State.{State, is_live}
 use Rattle.model_state.specs.Steps.{apply, fold}
 use Rattle.model_state.specs.declared.step.Step.{Step}
 use Rattle.model_state.specs.declared.step.Step.TheVariants.{Put, Ins, Del, Shift, Link, Unlink, RerankRow, New, Gone, Move, RerankPlace}
-use Rattle.model_laws.proofs.Runs.{fold_first}
+use Rattle.model_laws.proofs.Runs.{fold_first, same_state}
 use Rattle.edits.specs.FreshIds.{numbered}
 use Rattle.working_model.specs.Taken.{AreTaken, is_deletion}
 
@@ -38,9 +38,6 @@ step_keeps meta m (Unlink a f ra b rb) e kept live = live
 step_keeps meta m (RerankRow a f b old new) e kept live = live
 step_keeps meta m (Move x from from_rank to to_rank above_from above_to) e kept live = live
 step_keeps meta m (RerankPlace x old new) e kept live = live
-
-same_state : (m n : State) → Some m ≡ Some n → m ≡ n
-same_state m n e = cc
 
 either_false : (a b : Bool) → (a || b) ≡ false → (a ≡ false) × (b ≡ false)
 either_false true b h = cc
