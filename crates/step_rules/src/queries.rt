@@ -1,0 +1,80 @@
+//! Questions that several rules ask of a model.
+ghost use Rattle.std.specs.Prelude.{◌≡◌, Some, nat_eq};
+ghost use Rattle.std.specs.FinMap.{get};
+ghost use Rattle.finite_maps.specs.Equal.{option_eq};
+ghost use Rattle.finite_maps.specs.Maps.{is_below};
+ghost use Rattle.model_state.specs.State.{place_eq};
+ghost use Rattle.model_state.specs.Steps.{place_live, may_stand, has_room};
+
+use crate::Write;
+use ecore_meta::Metamodel;
+use model_state::{Id, Place, child_upper, class_has, may_contain};
+
+/// Whether a list of n entries has room for one more under the bound.
+pub(crate) fn is_below_bound(n: usize, upper: Option<u32>) -> bool
+    ensures { result ≡ is_below n upper }
+{
+    match upper {
+        None => true,
+        Some(upper) => n < upper as usize,
+    }
+}
+
+/// Whether a number that may be missing is just that one.
+pub(crate) fn is_rank(x: Option<u64>, y: u64) -> bool
+    ensures { result ≡ option_eq nat_eq x (Some y) }
+{
+    match x {
+        None => false,
+        Some(x) => x == y,
+    }
+}
+
+pub(crate) fn place_is_live<S: Write>(model: &S, place: &Place) -> bool
+    ensures { result ≡ place_live (S.state model.now) place.now }
+{
+    match place {
+        Place::Root => true,
+        Place::Inside { parent, .. } => model.class(parent).is_some(),
+    }
+}
+
+pub(crate) fn may_hold<S: Write>(model: &S, meta: &Metamodel, class: u32, place: &Place) -> bool
+    ensures { result ≡ may_stand meta.now (S.state model.now) class place.now }
+{
+    match place {
+        Place::Root => true,
+        Place::Inside { parent, feature } => {
+            class_has(meta, model.class(parent), *feature) && may_contain(meta, *feature, class)
+        }
+    }
+}
+
+pub(crate) fn is_roomy<S: Write>(model: &S, meta: &Metamodel, place: &Place) -> bool
+    ensures { result ≡ has_room meta.now (S.state model.now) place.now }
+{
+    match place {
+        Place::Root => true,
+        Place::Inside { feature, .. } => {
+            is_below_bound(model.child_count(place), child_upper(meta, *feature))
+        }
+    }
+}
+
+pub(crate) fn stands_in<S: Write>(model: &S, e: &Id, place: &Place) -> bool
+    ensures { result ≡ option_eq place_eq (get (S.state model.now).place e.now) (Some place.now) }
+{
+    match model.placed(e) {
+        None => false,
+        Some(placed) => placed.place.is_same(place),
+    }
+}
+
+pub(crate) fn stands_at<S: Write>(model: &S, e: &Id, rank: u64) -> bool
+    ensures { result ≡ option_eq nat_eq (get (S.state model.now).prank e.now) (Some rank) }
+{
+    match model.placed(e) {
+        None => false,
+        Some(placed) => placed.rank == rank,
+    }
+}
