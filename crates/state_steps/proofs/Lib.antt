@@ -1,0 +1,4 @@
+pub mod Everyone
+pub mod Apart
+pub mod Turned
+pub mod Built

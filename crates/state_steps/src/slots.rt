@@ -1,0 +1,68 @@
+//! The features of elements, each as the slot of one element.
+ghost use Rattle.std.specs.Prelude.{◌≡◌, ◌++◌, IfOk, OnOk, map};
+ghost use Rattle.model_state.specs.Typing.{kind_of};
+ghost use Rattle.containment.specs.Subtree.{features_of};
+ghost use Rattle.containment.specs.Deletes.{slots_of};
+ghost use Rattle.state_steps.specs.Sorts.{passes};
+
+use ecore_meta::{List, Metamodel};
+use model_state::{Id, Look, class_has, is_attr, is_many, is_plain};
+use std::alloc::{AllocError, Global};
+
+/// A feature of an element.
+pub type Slot = (Id, u32);
+
+/// Which features are looked for.
+#[derive(Clone, Copy, Drop)]
+pub enum Sort {
+    /// Plain references.
+    Reference,
+    /// Attributes, single and many-valued.
+    Attribute,
+}
+
+/// Whether the feature is of the sort.
+fn passes(meta: &Metamodel, sort: Sort, f: u32) -> bool
+    ensures { result ≡ passes sort (kind_of meta.now f) }
+{
+    match sort {
+        Sort::Reference => is_plain(meta, f),
+        Sort::Attribute => is_attr(meta, f) || is_many(meta, f),
+    }
+}
+
+/// The features of a sort that the class has, by number, as slots of an element.
+fn push_slots(
+    alloc: Global,
+    meta: &Metamodel,
+    sort: Sort,
+    e: &Id,
+    class: Option<u32>,
+    slots: &mut List<Slot>,
+) -> Result<(), AllocError>
+    ensures { OnOk result (slots.new ≡ slots.old ++ map (λ f. (e.now, f)) (features_of meta.now (passes sort) class)) }
+{
+    for f in 0..meta.feature_count() {
+        if class_has(meta, class, f) && passes(meta, sort, f) {
+            slots.push((e.copy(alloc)?, f))?;
+        }
+    }
+    Ok(())
+}
+
+/// The features of a sort of each element, by number.
+pub fn slots_of<L: Look>(
+    alloc: Global,
+    look: &L,
+    meta: &Metamodel,
+    sort: Sort,
+    elements: &[Id],
+) -> Result<List<Slot>, AllocError>
+    ensures { IfOk result (λ l. l ≡ slots_of meta.now (L.state look.now) (passes sort) elements.now) }
+{
+    let mut slots = List::new(alloc);
+    for x in elements {
+        push_slots(alloc, meta, sort, x, look.class(x), &mut slots)?;
+    }
+    Ok(slots)
+}

@@ -1,0 +1,88 @@
+//! The steps after which attributes have their values.
+ghost use Rattle.std.specs.Prelude.{◌≡◌, ◌≤◌, ◌++◌, OnOk, length};
+ghost use Rattle.std.specs.FinMap.{get};
+ghost use Rattle.model_state.specs.Good.{Good};
+ghost use Rattle.edit_laws.specs.Attributes.{held};
+ghost use Rattle.state_steps.specs.Whole.{put_first, inserts, filled, all_filled};
+
+use crate::slots::Slot;
+use ecore_meta::{List, Metamodel, Value};
+use model_state::{Id, Look, Step, is_attr};
+use std::alloc::{AllocError, Global};
+
+/// The step that sets a single attribute; none where it isn't set.
+fn put_first<L: Look>(
+    alloc: Global,
+    look: &L,
+    slot: &Slot,
+    steps: &mut List<Step>,
+) -> Result<(), AllocError>
+    ensures { OnOk result (steps.new ≡ steps.old ++ put_first slot.now (held (get (L.state look.now).attr slot.now))) }
+{
+    match look.attr(&slot.0, slot.1).first() {
+        None => Ok(()),
+        Some(v) => steps.push(Step::Put {
+            e: slot.0.copy(alloc)?,
+            f: slot.1,
+            old: None,
+            new: Some(v.copy(alloc)?),
+        }),
+    }
+}
+
+/// A step for each of the values, the first first.
+fn inserts(
+    alloc: Global,
+    e: &Id,
+    f: u32,
+    values: &[Value],
+    steps: &mut List<Step>,
+) -> Result<(), AllocError>
+    requires { length values.now ≤ 4294967295 }
+    ensures { OnOk result (steps.new ≡ steps.old ++ inserts e.now f 0 values.now) }
+{
+    for at in 0..values.len() {
+        steps.push(Step::Ins {
+            e: e.copy(alloc)?,
+            f,
+            at: at as u32,
+            v: values[at].copy(alloc)?,
+        })?;
+    }
+    Ok(())
+}
+
+/// The steps after which an attribute has its values.
+fn fill<L: Look>(
+    alloc: Global,
+    look: &L,
+    meta: &Metamodel,
+    slot: &Slot,
+    steps: &mut List<Step>,
+) -> Result<(), AllocError>
+    requires { Good meta.now (L.state look.now) }
+    ensures { OnOk result (steps.new ≡ steps.old ++ filled meta.now (L.state look.now) slot.now) }
+{
+    if is_attr(meta, slot.1) {
+        put_first(alloc, look, slot, steps)
+    } else {
+        inserts(alloc, &slot.0, slot.1, look.attr(&slot.0, slot.1), steps)
+    }
+}
+
+/// The steps after which each of these attributes has its values.
+pub fn fill_all<L: Look>(
+    alloc: Global,
+    look: &L,
+    meta: &Metamodel,
+    slots: &[Slot],
+    steps: &mut List<Step>,
+) -> Result<(), AllocError>
+    requires { Good meta.now (L.state look.now) }
+    ensures { OnOk result (steps.new ≡ steps.old ++ all_filled meta.now (L.state look.now) slots.now) }
+{
+    for at in (0..slots.len()).rev() {
+        fill(alloc, look, meta, &slots[at], steps)?;
+    }
+    Ok(())
+}
