@@ -1,0 +1,10 @@
+pub mod Results
+pub mod ListLaws
+pub mod Changed
+pub mod Housed
+pub mod Listings
+pub mod Emptied
+pub mod Linked
+pub mod Looked
+pub mod Stored
+pub mod Copied

@@ -1,0 +1,7 @@
+-- Goals after a call whose result is only passed on.
+use Rattle.std.specs.Prelude.{Result, Ok, Err, OnOk, OnErr}
+
+-- by cases on the result
+pub by_result : {T E A B : Type 0} (P : Type 0) (r : Result T E) → OnOk r A → OnErr r B → (A → P) → (B → P) → P
+by_result P (Ok x) a b f g = f a
+by_result P (Err x) a b f g = g b

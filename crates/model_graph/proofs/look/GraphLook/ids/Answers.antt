@@ -1,0 +1,7 @@
+use Rattle.std.proofs.Common.{◌≡◌, sym, ap, subst, ◌∙◌, nat_eq, length, map, [], refl}
+use Rattle.std.specs.Prelude.{None, Some, IfOk, unwrap_or}
+use Rattle.model_graph.proofs.Looked.{keys_are}
+use Rattle.model_graph.proofs.look.GraphLook.ids.Goals as goal
+
+pub returns : goal.returns
+returns c = subst (λ ks. IfOk c.ids.result (λ l. l ≡ ks)) (keys_are c.self.inside.nodes c.args.self.now c.self.view_is) c.ids.ensures

@@ -1,0 +1,7 @@
+use Rattle.std.proofs.Common.{◌≡◌, sym, ap, subst, ◌∙◌, nat_eq, length, map, [], refl}
+use Rattle.std.specs.Prelude.{None, Some, IfOk, unwrap_or}
+use Rattle.model_graph.proofs.Looked.{read_row}
+use Rattle.model_graph.proofs.look.GraphLook.row.Goals as goal
+
+pub returns : goal.returns
+returns c = c.rank_out.ensures ∙ read_row c.self.inside.nodes c.args.self.now c.self.view_is c.args.a.now c.args.f c.args.b.now

@@ -1,0 +1,13 @@
+use Rattle.std.proofs.Common.{◌≡◌, sym, ap, subst, ◌∙◌, nat_eq, length, map, [], refl}
+use Rattle.std.specs.Prelude.{None, Some, IfOk, unwrap_or}
+use Rattle.model_state.specs.State.{State, inner_count}
+use Rattle.model_graph.specs.declared.element.Node.{Node}
+use Rattle.model_graph.specs.Seen.{bare_part}
+use Rattle.model_graph.proofs.Emptied.{no_children}
+use Rattle.model_graph.proofs.write.GraphWrite.has_no_child.Goals as goal
+
+pub returns-in-None : goal.returns-in-None
+returns-in-None c = ap (bare_part (λ (n : Node). n.inside)) c.in-None.ensures ∙ no_children c.self.inside.roots c.self.inside.nodes c.self.invariant.1 c.args.e.now ∙ ap (λ (s : State). nat_eq (inner_count s c.args.e.now) 0) c.self.view_is
+
+pub returns-in-Some : goal.returns-in-Some
+returns-in-Some c = c.is_empty.ensures ∙ ap (bare_part (λ (n : Node). n.inside)) c.in-Some.ensures ∙ no_children c.self.inside.roots c.self.inside.nodes c.self.invariant.1 c.args.e.now ∙ ap (λ (s : State). nat_eq (inner_count s c.args.e.now) 0) c.self.view_is

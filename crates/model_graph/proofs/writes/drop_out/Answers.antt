@@ -1,0 +1,18 @@
+-- the node is put back changed
+use Rattle.std.proofs.Common.{◌≡◌, refl, sym, ap, subst, ◌∙◌}
+use Rattle.std.specs.Prelude.{Some, None, is_some}
+use Rattle.std.specs.FinMap.{get}
+use Rattle.std.proofs.lemmas.Result.{on_ok_weaker, on_err_weaker}
+use Rattle.finite_maps.specs.Maps.{set}
+use Rattle.spread_maps.specs.Spread.{inner}
+use Rattle.model_graph.specs.declared.element.Node.{Node}
+use Rattle.model_graph.proofs.Changed.{rewritten, put_back, there}
+use Rattle.model_graph.proofs.writes.drop_out.Goals as goal
+
+pub swap-requires : goal.swap-requires
+swap-requires c = there c.args.nodes.now c.swap-node.new.self c.args.e.now c.hollow.result c.swap-node.ensures.now
+
+pub returns : goal.returns
+returns c =
+    let n : Node = c.swap-node.result in
+    (n, c.swap-node.ensures.was, rewritten c.args.nodes.now c.swap-node.new.self c.swap.new.self c.args.e.now c.hollow.result _ c.swap-node.ensures.now c.swap.ensures.now ∙ ap (λ x. set c.args.nodes.now c.args.e.now (Some (record n { out = x }))) c.drop_at.ensures)
