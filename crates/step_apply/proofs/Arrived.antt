@@ -18,7 +18,7 @@ use Rattle.model_state.specs.Keys.{Name, RowKey, row_cmp}
 use Rattle.model_state.specs.Listing.{row_incoming, incoming}
 use Rattle.model_state.proofs.Orders.{row_order}
 use Rattle.step_apply.specs.Groups.{arriving, IsInto}
-use Rattle.step_apply.proofs.Parts.{part, entries-part}
+use Rattle.spread_maps.proofs.PartLaws.{part, entries-part}
 use Rattle.step_apply.proofs.Regrouped.{map_map}
 
 abbrev Into : Type 0

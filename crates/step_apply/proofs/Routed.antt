@@ -22,8 +22,8 @@ use Rattle.model_state.specs.Listing.{is_of, row_entry}
 use Rattle.model_state.proofs.Orders.{id_order, nat_order, row_order}
 use Rattle.step_apply.specs.Groups.{held, IsOut}
 use Rattle.step_apply.specs.Spots.{Members}
-use Rattle.step_apply.specs.Standing.{ranked_entry}
-use Rattle.step_apply.proofs.Parts.{part, entries-part}
+use Rattle.ranked_lists.specs.Ranks.{ranked_entry}
+use Rattle.spread_maps.proofs.PartLaws.{part, entries-part}
 use Rattle.step_apply.proofs.Regrouped.{map_map, tally_part}
 
 abbrev Out : Type 0

@@ -25,10 +25,6 @@ spots_code = code_by (FinMap id_cmp Place × FinMap id_cmp ℕ) (coded× (code c
 abbrev pub Members : Type 0
 Members = FinMap id_cmp ℕ
 
--- the code of these
-abbrev pub members_code : Coded Members
-members_code = code coded_name coded_ℕ
-
 -- the values of each attribute that is set
 abbrev pub Values : Type 0
 Values = FinMap attr_cmp (List Value)

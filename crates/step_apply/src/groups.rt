@@ -12,10 +12,11 @@ ghost use Rattle.model_state.specs.Keys.{Name};
 ghost use Rattle.model_state.specs.Listing.{entry_cmp, last_rank};
 ghost use Rattle.model_state.specs.State.{place_eq};
 ghost use Rattle.step_apply.specs.Groups.{group_of, held, standing};
-ghost use Rattle.step_apply.specs.Standing.{ranked_entry};
+ghost use Rattle.ranked_lists.specs.Ranks.{ranked_entry};
 
-use crate::group::Group;
+use ecore_meta::List;
 use model_state::{Entry, Id, Place};
+use ranked_lists::RankedList;
 use std::alloc::{AllocError, Global};
 use std::collections::BTreeMap;
 
@@ -23,12 +24,12 @@ use std::collections::BTreeMap;
 /// costs a logarithm, to list a place as many steps as elements stand in it. A list without elements is let go.
 #[derive(Drop)]
 pub struct Groups {
-    pub(crate) roots: Group,
-    pub(crate) inside: BTreeMap<Id, BTreeMap<u32, Group>>,
+    pub(crate) roots: RankedList,
+    pub(crate) inside: BTreeMap<Id, BTreeMap<u32, RankedList>>,
 }
 
 /// Takes an element out of the list of the feature, where it is there.
-fn take_of(fan: &mut BTreeMap<u32, Group>, f: u32, e: &Id)
+fn take_of(fan: &mut BTreeMap<u32, RankedList>, f: u32, e: &Id)
     ensures here { group_of (ordered_map.get nat_cmp fan.new f) ≡ set (group_of (ordered_map.get nat_cmp fan.old f)) e.now None }
     ensures there { (g : ℕ) → nat_eq f g ≡ false → group_of (ordered_map.get nat_cmp fan.new g) ≡ group_of (ordered_map.get nat_cmp fan.old g) }
 {
@@ -38,7 +39,7 @@ fn take_of(fan: &mut BTreeMap<u32, Group>, f: u32, e: &Id)
 }
 
 /// Whether the list of the feature has no element.
-fn is_empty_of(fan: &BTreeMap<u32, Group>, f: u32) -> bool
+fn is_empty_of(fan: &BTreeMap<u32, RankedList>, f: u32) -> bool
     ensures { result ≡ true → (b : Name) → get (group_of (ordered_map.get nat_cmp fan.now f)) b ≡ None }
 {
     match fan.get(&f) {
@@ -48,7 +49,7 @@ fn is_empty_of(fan: &BTreeMap<u32, Group>, f: u32) -> bool
 }
 
 /// Lets the list of the feature go, where it has no element.
-fn clear_of(fan: &mut BTreeMap<u32, Group>, f: u32)
+fn clear_of(fan: &mut BTreeMap<u32, RankedList>, f: u32)
     ensures { (g : ℕ) → group_of (ordered_map.get nat_cmp fan.new g) ≡ group_of (ordered_map.get nat_cmp fan.old g) }
 {
     if is_empty_of(fan, f) {
@@ -57,7 +58,7 @@ fn clear_of(fan: &mut BTreeMap<u32, Group>, f: u32)
 }
 
 /// Takes an element out of the list of the feature, where it is there; a list that it leaves empty goes.
-fn drop_of(fan: &mut BTreeMap<u32, Group>, f: u32, e: &Id)
+fn drop_of(fan: &mut BTreeMap<u32, RankedList>, f: u32, e: &Id)
     ensures here { group_of (ordered_map.get nat_cmp fan.new f) ≡ set (group_of (ordered_map.get nat_cmp fan.old f)) e.now None }
     ensures there { (g : ℕ) → nat_eq f g ≡ false → group_of (ordered_map.get nat_cmp fan.new g) ≡ group_of (ordered_map.get nat_cmp fan.old g) }
 {
@@ -68,7 +69,7 @@ fn drop_of(fan: &mut BTreeMap<u32, Group>, f: u32, e: &Id)
 /// Puts an element into the list of the feature.
 fn put_of(
     alloc: Global,
-    fan: &mut BTreeMap<u32, Group>,
+    fan: &mut BTreeMap<u32, RankedList>,
     f: u32,
     e: Id,
     rank: u64,
@@ -80,7 +81,7 @@ fn put_of(
     match fan.get_mut(&f) {
         Some(group) => group.put(alloc, e, rank),
         None => {
-            let mut group = Group::new(alloc);
+            let mut group = RankedList::new(alloc);
             group.put(alloc, e, rank)?;
             fan.insert(f, group)?;
             Ok(())
@@ -89,7 +90,7 @@ fn put_of(
 }
 
 /// Whether no list of the element has an element.
-pub(crate) fn is_bare(inside: &BTreeMap<Id, BTreeMap<u32, Group>>, a: &Id) -> bool
+pub(crate) fn is_bare(inside: &BTreeMap<Id, BTreeMap<u32, RankedList>>, a: &Id) -> bool
     ensures { result ≡ true → (f : ℕ) → (b : Name) → get (held inside.now a.now f) b ≡ None }
 {
     match inside.get(a) {
@@ -99,7 +100,7 @@ pub(crate) fn is_bare(inside: &BTreeMap<Id, BTreeMap<u32, Group>>, a: &Id) -> bo
 }
 
 /// Takes an element out of the list, where it is there.
-fn take_in(inside: &mut BTreeMap<Id, BTreeMap<u32, Group>>, a: &Id, f: u32, e: &Id)
+fn take_in(inside: &mut BTreeMap<Id, BTreeMap<u32, RankedList>>, a: &Id, f: u32, e: &Id)
     ensures here { held inside.new a.now f ≡ set (held inside.old a.now f) e.now None }
     ensures same_element { (g : ℕ) → nat_eq f g ≡ false → held inside.new a.now g ≡ held inside.old a.now g }
     ensures there { (b : Name) (g : ℕ) → text_eq a.now b ≡ false → held inside.new b g ≡ held inside.old b g }
@@ -110,7 +111,7 @@ fn take_in(inside: &mut BTreeMap<Id, BTreeMap<u32, Group>>, a: &Id, f: u32, e: &
 }
 
 /// Lets the lists of an element go, where there are none.
-fn clear_in(inside: &mut BTreeMap<Id, BTreeMap<u32, Group>>, a: &Id)
+fn clear_in(inside: &mut BTreeMap<Id, BTreeMap<u32, RankedList>>, a: &Id)
     ensures { (b : Name) (g : ℕ) → held inside.new b g ≡ held inside.old b g }
 {
     if is_bare(inside, a) {
@@ -119,7 +120,7 @@ fn clear_in(inside: &mut BTreeMap<Id, BTreeMap<u32, Group>>, a: &Id)
 }
 
 /// Takes an element out of the list, where it is there; what it leaves empty goes. This takes no memory.
-pub(crate) fn drop_in(inside: &mut BTreeMap<Id, BTreeMap<u32, Group>>, a: &Id, f: u32, e: &Id)
+pub(crate) fn drop_in(inside: &mut BTreeMap<Id, BTreeMap<u32, RankedList>>, a: &Id, f: u32, e: &Id)
     ensures here { held inside.new a.now f ≡ set (held inside.old a.now f) e.now None }
     ensures same_element { (g : ℕ) → nat_eq f g ≡ false → held inside.new a.now g ≡ held inside.old a.now g }
     ensures there { (b : Name) (g : ℕ) → text_eq a.now b ≡ false → held inside.new b g ≡ held inside.old b g }
@@ -131,7 +132,7 @@ pub(crate) fn drop_in(inside: &mut BTreeMap<Id, BTreeMap<u32, Group>>, a: &Id, f
 /// Puts an element into the list.
 pub(crate) fn put_in(
     alloc: Global,
-    inside: &mut BTreeMap<Id, BTreeMap<u32, Group>>,
+    inside: &mut BTreeMap<Id, BTreeMap<u32, RankedList>>,
     a: &Id,
     f: u32,
     e: Id,
@@ -155,10 +156,10 @@ pub(crate) fn put_in(
 }
 
 pub(crate) fn group_in<'a>(
-    inside: &'a BTreeMap<Id, BTreeMap<u32, Group>>,
+    inside: &'a BTreeMap<Id, BTreeMap<u32, RankedList>>,
     a: &Id,
     f: u32,
-) -> Option<&'a Group>
+) -> Option<&'a RankedList>
     ensures { group_of (option_copied result) ≡ held inside.now a.now f }
 {
     match inside.get(a) {
@@ -173,7 +174,7 @@ impl Groups {
         ensures { (p : Spot) → standing result p ≡ empty }
     {
         Groups {
-            roots: Group::new(alloc),
+            roots: RankedList::new(alloc),
             inside: BTreeMap::new(alloc),
         }
     }
@@ -229,14 +230,14 @@ impl Groups {
         }
     }
 
-    /// The elements of the place, in the order of their ids.
-    pub fn list(&self, alloc: Global, place: &Place) -> Result<Vec<Entry>, AllocError>
-        ensures { IfOk result (λ v. v.items ≡ map ranked_entry (entries (standing self.now place.now))) }
+    /// The elements of the place, by rank and then by id.
+    pub fn list(&self, alloc: Global, place: &Place) -> Result<List<Entry>, AllocError>
+        ensures { IfOk result (λ l. l ≡ in_order entry_cmp (map ranked_entry (entries (standing self.now place.now)))) }
     {
         match place {
             Place::Root => self.roots.list(alloc),
             Place::Inside { parent, feature } => match group_in(&self.inside, parent, *feature) {
-                None => Ok(Vec::new(alloc)),
+                None => Ok(List::new(alloc)),
                 Some(group) => group.list(alloc),
             },
         }

@@ -1,18 +1,12 @@
-//! A model over ordered maps, and the application of steps to it, each after its tests.
+//! A model over ordered maps, as plain as its queries and its writes can be written.
 #![tactic(auto)]
 
 mod attrs;
-mod births;
-mod change;
-mod group;
 mod groups;
 mod kinds;
-mod links;
-mod many;
-mod moves;
 mod places;
 mod plain;
 mod rows;
-mod values;
+mod write;
 
 pub use plain::Plain;

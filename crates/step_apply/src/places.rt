@@ -165,12 +165,10 @@ impl Places {
         self.groups.last(place)
     }
 
-    /// The elements of a place, by rank and then by id. This sorts these alone, whatever else the model holds.
+    /// The elements of a place, by rank and then by id. This goes over these alone, whatever else the model holds.
     pub fn children(&self, alloc: Global, place: &Place) -> Result<List<Entry>, AllocError>
         ensures { IfOk result (λ l. l ≡ children self.now.place self.now.rank place.now) }
     {
-        let mut found = self.groups.list(alloc, place)?;
-        found.sort_unstable();
-        Ok(List::from_vec(found))
+        self.groups.list(alloc, place)
     }
 }

@@ -11,10 +11,10 @@ ghost use Rattle.finite_maps.specs.Equal.{text_eq};
 ghost use Rattle.model_state.specs.Keys.{Name, RowKey, row_cmp};
 ghost use Rattle.model_state.specs.Listing.{row_incoming, last_rank, targets, incoming};
 
-use crate::group::Group;
 use crate::groups::{drop_in, group_in, is_bare, put_in};
 use ecore_meta::List;
 use model_state::{Entry, Id, Incoming};
+use ranked_lists::RankedList;
 use std::alloc::{AllocError, Global};
 use std::collections::BTreeMap;
 use std::marker::Model;
@@ -159,7 +159,7 @@ fn listed(alloc: Global, rows: &BTreeMap<(Id, u32, Id), u64>) -> Result<List<Inc
 pub struct Rows {
     alloc: Global,
     tree: BTreeMap<(Id, u32, Id), u64>,
-    out: BTreeMap<Id, BTreeMap<u32, Group>>,
+    out: BTreeMap<Id, BTreeMap<u32, RankedList>>,
     into: BTreeMap<Id, BTreeMap<(Id, u32, Id), u64>>,
 }
 
@@ -275,17 +275,13 @@ impl Rows {
         }
     }
 
-    /// The targets of a feature of an element, by rank and then by id. This sorts these alone, whatever else the model holds.
+    /// The targets of a feature of an element, by rank and then by id. This goes over these alone, whatever else the model holds.
     pub fn targets(&self, alloc: Global, a: &Id, f: u32) -> Result<List<Entry>, AllocError>
         ensures { IfOk result (λ l. l ≡ targets self.now a.now f) }
     {
         match group_in(&self.out, a, f) {
             None => Ok(List::new(alloc)),
-            Some(group) => {
-                let mut found = group.list(alloc)?;
-                found.sort_unstable();
-                Ok(List::from_vec(found))
-            }
+            Some(group) => group.list(alloc),
         }
     }
 

@@ -7,9 +7,11 @@ ghost use Rattle.model_state.specs.Good.{Good};
 ghost use Rattle.model_state.specs.declared.step.Step.TheVariants.{Link, Unlink, RerankRow};
 
 use crate::Write;
-use crate::queries::{is_below_bound, is_rank};
+use crate::queries::is_rank;
 use ecore_meta::Metamodel;
-use model_state::{Id, StepFault, class_has, is_plain, may_link, opposite_of, row_upper};
+use model_state::{
+    Id, StepFault, class_has, is_below_bound, is_plain, may_link, opposite_of, row_upper,
+};
 
 /// Whether the mirror's rank is given where it is to be.
 fn is_mirror_given(opposite: Option<u32>, f: u32, rb: Option<u64>) -> bool

@@ -13,10 +13,10 @@ ghost use Rattle.model_state.specs.Good.{Good};
 ghost use Rattle.model_state.specs.declared.step.Step.TheVariants.{Ins, Del, Shift};
 
 use crate::Write;
-use crate::queries::is_below_bound;
 use ecore_meta::{List, Metamodel, Value};
 use model_state::{
-    Id, StepFault, class_has, is_many, is_same_value, is_unique, many_fits, upper_of,
+    Id, StepFault, class_has, is_below_bound, is_many, is_same_value, is_unique, many_fits,
+    upper_of,
 };
 use std::alloc::{AllocError, Global};
 

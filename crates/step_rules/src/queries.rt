@@ -2,23 +2,12 @@
 ghost use Rattle.std.specs.Prelude.{◌≡◌, Some, nat_eq};
 ghost use Rattle.std.specs.FinMap.{get};
 ghost use Rattle.finite_maps.specs.Equal.{option_eq};
-ghost use Rattle.finite_maps.specs.Maps.{is_below};
 ghost use Rattle.model_state.specs.State.{place_eq};
 ghost use Rattle.model_state.specs.Steps.{place_live, may_stand, has_room};
 
 use crate::Write;
 use ecore_meta::Metamodel;
-use model_state::{Id, Place, child_upper, class_has, may_contain};
-
-/// Whether a list of n entries has room for one more under the bound.
-pub(crate) fn is_below_bound(n: usize, upper: Option<u32>) -> bool
-    ensures { result ≡ is_below n upper }
-{
-    match upper {
-        None => true,
-        Some(upper) => n < upper as usize,
-    }
-}
+use model_state::{Id, Place, child_upper, class_has, is_below_bound, may_contain};
 
 /// Whether a number that may be missing is just that one.
 pub(crate) fn is_rank(x: Option<u64>, y: u64) -> bool

@@ -4,7 +4,7 @@ use Rattle.finite_maps.specs.Sorts.{in_order}
 use Rattle.model_state.specs.Keys.{id_cmp}
 use Rattle.model_state.specs.Listing.{entry_cmp, last_rank}
 use Rattle.step_apply.specs.Groups.{standing}
-use Rattle.step_apply.specs.Standing.{ranked_entry}
+use Rattle.ranked_lists.specs.Ranks.{ranked_entry}
 use Rattle.step_apply.proofs.Grouped.{no_entries}
 use Rattle.step_apply.proofs.groups.Groups.last.Goals as goal
 

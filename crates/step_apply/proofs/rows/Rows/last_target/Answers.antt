@@ -3,7 +3,7 @@ use Rattle.std.specs.FinMap.{entries}
 use Rattle.finite_maps.specs.Sorts.{in_order}
 use Rattle.model_state.specs.Keys.{id_cmp}
 use Rattle.model_state.specs.Listing.{entry_cmp, last_rank, targets}
-use Rattle.step_apply.specs.Standing.{ranked_entry}
+use Rattle.ranked_lists.specs.Ranks.{ranked_entry}
 use Rattle.step_apply.proofs.Grouped.{no_entries}
 use Rattle.step_apply.proofs.Routed.{targets_are}
 use Rattle.step_apply.proofs.rows.Rows.last_target.Goals as goal
