@@ -8,6 +8,8 @@ mod cells;
 #[cfg(test)]
 mod deep;
 #[cfg(test)]
+mod graphs;
+#[cfg(test)]
 mod histories;
 #[cfg(test)]
 mod limits;

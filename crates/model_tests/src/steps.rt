@@ -10,7 +10,7 @@ use std::alloc::Global;
 use std::test::Fail;
 use step_apply::Plain;
 
-const TABLE: &str = r#"boxes; New a 0 / 5; New b 0 / 3; New c 0 / 3; New l 1 / 9
+pub(crate) const TABLE: &str = r#"boxes; New a 0 / 5; New b 0 / 3; New c 0 / 3; New l 1 / 9
 # Put
 Put x 9 - 5 -> NotThere
 Put a 2 - "t" -> WrongType
@@ -141,7 +141,7 @@ RerankPlace a 4 4 -> BadStep
 RerankPlace a 4 6 -> OldDiffers
 RerankPlace a 5 6 -> Ok"#;
 
-fn told(alloc: Global, answer: Result<(), StepFault>) -> Result<String, Fail> {
+pub(crate) fn told(alloc: Global, answer: Result<(), StepFault>) -> Result<String, Fail> {
     match answer {
         Ok(()) => Ok(String::from_str(alloc, "Ok")?),
         Err(fault) => Ok(format!(in alloc; "{fault:?}")?),
