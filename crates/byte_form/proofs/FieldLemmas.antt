@@ -8,8 +8,8 @@ use Rattle.std.proofs.lemmas.Nat.{from_be_bytes-to_be_bytes_4, from_be_bytes-to_
 use Rattle.std.proofs.lemmas.Str.{is_utf8-from_IsUtf8, IsUtf8-from_is_utf8}
 use Rattle.byte_form.specs.declared.reader.ReadFault.TheVariants.{Short, BadText}
 use Rattle.byte_form.specs.Rest.{Rest}
-use Rattle.byte_form.specs.Fields.{◌>>=◌, number_at, text_at, byte_at, byte_from, past, u32_form, u64_form, text_form}
-use Rattle.byte_form.specs.Laws.{at, IsReadAgain, IsSpelledSo, NoneBeginsAnother, StoodThere, AreBytes, IsBelow, IsShortText, byte_form}
+use Rattle.byte_form.specs.Fields.{◌>>=◌, number_at, text_at, byte_at, byte_from, past, u32_encoding, u64_encoding, text_encoding}
+use Rattle.byte_form.specs.Laws.{at, IsReadAgain, IsSpelledSo, NoneBeginsAnother, StoodThere, AreBytes, IsBelow, IsShortText, byte_encoding}
 
 -- a reading that went through both its parts
 pub reached : {A B E : Type 0} (r : Result A E) (f : A → Result B E) (y : B) → (r >>= f) ≡ Ok y → (x : A) × (r ≡ Ok x) × (f x ≡ Ok y)
@@ -42,7 +42,7 @@ are_bytes-drop n bs bytes i = rw (get_or-drop n bs i 0) (bytes (n + i))
 pub not_less : (a b : ℕ) → nat_lt a b ≡ false → b ≤ a
 not_less a b e = grind (arith, e)
 
--- what is read again whatever stands behind it begins nothing else of its kind
+-- what is read again whatever stands after it begins nothing else of its kind
 pub apart : {X E : Type 0} (Is : X → Type 0) (form : X → List ℕ) (read : Rest → Result (X × Rest) E) → IsReadAgain Is form read → NoneBeginsAnother Is form
 apart Is form read again x y is_x is_y rest more e =
     ap (λ p. p.0) (ok_is (x, at rest (0 + length (form x))) (y, at more (0 + length (form y)))
@@ -60,7 +60,7 @@ wide32 = record { len = λ n. refl; again = λ n lt. from_be_bytes-to_be_bytes_4
 pub wide64 : IsWide w64 (2 ^ 64)
 wide64 = record { len = λ n. refl; again = λ n lt. from_be_bytes-to_be_bytes_8 n lt; spelled = λ bs l b. be_bytes_8 bs (from_be_bytes w64 bs) l b refl; below = λ bs l b. omega (arith, b 0, b 1, b 2, b 3, b 4, b 5, b 6, b 7) }
 
-pub byte_again : IsReadAgain (IsBelow 256) byte_form byte_at
+pub byte_again : IsReadAgain (IsBelow 256) byte_encoding byte_at
 unfolding byte_at
 byte_again n is rest place = refl
 
@@ -69,14 +69,14 @@ pub stands : {X : Type 0} (Is : X → Type 0) (form : X → List ℕ) (before ma
     → StoodThere Is form before made y → StoodThere Is form before after x
 stands Is form before made after y x pair s = subst (λ p. StoodThere Is form before p.1 p.0) pair s
 
-pub byte_spelled : IsSpelledSo (IsBelow 256) byte_form byte_at
+pub byte_spelled : IsSpelledSo (IsBelow 256) byte_encoding byte_at
 unfolding byte_at
 byte_spelled before bytes x after e = by before.bytes before.place bytes e
   where
-    by : (bs : List ℕ) (place : ℕ) → AreBytes bs → byte_from place bs ≡ Ok (x, after) → StoodThere (IsBelow 256) byte_form (at bs place) after x
+    by : (bs : List ℕ) (place : ℕ) → AreBytes bs → byte_from place bs ≡ Ok (x, after) → StoodThere (IsBelow 256) byte_encoding (at bs place) after x
     by [] place bytes e = cc
     by (b ∷ bs) place bytes e =
-        stands (IsBelow 256) byte_form (at (b ∷ bs) place) (at bs (place + 1)) after b x (ok_is (b, at bs (place + 1)) (x, after) e)
+        stands (IsBelow 256) byte_encoding (at (b ∷ bs) place) (at bs (place + 1)) after b x (ok_is (b, at bs (place + 1)) (x, after) e)
         (record { is = bytes 0; bytes = refl; place = refl })
 
 module _ (w : Width) (limit : ℕ) (wide : IsWide w limit) where
@@ -104,32 +104,32 @@ module _ (w : Width) (limit : ℕ) (wide : IsWide w limit) where
         place = ap (λ k. before.place + k) (sym (ap length again ∙ len));
       })
 
-pub u32_again : IsReadAgain (IsBelow (2 ^ 32)) u32_form (number_at w32)
-unfolding u32_form
+pub u32_again : IsReadAgain (IsBelow (2 ^ 32)) u32_encoding (number_at w32)
+unfolding u32_encoding
 u32_again = number_again w32 (2 ^ 32) wide32
 
-pub u32_spelled : IsSpelledSo (IsBelow (2 ^ 32)) u32_form (number_at w32)
-unfolding u32_form
+pub u32_spelled : IsSpelledSo (IsBelow (2 ^ 32)) u32_encoding (number_at w32)
+unfolding u32_encoding
 u32_spelled = number_spelled w32 (2 ^ 32) wide32
 
-pub u64_again : IsReadAgain (IsBelow (2 ^ 64)) u64_form (number_at w64)
-unfolding u64_form
+pub u64_again : IsReadAgain (IsBelow (2 ^ 64)) u64_encoding (number_at w64)
+unfolding u64_encoding
 u64_again = number_again w64 (2 ^ 64) wide64
 
-pub u64_spelled : IsSpelledSo (IsBelow (2 ^ 64)) u64_form (number_at w64)
-unfolding u64_form
+pub u64_spelled : IsSpelledSo (IsBelow (2 ^ 64)) u64_encoding (number_at w64)
+unfolding u64_encoding
 u64_spelled = number_spelled w64 (2 ^ 64) wide64
 
-pub text_again : IsReadAgain IsShortText text_form text_at
-unfolding text_at text_form u32_form
+pub text_again : IsReadAgain IsShortText text_encoding text_at
+unfolding text_at text_encoding u32_encoding
 text_again text is rest place =
     let long : nat_lt (length (text ++ rest)) (length text) ≡ false = le-ltb _ _ (omega (arith, length-append text rest)) in
     let utf8 : is_utf8 text ≡ true = is_utf8-from_IsUtf8 text is.1 in
     rw (number_again w32 (2 ^ 32) wide32 (length text) is.0 (text ++ rest) place, long, take_at text rest (length text) refl, drop_at text rest (length text) refl, utf8)
     (ap (λ k. Ok (text, at rest k)) (omega arith))
 
-pub text_spelled : IsSpelledSo IsShortText text_form text_at
-unfolding text_at text_form u32_form
+pub text_spelled : IsSpelledSo IsShortText text_encoding text_at
+unfolding text_at text_encoding u32_encoding
 text_spelled before bytes text after e =
     let k = reached (number_at w32 before)
     (λ n. cond (nat_lt (length n.1.bytes) n.0) (Err (Short before.place))
@@ -140,7 +140,7 @@ text_spelled before bytes text after e =
     let l = not_fault (nat_lt (length rest.bytes) n) (Short before.place) _ (text, after) k.2 in
     let u = is_chosen (is_utf8 (take n rest.bytes)) (BadText before.place) (take n rest.bytes, past rest n) (text, after) l.1 in
     let len : length (take n rest.bytes) ≡ n = length-take-le n rest.bytes (not_less (length rest.bytes) n l.0) in
-    stands IsShortText text_form before (past rest n) after (take n rest.bytes) text u.1
+    stands IsShortText text_encoding before (past rest n) after (take n rest.bytes) text u.1
     (record {
       is = (omega (arith, len, s.is), IsUtf8-from_is_utf8 (take n rest.bytes) u.0);
       bytes = s.bytes ∙ ap (λ bs. to_be_bytes w32 n ++ bs) (sym (take-append-drop n rest.bytes)) ∙ ap (λ m. to_be_bytes w32 m ++ (take n rest.bytes ++ drop n rest.bytes)) (sym len);

@@ -1,4 +1,4 @@
--- Fields: how each is spelled, and how it is read from the front, with the fault of one that can't be read.
+-- Fields: how each is spelled, and how the first of some bytes is read, with the fault of one that can't be read.
 use Rattle.std.specs.Prelude.{◌≡◌, ℕ, ◌+◌, List, [], ◌∷◌, ◌++◌, length, take, drop, Result, Ok, Err, nat_lt, if◌then◌else◌}
 use Rattle.std.specs.Int.{Width, w32, w64, byte_len, from_be_bytes, to_be_bytes}
 use Rattle.std.specs.Str.{is_utf8}
@@ -13,35 +13,35 @@ abbrev pub ◌>>=◌ : {A B E : Type 0} → Result A E → (A → Result B E) �
 (Err e) >>= f = Err e
 
 -- the spelling of a number in four bytes, the most significant first
-unfoldable pub u32_form : ℕ → List ℕ
-u32_form n = to_be_bytes w32 n
+unfoldable pub u32_encoding : ℕ → List ℕ
+u32_encoding n = to_be_bytes w32 n
 
 -- the same in eight bytes
-unfoldable pub u64_form : ℕ → List ℕ
-u64_form n = to_be_bytes w64 n
+unfoldable pub u64_encoding : ℕ → List ℕ
+u64_encoding n = to_be_bytes w64 n
 
 -- the spelling of a text: the count of its bytes in four bytes, and the bytes
-unfoldable pub text_form : List ℕ → List ℕ
-text_form text = u32_form (length text) ++ text
+unfoldable pub text_encoding : List ℕ → List ℕ
+text_encoding text = u32_encoding (length text) ++ text
 
--- what is left behind so many bytes
+-- what is left after so many bytes
 abbrev pub past : Rest → ℕ → Rest
 past r n = record { bytes = drop n r.bytes; place = r.place + n }
 
--- the first of the bytes that begin at a place, and what is left behind it
+-- the first of the bytes that begin at a place, and what is left after it
 abbrev pub byte_from : ℕ → List ℕ → Result (ℕ × Rest) ReadFault
 byte_from place [] = Err (Short place)
 byte_from place (b ∷ bytes) = Ok (b, record { bytes = bytes; place = place + 1 })
 
--- the byte at the front
+-- the first byte
 unfoldable pub byte_at : Rest → Result (ℕ × Rest) ReadFault
 byte_at r = byte_from r.place r.bytes
 
--- the number at the front, the most significant byte first
+-- the number that the first bytes are, the most significant first
 unfoldable pub number_at : Width → Rest → Result (ℕ × Rest) ReadFault
 number_at w r = if nat_lt (length r.bytes) (byte_len w) then Err (Short r.place) else Ok (from_be_bytes w (take (byte_len w) r.bytes), past r (byte_len w))
 
--- a count at the front, and as many bytes behind it, which are text
+-- first a count, and then as many bytes, which are text
 unfoldable pub text_at : Rest → Result (List ℕ × Rest) ReadFault
 text_at r = do
   n ← number_at w32 r
@@ -53,7 +53,7 @@ text_at r = do
 abbrev pub ends_at : Rest → Result (Unit {0}) ReadFault
 ends_at r = if nat_lt 0 (length r.bytes) then Err (Spare r.place) else Ok tt
 
--- a call gave what reading gives, and stands behind it; after a fault it stands where it stood
+-- a call gave what reading gives, and stands after it; after a fault it stands where it stood
 abbrev pub Reads : {X Y : Type 0} → (X → Y) → Rest → Rest → Result X ReadFault → Result (Y × Rest) ReadFault → Type 0
 Reads view old new (Ok x) read = read ≡ Ok (view x, new)
 Reads view old new (Err Memory) read = new ≡ old

@@ -7,11 +7,11 @@ use Rattle.byte_form.specs.Rest.{Rest}
 abbrev pub at : List ℕ → ℕ → Rest
 at bytes place = record { bytes = bytes; place = place }
 
--- the spelling of each value of the kind is read as the value, whatever stands behind it
+-- the spelling of each value of the kind is read as the value, whatever stands after it
 abbrev pub IsReadAgain : {X E : Type 0} → (X → Type 0) → (X → List ℕ) → (Rest → Result (X × Rest) E) → Type 0
 IsReadAgain Is form read = (x : _) → Is x → (rest : List ℕ) (place : ℕ) → read (at (form x ++ rest) place) ≡ Ok (x, at rest (place + length (form x)))
 
--- a value of the kind stood in front in its spelling
+-- the bytes began with the spelling of a value of the kind
 pub record StoodThere {X : Type 0} (Is : X → Type 0) (form : X → List ℕ) (before after : Rest) (x : X) : Type 0 where
   pub is : Is x
   pub bytes : before.bytes ≡ form x ++ after.bytes
@@ -34,8 +34,8 @@ abbrev pub IsBelow : ℕ → ℕ → Type 0
 IsBelow limit n = n < limit
 
 -- a byte is its own spelling
-abbrev pub byte_form : ℕ → List ℕ
-byte_form n = n ∷ []
+abbrev pub byte_encoding : ℕ → List ℕ
+byte_encoding n = n ∷ []
 
 -- a text of fewer than 2 ^ 32 bytes
 abbrev pub IsShortText : List ℕ → Type 0

@@ -1,6 +1,6 @@
 //! The encoder: fields are appended to a byte string, each by its encoding.
 ghost use Rattle.std.specs.Prelude.{◌≡◌, ◌<◌, ◌^◌, ◌++◌, [], ◌∷◌, length, OnOk, OnErr};
-ghost use Rattle.byte_form.specs.Fields.{u32_form, u64_form, text_form};
+ghost use Rattle.byte_form.specs.Fields.{u32_encoding, u64_encoding, text_encoding};
 
 use std::alloc::{AllocError, Global};
 use std::marker::Model;
@@ -39,28 +39,28 @@ impl Form {
     }
 
     /// Four bytes more, the most significant first.
-    #[tactic(auto, unfolding(crate::specs::Fields::u32_form))]
+    #[tactic(auto, unfolding(crate::specs::Fields::u32_encoding))]
     pub fn put_u32(&mut self, n: u32) -> Result<(), AllocError>
-        ensures ok { OnOk result (self.new ≡ self.old ++ u32_form n) }
+        ensures ok { OnOk result (self.new ≡ self.old ++ u32_encoding n) }
         ensures err { OnErr result (self.new ≡ self.old) }
     {
         self.bytes.extend_from_slice(&n.to_be_bytes())
     }
 
     /// Eight bytes more, the most significant first.
-    #[tactic(auto, unfolding(crate::specs::Fields::u64_form))]
+    #[tactic(auto, unfolding(crate::specs::Fields::u64_encoding))]
     pub fn put_u64(&mut self, n: u64) -> Result<(), AllocError>
-        ensures ok { OnOk result (self.new ≡ self.old ++ u64_form n) }
+        ensures ok { OnOk result (self.new ≡ self.old ++ u64_encoding n) }
         ensures err { OnErr result (self.new ≡ self.old) }
     {
         self.bytes.extend_from_slice(&n.to_be_bytes())
     }
 
     /// The count of the text's bytes in four bytes, and those bytes.
-    #[tactic(auto, unfolding(crate::specs::Fields::text_form, crate::specs::Fields::u32_form))]
+    #[tactic(auto, unfolding(crate::specs::Fields::text_encoding, crate::specs::Fields::u32_encoding))]
     pub fn put_text(&mut self, text: &str) -> Result<(), AllocError>
         requires short { length text.now < 2 ^ 32 }
-        ensures ok { OnOk result (self.new ≡ self.old ++ text_form text.now) }
+        ensures ok { OnOk result (self.new ≡ self.old ++ text_encoding text.now) }
         ensures err { OnErr result (self.new ≡ self.old) }
     {
         let before = self.bytes.len();

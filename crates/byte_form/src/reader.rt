@@ -1,4 +1,4 @@
-//! Fields, read from the front.
+//! Fields, read from the first byte on.
 ghost use Rattle.std.specs.Prelude.{◌≡◌, ◌≢◌, ◌≤◌, length, take, IfOk, IfErr, MatchResult, Ok, Err, string_bytes};
 ghost use Rattle.std.specs.Int.{w32, w64, from_be_bytes};
 ghost use Rattle.byte_form.specs.Fields.{Reads, byte_at, number_at, text_at, ends_at, past};
@@ -43,7 +43,7 @@ impl<'a> Model for Reader<'a> {
 }
 
 impl<'a> Reader<'a> {
-    /// A reader in front of the bytes.
+    /// A reader at the first of the bytes.
     pub fn new(bytes: &'a [u8]) -> Reader<'a>
         ensures bytes { result.bytes ≡ bytes.now }
         ensures place { result.place ≡ 0 }
@@ -125,7 +125,7 @@ impl<'a> Reader<'a> {
     }
 }
 
-/// The number of eight bytes at the front.
+/// The number that the first eight bytes are.
 #[tactic(auto, unfolding(crate::specs::Fields::number_at))]
 fn long_field(rest: &[u8], at: u64) -> Result<(u64, usize), ReadFault>
     ensures field { MatchResult result
@@ -150,7 +150,7 @@ fn number_of_eight(rest: &[u8]) -> u64
     ])
 }
 
-/// The text at the front, and how many bytes the field takes.
+/// The text that the first field is, and how many bytes the field takes.
 #[tactic(auto, using(crate::proofs::Utf8::utf8_tests), unfolding(crate::specs::Fields::text_at, crate::specs::Fields::number_at))]
 fn text_field(rest: &[u8], at: u64) -> Result<(&str, usize), ReadFault>
     ensures field { MatchResult result
@@ -174,7 +174,7 @@ fn text_field(rest: &[u8], at: u64) -> Result<(&str, usize), ReadFault>
     }
 }
 
-/// The byte at the front.
+/// The first byte.
 #[tactic(auto, unfolding(crate::specs::Fields::byte_at))]
 fn byte_field(rest: &[u8], at: u64) -> Result<(u8, usize), ReadFault>
     ensures field { MatchResult result

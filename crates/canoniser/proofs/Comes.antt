@@ -62,7 +62,7 @@ cut_at (f ∷ fs) (x ∷ xs) (suc i) same low on =
     let c = cut_at fs xs i (omega (arith, same)) (omega (arith, low)) on in
     record { first = f ∷ c.first; second = c.second; front = x ∷ c.front; a = c.a; mid = c.mid; flags = ap (λ l. f ∷ l) c.flags; ops = ap (λ l. x ∷ l) c.ops; place = ap suc c.place; many = ap suc c.many; more = c.more }
 
--- ---- prints tell which operations touch
+-- ---- prints show which operations touch
 module _ (meta : Meta) (prints : List Print) (ops : List Operation) (is : shown prints ≡ printed meta ops) where
   touch_tells : (at k : ℕ) (p : Print) (b y : Operation) → at < length ops → k < length ops → p ≡ get_or prints at p → b ≡ get_or ops at b → y ≡ get_or ops k y → prints_touch p (get_or prints k p) ≡ touches meta b y
   touch_tells at k p b y low high p_is b_is y_is =
@@ -133,7 +133,7 @@ module _ (meta : Meta) (stands : List Bool) (prints : List Print) (ops : List Op
       ∙ kept_append r.first (true ∷ r.second) r.front (r.b ∷ (r.back ++ r.rest)) r.many
       ∙ ap (λ l. kept r.first r.front ++ (r.b ∷ l)) (kept_rest r.second r.back r.rest r.more)
 
-  -- what stands in front of the place
+  -- what stands before the place
   front_flag : (k : ℕ) → k < length r.front → get_or stands k false ≡ get_or r.first k false
   front_flag k low = ap (λ l. get_or l k false) r.stands_is ∙ get_or_append_left r.first (true ∷ r.second) false k (let m = r.many in omega (arith, low, m))
 
@@ -158,7 +158,7 @@ module _ (meta : Meta) (stands : List Bool) (prints : List Print) (ops : List Op
   calm_free none = calm_stays (passes_all meta r.b (kept r.first r.front) (part_apart meta r.b r.first r.front r.many
       (λ k y low on y_is. no_hit meta prints ops is stands at k p_there.0 r.b y within_ops (let p = r.place in omega (arith, low, p)) p_there.1 b_is (y_is ∙ sym (front_op k y low)) (front_flag k low ∙ on) (none k))))
 
-  -- the last that touches it, at a place in front of it
+  -- the last that touches it, at a place before it
   module _ (i : ℕ) (last : LastHit stands prints p_there.0 at i) where
     low : i < length r.front
     low = let below = last.hit.low in let p = r.place in omega (arith, below, p)
@@ -287,7 +287,7 @@ module _ (meta : Meta) (stands : List Bool) (prints : List Print) (ops : List Op
           let same = met_print meta cut.a r.b c (rule ∙ ap (λ o. Some (list_of o)) one) in
           is ∙ ap (printed meta) ops_around ∙ sym (same_place meta cut.front (cut.mid ++ (r.b ∷ (r.back ++ r.rest))) cut.a c same.0 same.1) ∙ ap (printed meta) (sym (ops_set c))
 
-  -- ---- what the search tells
+  -- ---- what the search finds
   pub none_calm : NoRuleAt stands prints ops at → Calm meta stands ops
   none_calm n =
       elim n.o as (λ o. n.o ≡ o → IsLast stands prints p_there.0 at o → Calm meta stands ops) [

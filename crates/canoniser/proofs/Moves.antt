@@ -101,7 +101,7 @@ module _ (meta : Meta) (a b : Operation) (front mid back : List Operation) (left
       (settled_out meta a (onto (mid ++ back) []) (onto front []) (apart_onto meta a (mid ++ back) [] behind tt)
       (subst (Settled meta) (around front (mid ++ back) a) (subst (λ l. Settled meta (onto l [])) (append_assoc front (a ∷ mid) back) settled)))
 
-  -- what is left of both touches none of those behind it
+  -- what is left of both touches none of those after it
   pub left_apart : (c : Operation) → left ≡ Some c → Apart meta c (mid ++ back)
   left_apart c is =
       let same = met_print meta a b c (rule ∙ ap (λ o. Some (list_of o)) is) in

@@ -1,4 +1,4 @@
--- What the calls of a turn tell.
+-- What the calls of a turn show.
 use Rattle.std.proofs.Common.{◌≡◌, ℕ, zero, suc, ◌<◌, Bool, List, [], ◌∷◌, refl, sym, subst, ◌∙◌, length, get_or, arith}
 use Rattle.std.specs.Prelude.{Option, None, Some, MatchOption, IfSome}
 use Rattle.model_state.specs.declared.operation.Operation.{Operation}

@@ -1,4 +1,4 @@
--- What tidying keeps while operations come one after the other.
+-- What tidying keeps while operations are added one after another.
 use Rattle.std.specs.Prelude.{◌≡◌, ℕ, Bool, true, false, List, [], ◌∷◌, ◌++◌, Option, None, Some, length, set, get_or}
 use Rattle.ecore_meta.specs.Meta.{Meta}
 use Rattle.model_state.specs.declared.operation.Operation.{Operation}
@@ -13,7 +13,7 @@ abbrev pub list_of : Option Operation → List Operation
 list_of None = []
 list_of (Some o) = o ∷ []
 
--- the operations that stand; those that have not come yet all do
+-- the operations that stand; those that are not added yet all do
 abbrev pub kept : List Bool → List Operation → List Operation
 kept [] ops = ops
 kept (true ∷ stands) [] = []
@@ -30,7 +30,7 @@ abbrev pub Apart : Meta → Operation → List Operation → Type 0
 Apart meta b [] = Unit {0}
 Apart meta b (y ∷ ys) = (touches meta b y ≡ false) × Apart meta b ys
 
--- a rule applies to the operations of two places, the earlier of which is the last that touches the later, and leaves what is said
+-- a rule applies to the operations of two places, the earlier of which is the last that touches the later, and leaves what is given
 pub record RuleAt (stands : List Bool) (prints : List Print) (ops : List Operation) (at i : ℕ) (left : Option Operation) : Type 0 where
   pub last : (p : Print) → p ≡ get_or prints at p → LastHit stands prints p at i
   pub rule : (a b : Operation) → a ≡ get_or ops i a → b ≡ get_or ops at b → met a b ≡ Some (list_of left)
@@ -41,7 +41,7 @@ pub record NoRuleAt (stands : List Bool) (prints : List Print) (ops : List Opera
   pub last : (p : Print) → p ≡ get_or prints at p → IsLast stands prints p at o
   pub none : (i : ℕ) (a b : Operation) → o ≡ Some i → a ≡ get_or ops i a → b ≡ get_or ops at b → met a b ≡ None
 
--- of the operations that came, no rule applies to those that stand
+-- of the operations that were added, no rule applies to those that stand
 pub record Calm (meta : Meta) (stands : List Bool) (ops : List Operation) : Type 0 where
   pub come : List Operation
   pub rest : List Operation
@@ -49,7 +49,7 @@ pub record Calm (meta : Meta) (stands : List Bool) (ops : List Operation) : Type
   pub many : length stands ≡ length come
   pub settled : Settled meta (onto (kept stands come) [])
 
--- an operation stands at the place; no rule applies to the others that came and stand, and none of those behind the place touches it
+-- an operation stands at the place; no rule applies to the others that were added and stand, and none of those after the place touches it
 pub record Ready (meta : Meta) (stands : List Bool) (ops : List Operation) (at : ℕ) : Type 0 where
   pub first : List Bool
   pub second : List Bool
@@ -69,7 +69,7 @@ pub record Ready (meta : Meta) (stands : List Bool) (ops : List Operation) (at :
 abbrev pub Leads : Meta → List Operation → List Operation → Type 0
 Leads meta p q = (r : List Operation) → Settles meta q r → Settles meta p r
 
--- what stands where the operation of a place goes, and with it, where nothing is left, an earlier one
+-- what stands where the operation of a place is removed, and with it, where nothing is left, an earlier one
 abbrev pub stands_out : List Bool → ℕ → ℕ → Option Operation → List Bool
 stands_out stands i at None = set (set stands at false) i false
 stands_out stands i at (Some c) = set stands at false

@@ -1,4 +1,4 @@
-//! Packages tidied: what was taken back goes, and what was changed twice is changed once.
+//! Packages tidied: what was taken back is dropped, and what was changed twice is changed once.
 #![tactic(auto)]
 
 mod joining;

@@ -1,6 +1,6 @@
 //! The search for a rule that applies.
 ghost use Rattle.std.specs.Prelude.{◌≡◌, ◌<◌, IfOk, MatchOption, length};
-ghost use Rattle.cell_index.specs.Standing.{Keeps};
+ghost use Rattle.cell_index.specs.Standing.{ListsStanding};
 ghost use Rattle.canoniser.specs.Meetings.{RuleAt, NoRuleAt};
 
 use crate::joining::{is_met, left_of};
@@ -26,7 +26,7 @@ pub(crate) fn nearest(
     prints: &[Print],
     at: usize,
 ) -> Result<Option<Found>, AllocError>
-    requires keeps { Keeps standing.now prints.now }
+    requires keeps { ListsStanding standing.now prints.now }
     requires within { at < length list.now }
     requires many { length prints.now ≡ length list.now }
     ensures { IfOk result (λ r. MatchOption r (NoRuleAt standing.now.stands.items prints.now list.now at) (λ f. RuleAt standing.now.stands.items prints.now list.now at f.at f.left)) }

@@ -1,7 +1,7 @@
-//! The rules, one at a time, as the operations come.
+//! The rules, one at a time, as the operations are added.
 ghost use Rattle.std.specs.Prelude.{◌≡◌, ◌<◌, ◌≤◌, ◌+◌, ◌++◌, ◌∷◌, [], IfOk, OnOk, IfSome, length, MatchOption};
 ghost use Rattle.footprint.specs.Prints.{shown, printed};
-ghost use Rattle.cell_index.specs.Standing.{Keeps};
+ghost use Rattle.cell_index.specs.Standing.{ListsStanding};
 ghost use Rattle.tidy_laws.specs.Rules.{Settles};
 ghost use Rattle.canoniser.specs.Meetings.{kept, stands_out, ops_out, place_left, Calm, Ready, Leads};
 
@@ -20,20 +20,20 @@ fn take_out(
     found: Found,
     at: usize,
 ) -> Option<usize>
-    requires keeps { Keeps standing.old prints.now }
+    requires keeps { ListsStanding standing.old prints.now }
     requires low { found.at < at }
     requires high { at < length standing.old.stands.items }
     requires within { at < length list.old.items }
-    ensures keeps { Keeps standing.new prints.now }
+    ensures keeps { ListsStanding standing.new prints.now }
     ensures stands { standing.new.stands.items ≡ stands_out standing.old.stands.items found.at at found.left }
     ensures list { list.new.items ≡ ops_out list.old.items found.at found.left }
     ensures place { result ≡ place_left found.at found.left }
 {
     let Found { at: place, left } = found;
-    standing.take(prints, at);
+    standing.remove(prints, at);
     match left {
         None => {
-            standing.take(prints, place);
+            standing.remove(prints, place);
             None
         }
         // It has the cells of the operation whose place it takes.
@@ -54,10 +54,10 @@ fn turn(
     prints: &[Print],
     at: usize,
 ) -> Result<Option<usize>, AllocError>
-    requires keeps { Keeps standing.old prints.now }
+    requires keeps { ListsStanding standing.old prints.now }
     requires printed { shown prints.now ≡ printed meta.now list.old.items }
     requires ready { Ready meta.now standing.old.stands.items list.old.items at }
-    ensures keeps { OnOk result (Keeps standing.new prints.now) }
+    ensures keeps { OnOk result (ListsStanding standing.new prints.now) }
     ensures printed { OnOk result (shown prints.now ≡ printed meta.now list.new.items) }
     ensures leads { OnOk result (Leads meta.now (kept standing.old.stands.items list.old.items) (kept standing.new.stands.items list.new.items)) }
     ensures turned { IfOk result (λ r. MatchOption r (Calm meta.now standing.new.stands.items list.new.items) (λ i. Ready meta.now standing.new.stands.items list.new.items i)) }
@@ -65,7 +65,7 @@ fn turn(
     ensures many { OnOk result (length standing.new.stands.items ≡ length standing.old.stands.items) }
     ensures size { OnOk result (length list.new.items ≡ length list.old.items) }
 {
-    // The contract alone speaks of it.
+    // Only the contract needs it.
     let _meta = meta;
     match nearest(alloc, list, standing, prints, at)? {
         None => Ok(None),
@@ -76,7 +76,7 @@ fn turn(
     }
 }
 
-/// The next operation comes, and rules are taken until none applies to those that came.
+/// The next operation is added, and rules are taken until none applies to those that were.
 fn enter(
     alloc: Global,
     meta: &Metamodel,
@@ -85,10 +85,10 @@ fn enter(
     prints: &[Print],
 ) -> Result<(), AllocError>
     requires more { length standing.old.stands.items < length list.old.items }
-    requires keeps { Keeps standing.old prints.now }
+    requires keeps { ListsStanding standing.old prints.now }
     requires printed { shown prints.now ≡ printed meta.now list.old.items }
     requires calm { Calm meta.now standing.old.stands.items list.old.items }
-    ensures keeps { OnOk result (Keeps standing.new prints.now) }
+    ensures keeps { OnOk result (ListsStanding standing.new prints.now) }
     ensures printed { OnOk result (shown prints.now ≡ printed meta.now list.new.items) }
     ensures leads { OnOk result (Leads meta.now (kept standing.old.stands.items list.old.items) (kept standing.new.stands.items list.new.items)) }
     ensures calm { OnOk result (Calm meta.now standing.new.stands.items list.new.items) }
@@ -121,7 +121,7 @@ pub(crate) fn settle(
     Ok(standing)
 }
 
-/// Puts the operation behind the others, if it is kept.
+/// Puts the operation after the others, if it is kept.
 fn put_kept(list: &mut Vec<Operation>, op: Operation, is_kept: bool) -> Result<(), AllocError>
     ensures { OnOk result (list.new.items ≡ list.old.items ++ kept (is_kept ∷ []) (op ∷ [])) }
 {

@@ -1,4 +1,4 @@
--- What isn't marked doesn't clash.
+-- What isn't marked doesn't interfere.
 use Rattle.std.proofs.Common.{◌≡◌, ℕ, ◌<◌, ◌%◌, Bool, false, ◌||◌, List, [], ◌∷◌, refl, sym, ap, subst, ◌∙◌, length}
 use Rattle.std.specs.List.{Contains, list_any}
 use Rattle.std.specs.declared.vec.Vec.{Vec}

@@ -44,7 +44,7 @@ first_or_rest x xs k h = elim (Contains-append_cases (x ∷ []) xs k h) [
         nowhere : Contains [] k → ⊥
         nowhere h = let low = h.1 in omega (arith, low)
 
--- what is above the number of a place stands behind it
+-- what is above the number of a place stands after it
 rise_later : (low high : ℕ) (xs : List ℕ) (i k : ℕ) → i < length xs → Rise low high xs → get_or xs i 0 < k → Contains xs k → Contains (drop (suc i) xs) k
 rise_later low high [] i k inside h up has_k = absurd (omega (arith, inside))
 rise_later low high (x ∷ xs) zero k inside h up has_k = elim (first_or_rest x xs k has_k) [
@@ -56,7 +56,7 @@ rise_later low high (x ∷ xs) (suc i) k inside h up has_k = elim (first_or_rest
   | inr there ↦ rise_later x high xs i k (omega (arith, inside)) h.1 up there
 ]
 
--- what is above the number of a place is no hit, where none behind it is
+-- what is above the number of a place is no hit, where none after it is
 pub passed_above : (xs : List ℕ) (i : ℕ) (hits : ℕ → Type 0) (low : 0 < i) (inside : i ≤ length xs) (passed : (k : ℕ) → Contains (drop i xs) k → hits k → ⊥) (high k : ℕ) → Rise 0 high xs → get_or xs (i - 1) 0 < k → Contains xs k → hits k → ⊥
 passed_above xs i hits low inside passed high k rise up has_k hit = passed k (subst (λ n. Contains (drop n xs) k) (next i low) (rise_later 0 high xs (i - 1) k (omega (arith, low, inside)) rise up has_k)) hit
   where

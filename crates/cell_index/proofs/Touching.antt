@@ -1,4 +1,4 @@
--- What an index keeps as operations come and go, and the last that touches another.
+-- What an index keeps as operations are added and removed, and the last that touches another.
 use Rattle.std.proofs.Common.{◌≡◌, ℕ, zero, suc, ◌-◌, ◌<◌, ◌≤◌, Bool, true, false, ◌||◌, ◌&&◌, ◌%◌, nat_eq, List, [], ◌∷◌, ◌++◌, refl, sym, ap, subst, inl, inr, ◌∙◌, length, get_or, set, arith, length-set, length-append}
 use Rattle.std.specs.Prelude.{◌⊎◌}
 use Rattle.std.specs.List.{Contains}
@@ -8,11 +8,11 @@ use Rattle.std.proofs.lemmas.Bool.{eqb-true}
 use Rattle.finite_maps.proofs.Cases.{true_false, not_so}
 use Rattle.footprint.specs.declared.cell.Cell.{Cell as Held}
 use Rattle.footprint.specs.declared.cell.Print.{Print}
-use Rattle.footprint.specs.Interference.{meets, clash}
+use Rattle.footprint.specs.Interference.{meets, cells_interfere}
 use Rattle.footprint.specs.Prints.{seen, cells}
 use Rattle.cell_index.specs.Keys.{cell_key}
 use Rattle.cell_index.specs.Near.{list_at, row_of, Listed, Wider}
-use Rattle.cell_index.specs.Standing.{is_none, prints_touch, Hit, LastHit, Rise, Rising, Without, Keeps}
+use Rattle.cell_index.specs.Standing.{is_none, prints_touch, Hit, LastHit, Rise, Rising, Without, ListsStanding}
 use Rattle.cell_index.specs.declared.staying.Standing.{Standing}
 use Rattle.cell_index.proofs.Rows.{same_or_not, row_kept}
 use Rattle.cell_index.proofs.Far.{apart, row_same}
@@ -37,7 +37,7 @@ unfolding cells
 length_none [] h = refl
 length_none (c ∷ list) h = absurd (true_false false h refl)
 
-module _ (p q : Print) (hit : Bool) (n : ℕ) (tells : hit ≡ clash (cells p.writes) (cells p.reads) (cells q.writes) (cells q.reads)) (out : hit ≡ false) (size : n ≡ length p.writes) where
+module _ (p q : Print) (hit : Bool) (n : ℕ) (tells : hit ≡ cells_interfere (cells p.writes) (cells p.reads) (cells q.writes) (cells q.reads)) (out : hit ≡ false) (size : n ≡ length p.writes) where
   pub touch_both : (m : ℕ) → n ≡ 0 → m ≡ length q.writes → nat_eq m 0 ≡ prints_touch p q
   touch_both m none many =
       let second : is_none (cells q.writes) ≡ nat_eq m 0 = none_length q.writes ∙ ap (λ k. nat_eq k 0) (sym many) in
@@ -78,7 +78,7 @@ print_same (x ∷ prints) (suc k) p q low = print_same prints k p q (omega (arit
 listed_wider : (t made : List (Vec ℕ Global)) (cs : List Held) (k : ℕ) → Wider t made → Listed t cs k → Listed made cs k
 listed_wider t made cs k w h c has_c = row_kept t made c k w (h c has_c)
 
-module _ (old new : Standing) (prints : List Print) (q : Print) (is : Keeps old prints) (below : length old.stands.items < length prints) (q_is : q ≡ get_or prints (length old.stands.items) q)
+module _ (old new : Standing) (prints : List Print) (q : Print) (is : ListsStanding old prints) (below : length old.stands.items < length prints) (q_is : q ≡ get_or prints (length old.stands.items) q)
     (stands : new.stands.items ≡ old.stands.items ++ true ∷ [])
     (w_wider : Wider old.index.writers.items new.index.writers.items) (w_listed : Listed new.index.writers.items q.writes (length old.stands.items)) (w_rising : Rising new.index.writers.items (length old.stands.items))
     (r_wider : Wider old.index.readers.items new.index.readers.items) (r_listed : Listed new.index.readers.items q.reads (length old.stands.items)) (r_rising : Rising new.index.readers.items (length old.stands.items))
@@ -100,7 +100,7 @@ module _ (old new : Standing) (prints : List Print) (q : Print) (is : Keeps old 
     | inr e ↦ λ c has_c. subst (λ n. Contains (row_of made c) n) (sym e) (put c (subst (λ l. Contains l c) (ap which (sym (here k p e p_is))) has_c))
   ]
 
-  pub put_keeps : Keeps new prints
+  pub put_keeps : ListsStanding new prints
   put_keeps = record {
     some_writers = let few = is.some_writers in let e = w_wider.size in omega (arith, few, e);
     some_readers = let few = is.some_readers in let e = r_wider.size in omega (arith, few, e);
@@ -117,11 +117,11 @@ module _ (old new : Standing) (prints : List Print) (q : Print) (is : Keeps old 
   }
 
 -- by the calls that put it
-pub put_by : (old new : Standing) (prints : List Print) (q : Print) (n : ℕ) → Keeps old prints → length old.stands.items < length prints → n ≡ length old.stands.items → q ≡ get_or prints n q → new.stands.items ≡ old.stands.items ++ true ∷ []
+pub put_by : (old new : Standing) (prints : List Print) (q : Print) (n : ℕ) → ListsStanding old prints → length old.stands.items < length prints → n ≡ length old.stands.items → q ≡ get_or prints n q → new.stands.items ≡ old.stands.items ++ true ∷ []
     → (w r v : List Held) → w ≡ q.writes → r ≡ q.reads → v ≡ q.writes
     → Wider old.index.writers.items new.index.writers.items → Listed new.index.writers.items w n → (Rising old.index.writers.items n → Rising new.index.writers.items n)
     → Wider old.index.readers.items new.index.readers.items → Listed new.index.readers.items r n → (Rising old.index.readers.items n → Rising new.index.readers.items n)
-    → ((k : ℕ) → Contains old.idle.items k → Contains new.idle.items k) → (is_none (cells v) ≡ true → Contains new.idle.items n) → (Rise 0 n old.idle.items → Rise 0 n new.idle.items) → Keeps new prints
+    → ((k : ℕ) → Contains old.idle.items k → Contains new.idle.items k) → (is_none (cells v) ≡ true → Contains new.idle.items n) → (Rise 0 n old.idle.items → Rise 0 n new.idle.items) → ListsStanding new prints
 put_by old new prints q n is below at q_is stands w r v w_is r_is v_is ww wl wr rw' rl rr ik il ir =
     put_keeps old new prints q is below (q_is ∙ ap (λ k. get_or prints k q) at) stands
     ww (λ h has_h. subst (Contains (row_of new.index.writers.items h)) at (wl h (subst (λ l. Contains l h) (sym w_is) has_h))) (subst (Rising new.index.writers.items) at (wr (subst (Rising old.index.writers.items) (sym at) is.rising_writers)))
@@ -135,13 +135,13 @@ listed_without t made cs k p w other h c has_c = row_without t made c k p w othe
     row_without : (t made : List (Vec ℕ Global)) (c : Held) (k p : ℕ) → Without t made p → (k ≡ p → ⊥) → Contains (row_of t c) k → Contains (row_of made c) k
     row_without t made c k p w other is = subst (λ n. Contains (list_at made (cell_key (seen c) % n)) k) (sym w.size) (w.kept (cell_key (seen c) % length t) k other is)
 
-module _ (old new : Standing) (prints : List Print) (p : ℕ) (is : Keeps old prints) (low : p < length old.stands.items) (stands : new.stands.items ≡ set old.stands.items p false)
+module _ (old new : Standing) (prints : List Print) (p : ℕ) (is : ListsStanding old prints) (low : p < length old.stands.items) (stands : new.stands.items ≡ set old.stands.items p false)
     (w_out : Without old.index.writers.items new.index.writers.items p) (r_out : Without old.index.readers.items new.index.readers.items p)
     (i_kept : (k : ℕ) → (k ≡ p → ⊥) → Contains old.idle.items k → Contains new.idle.items k) (i_rise : (high : ℕ) → Rise 0 high old.idle.items → Rise 0 high new.idle.items) where
   as_long : length new.stands.items ≡ length old.stands.items
   as_long = ap length stands ∙ length-set old.stands.items p false
 
-  pub take_keeps : Keeps new prints
+  pub take_keeps : ListsStanding new prints
   take_keeps = record {
     some_writers = let few = is.some_writers in let e = w_out.size in omega (arith, few, e);
     some_readers = let few = is.some_readers in let e = r_out.size in omega (arith, few, e);
@@ -155,7 +155,7 @@ module _ (old new : Standing) (prints : List Print) (p : ℕ) (is : Keeps old pr
   }
 
 -- ---- the last that touches
-module _ (standing : Standing) (prints : List Print) (p : Print) (at end : ℕ) (is : Keeps standing prints)
+module _ (standing : Standing) (prints : List Print) (p : Print) (at end : ℕ) (is : ListsStanding standing prints)
     (ww : (h : Held) → Contains p.writes h → (k : ℕ) → Contains (row_of standing.index.writers.items h) k → end ≤ k → Hit standing.stands.items prints p at k → ⊥)
     (wr : (h : Held) → Contains p.writes h → (k : ℕ) → Contains (row_of standing.index.readers.items h) k → end ≤ k → Hit standing.stands.items prints p at k → ⊥)
     (rw : (h : Held) → Contains p.reads h → (k : ℕ) → Contains (row_of standing.index.writers.items h) k → end ≤ k → Hit standing.stands.items prints p at k → ⊥)
@@ -191,7 +191,7 @@ hit_on P floor mid end up later before low = same_or_not mid end
     (λ e. subst (λ n. P (n - 1)) e (before (omega (arith, e, low))))
     (λ f. later (omega (arith, f, up)))
 
-module _ (standing : Standing) (prints : List Print) (p : Print) (at e1 e2 e3 e4 : ℕ) (w r : List Held) (s t u : List (Vec ℕ Global)) (is : Keeps standing prints)
+module _ (standing : Standing) (prints : List Print) (p : Print) (at e1 e2 e3 e4 : ℕ) (w r : List Held) (s t u : List (Vec ℕ Global)) (is : ListsStanding standing prints)
     (w_is : w ≡ p.writes) (r_is : r ≡ p.reads) (s_is : s ≡ standing.index.writers.items) (t_is : t ≡ standing.index.readers.items) (u_is : u ≡ standing.index.writers.items)
     (up2 : e1 ≤ e2) (up3 : e2 ≤ e3) (up4 : e3 ≤ e4)
     (c1 : (h : Held) → Contains w h → (k : ℕ) → Contains (row_of s h) k → e1 ≤ k → Hit standing.stands.items prints p at k → ⊥)

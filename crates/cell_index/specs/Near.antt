@@ -5,7 +5,7 @@ use Rattle.std.specs.declared.vec.Vec.{Vec}
 use Rattle.std.specs.declared.alloc.Global.{Global}
 use Rattle.footprint.specs.declared.cell.Cell.{Cell as Held}
 use Rattle.footprint.specs.declared.cell.Print.{Print}
-use Rattle.footprint.specs.Interference.{clash}
+use Rattle.footprint.specs.Interference.{cells_interfere}
 use Rattle.footprint.specs.Prints.{seen, cells}
 use Rattle.cell_index.specs.Keys.{cell_key}
 use Rattle.cell_index.specs.declared.listing.CellIndex.{CellIndex}
@@ -45,7 +45,7 @@ pub record Grows (old new : List Bool) : Type 0 where
 abbrev pub Marked : List Bool → List ℕ → Type 0
 Marked flags places = (k : ℕ) → Contains places k → k < length flags → get_or flags k false ≡ true
 
--- of a print with which that at the place clashes the flag is set
+-- of a print that interferes with the one at the place the flag is set
 pub record Near (p : Print) (prints : List Print) (flags : List Bool) : Type 0 where
   pub size : length flags ≡ length prints
-  pub far : (k : ℕ) (q : Print) → k < length prints → q ≡ get_or prints k q → get_or flags k false ≡ false → clash (cells p.writes) (cells p.reads) (cells q.writes) (cells q.reads) ≡ false
+  pub far : (k : ℕ) (q : Print) → k < length prints → q ≡ get_or prints k q → get_or flags k false ≡ false → cells_interfere (cells p.writes) (cells p.reads) (cells q.writes) (cells q.reads) ≡ false

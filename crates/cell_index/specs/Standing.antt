@@ -1,11 +1,11 @@
--- What an index of operations that come and go keeps, and which operations touch.
+-- What an index of operations that are added and removed keeps, and which operations touch.
 use Rattle.std.specs.Prelude.{◌≡◌, ℕ, ◌<◌, ◌≤◌, Bool, true, false, ◌||◌, ◌&&◌, List, [], ◌∷◌, length, get_or, Option, MatchOption}
 use Rattle.std.specs.List.{Contains}
 use Rattle.std.specs.declared.vec.Vec.{Vec}
 use Rattle.std.specs.declared.alloc.Global.{Global}
 use Rattle.model_laws.specs.Cells.{Cell}
 use Rattle.footprint.specs.declared.cell.Print.{Print}
-use Rattle.footprint.specs.Interference.{clash}
+use Rattle.footprint.specs.Interference.{cells_interfere}
 use Rattle.footprint.specs.Prints.{cells}
 use Rattle.cell_index.specs.Near.{list_at, Listed}
 use Rattle.cell_index.specs.declared.staying.Standing.{Standing}
@@ -15,9 +15,9 @@ abbrev pub is_none : List Cell → Bool
 is_none [] = true
 is_none (c ∷ cs) = false
 
--- of what two operations write and read: they clash, or neither writes anything
+-- of what two operations write and read: they interfere, or neither writes anything
 abbrev pub touch : List Cell → List Cell → List Cell → List Cell → Bool
-touch writes reads other_writes other_reads = clash writes reads other_writes other_reads || (is_none writes && is_none other_writes)
+touch writes reads other_writes other_reads = cells_interfere writes reads other_writes other_reads || (is_none writes && is_none other_writes)
 
 -- the operations of the prints touch
 abbrev pub prints_touch : Print → Print → Bool
@@ -54,7 +54,7 @@ pub record Without (old new : List (Vec ℕ Global)) (k : ℕ) : Type 0 where
   pub rising : (high : ℕ) → Rising old high → Rising new high
 
 -- each operation that stands is in the lists of the cells that it writes, and of those that it reads, or in that of the operations that write nothing
-pub record Keeps (standing : Standing) (prints : List Print) : Type 0 where
+pub record ListsStanding (standing : Standing) (prints : List Print) : Type 0 where
   pub some_writers : 0 < length standing.index.writers.items
   pub some_readers : 0 < length standing.index.readers.items
   pub many : length standing.stands.items ≤ length prints

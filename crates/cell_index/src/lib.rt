@@ -9,5 +9,5 @@ mod seeking;
 mod staying;
 
 pub use listing::{CellIndex, index_of};
-pub use marking::{near, tells};
+pub use marking::{interferes_near, near};
 pub use staying::Standing;

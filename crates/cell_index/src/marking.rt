@@ -1,7 +1,7 @@
 //! What is near an operation by the index.
 ghost use Rattle.std.specs.Prelude.{ℕ, ◌≡◌, ◌<◌, List, length, true, false, IfOk};
 ghost use Rattle.std.specs.List.{Contains};
-ghost use Rattle.footprint.specs.Interference.{clash};
+ghost use Rattle.footprint.specs.Interference.{cells_interfere};
 ghost use Rattle.footprint.specs.Prints.{cells};
 ghost use Rattle.footprint.specs.declared.cell.Cell.{Cell as Held};
 ghost use Rattle.footprint.specs.declared.cell.Print.{Print};
@@ -56,9 +56,9 @@ pub fn near(
 }
 
 /// Whether the two interfere, which those that aren't near don't.
-pub fn tells(is_near: bool, a: &Print, b: &Print) -> bool
-    requires { is_near ≡ false → clash (cells a.now.writes) (cells a.now.reads) (cells b.now.writes) (cells b.now.reads) ≡ false }
-    ensures { result ≡ clash (cells a.now.writes) (cells a.now.reads) (cells b.now.writes) (cells b.now.reads) }
+pub fn interferes_near(is_near: bool, a: &Print, b: &Print) -> bool
+    requires { is_near ≡ false → cells_interfere (cells a.now.writes) (cells a.now.reads) (cells b.now.writes) (cells b.now.reads) ≡ false }
+    ensures { result ≡ cells_interfere (cells a.now.writes) (cells a.now.reads) (cells b.now.writes) (cells b.now.reads) }
 {
     is_near && interferes(a, b)
 }

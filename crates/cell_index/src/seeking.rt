@@ -5,7 +5,7 @@ ghost use Rattle.footprint.specs.declared.cell.Cell.{Cell as Held};
 ghost use Rattle.footprint.specs.declared.cell.Print.{Print};
 ghost use Rattle.footprint.specs.Prints.{cells};
 ghost use Rattle.cell_index.specs.Near.{row_of};
-ghost use Rattle.cell_index.specs.Standing.{is_none, prints_touch, Hit, Rise, Rising, Keeps, IsLast};
+ghost use Rattle.cell_index.specs.Standing.{is_none, prints_touch, Hit, Rise, Rising, ListsStanding, IsLast};
 
 use crate::Standing;
 use crate::keys::slot_of;
@@ -105,7 +105,7 @@ impl Standing {
     /// The last place below another at which an operation stands that touches the one of that other place: they interfere, or neither
     /// writes anything.
     pub fn last(&self, prints: &[Print], at: usize) -> Option<usize>
-        requires keeps { Keeps self.now prints.now }
+        requires keeps { ListsStanding self.now prints.now }
         requires within { at < length prints.now }
         ensures last { (p : Print) → p ≡ get_or prints.now at p → IsLast self.now.stands.items prints.now p at result }
         ensures low { IfSome result (λ place. place < at) }

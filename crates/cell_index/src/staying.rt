@@ -1,8 +1,8 @@
-//! An index of operations that come one after the other, and go.
+//! An index of operations that are added one after another, and removed.
 ghost use Rattle.std.specs.Prelude.{ℕ, ◌≡◌, ◌<◌, ◌≤◌, ◌++◌, ◌∷◌, [], List, length, OnOk, IfOk, true, false, set};
 ghost use Rattle.std.specs.List.{Contains};
 ghost use Rattle.footprint.specs.Prints.{cells as cells_of};
-ghost use Rattle.cell_index.specs.Standing.{is_none, Rise, Without, Keeps};
+ghost use Rattle.cell_index.specs.Standing.{is_none, Rise, Without, ListsStanding};
 
 use crate::CellIndex;
 use crate::keys::slot_of;
@@ -10,8 +10,8 @@ use crate::listing::{lists_of, put_cells, table_sizes};
 use footprint::{Cell, Print};
 use std::alloc::{AllocError, Global};
 
-/// Which of the operations that came still stand, each by its place. Those that stand are listed by the slots of their cells, the
-/// later ones behind the earlier ones.
+/// Which of the operations that were added still stand, each by its place. Those that stand are listed by the slots of their cells, the
+/// later ones after the earlier ones.
 #[derive(Debug, Drop)]
 pub struct Standing {
     pub(crate) stands: Vec<bool>,
@@ -62,9 +62,9 @@ fn drop_cells(table: &mut Vec<Vec<u64>>, cells: &[Cell], place: u64)
 }
 
 impl Standing {
-    /// None has come yet of the operations of the prints.
+    /// None is added yet of the operations of the prints.
     pub fn new(alloc: Global, prints: &[Print]) -> Result<Standing, AllocError>
-        ensures keeps { IfOk result (λ s. Keeps s prints.now) }
+        ensures keeps { IfOk result (λ s. ListsStanding s prints.now) }
         ensures none { IfOk result (λ s. s.stands.items ≡ []) }
     {
         let (writes, reads) = table_sizes(prints);
@@ -77,18 +77,18 @@ impl Standing {
         })
     }
 
-    /// Whether each operation that came still stands.
+    /// Whether each operation that was added still stands.
     pub fn stands(&self) -> &[bool]
         ensures { result.now ≡ self.now.stands.items }
     {
         self.stands.as_slice()
     }
 
-    /// The next of the operations comes.
+    /// The next of the operations is added.
     pub fn put(&mut self, prints: &[Print]) -> Result<(), AllocError>
-        requires keeps { Keeps self.old prints.now }
+        requires keeps { ListsStanding self.old prints.now }
         requires more { length self.old.stands.items < length prints.now }
-        ensures keeps { OnOk result (Keeps self.new prints.now) }
+        ensures keeps { OnOk result (ListsStanding self.new prints.now) }
         ensures stands { OnOk result (self.new.stands.items ≡ self.old.stands.items ++ true ∷ []) }
     {
         let place = self.stands.len();
@@ -108,11 +108,11 @@ impl Standing {
         Ok(())
     }
 
-    /// The operation of the place goes.
-    pub fn take(&mut self, prints: &[Print], place: usize)
-        requires keeps { Keeps self.old prints.now }
+    /// The operation of the place is removed.
+    pub fn remove(&mut self, prints: &[Print], place: usize)
+        requires keeps { ListsStanding self.old prints.now }
         requires within { place < length self.old.stands.items }
-        ensures keeps { Keeps self.new prints.now }
+        ensures keeps { ListsStanding self.new prints.now }
         ensures stands { self.new.stands.items ≡ set self.old.stands.items place false }
     {
         let print = &prints[place];

@@ -2,14 +2,14 @@
 use Rattle.std.proofs.Common.{◌≡◌, ⊎_elim, ℕ, zero, suc, ◌+◌, ◌-◌, ◌≤◌, min, List, [], ◌∷◌, ◌++◌, length, take, refl, sym, ◌∙◌, ap, subst, append_assoc, length-append, arith}
 use Rattle.std.specs.Prelude.{IsTrue}
 use Rattle.std.proofs.lemmas.List.{append-nil, take_at, length-take, take-append-le, take_min}
-use Rattle.host_port.specs.Host.{Told, MayLeave, GoesOn, Throughout, KeepsDisk, KeepsSaid, AddsPart, disk_now, said_now, StopLeaves}
+use Rattle.host_port.specs.Host.{Told, MayLeave, GoesOn, Throughout, KeepsDisk, KeepsSaid, AddsPart, disk_now, said_now, CrashLeaves}
 use Rattle.host_port.proofs.Course.{carry_on, told_next, still_disk, still_said, adds_none, said_kept_now}
 use Rattle.command_runs.specs.Runs.{Answer, listed, replies, events, answered}
-use Rattle.command_runs.specs.Stops.{IsAmong, IsRunning, IsStepping}
+use Rattle.command_runs.specs.Crashes.{IsAmong, IsRunning, IsStepping}
 use Rattle.command_runs.proofs.RunLaws.{replies-append, events-append, answered-within, replies-more, events-more}
 
--- Between two commands: these answers are given and the others are left; what they say is said, what they make stands, and
--- at each moment since the entry a prefix of the whole run's replies was said and a crash leaves what it may.
+-- Between two commands: these answers are given and the others are left; what they print is printed, what they make stands, and
+-- at each moment since the entry a prefix of the whole run's replies was printed and a crash leaves what it may.
 pub record Going {E : Type 0} (stands : List ℕ → List E → Type 0) (entry now : Told) (first : List E) (whole left : List (Answer E)) (rests : List E → Type 0) : Type 0 where
   pub done : List (Answer E)
   pub whole_is : whole ≡ done ++ left
@@ -45,7 +45,7 @@ module _ {E : Type 0} (stands : List ℕ → List E → Type 0) where
 
   module _ (entry : Told) (first : List E) (whole : List (Answer E)) where
     -- before the first command
-    pub begins : (rests : List E → Type 0) → (rests first → StopLeaves (λ x. stands x first) (disk_now entry)) → rests first → Going stands entry entry first whole whole rests
+    pub begins : (rests : List E → Type 0) → (rests first → CrashLeaves (λ x. stands x first) (disk_now entry)) → rests first → Going stands entry entry first whole whole rests
     begins rests leaves rest = record {
       done = [];
       whole_is = refl;
@@ -58,8 +58,8 @@ module _ {E : Type 0} (stands : List ℕ → List E → Type 0) where
     }
 
     module _ (a b : Told) (left : List (Answer E)) (rests : List E → Type 0) (going : Going stands entry a first whole left rests) (course : GoesOn entry a) where
-      -- calls that write and say nothing
-      pub quietly : GoesOn a b → KeepsDisk a b → KeepsSaid a b → ((events : List E) → rests events → StopLeaves (λ x. stands x events) (disk_now a))
+      -- calls that write and print nothing
+      pub quietly : GoesOn a b → KeepsDisk a b → KeepsSaid a b → ((events : List E) → rests events → CrashLeaves (λ x. stands x events) (disk_now a))
           → IsTrue entry.tells → (rests_next : List E → Type 0) → ((events : List E) → rests events → rests_next events) → Going stands entry b first whole left rests_next
       quietly on disk said leaves told rests_next stays = record {
         done = going.done;
@@ -74,7 +74,7 @@ module _ {E : Type 0} (stands : List ℕ → List E → Type 0) where
           quiet_part on said = carry_on entry a b (λ disk said. AddsPart (said_now entry) (replies whole) said) course on going.part
               (λ told t low high. let p = going.part (subst IsTrue course.tells told) a.clock course.clock (omega arith) in (p.0, said told t low high ∙ p.1))
 
-          quiet_moments : GoesOn a b → KeepsDisk a b → KeepsSaid a b → ((events : List E) → rests events → StopLeaves (λ x. stands x events) (disk_now a))
+          quiet_moments : GoesOn a b → KeepsDisk a b → KeepsSaid a b → ((events : List E) → rests events → CrashLeaves (λ x. stands x events) (disk_now a))
               → Throughout entry b (IsRunning stands first (events whole) (answered whole) (said_now entry))
           quiet_moments on disk said leaves = carry_on entry a b (IsRunning stands first (events whole) (answered whole) (said_now entry)) course on going.moments
               (λ told t low high x left_there. among first whole going.done left x (length (b.said t) - length (said_now entry)) going.whole_is
@@ -130,7 +130,7 @@ module _ {E : Type 0} (stands : List ℕ → List E → Type 0) where
         pub stepped_moments : Throughout entry b (IsRunning stands first (events whole) (answered whole) (said_now entry))
         stepped_moments = carry_on entry a b (IsRunning stands first (events whole) (answered whole) (said_now entry)) course steps.course going.moments moments_here
 
-        -- and where its reply was said
+        -- and where its reply was printed
         pub one_more : (rests_next : List E → Type 0) → said_now b ≡ said_now a ++ answer.reply
             → ((made : List E) → rests made → rests_next (made ++ listed answer.event)) → Going stands entry b first whole next rests_next
         one_more rests_next said added = record {

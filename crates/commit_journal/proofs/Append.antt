@@ -3,12 +3,12 @@ use Rattle.std.proofs.Common.{◌≡◌, inl, inr, ℕ, ◌+◌, ◌^◌, ◌<�
 use Rattle.std.proofs.lemmas.List.{length-take, take_at, drop_at, get_or_at}
 use Rattle.std.proofs.lemmas.Bool.{cases_eq}
 use Rattle.std.specs.Prelude.{IsTrue}
-use Rattle.host_port.specs.Host.{Told, GoesOn, Throughout, disk_now, Disk, Span, MayLeave, WrittenPart, overwritten, written, synced, StopLeaves}
+use Rattle.host_port.specs.Host.{Told, GoesOn, Throughout, disk_now, Disk, Span, MayLeave, WrittenPart, overwritten, written, synced, CrashLeaves}
 use Rattle.host_port.proofs.Replaying.{whole_write}
-use Rattle.commit_journal.specs.Stop.{IsSettled, Torn, IsWriting}
-use Rattle.commit_journal.specs.Journal.{behind_gate, Holds, Fits, IsReady, IsShort, EndsAt, IsAtRest, IsBeforeOrAfter, IsGateLast}
+use Rattle.commit_journal.specs.TornWrites.{IsSettled, Torn, IsWriting}
+use Rattle.commit_journal.specs.Journal.{after_gate, HoldsRecord, RecordFits, IsReady, IsShort, EndsAt, IsAtRest, IsBeforeOrAfter, IsGateLast}
 use Rattle.commit_journal.proofs.Torn.{torn_part, left_settled, torn_front, torn_back}
-use Rattle.commit_journal.proofs.Ends.{stands, same_end, opened, shut, length-behind_gate}
+use Rattle.commit_journal.proofs.Ends.{stands, same_end, opened, shut, length-after_gate}
 use Rattle.page_pool.specs.Frames.{Frames}
 use Rattle.page_pool.specs.Paged.{PagedState, content}
 use Rattle.host_port.proofs.Course.{carry_on, told_next}
@@ -32,7 +32,7 @@ module _ (old : Disk) (at : ℕ) (bytes : List ℕ) (settled : IsSettled old) (f
   now_torn disk (inl part) = part.torn
   now_torn disk (inr done) = subst (λ d. Torn (record { from = at; to = at + length bytes }) old.now d.now) (sym done) whole_torn
 
-  -- what a stop leaves at a moment of the write
+  -- what a crash leaves at a moment of the write
   pub left_torn : (disk : Disk) → IsWriting old at bytes disk → (x : List ℕ) → MayLeave disk x → Torn (record { from = at; to = at + length bytes }) old.now x
   left_torn disk (inl part) x left = torn_part old disk _ x settled part left
   left_torn disk (inr done) x left =
@@ -44,42 +44,42 @@ module _ (old : Disk) (forms : List (List ℕ)) (gate : ℕ) (form : List ℕ) (
   in_file = omega (arith, at_rest.ends.in_file)
 
   -- the record and the next gate first
-  pub first_leaves : (disk : Disk) → IsWriting old (gate + 1) (behind_gate form) disk → StopLeaves (λ x. EndsAt x forms gate) disk
+  pub first_leaves : (disk : Disk) → IsWriting old (gate + 1) (after_gate form) disk → CrashLeaves (λ x. EndsAt x forms gate) disk
   first_leaves disk writing x left =
-      let torn = left_torn old (gate + 1) (behind_gate form) at_rest.settled in_file disk writing x left in
-      same_end old.now forms gate at_rest.ends x (torn_front (gate + 1) (length (behind_gate form)) old.now x torn (gate + 1) (omega arith) in_file) (omega (arith, torn.no_shorter, in_file))
+      let torn = left_torn old (gate + 1) (after_gate form) at_rest.settled in_file disk writing x left in
+      same_end old.now forms gate at_rest.ends x (torn_front (gate + 1) (length (after_gate form)) old.now x torn (gate + 1) (omega arith) in_file) (omega (arith, torn.no_shorter, in_file))
 
-  pub first_gate : (disk : Disk) → IsWriting old (gate + 1) (behind_gate form) disk → StopLeaves (λ x. get_or x gate 0 ≡ get_or old.now gate 0) disk
+  pub first_gate : (disk : Disk) → IsWriting old (gate + 1) (after_gate form) disk → CrashLeaves (λ x. get_or x gate 0 ≡ get_or old.now gate 0) disk
   first_gate disk writing x left =
-      let torn = left_torn old (gate + 1) (behind_gate form) at_rest.settled in_file disk writing x left in
+      let torn = left_torn old (gate + 1) (after_gate form) at_rest.settled in_file disk writing x left in
       torn.kept gate (omega (arith, in_file)) (inl (omega arith))
 
-  pub first_front : (disk : Disk) → IsWriting old (gate + 1) (behind_gate form) disk → take gate disk.now ≡ take gate old.now
-  first_front disk writing = torn_front (gate + 1) (length (behind_gate form)) old.now disk.now (now_torn old (gate + 1) (behind_gate form) at_rest.settled in_file disk writing) gate (omega arith) (omega (arith, in_file))
+  pub first_front : (disk : Disk) → IsWriting old (gate + 1) (after_gate form) disk → take gate disk.now ≡ take gate old.now
+  first_front disk writing = torn_front (gate + 1) (length (after_gate form)) old.now disk.now (now_torn old (gate + 1) (after_gate form) at_rest.settled in_file disk writing) gate (omega arith) (omega (arith, in_file))
 
   abbrev staged : List ℕ
-  staged = overwritten old.now (gate + 1) (behind_gate form)
+  staged = overwritten old.now (gate + 1) (after_gate form)
 
   abbrev mid : Disk
-  mid = synced (written old (gate + 1) (behind_gate form))
+  mid = synced (written old (gate + 1) (after_gate form))
 
-  staged_torn : Torn (record { from = gate + 1; to = gate + 1 + length (behind_gate form) }) old.now staged
-  staged_torn = whole_torn old (gate + 1) (behind_gate form) at_rest.settled in_file
+  staged_torn : Torn (record { from = gate + 1; to = gate + 1 + length (after_gate form) }) old.now staged
+  staged_torn = whole_torn old (gate + 1) (after_gate form) at_rest.settled in_file
 
   staged_front : take gate staged ≡ take gate old.now
-  staged_front = torn_front (gate + 1) (length (behind_gate form)) old.now staged staged_torn gate (omega arith) (omega (arith, in_file))
+  staged_front = torn_front (gate + 1) (length (after_gate form)) old.now staged staged_torn gate (omega arith) (omega (arith, in_file))
 
-  staged_back : drop (gate + 1) staged ≡ behind_gate form ++ drop (gate + 1 + length (behind_gate form)) old.now
-  staged_back = overwritten_back old.now (gate + 1) (behind_gate form) in_file
+  staged_back : drop (gate + 1) staged ≡ after_gate form ++ drop (gate + 1 + length (after_gate form)) old.now
+  staged_back = overwritten_back old.now (gate + 1) (after_gate form) in_file
 
   staged_long : gate + 1 ≤ length staged
   staged_long = omega (arith, in_file, staged_torn.no_shorter)
 
   module _ (x : List ℕ) (torn : Torn (record { from = gate; to = gate + 1 }) staged x) where
-    front : take gate x ≡ take gate old.now
-    front = torn_front gate 1 staged x torn gate (omega arith) (omega (arith, staged_long)) ∙ staged_front
+    prefix : take gate x ≡ take gate old.now
+    prefix = torn_front gate 1 staged x torn gate (omega arith) (omega (arith, staged_long)) ∙ staged_front
 
-    back : drop (gate + 1) x ≡ behind_gate form ++ drop (gate + 1 + length (behind_gate form)) old.now
+    back : drop (gate + 1) x ≡ after_gate form ++ drop (gate + 1 + length (after_gate form)) old.now
     back = torn_back gate 1 staged x torn ∙ staged_back
 
     long : gate < length x
@@ -87,87 +87,87 @@ module _ (old : Disk) (forms : List (List ℕ)) (gate : ℕ) (form : List ℕ) (
 
     pub either : IsBeforeOrAfter forms form x
     either = elim (cases_eq (get_or x gate 0) 165) [
-      | inl is_open ↦ inr (stands x (forms ++ form ∷ []) (gate + 5 + length form) (opened old.now forms gate at_rest.ends form (drop (gate + 1 + length (behind_gate form)) old.now) x front back short fits long is_open))
-      | inr is_shut ↦ inl (stands x forms gate (shut old.now forms gate at_rest.ends form (drop (gate + 1 + length (behind_gate form)) old.now) x front back short fits long is_shut))
+      | inl is_open ↦ inr (stands x (forms ++ form ∷ []) (gate + 5 + length form) (opened old.now forms gate at_rest.ends form (drop (gate + 1 + length (after_gate form)) old.now) x prefix back short fits long is_open))
+      | inr is_shut ↦ inl (stands x forms gate (shut old.now forms gate at_rest.ends form (drop (gate + 1 + length (after_gate form)) old.now) x prefix back short fits long is_shut))
     ]
 
     pub after : get_or x gate 0 ≡ 165 → EndsAt x (forms ++ form ∷ []) (gate + 5 + length form)
-    after is_open = opened old.now forms gate at_rest.ends form (drop (gate + 1 + length (behind_gate form)) old.now) x front back short fits long is_open
+    after is_open = opened old.now forms gate at_rest.ends form (drop (gate + 1 + length (after_gate form)) old.now) x prefix back short fits long is_open
 
-    pub behind_stays : take (length (behind_gate form)) (drop (gate + 1) x) ≡ behind_gate form
-    behind_stays = ap (λ (l : List ℕ). take (length (behind_gate form)) l) back ∙ take_at (behind_gate form) (drop (gate + 1 + length (behind_gate form)) old.now) (length (behind_gate form)) refl
+    pub behind_stays : take (length (after_gate form)) (drop (gate + 1) x) ≡ after_gate form
+    behind_stays = ap (λ (l : List ℕ). take (length (after_gate form)) l) back ∙ take_at (after_gate form) (drop (gate + 1 + length (after_gate form)) old.now) (length (after_gate form)) refl
 
   -- and then the gate
-  pub second_leaves : (disk : Disk) → IsWriting mid gate (165 ∷ []) disk → StopLeaves (IsBeforeOrAfter forms form) disk
-  second_leaves disk writing x left = either x (left_torn mid gate (165 ∷ []) (synced_settled (written old (gate + 1) (behind_gate form))) (omega (arith, staged_long)) disk writing x left)
+  pub second_leaves : (disk : Disk) → IsWriting mid gate (165 ∷ []) disk → CrashLeaves (IsBeforeOrAfter forms form) disk
+  second_leaves disk writing x left = either x (left_torn mid gate (165 ∷ []) (synced_settled (written old (gate + 1) (after_gate form))) (omega (arith, staged_long)) disk writing x left)
 
   pub second_front : (disk : Disk) → IsWriting mid gate (165 ∷ []) disk → take gate disk.now ≡ take gate old.now
-  second_front disk writing = front disk.now (now_torn mid gate (165 ∷ []) (synced_settled (written old (gate + 1) (behind_gate form))) (omega (arith, staged_long)) disk writing)
+  second_front disk writing = prefix disk.now (now_torn mid gate (165 ∷ []) (synced_settled (written old (gate + 1) (after_gate form))) (omega (arith, staged_long)) disk writing)
 
-  pub second_behind : (disk : Disk) → IsWriting mid gate (165 ∷ []) disk → take (length (behind_gate form)) (drop (gate + 1) disk.stable) ≡ behind_gate form
-  second_behind disk (inl part) = ap (λ (l : List ℕ). take (length (behind_gate form)) (drop (gate + 1) l)) part.stable ∙ ap (λ (l : List ℕ). take (length (behind_gate form)) l) staged_back
-      ∙ take_at (behind_gate form) (drop (gate + 1 + length (behind_gate form)) old.now) (length (behind_gate form)) refl
-  second_behind disk (inr done) = ap (λ d. take (length (behind_gate form)) (drop (gate + 1) d.stable)) done
-      ∙ behind_stays (overwritten staged gate (165 ∷ [])) (whole_torn mid gate (165 ∷ []) (synced_settled (written old (gate + 1) (behind_gate form))) (omega (arith, staged_long)))
+  pub second_behind : (disk : Disk) → IsWriting mid gate (165 ∷ []) disk → take (length (after_gate form)) (drop (gate + 1) disk.stable) ≡ after_gate form
+  second_behind disk (inl part) = ap (λ (l : List ℕ). take (length (after_gate form)) (drop (gate + 1) l)) part.stable ∙ ap (λ (l : List ℕ). take (length (after_gate form)) l) staged_back
+      ∙ take_at (after_gate form) (drop (gate + 1 + length (after_gate form)) old.now) (length (after_gate form)) refl
+  second_behind disk (inr done) = ap (λ d. take (length (after_gate form)) (drop (gate + 1) d.stable)) done
+      ∙ behind_stays (overwritten staged gate (165 ∷ [])) (whole_torn mid gate (165 ∷ []) (synced_settled (written old (gate + 1) (after_gate form))) (omega (arith, staged_long)))
 
   pub second_done : (disk : Disk) → disk ≡ synced (written mid gate (165 ∷ [])) → IsAtRest disk (forms ++ form ∷ []) (gate + 5 + length form)
   second_done disk done =
-      let torn = whole_torn mid gate (165 ∷ []) (synced_settled (written old (gate + 1) (behind_gate form))) (omega (arith, staged_long)) in
+      let torn = whole_torn mid gate (165 ∷ []) (synced_settled (written old (gate + 1) (after_gate form))) (omega (arith, staged_long)) in
       let back = overwritten_back staged gate (165 ∷ []) (omega (arith, staged_long)) in
       let new = overwritten staged gate (165 ∷ []) in
       let gate_is : get_or new gate 0 ≡ 165 = ap (λ (l : List ℕ). get_or l gate 0) (append_assoc (take gate staged) (165 ∷ []) (drop (gate + 1) staged)) ∙ get_or_at (take gate staged) 165 (drop (gate + 1) staged) 0 gate (omega (arith, length-take gate staged, staged_long)) in
       subst (λ d. IsAtRest d (forms ++ form ∷ []) (gate + 5 + length form)) (sym done) (record { settled = synced_settled (written mid gate (165 ∷ [])); ends = after new torn gate_is })
 
-pub is_short : (gate : ℕ) (form : List ℕ) → Fits gate (length form) → IsShort form
+pub is_short : (gate : ℕ) (form : List ℕ) → RecordFits gate (length form) → IsShort form
 is_short gate form fit = omega (arith, fit.short)
 
--- whatever form a ready record holds fits
-pub fits_held : (pool : Frames) (prepared : PagedState) (end : ℕ) → IsReady pool prepared end → (form : List ℕ) → Holds pool prepared form → Fits end (length form)
+-- whatever byte string a ready record holds fits
+pub fits_held : (pool : Frames) (prepared : PagedState) (end : ℕ) → IsReady pool prepared end → (form : List ℕ) → HoldsRecord pool prepared form → RecordFits end (length form)
 fits_held pool prepared end ready form held =
     let a = ready.1.size in
     let b = held.size in
-    let c = length-behind_gate ready.0 in
-    let d = length-behind_gate form in
+    let c = length-after_gate ready.0 in
+    let d = length-after_gate form in
     let same : length ready.0 ≡ length form = omega (arith, a, b, c, d) in
-    subst (λ (n : ℕ). Fits end n) same ready.2
+    subst (λ (n : ℕ). RecordFits end n) same ready.2
 
 -- what is written is what a ready record holds
-pub bytes_of : (pool : Frames) (prepared paged : PagedState) (form : List ℕ) → paged ≡ prepared → Holds pool prepared form → content pool paged ≡ behind_gate form
+pub bytes_of : (pool : Frames) (prepared paged : PagedState) (form : List ℕ) → paged ≡ prepared → HoldsRecord pool prepared form → content pool paged ≡ after_gate form
 bytes_of pool prepared paged form is held = ap (λ (p : PagedState). content pool p) is ∙ held.content_is
 
-module _ (a b : Told) (gate at : ℕ) (form bytes : List ℕ) (gate_is : at ≡ gate) (bytes_is : bytes ≡ behind_gate form) (fit : Fits gate (length form))
+module _ (a b : Told) (gate at : ℕ) (form bytes : List ℕ) (gate_is : at ≡ gate) (bytes_is : bytes ≡ after_gate form) (fit : RecordFits gate (length form))
     (during : Throughout a b (λ disk said. IsWriting (disk_now a) (at + 1) bytes disk)) where
-  first : Throughout a b (λ disk said. IsWriting (disk_now a) (gate + 1) (behind_gate form) disk)
-  first told t low high = subst (λ (n : ℕ). IsWriting (disk_now a) (n + 1) (behind_gate form) (b.disk t)) gate_is (subst (λ (l : List ℕ). IsWriting (disk_now a) (at + 1) l (b.disk t)) bytes_is (during told t low high))
+  first : Throughout a b (λ disk said. IsWriting (disk_now a) (gate + 1) (after_gate form) disk)
+  first told t low high = subst (λ (n : ℕ). IsWriting (disk_now a) (n + 1) (after_gate form) (b.disk t)) gate_is (subst (λ (l : List ℕ). IsWriting (disk_now a) (at + 1) l (b.disk t)) bytes_is (during told t low high))
 
-  pub one_any_moment : (forms : List (List ℕ)) → IsAtRest (disk_now a) forms gate → Throughout a b (λ disk said. StopLeaves (IsBeforeOrAfter forms form) disk)
+  pub one_any_moment : (forms : List (List ℕ)) → IsAtRest (disk_now a) forms gate → Throughout a b (λ disk said. CrashLeaves (IsBeforeOrAfter forms form) disk)
   one_any_moment forms at_rest told t low high x left = inl (stands x forms gate (first_leaves (disk_now a) forms gate form at_rest (is_short gate form fit) fit.room (b.disk t) (first told t low high) x left))
 
   pub one_front : (IsTrue a.tells → (forms : List (List ℕ)) × IsAtRest (disk_now a) forms gate) → Throughout a b (λ disk said. take gate disk.now ≡ take gate (disk_now a).now)
   one_front rest told t low high = first_front (disk_now a) (rest told).0 gate form (rest told).1 (is_short gate form fit) fit.room (b.disk t) (first told t low high)
 
-  pub one_gate_last : (IsTrue a.tells → (forms : List (List ℕ)) × IsAtRest (disk_now a) forms gate) → Throughout a b (λ disk said. IsGateLast (disk_now a) gate (behind_gate form) disk)
+  pub one_gate_last : (IsTrue a.tells → (forms : List (List ℕ)) × IsAtRest (disk_now a) forms gate) → Throughout a b (λ disk said. IsGateLast (disk_now a) gate (after_gate form) disk)
   one_gate_last rest told t low high = inl (first_gate (disk_now a) (rest told).0 gate form (rest told).1 (is_short gate form fit) fit.room (b.disk t) (first told t low high))
 
   module _ (c : Told) (ab : GoesOn a b) (bc : GoesOn b c) (done : IsTrue a.tells → disk_now b ≡ synced (written (disk_now a) (at + 1) bytes))
       (later : Throughout b c (λ disk said. IsWriting (disk_now b) at (165 ∷ []) disk)) where
-    mid_is : IsTrue a.tells → disk_now b ≡ synced (written (disk_now a) (gate + 1) (behind_gate form))
+    mid_is : IsTrue a.tells → disk_now b ≡ synced (written (disk_now a) (gate + 1) (after_gate form))
     mid_is told = done told ∙ ap (λ (n : ℕ). synced (written (disk_now a) (n + 1) bytes)) gate_is ∙ ap (λ (l : List ℕ). synced (written (disk_now a) (gate + 1) l)) bytes_is
 
-    second : IsTrue a.tells → (t : ℕ) → b.clock ≤ t → t ≤ c.clock → IsWriting (synced (written (disk_now a) (gate + 1) (behind_gate form))) gate (165 ∷ []) (c.disk t)
-    second told t low high = subst (λ (n : ℕ). IsWriting (synced (written (disk_now a) (gate + 1) (behind_gate form))) n (165 ∷ []) (c.disk t)) gate_is
+    second : IsTrue a.tells → (t : ℕ) → b.clock ≤ t → t ≤ c.clock → IsWriting (synced (written (disk_now a) (gate + 1) (after_gate form))) gate (165 ∷ []) (c.disk t)
+    second told t low high = subst (λ (n : ℕ). IsWriting (synced (written (disk_now a) (gate + 1) (after_gate form))) n (165 ∷ []) (c.disk t)) gate_is
         (subst (λ (d : Disk). IsWriting d at (165 ∷ []) (c.disk t)) (mid_is told) (later (told_next a b ab told) t low high))
 
-    pub two_any_moment : (forms : List (List ℕ)) → IsAtRest (disk_now a) forms gate → Throughout a c (λ disk said. StopLeaves (IsBeforeOrAfter forms form) disk)
-    two_any_moment forms at_rest told = carry_on a b c (λ disk said. StopLeaves (IsBeforeOrAfter forms form) disk) ab bc (one_any_moment forms at_rest)
+    pub two_any_moment : (forms : List (List ℕ)) → IsAtRest (disk_now a) forms gate → Throughout a c (λ disk said. CrashLeaves (IsBeforeOrAfter forms form) disk)
+    two_any_moment forms at_rest told = carry_on a b c (λ disk said. CrashLeaves (IsBeforeOrAfter forms form) disk) ab bc (one_any_moment forms at_rest)
         (λ told_b t low high. second_leaves (disk_now a) forms gate form at_rest (is_short gate form fit) fit.room (c.disk t) (second told t low high)) told
 
     pub two_front : (IsTrue a.tells → (forms : List (List ℕ)) × IsAtRest (disk_now a) forms gate) → Throughout a c (λ disk said. take gate disk.now ≡ take gate (disk_now a).now)
     two_front rest told = carry_on a b c (λ disk said. take gate disk.now ≡ take gate (disk_now a).now) ab bc (one_front rest)
         (λ told_b t low high. second_front (disk_now a) (rest told).0 gate form (rest told).1 (is_short gate form fit) fit.room (c.disk t) (second told t low high)) told
 
-    pub two_gate_last : (IsTrue a.tells → (forms : List (List ℕ)) × IsAtRest (disk_now a) forms gate) → Throughout a c (λ disk said. IsGateLast (disk_now a) gate (behind_gate form) disk)
-    two_gate_last rest told = carry_on a b c (λ disk said. IsGateLast (disk_now a) gate (behind_gate form) disk) ab bc (one_gate_last rest)
+    pub two_gate_last : (IsTrue a.tells → (forms : List (List ℕ)) × IsAtRest (disk_now a) forms gate) → Throughout a c (λ disk said. IsGateLast (disk_now a) gate (after_gate form) disk)
+    two_gate_last rest told = carry_on a b c (λ disk said. IsGateLast (disk_now a) gate (after_gate form) disk) ab bc (one_gate_last rest)
         (λ told_b t low high. inr (second_behind (disk_now a) (rest told).0 gate form (rest told).1 (is_short gate form fit) fit.room (c.disk t) (second told t low high))) told
 
     pub added : (IsTrue b.tells → disk_now c ≡ synced (written (disk_now b) at (165 ∷ []))) → IsTrue a.tells → (forms : List (List ℕ)) → IsAtRest (disk_now a) forms gate → IsAtRest (disk_now c) (forms ++ form ∷ []) (gate + 5 + length form)

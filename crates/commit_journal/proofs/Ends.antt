@@ -3,7 +3,7 @@ use Rattle.std.proofs.Common.{◌≡◌, ◌≢◌, inl, inr, ℕ, ◌+◌, ◌^
 use Rattle.std.proofs.lemmas.List.{append-nil, get_or-take, get_or_at, take_at, drop_more}
 use Rattle.std.proofs.lemmas.List.Elements.{All-push}
 use Rattle.std.proofs.lemmas.Bool.{cases_lt}
-use Rattle.commit_journal.specs.Journal.{header, four_bytes, record_of, records, behind_gate, IsShort, EndsAt, StandsFor}
+use Rattle.commit_journal.specs.Journal.{header, four_bytes, record_of, records, after_gate, IsShort, EndsAt, StandsFor}
 
 pub length-header : length header ≡ 16
 unfolding header
@@ -20,8 +20,8 @@ records-push (f ∷ forms) form = ap (λ (l : List ℕ). record_of f ++ l) (reco
 pub length-record_of : (form : List ℕ) → length (record_of form) ≡ 5 + length form
 length-record_of form = omega (arith, length-append (four_bytes (length form)) form, length-four_bytes (length form))
 
-pub length-behind_gate : (form : List ℕ) → length (behind_gate form) ≡ 5 + length form
-length-behind_gate form = omega (arith, length-append (four_bytes (length form) ++ form) (0 ∷ []), length-append (four_bytes (length form)) form, length-four_bytes (length form))
+pub length-after_gate : (form : List ℕ) → length (after_gate form) ≡ 5 + length form
+length-after_gate form = omega (arith, length-append (four_bytes (length form) ++ form) (0 ∷ []), length-append (four_bytes (length form)) form, length-four_bytes (length form))
 
 pub no_records : (forms : List (List ℕ)) → length (records forms) ≡ 0 → forms ≡ []
 no_records [] none = refl
@@ -38,7 +38,7 @@ module _ (file : List ℕ) (forms : List (List ℕ)) (place : ℕ) (ends : EndsA
   pub same_end : (x : List ℕ) → take (place + 1) x ≡ take (place + 1) file → place < length x → EndsAt x forms place
   same_end x same long = record {
     reads = record {
-      front = sym (take-take place (place + 1) x (omega arith)) ∙ ap (λ (l : List ℕ). take place l) same ∙ take-take place (place + 1) file (omega arith) ∙ ends.reads.front;
+      prefix = sym (take-take place (place + 1) x (omega arith)) ∙ ap (λ (l : List ℕ). take place l) same ∙ take-take place (place + 1) file (omega arith) ∙ ends.reads.prefix;
       place_is = ends.reads.place_is;
       sizes = ends.reads.sizes;
     };
@@ -47,13 +47,13 @@ module _ (file : List ℕ) (forms : List (List ℕ)) (place : ℕ) (ends : EndsA
     low = ends.low;
   }
 
-  -- a whole record behind any gate counts or it doesn't
-  module _ (form rest x : List ℕ) (front : take place x ≡ take place file) (behind : drop (place + 1) x ≡ behind_gate form ++ rest)
+  -- a whole record after any gate counts or it doesn't
+  module _ (form rest x : List ℕ) (prefix : take place x ≡ take place file) (behind : drop (place + 1) x ≡ after_gate form ++ rest)
       (short : IsShort form) (fits : place + length form + 6 ≤ 2 ^ 40) (long : place < length x) where
     whole : get_or x place 0 ≡ 165 → x ≡ (header ++ records (forms ++ form ∷ [])) ++ 0 ∷ rest
     whole is_open =
-        let back : drop place x ≡ 165 ∷ behind_gate form ++ rest = drop_more x place 0 long ∙ ap (λ (g : ℕ). g ∷ drop (place + 1) x) is_open ∙ ap (λ (l : List ℕ). 165 ∷ l) behind in
-        sym (take-append-drop place x) ∙ ap (λ (l : List ℕ). l ++ drop place x) (front ∙ ends.reads.front) ∙ ap (λ (l : List ℕ). (header ++ records forms) ++ l) back
+        let back : drop place x ≡ 165 ∷ after_gate form ++ rest = drop_more x place 0 long ∙ ap (λ (g : ℕ). g ∷ drop (place + 1) x) is_open ∙ ap (λ (l : List ℕ). 165 ∷ l) behind in
+        sym (take-append-drop place x) ∙ ap (λ (l : List ℕ). l ++ drop place x) (prefix ∙ ends.reads.prefix) ∙ ap (λ (l : List ℕ). (header ++ records forms) ++ l) back
         ∙ sym (ap (λ (l : List ℕ). (header ++ l) ++ 0 ∷ rest) (records-push forms form) ∙ simp append_assoc)
 
     pub opened : get_or x place 0 ≡ 165 → EndsAt x (forms ++ form ∷ []) (place + 5 + length form)
@@ -64,7 +64,7 @@ module _ (file : List ℕ) (forms : List (List ℕ)) (place : ℕ) (ends : EndsA
         let gate : get_or x (place + 5 + length form) 0 ≡ 0 = ap (λ (l : List ℕ). get_or l (place + 5 + length form) 0) is ∙ get_or_at (header ++ records (forms ++ form ∷ [])) 0 rest 0 (place + 5 + length form) size in
         record {
           reads = record {
-            front = ap (λ (l : List ℕ). take (place + 5 + length form) l) is ∙ take_at (header ++ records (forms ++ form ∷ [])) (0 ∷ rest) (place + 5 + length form) size;
+            prefix = ap (λ (l : List ℕ). take (place + 5 + length form) l) is ∙ take_at (header ++ records (forms ++ form ∷ [])) (0 ∷ rest) (place + 5 + length form) size;
             place_is = omega (arith, size, length-append header (records (forms ++ form ∷ [])), length-header);
             sizes = All-push IsShort forms form ends.reads.sizes short;
           };
@@ -75,7 +75,7 @@ module _ (file : List ℕ) (forms : List (List ℕ)) (place : ℕ) (ends : EndsA
 
     pub shut : get_or x place 0 ≢ 165 → EndsAt x forms place
     shut closed = record {
-      reads = record { front = front ∙ ends.reads.front; place_is = ends.reads.place_is; sizes = ends.reads.sizes };
+      reads = record { prefix = prefix ∙ ends.reads.prefix; place_is = ends.reads.place_is; sizes = ends.reads.sizes };
       in_file = long;
       closed = closed;
       low = ends.low;

@@ -1,17 +1,17 @@
--- What a stop leaves while a journal is mounted.
+-- What a crash leaves while a journal is mounted.
 use Rattle.std.proofs.Common.{◌≡◌, ◌⊎◌, inl, inr, ⊎_elim, ℕ, ◌<◌, ◌≤◌, List, [], ◌∷◌, ◌++◌, length, take, get_or, refl, sym, ◌∙◌, ap, subst, arith}
 use Rattle.std.specs.Prelude.{IsTrue}
 use Rattle.std.proofs.lemmas.List.{append-nil, drop_all}
-use Rattle.host_port.specs.Host.{Told, Disk, MayLeave, GoesOn, Throughout, KeepsDisk, disk_now, overwritten, written, synced, StopLeaves}
+use Rattle.host_port.specs.Host.{Told, Disk, MayLeave, GoesOn, Throughout, KeepsDisk, disk_now, overwritten, written, synced, CrashLeaves}
 use Rattle.host_port.proofs.Course.{carry_on, told_next, course_on, kept_now}
-use Rattle.commit_journal.specs.Stop.{IsSettled, IsWriting}
+use Rattle.commit_journal.specs.TornWrites.{IsSettled, IsWriting}
 use Rattle.commit_journal.specs.Journal.{header, new_file, ReadsTo, EndsAt, StandsFor, StandsForSame, IsNoHeader, IsWalked, MountedFrom}
 use Rattle.commit_journal.proofs.Torn.{left_settled}
 use Rattle.commit_journal.proofs.Append.{synced_settled, left_torn}
 use Rattle.commit_journal.proofs.Walking.{no_header}
 
 abbrev pub IsMounting : Disk → Disk → Type 0
-IsMounting old disk = (disk ≡ old) ⊎ StopLeaves (StandsForSame old.now) disk
+IsMounting old disk = (disk ≡ old) ⊎ CrashLeaves (StandsForSame old.now) disk
 
 synced_leaves : (old disk : Disk) → disk ≡ synced old → IsMounting old disk
 synced_leaves old disk is = inr (λ x left.
@@ -55,12 +55,12 @@ unfolding new_file header
 gate_is_shut = refl
 
 pub new_reads : ReadsTo new_file [] 16
-new_reads = record { front = front_is; place_is = refl; sizes = λ k d low. absurd (omega arith) }
+new_reads = record { prefix = front_is; place_is = refl; sizes = λ k d low. absurd (omega arith) }
 
 pub new_ends : EndsAt new_file [] 16
 new_ends = record { reads = new_reads; in_file = omega (arith, length-new_file); closed = λ is_open. absurd (omega (arith, gate_is_shut, is_open)); low = omega arith }
 
--- the host at the start, behind the sync and behind the length
+-- the host at the start, after the sync and after the length
 module _ (a s l : Told) (sync_course : GoesOn a s) (sync_moments : Throughout a s (λ disk said. (disk ≡ disk_now a) ⊎ (disk ≡ synced (disk_now a))))
     (stable : IsTrue a.tells → disk_now s ≡ synced (disk_now a)) (len_course : GoesOn s l) (len_disk : KeepsDisk s l) where
   pub told_at_len : IsTrue a.tells → IsTrue l.tells
@@ -82,7 +82,7 @@ module _ (a s l : Told) (sync_course : GoesOn a s) (sync_moments : Throughout a 
       (λ told t low high. ⊎_elim (ap (λ (d : Disk). d.now)) (ap (λ (d : Disk). d.now)) (sync_moments told t low high))
       (λ told_s t low high. ap (λ (d : Disk). d.now) (len_disk told_s t low high ∙ stable told)) told
 
-  -- and behind the reading of the header
+  -- and after the reading of the header
   module _ (e : Told) (course : GoesOn l e) (disk : KeepsDisk l e) where
     pub up_to_read : Throughout a e (λ disk said. IsMounting (disk_now a) disk)
     up_to_read told = carry_on a l e (λ disk said. IsMounting (disk_now a) disk) course_to_len course up_to_len
@@ -104,7 +104,7 @@ module _ (a s l : Told) (sync_course : GoesOn a s) (sync_moments : Throughout a 
         settled = synced_settled (disk_now a);
         mounted = inl (length_is told);
         reads = record {
-          front = sym (is ∙ ap (λ (d : Disk). take 16 d.now) (disk_at_len told)) ∙ same ∙ sym (append-nil header);
+          prefix = sym (is ∙ ap (λ (d : Disk). take 16 d.now) (disk_at_len told)) ∙ same ∙ sym (append-nil header);
           place_is = refl;
           sizes = λ k d low. absurd (omega arith);
         };
@@ -116,7 +116,7 @@ module _ (a s l : Told) (sync_course : GoesOn a s) (sync_moments : Throughout a 
     pub differs : (head : List ℕ) (at : ℕ) → head ≡ take 16 (disk_now l).now → IsNoHeader head at → IsTrue a.tells → IsNoHeader (disk_now a).now at
     differs head at is none told = no_header (disk_now a).now head at (is ∙ ap (λ (d : Disk). take 16 d.now) (disk_at_len told)) none
 
-  -- and behind the writing of the header
+  -- and after the writing of the header
   module _ (e : Told) (course : GoesOn l e) (short : IsTrue a.tells → length (disk_now a).now ≤ 17) (during : Throughout l e (λ disk said. IsWriting (disk_now l) 0 plain_file disk)) where
     pub up_to_write : Throughout a e (λ disk said. IsMounting (disk_now a) disk)
     up_to_write told = carry_on a l e (λ disk said. IsMounting (disk_now a) disk) course_to_len course up_to_len

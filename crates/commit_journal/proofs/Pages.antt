@@ -1,4 +1,4 @@
--- Writing the pieces of a byte string one behind another.
+-- Writing the pieces of a byte string one after another.
 use Rattle.std.proofs.Common.{◌≡◌, ◌⊎◌, inl, inr, ⊎_elim, ℕ, ◌+◌, ◌≤◌, List, [], ◌++◌, length, take, drop, refl, sym, ap, subst, ◌∙◌, arith, append_assoc, length-append}
 use Rattle.std.specs.Prelude.{IsTrue}
 use Rattle.std.proofs.lemmas.List.{length-take, length-drop, take_at, drop_at, drop-drop, take-append-drop, take-take, drop-take, take_all, append-nil}
@@ -9,13 +9,13 @@ use Rattle.host_port.proofs.Replaying.{length-overwritten}
 use Rattle.page_pool.specs.Frames.{Frames}
 use Rattle.page_pool.specs.Paged.{PagedState, AreOut, content, joined, frames_for}
 use Rattle.page_pool.proofs.Among.{length-joined}
-use Rattle.commit_journal.specs.Stop.{IsWithin, WrittenWithin, IsWriting}
+use Rattle.commit_journal.specs.TornWrites.{IsWithin, WrittenWithin, IsWriting}
 use Rattle.commit_journal.proofs.Torn.{more_within}
 
--- two writes, one behind the other, are one
+-- two writes, one after the other, are one
 pub over_over : (old : List ℕ) (at : ℕ) (a b : List ℕ) → at ≤ length old → overwritten (overwritten old at a) (at + length a) b ≡ overwritten old at (a ++ b)
 over_over old at a b fits =
-    ap (λ (l : List ℕ). l ++ b ++ drop (at + length a + length b) (overwritten old at a)) front
+    ap (λ (l : List ℕ). l ++ b ++ drop (at + length a + length b) (overwritten old at a)) prefix
     ∙ ap (λ (l : List ℕ). (take at old ++ a) ++ b ++ l) back
     ∙ ap (λ (l : List ℕ). l ++ drop (at + length (a ++ b)) old) (append_assoc (take at old) a b)
   where
@@ -25,8 +25,8 @@ over_over old at a b fits =
     size : length (take at old ++ a) ≡ at + length a
     size = let l = length-append (take at old) a in let t = length-take at old in omega (arith, l, t, fits)
 
-    front : take (at + length a) (overwritten old at a) ≡ take at old ++ a
-    front = ap (λ (l : List ℕ). take (at + length a) l) whole ∙ take_at (take at old ++ a) (drop (at + length a) old) (at + length a) size
+    prefix : take (at + length a) (overwritten old at a) ≡ take at old ++ a
+    prefix = ap (λ (l : List ℕ). take (at + length a) l) whole ∙ take_at (take at old ++ a) (drop (at + length a) old) (at + length a) size
 
     rest : drop (at + length a) (overwritten old at a) ≡ drop (at + length a) old
     rest = ap (λ (l : List ℕ). drop (at + length a) l) whole ∙ drop_at (take at old ++ a) (drop (at + length a) old) (at + length a) size
@@ -130,7 +130,7 @@ all_wrote a b at bytes n wrote full told = wrote.now told ∙ ap (λ (l : List �
 abbrev pub disk_of : List ℕ → Disk
 disk_of l = record { now = l; stable = l; loose = [] }
 
--- the pieces and the sync behind them
+-- the pieces and the sync after them
 module _ (a b : Told) (at : ℕ) (bytes : List ℕ) (during : Throughout a b (λ disk said. WrittenWithin (disk_now a) (span_of at bytes) disk)) where
   pub pages_write : Throughout a b (λ disk said. IsWriting (disk_now a) at bytes disk)
   pages_write told t low high = inl (during told t low high)

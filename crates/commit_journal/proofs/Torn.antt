@@ -1,11 +1,11 @@
--- What a stop leaves while a range of a settled file is written.
+-- What a crash leaves while a range of a settled file is written.
 use Rattle.std.proofs.Common.{◌≡◌, ◌⊎◌, inl, inr, ⊎_elim, ℕ, suc, ◌+◌, ◌<◌, ◌≤◌, max, List, [], ◌∷◌, length, take, drop, get_or, sym, ◌∙◌, ap, subst, arith}
 use Rattle.std.proofs.lemmas.List.{ext_get_or, drop_all, length-take, length-drop, get_or-take, get_or-drop}
 use Rattle.std.proofs.lemmas.List.Elements.{All-push, All-contains_itself}
 use Rattle.std.proofs.lemmas.Bool.{cases_lt}
 use Rattle.std.specs.Prelude.{All, Contains}
 use Rattle.host_port.specs.Host.{Disk, Span, IsOutside, furthest, MayLeave, WrittenPart}
-use Rattle.commit_journal.specs.Stop.{IsSettled, Torn, IsWithin, WrittenWithin}
+use Rattle.commit_journal.specs.TornWrites.{IsSettled, Torn, IsWithin, WrittenWithin}
 
 none_at : (i : ℕ) → All (λ (s : Span). IsOutside s i) []
 none_at i = λ k d low. absurd (omega arith)
@@ -78,7 +78,7 @@ module _ (old disk : Disk) (span : Span) (x : List ℕ) (settled : IsSettled old
     kept = λ i below out. left.kept i (omega (arith, ap length stable_is)) (outside i out) ∙ ap (λ (l : List ℕ). get_or l i 0) stable_is;
   }
 
--- after a sync a stop leaves what is read
+-- after a sync a crash leaves what is read
 pub left_settled : (disk : Disk) (x : List ℕ) → IsSettled disk → MayLeave disk x → x ≡ disk.now
 left_settled disk x settled left =
     let same = settled.same in

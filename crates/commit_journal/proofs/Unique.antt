@@ -14,7 +14,7 @@ first_of forms f all = all 0 [] (omega arith)
 rest_of : (forms : List (List ℕ)) (f : List ℕ) → All IsShort (f ∷ forms) → All IsShort forms
 rest_of forms f all k d low = all (suc k) d (omega arith)
 
--- one record at the front of the same bytes is the same record, before the same rest
+-- records that the same bytes begin with are the same record, before the same rest
 module _ (f h s t : List ℕ) (short_f : IsShort f) (short_h : IsShort h) (same : (four_bytes (length f) ++ f) ++ s ≡ (four_bytes (length h) ++ h) ++ t) where
   spread : four_bytes (length f) ++ (f ++ s) ≡ four_bytes (length h) ++ (h ++ t)
   spread = sym (append_assoc (four_bytes (length f)) f s) ∙ same ∙ append_assoc (four_bytes (length h)) h t
@@ -53,7 +53,7 @@ same_forms (f ∷ a) (h ∷ b) s t same closed_s closed_t short_a short_b =
 
 pub behind_header : (file : List ℕ) (forms : List (List ℕ)) (place : ℕ) → ReadsTo file forms place → drop 16 file ≡ records forms ++ drop place file
 behind_header file forms place reads =
-    ap (λ (l : List ℕ). drop 16 l) (sym (take-append-drop place file) ∙ ap (λ (l : List ℕ). l ++ drop place file) reads.front ∙ append_assoc header (records forms) (drop place file))
+    ap (λ (l : List ℕ). drop 16 l) (sym (take-append-drop place file) ∙ ap (λ (l : List ℕ). l ++ drop place file) reads.prefix ∙ append_assoc header (records forms) (drop place file))
     ∙ drop_at header (records forms ++ drop place file) 16 length-header
 
 pub one_reading : (file : List ℕ) (a b : List (List ℕ)) (p q : ℕ) → EndsAt file a p → EndsAt file b q → a ≡ b
@@ -64,7 +64,7 @@ one_reading file a b p q ends_a ends_b =
     (λ e. ends_b.closed (ap (λ (k : ℕ). get_or file k 0) (let z : q ≡ q + 0 = omega arith in z) ∙ sym (get_or-drop q file 0 0) ∙ e))
     ends_a.reads.sizes ends_b.reads.sizes
 
--- what stands for some forms and ends after others stands for the same
+-- what stands for some byte strings and ends after others stands for the same
 pub one_meaning : (file : List ℕ) (first forms : List (List ℕ)) (place : ℕ) → StandsFor file first → EndsAt file forms place → first ≡ forms
 one_meaning file first forms place (inl short) ends =
     short.1 ∙ sym (no_records forms (omega (arith, short.0, ends.in_file, ends.reads.place_is)))
@@ -117,4 +117,4 @@ headless_for_none file at longer none forms (inr long) =
     let reads = long.1.1.reads in
     let within = none.within in
     let inside : at < long.1.0 = omega (arith, reads.place_is) in
-    none.differs (sym (get_or-take place file at 0 inside) ∙ ap (λ (l : List ℕ). get_or l at 0) reads.front ∙ get_or_append_left header (records forms) 0 at (omega (arith, length-header)))
+    none.differs (sym (get_or-take place file at 0 inside) ∙ ap (λ (l : List ℕ). get_or l at 0) reads.prefix ∙ get_or_append_left header (records forms) 0 at (omega (arith, length-header)))

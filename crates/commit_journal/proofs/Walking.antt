@@ -40,7 +40,7 @@ module _ (file : List ℕ) (gate : ℕ) where
   gate_is n head is some =
       sym (ap (λ (l : List ℕ). get_or l 0 0) is ∙ get_or-take n (drop gate file) 0 0 some ∙ get_or-drop gate file 0 0 ∙ ap (λ (k : ℕ). get_or file k 0) (let e : gate + 0 ≡ gate = omega arith in e))
 
-  -- and the four behind it are the next four
+  -- and the four after it are the next four
   pub length_is : (head : List ℕ) → head ≡ take 5 (drop gate file) → gate + 5 ≤ length file → get_or head 1 0 ∷ get_or head 2 0 ∷ get_or head 3 0 ∷ get_or head 4 0 ∷ [] ≡ take 4 (drop (gate + 1) file)
   length_is head is long =
       ap (λ (l : List ℕ). get_or l 1 0 ∷ get_or l 2 0 ∷ get_or l 3 0 ∷ get_or l 4 0 ∷ []) is
@@ -94,7 +94,7 @@ module _ (file : List ℕ) (gate : ℕ) where
       ∙ ap (λ (l : List ℕ). 165 ∷ l ++ take size (drop (gate + 5) file)) field_same ∙ ap (λ (l : List ℕ). 165 ∷ four_bytes (length form) ++ l) (sym form_is) in
       let place : gate + 5 + size ≡ gate + (5 + size) = omega arith in
       record {
-        front = ap (λ (k : ℕ). take k file) place ∙ take-add gate (5 + size) file ∙ ap (λ (l : List ℕ). l ++ take (5 + size) (drop gate file)) reads.front
+        prefix = ap (λ (k : ℕ). take k file) place ∙ take-add gate (5 + size) file ∙ ap (λ (l : List ℕ). l ++ take (5 + size) (drop gate file)) reads.prefix
             ∙ ap (λ (l : List ℕ). (header ++ records forms) ++ l) piece ∙ append_assoc header (records forms) (record_of form) ∙ ap (λ (l : List ℕ). header ++ l) (sym (records-push forms form));
         place_is = omega (arith, reads.place_is, ap length (records-push forms form), length-append (records forms) (record_of form), length-record_of form, long);
         sizes = All-push IsShort forms form reads.sizes (omega (arith, long));

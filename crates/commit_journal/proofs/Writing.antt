@@ -1,10 +1,10 @@
--- The moments of a write and of the sync behind it.
+-- The moments of a write and of the sync after it.
 use Rattle.std.proofs.Common.{◌≡◌, ◌⊎◌, inl, inr, ⊎_elim, ℕ, ◌+◌, ◌≤◌, List, length, ◌∙◌, ap}
 use Rattle.std.specs.Prelude.{IsTrue}
 use Rattle.host_port.specs.Host.{Told, GoesOn, Throughout, WrittenPart, disk_now, written, synced}
 use Rattle.host_port.proofs.Course.{carry_on}
 use Rattle.host_port.proofs.Replaying.{whole_write}
-use Rattle.commit_journal.specs.Stop.{IsWriting}
+use Rattle.commit_journal.specs.TornWrites.{IsWriting}
 use Rattle.commit_journal.proofs.Torn.{part_within}
 
 module _ (a b : Told) (at : ℕ) (bytes : List ℕ) (part : Throughout a b (λ disk said. WrittenPart (disk_now a) (record { from = at; to = at + length bytes }) disk)) where

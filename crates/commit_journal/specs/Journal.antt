@@ -1,10 +1,10 @@
 -- What the bytes of a journal stand for.
 use Rattle.std.specs.Prelude.{◌≡◌, ◌≢◌, ◌⊎◌, ℕ, ◌+◌, ◌^◌, ◌<◌, ◌≤◌, nat_lt, Bool, if◌then◌else◌, List, [], ◌∷◌, ◌++◌, length, take, drop, slice_index, All}
 use Rattle.std.specs.Int.{to_be_bytes, w32}
-use Rattle.host_port.specs.Host.{StopLeaves, Disk}
+use Rattle.host_port.specs.Host.{CrashLeaves, Disk}
 use Rattle.page_pool.specs.Frames.{Frames}
-use Rattle.page_pool.specs.Paged.{PagedState, Holds as HoldsBytes}
-use Rattle.commit_journal.specs.Stop.{IsSettled}
+use Rattle.page_pool.specs.Paged.{PagedState, HoldsBytes}
+use Rattle.commit_journal.specs.TornWrites.{IsSettled}
 use Rattle.commit_journal.specs.declared.fit.Fit.{Fit}
 use Rattle.commit_journal.specs.declared.fit.Fit.TheVariants.{Yes, TooLarge, Full}
 
@@ -20,24 +20,24 @@ new_file = header ++ 0 ∷ []
 unfoldable pub four_bytes : ℕ → List ℕ
 four_bytes n = to_be_bytes w32 n
 
--- an open gate, the length and the form
+-- an open gate, the length and the byte string
 abbrev pub record_of : List ℕ → List ℕ
 record_of form = 165 ∷ four_bytes (length form) ++ form
 
--- the records of some forms, one behind another
+-- the records of some byte strings, one after another
 abbrev pub records : List (List ℕ) → List ℕ
 records [] = []
 records (form ∷ forms) = record_of form ++ records forms
 
--- what an append writes behind the closed gate: the length, the form and the next closed gate
-abbrev pub behind_gate : List ℕ → List ℕ
-behind_gate form = four_bytes (length form) ++ form ++ 0 ∷ []
+-- what an append writes after the closed gate: the length, the byte string and the next closed gate
+abbrev pub after_gate : List ℕ → List ℕ
+after_gate form = four_bytes (length form) ++ form ++ 0 ∷ []
 
--- the place of the first gate: behind the header
+-- the place of the first gate: after the header
 abbrev pub first_gate : ℕ
 first_gate = 16
 
--- the place of the next gate behind the record of a form of that size
+-- the place of the next gate after the record of a form of that size
 abbrev pub next_gate : ℕ → ℕ → ℕ
 next_gate gate size = gate + 5 + size
 
@@ -45,13 +45,13 @@ next_gate gate size = gate + 5 + size
 abbrev pub most_bytes : ℕ
 most_bytes = 16777211
 
--- a form that a record may hold
+-- a byte string that a record may hold
 abbrev pub IsShort : List ℕ → Type 0
 IsShort form = length form ≤ most_bytes
 
--- the file begins with the header and the records of these forms, which end at a place
+-- the file begins with the header and the records of these byte strings, which end at a place
 pub record ReadsTo (file : List ℕ) (forms : List (List ℕ)) (place : ℕ) : Type 0 where
-  pub front : take place file ≡ header ++ records forms
+  pub prefix : take place file ≡ header ++ records forms
   pub place_is : place ≡ 16 + length (records forms)
   pub sizes : All IsShort forms
 
@@ -62,11 +62,11 @@ pub record EndsAt (file : List ℕ) (forms : List (List ℕ)) (place : ℕ) : Ty
   pub closed : slice_index file place ≢ 165
   pub low : place < 2 ^ 40
 
--- the file stands for these forms: it is too short to hold any, or its records up to a closed gate are theirs
+-- the file stands for these byte strings: it is too short to hold any, or its records up to a closed gate are theirs
 abbrev pub StandsFor : List ℕ → List (List ℕ) → Type 0
 StandsFor file forms = ((length file ≤ 17) × (forms ≡ [])) ⊎ ((17 < length file) × ((place : ℕ) × EndsAt file forms place))
 
--- the file stands for no list of forms
+-- the file stands for no list of byte strings
 abbrev pub StandsForNone : List ℕ → Type 0
 StandsForNone file = (forms : List (List ℕ)) → ¬ StandsFor file forms
 
@@ -74,7 +74,7 @@ StandsForNone file = (forms : List (List ℕ)) → ¬ StandsFor file forms
 abbrev pub StandsForSame : List ℕ → List ℕ → Type 0
 StandsForSame old new = (forms : List (List ℕ)) → StandsFor old forms → StandsFor new forms
 
--- the file stands for the forms, with one more or without it
+-- the file stands for the byte strings, with one more or without it
 abbrev pub IsBeforeOrAfter : List (List ℕ) → List ℕ → List ℕ → Type 0
 IsBeforeOrAfter forms form file = StandsFor file forms ⊎ StandsFor file (forms ++ form ∷ [])
 
@@ -88,7 +88,7 @@ pub record IsStuck (file : List ℕ) (place : ℕ) : Type 0 where
   pub not_closed : place < length file → slice_index file place ≡ 165
   pub no_record : (form : List ℕ) → IsShort form → place + 5 + length form < 2 ^ 40 → ¬ (take (5 + length form) (drop place file) ≡ record_of form)
 
--- an open gate stands there, then the length of a form, and behind it so many bytes
+-- an open gate stands there, then the length of a byte string, and after it so many bytes
 pub record IsOpen (file : List ℕ) (place size : ℕ) : Type 0 where
   pub opened : slice_index file place ≡ 165
   pub length_is : take 4 (drop (place + 1) file) ≡ four_bytes size
@@ -108,20 +108,20 @@ IsMounted file = (17 < length file) ⊎ (file ≡ new_file)
 abbrev pub MountedFrom : List ℕ → List ℕ → Type 0
 MountedFrom old new = ((17 < length old) × (new ≡ old)) ⊎ ((length old ≤ 17) × (new ≡ new_file))
 
--- a file while it is read: all of it is stable, and it reads as these forms up to a place
+-- a file while it is read: all of it is stable, and it reads as these byte strings up to a place
 pub record IsWalked (disk : Disk) (forms : List (List ℕ)) (place : ℕ) : Type 0 where
   pub settled : IsSettled disk
   pub mounted : IsMounted disk.now
   pub reads : ReadsTo disk.now forms place
 
--- a journal's file between two calls: all of it is stable, and its records are those of the forms
+-- a journal's file between two calls: all of it is stable, and its records are those of the byte strings
 pub record IsAtRest (disk : Disk) (forms : List (List ℕ)) (end : ℕ) : Type 0 where
   pub settled : IsSettled disk
   pub ends : EndsAt disk.now forms end
 
--- the byte at the gate is as it was and isn't loose, or what stands behind it is stable
+-- the byte at the gate is as it was and isn't loose, or what stands after it is stable
 abbrev pub IsGateLast : Disk → ℕ → List ℕ → Disk → Type 0
-IsGateLast old gate behind disk = StopLeaves (λ x. slice_index x gate ≡ slice_index old.now gate) disk ⊎ (take (length behind) (drop (gate + 1) disk.stable) ≡ behind)
+IsGateLast old gate behind disk = CrashLeaves (λ x. slice_index x gate ≡ slice_index old.now gate) disk ⊎ (take (length behind) (drop (gate + 1) disk.stable) ≡ behind)
 
 -- what contracts see of a journal: the place of its end, and whether an append failed
 pub record JournalState : Type 0 where
@@ -134,19 +134,19 @@ pub record WalkState : Type 0 where
   pub next : ℕ
   pub ended : Bool
 
--- the prepared record is that of this form, and lies in frames that are out of the pool, each once
-abbrev pub Holds : Frames → PagedState → List ℕ → Type 0
-Holds pool prepared form = HoldsBytes pool prepared (behind_gate form)
+-- the prepared record is that of this byte string, and lies in frames that are out of the pool, each once
+abbrev pub HoldsRecord : Frames → PagedState → List ℕ → Type 0
+HoldsRecord pool prepared form = HoldsBytes pool prepared (after_gate form)
 
 -- a record of this size may be appended at a journal's end
-pub record Fits (end size : ℕ) : Type 0 where
+pub record RecordFits (end size : ℕ) : Type 0 where
   pub short : size + 5 ≤ 16777216
   pub room : end + size + 6 ≤ 2 ^ 40
 
--- whether such a record may be appended there, or which limit stands in its way; a journal has at most 2 ^ 40 bytes with the gate behind the record
+-- whether such a record may be appended there, or which limit stands in its way; a journal has at most 2 ^ 40 bytes with the gate after the record
 abbrev pub fit_of : ℕ → ℕ → Fit
 fit_of end size = if nat_lt most_bytes size then TooLarge else if nat_lt (2 ^ 40) (end + size + 6) then Full else Yes
 
 -- the prepared record may be appended at a journal's end
 abbrev pub IsReady : Frames → PagedState → ℕ → Type 0
-IsReady pool prepared end = (form : List ℕ) × Holds pool prepared form × Fits end (length form)
+IsReady pool prepared end = (form : List ℕ) × HoldsRecord pool prepared form × RecordFits end (length form)

@@ -1,12 +1,12 @@
 //! The numbers of a journal: where records stand in it, the limits of a record and of a journal, and the test of both
 //! before an append.
 ghost use Rattle.std.specs.Prelude.{◌≡◌, ◌+◌, ◌^◌, ◌<◌, ◌↔◌};
-ghost use Rattle.commit_journal.specs.Journal.{Fits, fit_of, next_gate};
+ghost use Rattle.commit_journal.specs.Journal.{RecordFits, fit_of, next_gate};
 
-/// The place of the first gate: behind the header.
+/// The place of the first gate: after the header.
 pub const FIRST_GATE: u64 = 16;
 
-/// The most bytes of a record: its gate, its length and its form.
+/// The most bytes of a record: its gate, its length and its byte string.
 const RECORD_LIMIT: u64 = 1 << 24;
 
 /// The most bytes of a form.
@@ -15,7 +15,7 @@ pub const MOST_BYTES: u64 = RECORD_LIMIT - 5;
 /// The most bytes of a journal.
 pub(crate) const JOURNAL_LIMIT: u64 = 1 << 40;
 
-/// Whether a record of a form may be appended.
+/// Whether a record of a byte string may be appended.
 #[derive(Clone, Copy, Debug, PartialEq, Eq)]
 pub enum Fit {
     Yes,
@@ -25,10 +25,10 @@ pub enum Fit {
     Full,
 }
 
-/// Whether a form of `n` bytes may be appended to a journal whose closed gate is at `end`.
+/// Whether a byte string of `n` bytes may be appended to a journal whose closed gate is at `end`.
 pub fn fits(end: u64, n: u64) -> Fit
     ensures fit { result ≡ fit_of end n }
-    ensures yes { (result ≡ Fit.Yes) ↔ Fits end n }
+    ensures yes { (result ≡ Fit.Yes) ↔ RecordFits end n }
 {
     if n > MOST_BYTES {
         return Fit::TooLarge;
@@ -39,7 +39,7 @@ pub fn fits(end: u64, n: u64) -> Fit
     Fit::Yes
 }
 
-/// The place of the gate behind a record of a form of `n` bytes, whose own gate is at `gate`.
+/// The place of the gate after a record of a form of `n` bytes, whose own gate is at `gate`.
 pub fn next_gate(gate: u64, n: u64) -> u64
     requires low { next_gate gate n < 2 ^ 40 }
     ensures place { result ≡ next_gate gate n }

@@ -1,10 +1,10 @@
-//! The append of a record: its bytes are made ready first, then written behind a closed gate, and the gate is opened
+//! The append of a record: its bytes are made ready first, then written after a closed gate, and the gate is opened
 //! last.
 ghost use Rattle.std.specs.Prelude.{◌≡◌, ◌+◌, ◌^◌, ◌<◌, ◌≤◌, ◌++◌, [], ◌∷◌, List, ℕ, length, take, IsTrue, IfOk, OnOk, OnErr, true, false};
-ghost use Rattle.host_port.specs.Host.{disk_now, Rose, GoesOn, Throughout, KeepsSaid, KeepsInput, RaisesDiskAlone, StopLeaves};
+ghost use Rattle.host_port.specs.Host.{disk_now, Rose, GoesOn, Throughout, KeepsSaid, KeepsInput, RaisesDiskAlone, CrashLeaves};
 ghost use Rattle.page_pool.specs.Frames.{out_of, SameFrames};
 ghost use Rattle.page_pool.specs.Paged.{AreOut, AreFree, KeepsOthers, frames_for};
-ghost use Rattle.commit_journal.specs.Journal.{JournalState, behind_gate, four_bytes, IsShort, Holds, IsReady, IsBeforeOrAfter, IsAtRest, IsGateLast};
+ghost use Rattle.commit_journal.specs.Journal.{JournalState, after_gate, four_bytes, IsShort, HoldsRecord, IsReady, IsBeforeOrAfter, IsAtRest, IsGateLast};
 
 use crate::write::{write_durably, write_pages};
 use host_port::{Failed, Host};
@@ -27,7 +27,7 @@ impl Model for Journal {
     ghost invariant = { λ j. j.end < 2 ^ 40 };
 }
 
-/// A record that is ready to be written: all that an append writes behind its gate, in frames of a pool.
+/// A record that is ready to be written: all that an append writes after its gate, in frames of a pool.
 #[derive(Drop)]
 pub struct Prepared {
     paged: PagedBytes,
@@ -65,7 +65,7 @@ impl Journal {
         Journal { end, broken: false }
     }
 
-    /// The place of the closed gate.
+    /// The offset of the closed gate.
     pub fn end(&self) -> u64
         ensures place { result ≡ self.now.end }
         ensures low { result < 2 ^ 40 }
@@ -80,7 +80,7 @@ impl Journal {
         self.broken
     }
 
-    /// Makes the record of a form ready in frames of the pool, so that an append takes no memory.
+    /// Makes the record of a byte string ready in frames of the pool, so that an append takes no memory.
     pub fn prepare(
         &self,
         alloc: Global,
@@ -89,7 +89,7 @@ impl Journal {
     ) -> Result<Prepared, AllocError>
         requires short { IsShort form.now }
         requires room { out_of pool.old + frames_for (length form.now + 5) ≤ 8192 }
-        ensures holds { IfOk result (λ prepared. Holds pool.new prepared form.now) }
+        ensures holds { IfOk result (λ prepared. HoldsRecord pool.new prepared form.now) }
         ensures fresh { IfOk result (λ prepared. AreFree pool.old prepared.frames) }
         ensures others { IfOk result (λ prepared. KeepsOthers pool.old pool.new prepared.frames) }
         ensures out { OnOk result (out_of pool.new ≡ out_of pool.old + frames_for (length form.now + 5)) }
@@ -104,7 +104,7 @@ impl Journal {
         Ok(Prepared { paged })
     }
 
-    /// Adds a record: writes it and the next closed gate, frame by frame, syncs, opens the gate before it, syncs. A stop at
+    /// Adds a record: writes it and the next closed gate, frame by frame, syncs, opens the gate before it, syncs. A crash at
     /// any moment leaves the old records, or these with the new one; after `Ok` the new one. After an error the journal is
     /// broken. The record's frames are given back either way.
     pub fn append<H: Host>(
@@ -117,7 +117,7 @@ impl Journal {
         requires ready { IsReady pool.old prepared self.old.end }
         requires at_rest { IsTrue (H.told host.old).tells → ((forms : List (List ℕ)) × IsAtRest (disk_now (H.told host.old)) forms self.old.end) }
 
-        ensures ok { OnOk result ((form : List ℕ) → Holds pool.old prepared form → self.new ≡ record { end = self.old.end + 5 + length form; broken = false }) }
+        ensures ok { OnOk result ((form : List ℕ) → HoldsRecord pool.old prepared form → self.new ≡ record { end = self.old.end + 5 + length form; broken = false }) }
         ensures err { OnErr result (self.new ≡ record { end = self.old.end; broken = true }) }
         ensures cause { OnErr result (Rose (H.told host.old).disk_faults (H.told host.new).disk_faults) }
         ensures alone { RaisesDiskAlone (H.told host.old) (H.told host.new) }
@@ -129,15 +129,15 @@ impl Journal {
         ensures others { KeepsOthers pool.old pool.new prepared.frames }
         ensures out { out_of pool.new + length prepared.frames ≡ out_of pool.old }
 
-        ensures added { OnOk result (IsTrue (H.told host.old).tells → (form : List ℕ) → Holds pool.old prepared form
+        ensures added { OnOk result (IsTrue (H.told host.old).tells → (form : List ℕ) → HoldsRecord pool.old prepared form
             → (forms : List (List ℕ)) → IsAtRest (disk_now (H.told host.old)) forms self.old.end
             → IsAtRest (disk_now (H.told host.new)) (forms ++ form ∷ []) self.new.end) }
-        ensures any_moment { (form : List ℕ) → Holds pool.old prepared form
+        ensures any_moment { (form : List ℕ) → HoldsRecord pool.old prepared form
             → (forms : List (List ℕ)) → IsAtRest (disk_now (H.told host.old)) forms self.old.end
-            → Throughout (H.told host.old) (H.told host.new) (λ disk _. StopLeaves (IsBeforeOrAfter forms form) disk) }
-        ensures front { Throughout (H.told host.old) (H.told host.new) (λ disk _. take self.old.end disk.now ≡ take self.old.end (disk_now (H.told host.old)).now) }
-        ensures gate_last { (form : List ℕ) → Holds pool.old prepared form
-            → Throughout (H.told host.old) (H.told host.new) (λ disk _. IsGateLast (disk_now (H.told host.old)) self.old.end (behind_gate form) disk) }
+            → Throughout (H.told host.old) (H.told host.new) (λ disk _. CrashLeaves (IsBeforeOrAfter forms form) disk) }
+        ensures prefix { Throughout (H.told host.old) (H.told host.new) (λ disk _. take self.old.end disk.now ≡ take self.old.end (disk_now (H.told host.old)).now) }
+        ensures gate_last { (form : List ℕ) → HoldsRecord pool.old prepared form
+            → Throughout (H.told host.old) (H.told host.new) (λ disk _. IsGateLast (disk_now (H.told host.old)) self.old.end (after_gate form) disk) }
     {
         let gate = self.end;
         let length = prepared.paged.len() as u64;

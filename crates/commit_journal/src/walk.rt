@@ -1,6 +1,6 @@
 //! Reading a journal's records, one after the other.
 ghost use Rattle.std.specs.Prelude.{◌≡◌, ◌⊎◌, ◌+◌, ◌^◌, ◌<◌, ◌≤◌, ◌++◌, [], ◌∷◌, List, ℕ, length, IsTrue, IfOk, OnOk, IfErr, IfSome, IfNone, OnErr, IsErrOf, true, false};
-ghost use Rattle.host_port.specs.Host.{disk_now, Rose, GoesOn, Throughout, KeepsDisk, KeepsSaid, KeepsInput, RaisesDiskAlone, StopLeaves};
+ghost use Rattle.host_port.specs.Host.{disk_now, Rose, GoesOn, Throughout, KeepsDisk, KeepsSaid, KeepsInput, RaisesDiskAlone, CrashLeaves};
 ghost use Rattle.std.specs.Bool.{OnTrue, OnFalse};
 ghost use Rattle.commit_journal.specs.Journal.{WalkState, header, four_bytes, IsWalked, IsClosed, IsStuck, IsOpen, IsNoHeader, IsAtRest, IsShort, MountedFrom, StandsForSame, StandsForNone};
 ghost use Rattle.commit_journal.specs.Walk.{IfDamaged};
@@ -65,13 +65,13 @@ fn has_room(length: u64, gate: u64, size: u64) -> bool
 enum Gate {
     /// No record: the journal ends here.
     Closed,
-    /// A record whose form has so many bytes, all of them in the file.
+    /// A record whose byte string has so many bytes, all of them in the file.
     Open { size: u64 },
-    /// Neither, so the file stands for no list of forms.
+    /// Neither, so the file stands for no list of byte strings.
     Broken,
 }
 
-// The gate, and the length behind it in the same read.
+// The gate, and the length after it in the same read.
 fn read_gate<H: Host>(host: &mut H, gate: u64) -> Result<Gate, Failed>
     requires gate { gate < 2 ^ 40 }
     ensures closed { IfOk result (λ found. found ≡ Gate.Closed → IsTrue (H.told host.old).tells → IsClosed (disk_now (H.told host.old)).now gate) }
@@ -118,7 +118,7 @@ impl Walk {
         ensures walked { OnOk result (IsTrue (H.told host.old).tells → IsWalked (disk_now (H.told host.new)) [] 16) }
         ensures same { OnOk result (IsTrue (H.told host.old).tells → StandsForSame (disk_now (H.told host.old)).now (disk_now (H.told host.new)).now) }
         ensures any_moment { Throughout (H.told host.old) (H.told host.new)
-            (λ disk _. (disk ≡ disk_now (H.told host.old)) ⊎ StopLeaves (StandsForSame (disk_now (H.told host.old)).now) disk) }
+            (λ disk _. (disk ≡ disk_now (H.told host.old)) ⊎ CrashLeaves (StandsForSame (disk_now (H.told host.old)).now) disk) }
         ensures file { OnOk result (IsTrue (H.told host.old).tells → MountedFrom (disk_now (H.told host.old)).now (disk_now (H.told host.new)).now) }
         ensures damaged { IfErr result (λ fault. IfDamaged fault (λ at. IsTrue (H.told host.old).tells → IsNoHeader (disk_now (H.told host.old)).now at)) }
         ensures nothing { IfErr result (λ fault. IfDamaged fault (λ _. IsTrue (H.told host.old).tells → StandsForNone (disk_now (H.told host.old)).now)) }
@@ -163,7 +163,7 @@ impl Walk {
         self.place
     }
 
-    /// The next record's form, or `None` at the closed gate.
+    /// The next record's byte string, or `None` at the closed gate.
     pub fn next_bytes<H: Host>(
         &mut self,
         alloc: Global,

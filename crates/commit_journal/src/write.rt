@@ -2,7 +2,7 @@
 ghost use Rattle.std.specs.Prelude.{ℕ, List, ◌≡◌, ◌+◌, ◌^◌, ◌≤◌, length, IsTrue, OnOk, OnErr};
 ghost use Rattle.host_port.specs.Host.{disk_now, Rose, GoesOn, Throughout, KeepsSaid, KeepsInput, RaisesDiskAlone, written, overwritten, synced};
 ghost use Rattle.page_pool.specs.Paged.{AreOut, content, frames_for};
-ghost use Rattle.commit_journal.specs.Stop.{IsWriting, WrittenWithin};
+ghost use Rattle.commit_journal.specs.TornWrites.{IsWriting, WrittenWithin};
 
 use host_port::{Failed, Host};
 use page_pool::{PagedBytes, Pool};
@@ -22,7 +22,7 @@ pub(crate) fn write_durably<H: Host>(host: &mut H, at: u64, bytes: &[u8]) -> Res
     host.sync()
 }
 
-// The pieces that lie in frames, written one behind another.
+// The pieces that lie in frames, written one after another.
 fn write_pieces<H: Host>(
     host: &mut H,
     at: u64,

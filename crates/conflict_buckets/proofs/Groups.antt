@@ -3,7 +3,7 @@ use Rattle.std.proofs.Common.{◌≡◌, ℕ, suc, ◌+◌, ◌<◌, ◌≤◌, 
 use Rattle.std.proofs.lemmas.Option.{get_or_from_slice_get}
 use Rattle.ecore_meta.specs.Meta.{Meta}
 use Rattle.model_state.specs.declared.operation.Operation.{Operation}
-use Rattle.footprint.specs.Interference.{interferes, clash}
+use Rattle.footprint.specs.Interference.{interferes, cells_interfere}
 use Rattle.footprint.specs.declared.cell.Print.{Print}
 use Rattle.footprint.specs.Prints.{cells, shown, printed}
 use Rattle.footprint.proofs.Printed.{as_many, pair_tells}
@@ -46,7 +46,7 @@ pairs_next meta ms i k found rest whole a b t low is on h =
     both false later = refl
 
 module _ (meta : Meta) (left right : List Print) (ts ms : List Operation) (h : shown left ≡ printed meta ts) (g : shown right ≡ printed meta ms) (i k : ℕ) (p q : Print) (low : i < length ts) (high : k < length ms) (p_is : p ≡ get_or left i p) (q_is : q ≡ get_or right k q) where
-  pub pair_turn : (found rest whole : List (ℕ × ℕ)) (t : Bool) → clash (cells p.writes) (cells p.reads) (cells q.writes) (cells q.reads) ≡ t → (a : Operation) → a ≡ get_or ts i a
+  pub pair_turn : (found rest whole : List (ℕ × ℕ)) (t : Bool) → cells_interfere (cells p.writes) (cells p.reads) (cells q.writes) (cells q.reads) ≡ t → (a : Operation) → a ≡ get_or ts i a
       → found ++ (pairs_with meta i a k (drop k ms) ++ rest) ≡ whole → cond t (found ++ (i, k) ∷ []) found ++ (pairs_with meta i a (k + 1) (drop (k + 1) ms) ++ rest) ≡ whole
   pair_turn found rest whole t on a a_is is =
       let b = at_place ms k high in

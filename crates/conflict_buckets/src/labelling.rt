@@ -3,23 +3,23 @@ ghost use Rattle.std.specs.Prelude.{◌≡◌, ℕ, suc, ◌+◌, ◌<◌, ◌�
 ghost use Rattle.std.specs.List.{All};
 ghost use Rattle.ecore_meta.specs.Meta.{Meta};
 ghost use Rattle.model_state.specs.declared.operation.Operation.{Operation};
-ghost use Rattle.footprint.specs.Interference.{clash};
+ghost use Rattle.footprint.specs.Interference.{cells_interfere};
 ghost use Rattle.footprint.specs.Prints.{cells, shown, printed};
 ghost use Rattle.footprint.specs.Buckets.{labels, places};
 ghost use Rattle.cell_index.specs.Near.{Indexes};
 ghost use Rattle.conflict_buckets.specs.Hits.{AreHits};
 
-use cell_index::{CellIndex, index_of, near, tells};
+use cell_index::{CellIndex, index_of, interferes_near, near};
 use ecore_meta::List;
 use footprint::Print;
 use std::alloc::{AllocError, Global};
 
 /// Whether a label is hit: it is already, or the two interfere, which those that aren't near don't.
 fn is_hit(already: bool, is_near: bool, a: &Print, b: &Print) -> bool
-    requires { is_near ≡ false → clash (cells a.now.writes) (cells a.now.reads) (cells b.now.writes) (cells b.now.reads) ≡ false }
-    ensures { result ≡ already || clash (cells a.now.writes) (cells a.now.reads) (cells b.now.writes) (cells b.now.reads) }
+    requires { is_near ≡ false → cells_interfere (cells a.now.writes) (cells a.now.reads) (cells b.now.writes) (cells b.now.reads) ≡ false }
+    ensures { result ≡ already || cells_interfere (cells a.now.writes) (cells a.now.reads) (cells b.now.writes) (cells b.now.reads) }
 {
-    already || tells(is_near, a, b)
+    already || interferes_near(is_near, a, b)
 }
 
 /// Which labels of the later operations are those of operations that interfere with the one at i.

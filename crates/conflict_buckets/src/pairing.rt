@@ -2,7 +2,7 @@
 ghost use Rattle.std.specs.Prelude.{◌≡◌, IfOk};
 ghost use Rattle.conflict_buckets.specs.Pairs.{pairs};
 
-use cell_index::{index_of, near, tells};
+use cell_index::{index_of, interferes_near, near};
 use ecore_meta::{List, Metamodel};
 use footprint::prints_of;
 use model_state::Package;
@@ -26,7 +26,7 @@ pub fn pairs(
         let flags = near(alloc, &index, print, right.len())?;
         let close = flags.as_slice();
         for k in 0..right.len() {
-            if tells(close[k], print, &right[k]) {
+            if interferes_near(close[k], print, &right[k]) {
                 found.push((i as u64, k as u64))?;
             }
         }

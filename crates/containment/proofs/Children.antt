@@ -13,7 +13,7 @@ use Rattle.ecore_meta.specs.declared.meta.Kind.TheVariants.{Attr, AttrMany, Boun
 use Rattle.model_state.specs.declared.entry.Entry.{Entry}
 use Rattle.model_state.specs.declared.step.Place.{Place}
 use Rattle.model_state.specs.declared.step.Place.TheVariants.{Inside}
-use Rattle.model_state.specs.Keys.{Name, id_cmp}
+use Rattle.model_state.specs.Keys.{IdBytes, id_cmp}
 use Rattle.model_state.specs.Listing.{children, entry_cmp}
 use Rattle.model_state.specs.State.{State, place_eq}
 use Rattle.model_state.specs.Steps.{class_has}
@@ -38,10 +38,10 @@ feature_listed meta p c f none has pass =
 
 -- ---- the elements of a place
 module _ (m : State) (p : Place) where
-  mapped : (es : List (Name × Place)) → AllByRecursion (λ (e : Name × Place). get m.place e.0 ≡ Some e.1) es → AllByRecursion (λ (x : Entry). get m.place x.id ≡ Some p) (map (spot_of m.prank) (filter (λ (e : Name × Place). place_eq p e.1) es))
+  mapped : (es : List (IdBytes × Place)) → AllByRecursion (λ (e : IdBytes × Place). get m.place e.0 ≡ Some e.1) es → AllByRecursion (λ (x : Entry). get m.place x.id ≡ Some p) (map (spot_of m.prank) (filter (λ (e : IdBytes × Place). place_eq p e.1) es))
   mapped [] all = tt
   mapped (e ∷ es) all =
-      elim (place_eq p e.1) as (λ b. place_eq p e.1 ≡ b → AllByRecursion (λ (x : Entry). get m.place x.id ≡ Some p) (map (spot_of m.prank) (cond {A = List (Name × Place)} b (e ∷ filter (λ (e : Name × Place). place_eq p e.1) es) (filter (λ (e : Name × Place). place_eq p e.1) es)))) [
+      elim (place_eq p e.1) as (λ b. place_eq p e.1 ≡ b → AllByRecursion (λ (x : Entry). get m.place x.id ≡ Some p) (map (spot_of m.prank) (cond {A = List (IdBytes × Place)} b (e ∷ filter (λ (e : IdBytes × Place). place_eq p e.1) es) (filter (λ (e : IdBytes × Place). place_eq p e.1) es)))) [
         | true ↦ λ is. (all.0 ∙ ap Some (sym (place_equality.exact p e.1 is)), mapped es all.1)
         | false ↦ λ _. mapped es all.1
       ] refl
@@ -49,22 +49,22 @@ module _ (m : State) (p : Place) where
   pub children_there : AllByRecursion (λ (x : Entry). get m.place x.id ≡ Some p) (children m.place m.prank p)
   children_there = all-in_order entry_cmp (λ (x : Entry). get m.place x.id ≡ Some p) _ (mapped (entries m.place) (entries_held id_order m.place))
 
-  any_id : (y : Name) (xs : List Entry) → list_any (λ (x : Entry). text_eq y x.id) xs ≡ is_among (ids_of xs) y
+  any_id : (y : IdBytes) (xs : List Entry) → list_any (λ (x : Entry). text_eq y x.id) xs ≡ is_among (ids_of xs) y
   any_id y [] = refl
   any_id y (x ∷ xs) = ap (λ b. text_eq y x.id || b) (any_id y xs)
 
-  pub children_have : (y : Name) → get m.place y ≡ Some p → In y (ids_of (children m.place m.prank p))
+  pub children_have : (y : IdBytes) → get m.place y ≡ Some p → In y (ids_of (children m.place m.prank p))
   children_have y is = among_in y _ (sym (any_id y (children m.place m.prank p))
       ∙ any-in_order entry_cmp (λ (x : Entry). text_eq y x.id) _
       ∙ any-map (λ (x : Entry). text_eq y x.id) (spot_of m.prank) _
-      ∙ picked_has id_order (λ (e : Name × Place). place_eq p e.1) m.place (λ (e : Name × Place). text_eq y e.0) y p is (place_equality.own p) (text_equality.own y))
+      ∙ picked_has id_order (λ (e : IdBytes × Place). place_eq p e.1) m.place (λ (e : IdBytes × Place). text_eq y e.0) y p is (place_equality.own p) (text_equality.own y))
 
-  in_there : (xs : List Entry) → AllByRecursion (λ (x : Entry). get m.place x.id ≡ Some p) xs → (y : Name) → In y (ids_of xs) → get m.place y ≡ Some p
+  in_there : (xs : List Entry) → AllByRecursion (λ (x : Entry). get m.place x.id ≡ Some p) xs → (y : IdBytes) → In y (ids_of xs) → get m.place y ≡ Some p
   in_there [] all y h = absurd h
   in_there (x ∷ xs) all y (inl e) = ap (get m.place) e ∙ all.0
   in_there (x ∷ xs) all y (inr h) = in_there xs all.1 y h
 
-  pub child_there : (y : Name) → In y (ids_of (children m.place m.prank p)) → get m.place y ≡ Some p
+  pub child_there : (y : IdBytes) → In y (ids_of (children m.place m.prank p)) → get m.place y ≡ Some p
   child_there y h = in_there (children m.place m.prank p) children_there y h
 
   apart_ids : (xs : List Entry) → Apart xs → Distinct (ids_of xs)
@@ -75,7 +75,7 @@ module _ (m : State) (p : Place) where
       or_true true = refl
       or_true false = refl
 
-      in_any : (y : Name) (ys : List Name) → In y ys → is_among ys y ≡ true
+      in_any : (y : IdBytes) (ys : List IdBytes) → In y ys → is_among ys y ≡ true
       in_any y [] h = absurd h
       in_any y (z ∷ zs) (inl e) = ap (λ b. b || is_among zs y) (ap (text_eq y) (sym e) ∙ text_equality.own y)
       in_any y (z ∷ zs) (inr h) = ap (λ b. text_eq y z || b) (in_any y zs h) ∙ or_true (text_eq y z)
@@ -84,19 +84,19 @@ module _ (m : State) (p : Place) where
   children_once meta good = apart_ids (children m.place m.prank p) (apart_from (children m.place m.prank p) (one_child meta m good p))
 
 -- ---- the children of an element
-all_join : (place : FinMap id_cmp Place) (s : Name) (xs ys : List Name) → AllInside place s xs → AllInside place s ys → AllInside place s (xs ++ ys)
+all_join : (place : FinMap id_cmp Place) (s : IdBytes) (xs ys : List IdBytes) → AllInside place s xs → AllInside place s ys → AllInside place s (xs ++ ys)
 all_join place s [] ys h g = g
 all_join place s (x ∷ xs) ys h g = (h.0, all_join place s xs ys h.1 g)
 
-all_by : (m : State) (s : Name) (f : ℕ) (cs : List Name) → ((c : Name) → In c cs → get m.place c ≡ Some (Inside s f)) → AllInside m.place s cs
+all_by : (m : State) (s : IdBytes) (f : ℕ) (cs : List IdBytes) → ((c : IdBytes) → In c cs → get m.place c ≡ Some (Inside s f)) → AllInside m.place s cs
 all_by m s f [] h = tt
 all_by m s f (c ∷ cs) h = ((f, h c (inl refl)), all_by m s f cs (λ d l. h d (inr l)))
 
-pub by_inside : (m : State) (s : Name) (fs : List ℕ) → AllInside m.place s (children_by m s fs)
+pub by_inside : (m : State) (s : IdBytes) (fs : List ℕ) → AllInside m.place s (children_by m s fs)
 by_inside m s [] = tt
 by_inside m s (f ∷ fs) = all_join m.place s (ids_of (children m.place m.prank (Inside s f))) (children_by m s fs) (all_by m s f (ids_of (children m.place m.prank (Inside s f))) (child_there m (Inside s f))) (by_inside m s fs)
 
-by_feature : (m : State) (s c : Name) (fs : List ℕ) → In c (children_by m s fs) → (f : ℕ) × In f fs × (get m.place c ≡ Some (Inside s f))
+by_feature : (m : State) (s c : IdBytes) (fs : List ℕ) → In c (children_by m s fs) → (f : ℕ) × In f fs × (get m.place c ≡ Some (Inside s f))
 by_feature m s c [] h = absurd h
 by_feature m s c (f ∷ fs) h =
     elim (in_either c (ids_of (children m.place m.prank (Inside s f))) (children_by m s fs) h) [
@@ -104,16 +104,16 @@ by_feature m s c (f ∷ fs) h =
       | inr r ↦ let rest = by_feature m s c fs r in (rest.0, inr rest.1, rest.2)
     ]
 
-same_feature : (a b : Name) (f g : ℕ) → Some (Inside a f) ≡ Some (Inside b g) → f ≡ g
+same_feature : (a b : IdBytes) (f g : ℕ) → Some (Inside a f) ≡ Some (Inside b g) → f ≡ g
 same_feature a b f g h = cc
 
-by_once : (meta : Meta) (m : State) → Good meta m → (s : Name) (fs : List ℕ) → Distinct fs → Distinct (children_by m s fs)
+by_once : (meta : Meta) (m : State) → Good meta m → (s : IdBytes) (fs : List ℕ) → Distinct fs → Distinct (children_by m s fs)
 by_once meta m good s [] d = tt
 by_once meta m good s (f ∷ fs) d = distinct_join (ids_of (children m.place m.prank (Inside s f))) (children_by m s fs) (children_once m (Inside s f) meta good) (by_once meta m good s fs d.1) (λ c l r.
     let other = by_feature m s c fs r in
     d.0 (subst (λ g. In g fs) (same_feature s s other.0 f (sym other.2 ∙ child_there m (Inside s f) c l)) other.1))
 
-by_all : (m : State) (s c : Name) (f : ℕ) (fs : List ℕ) → In f fs → get m.place c ≡ Some (Inside s f) → In c (children_by m s fs)
+by_all : (m : State) (s c : IdBytes) (f : ℕ) (fs : List ℕ) → In f fs → get m.place c ≡ Some (Inside s f) → In c (children_by m s fs)
 by_all m s c f [] h is = absurd h
 by_all m s c f (g ∷ fs) (inl e) is = in_left c (ids_of (children m.place m.prank (Inside s g))) (children_by m s fs) (children_have m (Inside s g) c (is ∙ ap (λ k. Some (Inside s k)) e))
 by_all m s c f (g ∷ fs) (inr l) is = in_right c (ids_of (children m.place m.prank (Inside s g))) (children_by m s fs) (by_all m s c f fs l is)
@@ -128,7 +128,7 @@ contains_some meta (Container t o) d h = cc
 contains_some meta Skip d h = cc
 
 -- a place that stands is a containment of its parent's class
-pub stands_in : (meta : Meta) (kind : FinMap id_cmp ℕ) (c : Option ℕ) (a : Name) (f : ℕ) (r : Option ℕ) → PlaceOk meta kind c (Some (Inside a f)) r → (class_has meta (get kind a) f ≡ true) × (contains_kind (kind_of meta f) ≡ true)
+pub stands_in : (meta : Meta) (kind : FinMap id_cmp ℕ) (c : Option ℕ) (a : IdBytes) (f : ℕ) (r : Option ℕ) → PlaceOk meta kind c (Some (Inside a f)) r → (class_has meta (get kind a) f ≡ true) × (contains_kind (kind_of meta f) ≡ true)
 stands_in meta kind None a f None ok = absurd ok
 stands_in meta kind None a f (Some r) ok = absurd ok
 stands_in meta kind (Some c) a f None ok = absurd ok

@@ -5,7 +5,7 @@ use Rattle.std.specs.FinMap.{FinMap, get}
 use Rattle.ecore_meta.specs.Meta.{Meta}
 use Rattle.model_state.specs.declared.step.Place.{Place}
 use Rattle.model_state.specs.declared.step.Place.TheVariants.{Root, Inside}
-use Rattle.model_state.specs.Keys.{Name, id_cmp}
+use Rattle.model_state.specs.Keys.{IdBytes, id_cmp}
 use Rattle.model_state.specs.Listing.{ids}
 use Rattle.model_state.specs.State.{State}
 use Rattle.model_state.specs.Good.{Good}
@@ -16,7 +16,7 @@ use Rattle.containment.proofs.Levels.{bounded}
 use Rattle.containment.proofs.Trees.{Up}
 
 -- as many containers as are asked for, where there are no more
-within_is : (m : State) (n : ℕ) (o : Option Place) (xs : List Name) → IsChain m.place o xs → length xs ≤ n → containers_within m n o ≡ xs
+within_is : (m : State) (n : ℕ) (o : Option Place) (xs : List IdBytes) → IsChain m.place o xs → length xs ≤ n → containers_within m n o ≡ xs
 within_is m zero o [] h le = refl
 within_is m zero o (x ∷ xs) h le = absurd (none (length xs) le)
   where
@@ -35,21 +35,21 @@ within_is m (suc n) (Some (Inside a f)) (x ∷ xs) h le =
 
 module _ (place : FinMap id_cmp Place) where
   -- a chain ends at an element as many containers up
-  top : (x : Name) (xs : List Name) → IsChain place (get place x) xs → (z : Name) × Up place (length xs) x z
+  top : (x : IdBytes) (xs : List IdBytes) → IsChain place (get place x) xs → (z : IdBytes) × Up place (length xs) x z
   top x [] h = (x, refl)
   top x (y ∷ ys) h =
-      elim (get place x) as (λ o. get place x ≡ o → IsChain place o (y ∷ ys) → (z : Name) × Up place (suc (length ys)) x z) [
+      elim (get place x) as (λ o. get place x ≡ o → IsChain place o (y ∷ ys) → (z : IdBytes) × Up place (suc (length ys)) x z) [
         | None ↦ λ _ g. absurd g
         | Some p ↦ λ is g. above p (top y ys) is g
       ] refl h
     where
-      above : (p : Place) → (IsChain place (get place y) ys → (z : Name) × Up place (length ys) y z) → get place x ≡ Some p → IsChain place (Some p) (y ∷ ys) → (z : Name) × Up place (suc (length ys)) x z
+      above : (p : Place) → (IsChain place (get place y) ys → (z : IdBytes) × Up place (length ys) y z) → get place x ≡ Some p → IsChain place (Some p) (y ∷ ys) → (z : IdBytes) × Up place (suc (length ys)) x z
       above Root up is g = absurd g
       above (Inside b f) up is g =
           let rest = up g.1 in
           (rest.0, (b, f, is, subst (λ w. Up place (length ys) w rest.0) g.0 rest.1))
 
-chain_short : (meta : Meta) (m : State) → Good meta m → (p : Place) (xs : List Name) → IsChain m.place (Some p) xs → length xs ≤ suc (length (ids m))
+chain_short : (meta : Meta) (m : State) → Good meta m → (p : Place) (xs : List IdBytes) → IsChain m.place (Some p) xs → length xs ≤ suc (length (ids m))
 chain_short meta m good Root [] h = omega arith
 chain_short meta m good Root (x ∷ xs) h = absurd h
 chain_short meta m good (Inside a f) [] h = absurd h

@@ -7,7 +7,7 @@ use Rattle.finite_maps.proofs.EqualLaws.{and_both, and_first, text_equality}
 use Rattle.ecore_meta.specs.Meta.{Meta}
 use Rattle.model_state.specs.declared.step.Place.{Place}
 use Rattle.model_state.specs.declared.step.Place.TheVariants.{Root, Inside}
-use Rattle.model_state.specs.Keys.{Name, id_cmp}
+use Rattle.model_state.specs.Keys.{IdBytes, id_cmp}
 use Rattle.model_state.specs.State.{State, is_live}
 use Rattle.model_state.specs.Steps.{chain_is, place_live}
 use Rattle.model_state.specs.Good.{Good, PlaceOk}
@@ -23,7 +23,7 @@ stands_somewhere meta kind (Some c) (Some q) None live ok = absurd ok
 stands_somewhere meta kind (Some c) (Some q) (Some r) live ok = (q, refl, refl)
 
 module _ (meta : Meta) (m : State) (good : Good meta m) where
-  pub live_place : (e : Name) → is_live m e ≡ true → (q : Place) × (get m.place e ≡ Some q) × (is_some (get m.prank e) ≡ true)
+  pub live_place : (e : IdBytes) → is_live m e ≡ true → (q : Place) × (get m.place e ≡ Some q) × (is_some (get m.prank e) ≡ true)
   live_place e live = stands_somewhere meta m.kind (get m.kind e) (get m.place e) (get m.prank e) live (good.places.stands e)
 
   -- the parent of a place is live
@@ -32,7 +32,7 @@ module _ (meta : Meta) (m : State) (good : Good meta m) where
   parent_live (Inside a f) is = has_class meta (get m.kind a) f (and_first _ _ is)
 
   -- a place has containers
-  pub has_chain : (p : Place) → place_live m p ≡ true → (xs : List Name) × IsChain m.place (Some p) xs
+  pub has_chain : (p : Place) → place_live m p ≡ true → (xs : List IdBytes) × IsChain m.place (Some p) xs
   has_chain Root live = ([], tt)
   has_chain (Inside a f) live =
       let at = live_place a live in
@@ -40,7 +40,7 @@ module _ (meta : Meta) (m : State) (good : Good meta m) where
       (a ∷ above.0, (refl, subst (λ o. IsChain m.place o above.0) (sym at.1) above.1))
 
 -- what is the chain passes the test
-pub chain_passes : (place : FinMap id_cmp Place) (o : Option Place) (xs : List Name) → IsChain place o xs → chain_is place o xs ≡ true
+pub chain_passes : (place : FinMap id_cmp Place) (o : Option Place) (xs : List IdBytes) → IsChain place o xs → chain_is place o xs ≡ true
 chain_passes place None xs h = absurd h
 chain_passes place (Some Root) [] h = refl
 chain_passes place (Some Root) (x ∷ xs) h = absurd h
@@ -48,7 +48,7 @@ chain_passes place (Some (Inside a f)) [] h = absurd h
 chain_passes place (Some (Inside a f)) (x ∷ xs) h = and_both _ _ (ap (text_eq x) (sym h.0) ∙ text_equality.own x) (chain_passes place (get place x) xs h.1)
 
 -- an element has one chain of containers
-pub one_chain : (m : State) (o : Option Place) (xs ys : List Name) → IsChain m.place o xs → IsChain m.place o ys → xs ≡ ys
+pub one_chain : (m : State) (o : Option Place) (xs ys : List IdBytes) → IsChain m.place o xs → IsChain m.place o ys → xs ≡ ys
 one_chain m None xs ys g h = absurd g
 one_chain m (Some Root) [] [] g h = refl
 one_chain m (Some Root) [] (y ∷ ys) g h = absurd h

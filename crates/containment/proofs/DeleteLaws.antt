@@ -8,7 +8,7 @@ use Rattle.finite_maps.proofs.MapLaws.{same}
 use Rattle.finite_maps.proofs.NestedLaws.{get-without}
 use Rattle.ecore_meta.specs.Meta.{Meta}
 use Rattle.model_state.specs.declared.step.Place.TheVariants.{Inside}
-use Rattle.model_state.specs.Keys.{Name, AttrKey, RowKey, id_cmp}
+use Rattle.model_state.specs.Keys.{IdBytes, AttrKey, RowKey, id_cmp}
 use Rattle.model_state.specs.State.{State, is_live}
 use Rattle.model_state.specs.Steps.{fold}
 use Rattle.model_state.specs.Typing.{is_plain}
@@ -33,7 +33,7 @@ use Rattle.containment.proofs.Slots.{no_opposites, rows_left, slots_distinct}
 use Rattle.containment.proofs.Trees.{HasChildren, Ordered, Up, all_below, chain_up, forest_below, forest_has, forest_ordered, up_in}
 use Rattle.containment.proofs.ValuesGone.{Attrs, attributes, kept_all, values_lead, values_left}
 
-module _ (meta : Meta) (m : State) (good : Good meta m) (e : Name) (xs : List Name) (subtree : IsSubtree meta m e xs) where
+module _ (meta : Meta) (m : State) (good : Good meta m) (e : IdBytes) (xs : List IdBytes) (subtree : IsSubtree meta m e xs) where
   known : HasChildren meta m
   known = has_children meta m good
 
@@ -41,7 +41,7 @@ module _ (meta : Meta) (m : State) (good : Good meta m) (e : Name) (xs : List Na
   order = forest_ordered meta m good known (e ∷ []) xs (tt, tt) subtree
 
   -- each is at or below the element
-  at_or_below : (y : Name) → In y xs → (n : ℕ) × Up m.place n y e
+  at_or_below : (y : IdBytes) → In y xs → (n : ℕ) × Up m.place n y e
   at_or_below y is =
       let under = forest_below meta m good known (e ∷ []) xs subtree y is in
       elim under.1 [
@@ -50,36 +50,36 @@ module _ (meta : Meta) (m : State) (good : Good meta m) (e : Name) (xs : List Na
       ]
 
   -- and each that is there is at or below it
-  all_in : (y : Name) (n : ℕ) → Up m.place n y e → In y xs
+  all_in : (y : IdBytes) (n : ℕ) → Up m.place n y e → In y xs
   all_in y n up = all_below meta m good known xs order n y e (forest_has meta m good known (e ∷ []) xs subtree e (inl refl)) up
 
-  live_at : is_live m e ≡ true → (y : Name) (n : ℕ) → Up m.place n y e → is_live m y ≡ true
+  live_at : is_live m e ≡ true → (y : IdBytes) (n : ℕ) → Up m.place n y e → is_live m y ≡ true
   live_at live y zero up = ap (is_live m) up ∙ live
   live_at live y (suc n) up = (placed_live meta m.kind (get m.kind y) (Inside up.0 up.1) (get m.prank y) (subst (λ o. PlaceOk meta m.kind (get m.kind y) o (get m.prank y)) up.2 (good.places.stands y))).0
 
-  pub below_live : is_live m e ≡ true → (y : Name) → In y xs → is_live m y ≡ true
+  pub below_live : is_live m e ≡ true → (y : IdBytes) → In y xs → is_live m y ≡ true
   below_live live y is = let at = at_or_below y is in live_at live y at.0 at.1
 
-  pub below_is : (y : Name) (up : List Name) → IsChain m.place (get m.place y) up → is_among xs y ≡ is_among (y ∷ up) e
+  pub below_is : (y : IdBytes) (up : List IdBytes) → IsChain m.place (get m.place y) up → is_among xs y ≡ is_among (y ∷ up) e
   below_is y up chain =
       elim (is_among xs y) as (λ b. is_among xs y ≡ b → b ≡ is_among (y ∷ up) e) [
         | true ↦ λ is. let at = at_or_below y (among_in y xs is) in sym (in_among e (y ∷ up) (up_in m.place at.0 y e up chain at.1))
         | false ↦ λ far. sym (not_among e (y ∷ up) (λ is. let at = chain_up m.place y e up chain is in true_false (is_among xs y) (in_among y xs (all_in y at.0 at.1)) far))
       ] refl
 
-  distinct_from : (ys : List Name) → Ordered meta m good known ys → Distinct ys
+  distinct_from : (ys : List IdBytes) → Ordered meta m good known ys → Distinct ys
   distinct_from [] o = tt
   distinct_from (y ∷ ys) o = (o.1, distinct_from ys o.2)
 
-  fresh_from : (sound : Sound meta) (ys done : List Name) → ((y : Name) → In y ys → is_among xs y ≡ true) → ((y : Name) → In y ys → In y done → ⊥) → Distinct ys → Fresh meta sound m.row (slots_of meta m is_plain xs) xs (no_opposites meta sound m good xs) done ys
+  fresh_from : (sound : Sound meta) (ys done : List IdBytes) → ((y : IdBytes) → In y ys → is_among xs y ≡ true) → ((y : IdBytes) → In y ys → In y done → ⊥) → Distinct ys → Fresh meta sound m.row (slots_of meta m is_plain xs) xs (no_opposites meta sound m good xs) done ys
   fresh_from sound [] done one far d = tt
   fresh_from sound (y ∷ ys) done one far d = (
     not_among y done (far y (inl refl)),
     one y (inl refl),
-    fresh_from sound ys (y ∷ done) (λ z h. one z (inr h)) (λ z h g. elim g [ inl same_one ↦ d.0 (subst (λ (w : Name). In w ys) same_one h) | inr l ↦ far z (inr h) l ]) d.1,
+    fresh_from sound ys (y ∷ done) (λ z h. one z (inr h)) (λ z h g. elim g [ inl same_one ↦ d.0 (subst (λ (w : IdBytes). In w ys) same_one h) | inr l ↦ far z (inr h) l ]) d.1,
   )
 
-  all_live : is_live m e ≡ true → (ys : List Name) → ((y : Name) → In y ys → In y xs) → AllLive m ys
+  all_live : is_live m e ≡ true → (ys : List IdBytes) → ((y : IdBytes) → In y ys → In y xs) → AllLive m ys
   all_live live [] h = tt
   all_live live (y ∷ ys) h = (below_live live y (h y (inl refl)), all_live live ys (λ z l. h z (inr l)))
 

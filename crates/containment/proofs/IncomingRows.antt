@@ -17,7 +17,7 @@ use Rattle.finite_maps.proofs.NestedLaws.{get-without}
 use Rattle.ecore_meta.specs.Meta.{Meta}
 use Rattle.model_state.specs.declared.entry.Incoming.{Incoming}
 use Rattle.model_state.specs.declared.step.Step.{Step}
-use Rattle.model_state.specs.Keys.{Name, AttrKey, RowKey, row_cmp}
+use Rattle.model_state.specs.Keys.{IdBytes, AttrKey, RowKey, row_cmp}
 use Rattle.model_state.specs.Listing.{row_incoming}
 use Rattle.model_state.specs.State.{State}
 use Rattle.model_state.specs.Typing.{opposite_of}
@@ -65,7 +65,7 @@ keyed : (es : List (RowKey × ℕ)) → T (is_sorted row_cmp es) → Keyed es
 keyed [] h = tt
 keyed (e ∷ es) h = (behind e.0 es (first _ _ h), keyed es (second _ _ h))
 
-module _ (meta : Meta) (sound : Sound meta) (row : Rows) (slots : List AttrKey) (x : Name) where
+module _ (meta : Meta) (sound : Sound meta) (row : Rows) (slots : List AttrKey) (x : IdBytes) where
   -- the row is one to x that is left
   abbrev wanted : RowKey × ℕ → Bool
   wanted e = text_eq x e.0.2 && not (is_touched meta slots e.0)
@@ -87,7 +87,7 @@ module _ (meta : Meta) (sound : Sound meta) (row : Rows) (slots : List AttrKey) 
       elim (text_eq x e.0.2) as (λ b. text_eq x e.0.2 ≡ b → map (incoming_unlink meta row x) (filter (λ (i : Incoming). not (is_touched meta slots (i.source, i.feature, x))) (map row_incoming (cond {A = List (RowKey × ℕ)} b (e ∷ filter (λ (e : RowKey × ℕ). text_eq x e.0.2) es) (filter (λ (e : RowKey × ℕ). text_eq x e.0.2) es)))) ≡ cond (b && not (is_touched meta slots e.0)) (step_of e ∷ made_of es) (made_of es)) [
         | false ↦ λ _. refl
         | true ↦ λ is.
-            let key : is_touched meta slots (e.0.0, e.0.1, x) ≡ is_touched meta slots e.0 = ap (λ (z : Name). is_touched meta slots (e.0.0, e.0.1, z)) (text_equality.exact x e.0.2 is) in
+            let key : is_touched meta slots (e.0.0, e.0.1, x) ≡ is_touched meta slots e.0 = ap (λ (z : IdBytes). is_touched meta slots (e.0.0, e.0.1, z)) (text_equality.exact x e.0.2 is) in
             ap (λ t. map (incoming_unlink meta row x) (cond {A = List Incoming} (not t) (row_incoming e ∷ filter (λ (i : Incoming). not (is_touched meta slots (i.source, i.feature, x))) (map row_incoming (filter (λ (e : RowKey × ℕ). text_eq x e.0.2) es))) (filter (λ (i : Incoming). not (is_touched meta slots (i.source, i.feature, x))) (map row_incoming (filter (λ (e : RowKey × ℕ). text_eq x e.0.2) es))))) key
             ∙ taken (is_touched meta slots e.0)
       ] refl
@@ -110,16 +110,16 @@ module _ (meta : Meta) (sound : Sound meta) (row : Rows) (slots : List AttrKey) 
       let s = e.0.0 in
       let f = e.0.1 in
       let key : x ≡ e.0.2 = text_equality.exact x e.0.2 (first_true (text_eq x e.0.2) _ is) in
-      let there : get m.row (s, f, x) ≡ Some e.1 = ap (λ (z : Name). get m.row (s, f, z)) key ∙ here in
+      let there : get m.row (s, f, x) ≡ Some e.1 = ap (λ (z : IdBytes). get m.row (s, f, z)) key ∙ here in
       let takes = unlink_takes meta sound m good s f e.1 x there in
       let by : (o : Option ℕ) → o ≡ None → Takes meta m (unlink_step o s f e.1 x (mirror_rank m.row o s x)) (set_pair m.row s f x o None None) → Takes meta m (unlink_step o s f e.1 x (mirror_rank row o s x)) (set m.row (s, f, x) None) = plain s f e.1 m in
-      subst (λ (z : Name). Takes meta m (step_of e) (set m.row (s, f, z) None)) key (by (opposite_of meta f) none takes)
+      subst (λ (z : IdBytes). Takes meta m (step_of e) (set m.row (s, f, z) None)) key (by (opposite_of meta f) none takes)
     where
       first_true : (a b : Bool) → a && b ≡ true → a ≡ true
       first_true true b h = refl
       first_true false b h = h
 
-      plain : (s : Name) (f r : ℕ) (m : State) (o : Option ℕ) → o ≡ None → Takes meta m (unlink_step o s f r x (mirror_rank m.row o s x)) (set_pair m.row s f x o None None) → Takes meta m (unlink_step o s f r x (mirror_rank row o s x)) (set m.row (s, f, x) None)
+      plain : (s : IdBytes) (f r : ℕ) (m : State) (o : Option ℕ) → o ≡ None → Takes meta m (unlink_step o s f r x (mirror_rank m.row o s x)) (set_pair m.row s f x o None None) → Takes meta m (unlink_step o s f r x (mirror_rank row o s x)) (set m.row (s, f, x) None)
       plain s f r m None is takes = takes
       plain s f r m (Some g) is takes = cc
 
@@ -175,16 +175,16 @@ module _ (meta : Meta) (sound : Sound meta) (row : Rows) (slots : List AttrKey) 
       first_true true b h = refl
       first_true false b h = h
 
--- the row is touched, or goes to one of the elements
-abbrev pub is_gone : Meta → List AttrKey → List Name → RowKey → Bool
+-- the row is touched, or ends at one of the elements
+abbrev pub is_gone : Meta → List AttrKey → List IdBytes → RowKey → Bool
 is_gone meta slots done k = is_touched meta slots k || is_among done k.2
 
 -- a row to one of the elements that isn't touched has no opposite
-abbrev pub NoOpposites : Meta → Rows → List AttrKey → List Name → Type 0
-NoOpposites meta row slots xs = (s : Name) (f : ℕ) (x : Name) (r : ℕ) → is_among xs x ≡ true → get row (s, f, x) ≡ Some r → is_touched meta slots (s, f, x) ≡ false → opposite_of meta f ≡ None
+abbrev pub NoOpposites : Meta → Rows → List AttrKey → List IdBytes → Type 0
+NoOpposites meta row slots xs = (s : IdBytes) (f : ℕ) (x : IdBytes) (r : ℕ) → is_among xs x ≡ true → get row (s, f, x) ≡ Some r → is_touched meta slots (s, f, x) ≡ false → opposite_of meta f ≡ None
 
-module _ (meta : Meta) (sound : Sound meta) (row : Rows) (slots : List AttrKey) (xs : List Name) (alone : NoOpposites meta row slots xs) where
-  module _ (m : State) (good : Good meta m) (done : List Name) (same_row : m.row ≡ without (is_gone meta slots done) row) (x : Name) (fresh : is_among done x ≡ false) (one : is_among xs x ≡ true) where
+module _ (meta : Meta) (sound : Sound meta) (row : Rows) (slots : List AttrKey) (xs : List IdBytes) (alone : NoOpposites meta row slots xs) where
+  module _ (m : State) (good : Good meta m) (done : List IdBytes) (same_row : m.row ≡ without (is_gone meta slots done) row) (x : IdBytes) (fresh : is_among done x ≡ false) (one : is_among xs x ≡ true) where
     read : (k : RowKey) → get m.row k ≡ cond (is_gone meta slots done k) None (get row k)
     read k = ap (λ w. get w k) same_row ∙ get-without row_order (is_gone meta slots done) row k
 
@@ -220,8 +220,8 @@ module _ (meta : Meta) (sound : Sound meta) (row : Rows) (slots : List AttrKey) 
         or_true true = refl
         or_true false = refl
 
-        turned : (x y : Name) → text_eq x y ≡ true → text_eq y x ≡ true
-        turned x y h = ap (λ (z : Name). text_eq z x) (sym (text_equality.exact x y h)) ∙ text_equality.own x
+        turned : (x y : IdBytes) → text_eq x y ≡ true → text_eq y x ≡ true
+        turned x y h = ap (λ (z : IdBytes). text_eq z x) (sym (text_equality.exact x y h)) ∙ text_equality.own x
 
         here : (k : RowKey) → text_eq x k.2 ≡ true → (o : Option ℕ) → get m.row k ≡ o → get (swept meta sound row slots x (entries row) m.row) k ≡ None
         here k is None none = swept_none meta sound row slots x (entries row) m.row k none
@@ -233,18 +233,18 @@ module _ (meta : Meta) (sound : Sound meta) (row : Rows) (slots : List AttrKey) 
     pub one_leads : Leads meta m (map (incoming_unlink meta row x) (incoming_left meta row slots x)) (without (is_gone meta slots (x ∷ done)) row)
     one_leads = subst (λ w. Leads meta m (map (incoming_unlink meta row x) (incoming_left meta row slots x)) w) swept_is (sweep_leads meta sound row slots x (entries row) m good (keyed (entries row) (entries_sorted row)) (ready (entries row) (entries_held row_order row)))
 
--- the elements behind others, the last first
-abbrev pub gathered : List Name → List Name → List Name
+-- the elements after others, the last first
+abbrev pub gathered : List IdBytes → List IdBytes → List IdBytes
 gathered [] done = done
 gathered (x ∷ xs) done = gathered xs (x ∷ done)
 
-module _ (meta : Meta) (sound : Sound meta) (row : Rows) (slots : List AttrKey) (xs : List Name) (alone : NoOpposites meta row slots xs) where
+module _ (meta : Meta) (sound : Sound meta) (row : Rows) (slots : List AttrKey) (xs : List IdBytes) (alone : NoOpposites meta row slots xs) where
   -- each is one of xs, and none was before
-  abbrev pub Fresh : List Name → List Name → Type 0
+  abbrev pub Fresh : List IdBytes → List IdBytes → Type 0
   Fresh done [] = Unit {0}
   Fresh done (y ∷ ys) = (is_among done y ≡ false) × (is_among xs y ≡ true) × Fresh (y ∷ done) ys
 
-  pub incoming_leads : (ys done : List Name) (m : State) → Good meta m → m.row ≡ without (is_gone meta slots done) row → Fresh done ys → Leads meta m (incoming_made meta row slots ys) (without (is_gone meta slots (gathered ys done)) row)
+  pub incoming_leads : (ys done : List IdBytes) (m : State) → Good meta m → m.row ≡ without (is_gone meta slots done) row → Fresh done ys → Leads meta m (incoming_made meta row slots ys) (without (is_gone meta slots (gathered ys done)) row)
   incoming_leads [] done m good is fresh = subst (λ w. Leads meta m [] w) is (stays meta m good)
   incoming_leads (y ∷ ys) done m good is fresh =
       let next = without (is_gone meta slots (y ∷ done)) row in

@@ -8,7 +8,7 @@ use Rattle.ecore_meta.specs.Meta.{Meta}
 use Rattle.ecore_meta.specs.declared.meta.Value.{Value}
 use Rattle.model_state.specs.declared.step.Place.{Place}
 use Rattle.model_state.specs.declared.step.Place.TheVariants.{Root}
-use Rattle.model_state.specs.Keys.{Name, AttrKey, RowKey, id_cmp}
+use Rattle.model_state.specs.Keys.{IdBytes, AttrKey, RowKey, id_cmp}
 use Rattle.model_state.specs.State.{State, is_live}
 use Rattle.model_state.specs.Good.{Good, AttrOk, RowOk, PlaceOk}
 use Rattle.model_state.specs.Chains.{IsChain}
@@ -64,12 +64,12 @@ no_target meta None f None (Some r) dead ok = cc
 no_target meta (Some c) f None (Some r) dead ok = cc
 no_target meta c f (Some d) (Some r) dead ok = cc
 
-module _ (meta : Meta) (m : State) (good : Good meta m) (e : Name) where
-  abbrev gone : Name → Bool
+module _ (meta : Meta) (m : State) (good : Good meta m) (e : IdBytes) where
+  abbrev gone : IdBytes → Bool
   gone y = is_among (subtree_of meta m e) y
 
-  -- a live element is gone where it is e or has e among its containers
-  gone_is : (y : Name) → is_live m y ≡ true → gone y ≡ is_among (y ∷ containers_of m (place_of m y)) e
+  -- a live element is deleted where it is e or has e among its containers
+  gone_is : (y : IdBytes) → is_live m y ≡ true → gone y ≡ is_among (y ∷ containers_of m (place_of m y)) e
   gone_is y live =
       let at = live_place meta m good y live in
       let up = good.places.ends y at.0 at.1 in
@@ -77,15 +77,15 @@ module _ (meta : Meta) (m : State) (good : Good meta m) (e : Name) where
       let above : containers_of m (place_of m y) ≡ up.0 = containers_are_chain meta m good (place_of m y) up.0 (subst (λ p. IsChain m.place (Some p) up.0) here up.1) in
       subtree_is_below meta m good e y up.0 (subst (λ o. IsChain m.place o up.0) (sym at.1) up.1) ∙ ap (λ xs. is_among (y ∷ xs) e) (sym above)
 
-  -- what a live element has stays where it isn't gone, and an element that isn't live has nothing
-  kept : {A : Type 0} (y : Name) (o : Option A) → (get m.kind y ≡ None → o ≡ None) → cond (gone y) None o ≡ cond (stays m e y) o None
+  -- what a live element has stays where it isn't deleted, and an element that isn't live has nothing
+  kept : {A : Type 0} (y : IdBytes) (o : Option A) → (get m.kind y ≡ None → o ≡ None) → cond (gone y) None o ≡ cond (stays m e y) o None
   kept y o dead =
       elim (is_live m y) as (λ b. is_live m y ≡ b → cond (gone y) None o ≡ cond (b && not (is_among (y ∷ containers_of m (place_of m y)) e)) o None) [
         | true ↦ λ live. turned (gone y) None o ∙ ap (λ b. cond (not b) o None) (gone_is y live)
         | false ↦ λ no. none_either (gone y) o (dead (no_some (get m.kind y) no))
       ] refl
 
-  kept_pair : (y z : Name) (o : Option ℕ) → (get m.kind y ≡ None → o ≡ None) → (get m.kind z ≡ None → o ≡ None) → cond (gone y || gone z) None o ≡ cond (stays m e y && stays m e z) o None
+  kept_pair : (y z : IdBytes) (o : Option ℕ) → (get m.kind y ≡ None → o ≡ None) → (get m.kind z ≡ None → o ≡ None) → cond (gone y || gone z) None o ≡ cond (stays m e y && stays m e z) o None
   kept_pair y z o from to =
       either (gone y) (gone z) o ∙ ap (λ w. cond (gone y) None w) (kept z o to)
       ∙ kept y (cond (stays m e z) o None) (λ dead. cut (stays m e z) o (from dead)) ∙ both (stays m e y) (stays m e z) o
@@ -102,7 +102,7 @@ module _ (meta : Meta) (m : State) (good : Good meta m) (e : Name) where
       cut true o h = h
       cut false o h = refl
 
-  class_kept : (y : Name) → get (delete_after meta m e).kind y ≡ cond (stays m e y) (get m.kind y) None
+  class_kept : (y : IdBytes) → get (delete_after meta m e).kind y ≡ cond (stays m e y) (get m.kind y) None
   class_kept y = get-without id_order gone m.kind y ∙ kept y (get m.kind y) (λ dead. dead)
 
   pub keeps : Keeps m (delete_after meta m e) e

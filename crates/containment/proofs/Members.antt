@@ -6,7 +6,7 @@ use Rattle.std.specs.Option.{option_map_or}
 use Rattle.finite_maps.specs.Equal.{text_eq}
 use Rattle.finite_maps.proofs.Cases.{not_so, true_false}
 use Rattle.finite_maps.proofs.EqualLaws.{text_equality}
-use Rattle.model_state.specs.Keys.{Name}
+use Rattle.model_state.specs.Keys.{IdBytes}
 use Rattle.containment.specs.Subtree.{is_among, numbers}
 
 -- the item is in the list
@@ -118,7 +118,7 @@ within_list h d p (x ∷ xs) (suc k) none pass = next k (length xs) (within_list
     next k n h = omega arith
 
 -- ---- names
-pub among_in : (y : Name) (xs : List Name) → is_among xs y ≡ true → In y xs
+pub among_in : (y : IdBytes) (xs : List IdBytes) → is_among xs y ≡ true → In y xs
 among_in y [] h = cc
 among_in y (x ∷ xs) h =
     elim (text_eq y x) as (λ b. text_eq y x ≡ b → b || is_among xs y ≡ true → In y (x ∷ xs)) [
@@ -126,7 +126,7 @@ among_in y (x ∷ xs) h =
       | false ↦ λ _ g. inr (among_in y xs g)
     ] refl h
 
-pub in_among : (y : Name) (xs : List Name) → In y xs → is_among xs y ≡ true
+pub in_among : (y : IdBytes) (xs : List IdBytes) → In y xs → is_among xs y ≡ true
 in_among y [] h = absurd h
 in_among y (x ∷ xs) (inl e) = ap (λ b. b || is_among xs y) (ap (text_eq y) (sym e) ∙ text_equality.own y)
 in_among y (x ∷ xs) (inr h) = ap (λ b. text_eq y x || b) (in_among y xs h) ∙ or_true (text_eq y x)
@@ -135,8 +135,8 @@ in_among y (x ∷ xs) (inr h) = ap (λ b. text_eq y x || b) (in_among y xs h) �
     or_true true = refl
     or_true false = refl
 
-pub not_among : (y : Name) (xs : List Name) → (In y xs → ⊥) → is_among xs y ≡ false
+pub not_among : (y : IdBytes) (xs : List IdBytes) → (In y xs → ⊥) → is_among xs y ≡ false
 not_among y xs h = not_so (is_among xs y) (λ is. h (among_in y xs is))
 
-pub among_not : (y : Name) (xs : List Name) → is_among xs y ≡ false → In y xs → ⊥
+pub among_not : (y : IdBytes) (xs : List IdBytes) → is_among xs y ≡ false → In y xs → ⊥
 among_not y xs h is = true_false (is_among xs y) (in_among y xs is) h

@@ -13,19 +13,19 @@ use Rattle.finite_maps.proofs.MapLaws.{same}
 use Rattle.finite_maps.proofs.NestedLaws.{get-without}
 use Rattle.ecore_meta.specs.Meta.{Meta}
 use Rattle.model_state.specs.declared.entry.Entry.{Entry}
-use Rattle.model_state.specs.Keys.{Name, AttrKey, RowKey}
+use Rattle.model_state.specs.Keys.{IdBytes, AttrKey, RowKey}
 use Rattle.model_state.specs.Listing.{targets}
 use Rattle.model_state.specs.State.{State}
 use Rattle.model_state.specs.Typing.{opposite_of}
 use Rattle.model_state.specs.Good.{Good, Sound}
 use Rattle.model_state.proofs.Orders.{row_order}
-use Rattle.edit_laws.specs.Rows.{Rows, around, clear, mirror_rank, unlinks}
+use Rattle.edit_laws.specs.Rows.{Rows, is_row_or_mirror, clear, mirror_rank, unlinks}
 use Rattle.edit_laws.proofs.Clears.{Leads, stays, Held, Covers, cleared_is, unlinks_lead}
 use Rattle.edit_laws.proofs.Joins.{leads_on}
 use Rattle.edit_laws.proofs.Lists.{Apart, targets_held, targets_has, targets_apart}
 use Rattle.containment.specs.Deletes.{is_touched, targets_left, outgoing_made}
 
-none_any : (y : Name) (q : Entry → Bool) (xs : List Entry) → list_any (λ (x : Entry). text_eq y x.id) xs ≡ false → list_any (λ (x : Entry). text_eq y x.id) (filter q xs) ≡ false
+none_any : (y : IdBytes) (q : Entry → Bool) (xs : List Entry) → list_any (λ (x : Entry). text_eq y x.id) xs ≡ false → list_any (λ (x : Entry). text_eq y x.id) (filter q xs) ≡ false
 none_any y q [] h = refl
 none_any y q (x ∷ xs) h =
     elim (text_eq y x.id) as (λ t. text_eq y x.id ≡ t → t || list_any (λ (x : Entry). text_eq y x.id) xs ≡ false → list_any (λ (x : Entry). text_eq y x.id) (filter q (x ∷ xs)) ≡ false) [
@@ -37,7 +37,7 @@ none_any y q (x ∷ xs) h =
           ]
     ] refl h
 
-some_any : (y : Name) (q : Name → Bool) (xs : List Entry) → q y ≡ true → list_any (λ (x : Entry). text_eq y x.id) xs ≡ true → list_any (λ (x : Entry). text_eq y x.id) (filter (λ (x : Entry). q x.id) xs) ≡ true
+some_any : (y : IdBytes) (q : IdBytes → Bool) (xs : List Entry) → q y ≡ true → list_any (λ (x : Entry). text_eq y x.id) xs ≡ true → list_any (λ (x : Entry). text_eq y x.id) (filter (λ (x : Entry). q x.id) xs) ≡ true
 some_any y q [] pass h = h
 some_any y q (x ∷ xs) pass h =
     elim (text_eq y x.id) as (λ t. text_eq y x.id ≡ t → t || list_any (λ (x : Entry). text_eq y x.id) xs ≡ true → list_any (λ (x : Entry). text_eq y x.id) (filter (λ (x : Entry). q x.id) (x ∷ xs)) ≡ true) [
@@ -67,8 +67,8 @@ module _ (meta : Meta) (sound : Sound meta) (row : Rows) (before : List AttrKey)
   read : (k : RowKey) → get left k ≡ cond (is_touched meta before k) None (get row k)
   read k = get-without row_order (is_touched meta before) row k
 
-  module _ (m : State) (good : Good meta m) (same_row : m.row ≡ left) (a : Name) (f : ℕ) where
-    mirror_left : (o : Option ℕ) → opposite_of meta f ≡ o → (x : Name) (r : ℕ) → get m.row (a, f, x) ≡ Some r → mirror_rank m.row o a x ≡ mirror_rank row o a x
+  module _ (m : State) (good : Good meta m) (same_row : m.row ≡ left) (a : IdBytes) (f : ℕ) where
+    mirror_left : (o : Option ℕ) → opposite_of meta f ≡ o → (x : IdBytes) (r : ℕ) → get m.row (a, f, x) ≡ Some r → mirror_rank m.row o a x ≡ mirror_rank row o a x
     mirror_left None is x r here = refl
     mirror_left (Some g) is x r here =
         let there : is_some (get m.row (x, g, a)) ≡ true = sym (good.rows.mirrored a f x g is) ∙ ap is_some here in
@@ -94,14 +94,14 @@ module _ (meta : Meta) (sound : Sound meta) (row : Rows) (before : List AttrKey)
     covers_left : Covers meta sound a f m.row (targets_left meta row before (a, f))
     covers_left y r is =
         let at = still_there (is_touched meta before (a, f, y)) (get row (a, f, y)) r (sym (ap (λ w. get w (a, f, y)) same_row ∙ read (a, f, y)) ∙ is) in
-        some_any y (λ (z : Name). not (is_touched meta before (a, f, z))) (targets row a f) (not_false _ at.0) (targets_has row a f y r at.1)
+        some_any y (λ (z : IdBytes). not (is_touched meta before (a, f, z))) (targets row a f) (not_false _ at.0) (targets_has row a f y r at.1)
 
     cleared_next : clear (opposite_of meta f) a f m.row ≡ without (is_touched meta (before ++ (a, f) ∷ [])) row
     cleared_next = same row_order _ _ (λ k.
-        get-without row_order (around (opposite_of meta f) a f) m.row k
-        ∙ ap (λ (o : Option ℕ). cond (around (opposite_of meta f) a f k) None o) (ap (λ w. get w k) same_row ∙ read k)
-        ∙ either (around (opposite_of meta f) a f k) (is_touched meta before k) (get row k)
-        ∙ ap (λ b. cond b None (get row k)) (sym (list_any-append (λ (s : AttrKey). around (opposite_of meta s.1) s.0 s.1 k) before ((a, f) ∷ [])))
+        get-without row_order (is_row_or_mirror (opposite_of meta f) a f) m.row k
+        ∙ ap (λ (o : Option ℕ). cond (is_row_or_mirror (opposite_of meta f) a f k) None o) (ap (λ w. get w k) same_row ∙ read k)
+        ∙ either (is_row_or_mirror (opposite_of meta f) a f k) (is_touched meta before k) (get row k)
+        ∙ ap (λ b. cond b None (get row k)) (sym (list_any-append (λ (s : AttrKey). is_row_or_mirror (opposite_of meta s.1) s.0 s.1 k) before ((a, f) ∷ [])))
         ∙ sym (get-without row_order (is_touched meta (before ++ (a, f) ∷ [])) row k))
       where
         either : (b c : Bool) (o : Option ℕ) → cond b None (cond c None o) ≡ cond (c || (b || false)) None o

@@ -9,7 +9,7 @@ use Rattle.finite_maps.proofs.SortLaws.{tally-in_order, tally-map}
 use Rattle.ecore_meta.specs.Meta.{Meta}
 use Rattle.model_state.specs.declared.entry.Entry.{Entry}
 use Rattle.model_state.specs.declared.step.Place.{Place}
-use Rattle.model_state.specs.Keys.{Name, id_cmp}
+use Rattle.model_state.specs.Keys.{IdBytes, id_cmp}
 use Rattle.model_state.specs.Listing.{children, entry_cmp}
 use Rattle.model_state.specs.State.{State, place_eq}
 use Rattle.model_state.specs.Steps.{may_move}
@@ -25,13 +25,13 @@ use Rattle.containment.specs.Subtree.{is_among}
 use Rattle.containment.specs.Refusals.{first_refusal, spot_refusal, within_tests, arrival_tests, move_refusal, place_of}
 
 -- as many children as elements that stand there
-pub length_children : (place : FinMap id_cmp Place) (prank : FinMap id_cmp ℕ) (p : Place) → length (children place prank p) ≡ count (λ (e : Name × Place). place_eq p e.1) place
+pub length_children : (place : FinMap id_cmp Place) (prank : FinMap id_cmp ℕ) (p : Place) → length (children place prank p) ≡ count (λ (e : IdBytes × Place). place_eq p e.1) place
 length_children place prank p =
     length_tally (children place prank p)
     ∙ tally-in_order entry_cmp (λ _. true) _
-    ∙ tally-map (λ _. true) (spot_of prank) (picked (λ (e : Name × Place). place_eq p e.1) place)
-    ∙ tally-filter (λ (e : Name × Place). place_eq p e.1) (λ _. true) (entries place)
-    ∙ (λ i. tally (λ (e : Name × Place). true_too (place_eq p e.1) i) (entries place))
+    ∙ tally-map (λ _. true) (spot_of prank) (picked (λ (e : IdBytes × Place). place_eq p e.1) place)
+    ∙ tally-filter (λ (e : IdBytes × Place). place_eq p e.1) (λ _. true) (entries place)
+    ∙ (λ i. tally (λ (e : IdBytes × Place). true_too (place_eq p e.1) i) (entries place))
 
 -- the end is an index
 own_le : (n : ℕ) → nat_le n n ≡ true
@@ -41,7 +41,7 @@ own_le n = grind (arith, nat_tests)
 pub end_refused : (xs : List Entry) → spot_refusal xs None ≡ cond (is_some (end_spot xs).rank) None (Some Bound)
 end_refused xs = ap (λ b. cond b (cond (is_some (end_spot xs).rank) None (Some Bound)) (Some NoEntry)) (own_le (length xs))
 
--- where there is a rank behind the last entry, the others keep theirs
+-- where there is a rank after the last entry, the others keep theirs
 pub end_kept : (xs : List Entry) (r : ℕ) → rank_for (ranks_of xs) (length xs) ≡ Some r → (rerank_places xs (end_spot xs).ranks ≡ []) × ((end_spot xs).rank ≡ Some r) × (spot_refusal xs None ≡ None)
 end_kept xs r is =
     let rank : (end_spot xs).rank ≡ Some r = ap (λ o. (spot_by o xs (length xs)).rank) is in (
@@ -68,14 +68,14 @@ arrival_open true false c f h = cc
 arrival_open false b c f h = cc
 
 -- ---- a move whose element may stand there and is no container
-pub move_first : (meta : Meta) (m : State) (e : Name) (to : Place) (above : List Name) (at : Option ℕ) (same : Bool) → may_move meta m (get m.kind e) to ≡ true → is_among above e ≡ false → place_eq (place_of m e) to ≡ same
+pub move_first : (meta : Meta) (m : State) (e : IdBytes) (to : Place) (above : List IdBytes) (at : Option ℕ) (same : Bool) → may_move meta m (get m.kind e) to ≡ true → is_among above e ≡ false → place_eq (place_of m e) to ≡ same
     → let xs = children m.place m.prank to in move_refusal meta m e to above at ≡ first_refusal (cond same (within_tests e xs at) (arrival_tests meta m to xs at))
 move_first meta m e to above at same may none is =
     let xs = children m.place m.prank to in
     λ i. cond (may i) (cond (not (none i)) (first_refusal (cond (is i) (within_tests e xs at) (arrival_tests meta m to xs at))) (Some WouldCycle)) (Some WrongType)
 
 -- an element that may not stand there is of a wrong type
-pub no_class : (meta : Meta) (m : State) (e : Name) (to : Place) (above : List Name) (at : Option ℕ) → may_move meta m (get m.kind e) to ≡ false → move_refusal meta m e to above at ≡ Some WrongType
+pub no_class : (meta : Meta) (m : State) (e : IdBytes) (to : Place) (above : List IdBytes) (at : Option ℕ) → may_move meta m (get m.kind e) to ≡ false → move_refusal meta m e to above at ≡ Some WrongType
 no_class meta m e to above at h =
     let xs = children m.place m.prank to in
     ap (λ b. cond b (cond (not (is_among above e)) (first_refusal (cond (place_eq (place_of m e) to) (within_tests e xs at) (arrival_tests meta m to xs at))) (Some WouldCycle)) (Some WrongType)) h

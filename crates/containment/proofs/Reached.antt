@@ -9,11 +9,11 @@ use Rattle.finite_maps.specs.Equal.{text_eq}
 use Rattle.finite_maps.proofs.EqualLaws.{text_equality, nat_equality, and_first, and_second, and_both}
 use Rattle.finite_maps.proofs.MapLaws.{same_key, own_key}
 use Rattle.ecore_meta.specs.Meta.{Meta}
-use Rattle.model_state.specs.Keys.{Name, AttrKey, attr_cmp}
+use Rattle.model_state.specs.Keys.{IdBytes, AttrKey, attr_cmp}
 use Rattle.model_state.specs.Typing.{opposite_of}
 use Rattle.model_state.specs.Good.{Sound}
 use Rattle.model_state.proofs.Orders.{attr_order}
-use Rattle.edit_laws.specs.Rows.{around, is_mirror}
+use Rattle.edit_laws.specs.Rows.{is_row_or_mirror, is_mirror}
 use Rattle.containment.specs.Deletes.{is_touched}
 use Rattle.containment.specs.Reached.{is_slot, HasSlots, has_other, is_reached}
 
@@ -48,15 +48,15 @@ slots_more s n slots k has wrote q =
 
 -- ---- the mirror
 -- the row's other end, if it is one
-abbrev ends_at : Name → Option ℕ → AttrKey → Bool
+abbrev ends_at : IdBytes → Option ℕ → AttrKey → Bool
 ends_at b None s = false
 ends_at b (Some g) s = is_slot (b, g) s
 
-none_of : (b : Name) (ss : List AttrKey) → list_any (ends_at b None) ss ≡ false
+none_of : (b : IdBytes) (ss : List AttrKey) → list_any (ends_at b None) ss ≡ false
 none_of b [] = refl
 none_of b (s ∷ ss) = none_of b ss
 
-module _ (meta : Meta) (sound : Sound meta) (a : Name) (f : ℕ) (b : Name) where
+module _ (meta : Meta) (sound : Sound meta) (a : IdBytes) (f : ℕ) (b : IdBytes) where
   to_end : (s : AttrKey) (o : Option ℕ) → opposite_of meta s.1 ≡ o → is_mirror o s.0 (a, f, b) ≡ true → ends_at b (opposite_of meta f) s ≡ true
   to_end s None is h = cc
   to_end s (Some g) is h =
@@ -85,7 +85,7 @@ module _ (meta : Meta) (sound : Sound meta) (a : Name) (f : ℕ) (b : Name) wher
       let second = nat_equality.exact f s.1 (and_second _ _ h) in
       and_both (text_eq s.0 a) (nat_eq s.1 f) (subst (λ z. text_eq z a ≡ true) first (text_equality.own a)) (subst (λ z. nat_eq z f ≡ true) second (nat_equality.own f)))
 
-  around_is : (s : AttrKey) → around (opposite_of meta s.1) s.0 s.1 (a, f, b) ≡ is_slot (a, f) s || ends_at b (opposite_of meta f) s
+  around_is : (s : AttrKey) → is_row_or_mirror (opposite_of meta s.1) s.0 s.1 (a, f, b) ≡ is_slot (a, f) s || ends_at b (opposite_of meta f) s
   around_is s = (λ i. own_is s i || mirror_is s i)
 
   regroup : (p q r s : Bool) → (p || q) || (r || s) ≡ (p || r) || (q || s)

@@ -7,7 +7,7 @@ use Rattle.ecore_meta.specs.Meta.{Meta}
 use Rattle.model_state.specs.declared.entry.Entry.{Entry}
 use Rattle.model_state.specs.declared.step.Place.{Place}
 use Rattle.model_state.specs.declared.step.Place.TheVariants.{Root}
-use Rattle.model_state.specs.Keys.{Name}
+use Rattle.model_state.specs.Keys.{IdBytes}
 use Rattle.model_state.specs.State.{State, is_live, place_eq}
 use Rattle.model_state.specs.Steps.{fold}
 use Rattle.model_state.specs.Typing.{is_concrete}
@@ -41,7 +41,7 @@ passed (t ∷ ts) h =
     ] refl h
 
 -- it may be created
-pub may_create : (meta : Meta) (m : State) → Good meta m → (e : Name) (c : ℕ) (p : Place) → is_live m e ≡ false → is_concrete meta c ≡ true → IsPlace meta m p → create_refusal meta m c p ≡ None → MayCreate meta m e c p
+pub may_create : (meta : Meta) (m : State) → Good meta m → (e : IdBytes) (c : ℕ) (p : Place) → is_live m e ≡ false → is_concrete meta c ≡ true → IsPlace meta m p → create_refusal meta m c p ≡ None → MayCreate meta m e c p
 may_create meta m good e c p fresh concrete is open_ =
     let t = passed (create_tests meta m c p) open_ in
     record {
@@ -63,7 +63,7 @@ left_or : (b c : Bool) → b || c ≡ true → b ≡ false → c ≡ true
 left_or true c h g = cc
 left_or false c h g = h
 
-module _ (meta : Meta) (sound : Sound meta) (m : State) (good : Good meta m) (e : Name) (to : Place) (at : Option ℕ) (live : is_live m e ≡ true) (is : IsPlace meta m to) (up down : List Name) (above_from : IsChain m.place (Some (place_of m e)) up) (above_to : IsChain m.place (Some to) down) where
+module _ (meta : Meta) (sound : Sound meta) (m : State) (good : Good meta m) (e : IdBytes) (to : Place) (at : Option ℕ) (live : is_live m e ≡ true) (is : IsPlace meta m to) (up down : List IdBytes) (above_from : IsChain m.place (Some (place_of m e)) up) (above_to : IsChain m.place (Some to) down) where
   abbrev xs : List Entry
   xs = children m.place m.prank to
 

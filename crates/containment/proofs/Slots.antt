@@ -11,13 +11,13 @@ use Rattle.finite_maps.proofs.NestedLaws.{get-without}
 use Rattle.ecore_meta.specs.Meta.{Meta, has_feature}
 use Rattle.ecore_meta.specs.declared.meta.Kind.{Kind}
 use Rattle.ecore_meta.specs.declared.meta.Kind.TheVariants.{Attr, AttrMany, Bounded, Free, Contains, Container, Skip}
-use Rattle.model_state.specs.Keys.{Name, AttrKey, RowKey}
+use Rattle.model_state.specs.Keys.{IdBytes, AttrKey, RowKey}
 use Rattle.model_state.specs.State.{State}
 use Rattle.model_state.specs.Steps.{class_has, may_link}
 use Rattle.model_state.specs.Typing.{kind_of, is_plain, opposite_of, plain_to}
 use Rattle.model_state.specs.Good.{Good, Sound, RowOk}
 use Rattle.model_state.proofs.Orders.{row_order}
-use Rattle.edit_laws.specs.Rows.{around, is_mirror}
+use Rattle.edit_laws.specs.Rows.{is_row_or_mirror, is_mirror}
 use Rattle.containment.specs.Deletes.{is_touched, slots_of}
 use Rattle.containment.specs.Subtree.{features_of, is_among}
 use Rattle.containment.proofs.Members.{In, Distinct, in_left, in_right, in_either, in_map, map_in, distinct_join, among_in, in_among}
@@ -39,13 +39,13 @@ source_plain meta (Some c) f None h = cc
 source_plain meta (Some c) f (Some d) h = (and_first _ _ h, plain_some meta (kind_of meta f) d (and_second (has_feature meta c f) _ h))
 
 module _ (meta : Meta) (m : State) (p : Kind → Bool) where
-  pub slot_in : (x : Name) (f : ℕ) (xs : List Name) → In x xs → In f (features_of meta p (get m.kind x)) → In {A = AttrKey} (x, f) (slots_of meta m p xs)
+  pub slot_in : (x : IdBytes) (f : ℕ) (xs : List IdBytes) → In x xs → In f (features_of meta p (get m.kind x)) → In {A = AttrKey} (x, f) (slots_of meta m p xs)
   slot_in x f [] h g = absurd h
   slot_in x f (y ∷ ys) (inl e) g = in_left {A = AttrKey} (x, f) (map {B = AttrKey} (λ f. (y, f)) (features_of meta p (get m.kind y))) (slots_of meta m p ys)
-      (subst (λ (z : Name). In {A = AttrKey} (x, f) (map {B = AttrKey} (λ f. (z, f)) (features_of meta p (get m.kind z)))) e (map_in {B = AttrKey} (λ f. (x, f)) f (features_of meta p (get m.kind x)) g))
+      (subst (λ (z : IdBytes). In {A = AttrKey} (x, f) (map {B = AttrKey} (λ f. (z, f)) (features_of meta p (get m.kind z)))) e (map_in {B = AttrKey} (λ f. (x, f)) f (features_of meta p (get m.kind x)) g))
   slot_in x f (y ∷ ys) (inr h) g = in_right {A = AttrKey} (x, f) (map {B = AttrKey} (λ f. (y, f)) (features_of meta p (get m.kind y))) (slots_of meta m p ys) (slot_in x f ys h g)
 
-  pub in_slots : (s : AttrKey) (xs : List Name) → In s (slots_of meta m p xs) → In s.0 xs × In s.1 (features_of meta p (get m.kind s.0))
+  pub in_slots : (s : AttrKey) (xs : List IdBytes) → In s (slots_of meta m p xs) → In s.0 xs × In s.1 (features_of meta p (get m.kind s.0))
   in_slots s [] h = absurd h
   in_slots s (y ∷ ys) h =
       elim (in_either s (map {B = AttrKey} (λ f. (y, f)) (features_of meta p (get m.kind y))) (slots_of meta m p ys) h) [
@@ -53,48 +53,48 @@ module _ (meta : Meta) (m : State) (p : Kind → Bool) where
             let at = in_map {B = AttrKey} (λ f. (y, f)) s (features_of meta p (get m.kind y)) l in
             let name : s.0 ≡ y = ap (λ (q : AttrKey). q.0) at.2 in
             let feature : s.1 ≡ at.0 = ap (λ (q : AttrKey). q.1) at.2 in
-            (inl name, subst (λ (z : Name). In s.1 (features_of meta p (get m.kind z))) (sym name) (subst (λ g. In g (features_of meta p (get m.kind y))) (sym feature) at.1))
+            (inl name, subst (λ (z : IdBytes). In s.1 (features_of meta p (get m.kind z))) (sym name) (subst (λ g. In g (features_of meta p (get m.kind y))) (sym feature) at.1))
         | inr r ↦ let rest = in_slots s ys r in (inr rest.0, rest.1)
       ]
 
-  distinct_at : (y : Name) (fs : List ℕ) → Distinct fs → Distinct (map {B = AttrKey} (λ f. (y, f)) fs)
+  distinct_at : (y : IdBytes) (fs : List ℕ) → Distinct fs → Distinct (map {B = AttrKey} (λ f. (y, f)) fs)
   distinct_at y [] d = tt
   distinct_at y (f ∷ fs) d = (
     λ h. let at = in_map {B = AttrKey} (λ f. (y, f)) (y, f) fs h in d.0 (subst (λ g. In g fs) (sym (ap (λ (q : AttrKey). q.1) at.2)) at.1),
     distinct_at y fs d.1,
   )
 
-  pub slots_distinct : (xs : List Name) → Distinct xs → Distinct (slots_of meta m p xs)
+  pub slots_distinct : (xs : List IdBytes) → Distinct xs → Distinct (slots_of meta m p xs)
   slots_distinct [] d = tt
   slots_distinct (y ∷ ys) d = distinct_join (map {B = AttrKey} (λ f. (y, f)) (features_of meta p (get m.kind y))) (slots_of meta m p ys) (distinct_at y (features_of meta p (get m.kind y)) (features_distinct meta p (get m.kind y))) (slots_distinct ys d.1) (λ s l r.
       let at = in_map {B = AttrKey} (λ f. (y, f)) s (features_of meta p (get m.kind y)) l in
-      d.0 (subst (λ (z : Name). In z ys) (ap (λ (q : AttrKey). q.0) at.2) (in_slots s ys r).0))
+      d.0 (subst (λ (z : IdBytes). In z ys) (ap (λ (q : AttrKey). q.0) at.2) (in_slots s ys r).0))
 
 or_true : (b : Bool) → b || true ≡ true
 or_true true = refl
 or_true false = refl
 
 -- a feature among them takes its rows away, and their mirrors
-pub touched_by : (meta : Meta) (slots : List AttrKey) (s : AttrKey) (k : RowKey) → In s slots → around (opposite_of meta s.1) s.0 s.1 k ≡ true → is_touched meta slots k ≡ true
+pub touched_by : (meta : Meta) (slots : List AttrKey) (s : AttrKey) (k : RowKey) → In s slots → is_row_or_mirror (opposite_of meta s.1) s.0 s.1 k ≡ true → is_touched meta slots k ≡ true
 touched_by meta [] s k h near = absurd h
-touched_by meta (t ∷ ts) s k (inl e) near = ap (λ b. b || is_touched meta ts k) (ap (λ (q : AttrKey). around (opposite_of meta q.1) q.0 q.1 k) (sym e) ∙ near)
-touched_by meta (t ∷ ts) s k (inr h) near = ap (λ b. around (opposite_of meta t.1) t.0 t.1 k || b) (touched_by meta ts s k h near) ∙ or_true _
+touched_by meta (t ∷ ts) s k (inl e) near = ap (λ b. b || is_touched meta ts k) (ap (λ (q : AttrKey). is_row_or_mirror (opposite_of meta q.1) q.0 q.1 k) (sym e) ∙ near)
+touched_by meta (t ∷ ts) s k (inr h) near = ap (λ b. is_row_or_mirror (opposite_of meta t.1) t.0 t.1 k || b) (touched_by meta ts s k h near) ∙ or_true _
 
 -- and no others
-pub touched_near : (meta : Meta) (slots : List AttrKey) (k : RowKey) → is_touched meta slots k ≡ true → (s : AttrKey) × In s slots × (around (opposite_of meta s.1) s.0 s.1 k ≡ true)
+pub touched_near : (meta : Meta) (slots : List AttrKey) (k : RowKey) → is_touched meta slots k ≡ true → (s : AttrKey) × In s slots × (is_row_or_mirror (opposite_of meta s.1) s.0 s.1 k ≡ true)
 touched_near meta [] k h = cc
 touched_near meta (t ∷ ts) k h =
-    elim (around (opposite_of meta t.1) t.0 t.1 k) as (λ b. around (opposite_of meta t.1) t.0 t.1 k ≡ b → b || is_touched meta ts k ≡ true → (s : AttrKey) × In s (t ∷ ts) × (around (opposite_of meta s.1) s.0 s.1 k ≡ true)) [
+    elim (is_row_or_mirror (opposite_of meta t.1) t.0 t.1 k) as (λ b. is_row_or_mirror (opposite_of meta t.1) t.0 t.1 k ≡ b → b || is_touched meta ts k ≡ true → (s : AttrKey) × In s (t ∷ ts) × (is_row_or_mirror (opposite_of meta s.1) s.0 s.1 k ≡ true)) [
       | true ↦ λ is _. (t, inl refl, is)
       | false ↦ λ _ g. let rest = touched_near meta ts k g in (rest.0, inr rest.1, rest.2)
     ] refl h
 
-module _ (meta : Meta) (sound : Sound meta) (m : State) (good : Good meta m) (xs : List Name) where
+module _ (meta : Meta) (sound : Sound meta) (m : State) (good : Good meta m) (xs : List IdBytes) where
   abbrev slots : List AttrKey
   slots = slots_of meta m is_plain xs
 
   -- the feature of a row out of one of the elements
-  row_slot : (a : Name) (f : ℕ) (b : Name) (r : ℕ) → In a xs → get m.row (a, f, b) ≡ Some r → In {A = AttrKey} (a, f) slots
+  row_slot : (a : IdBytes) (f : ℕ) (b : IdBytes) (r : ℕ) → In a xs → get m.row (a, f, b) ≡ Some r → In {A = AttrKey} (a, f) slots
   row_slot a f b r is here =
       let plain = source_plain meta (get m.kind a) f (get m.kind b) (subst (λ o. RowOk meta (get m.kind a) f (get m.kind b) o) here (good.rows.typed a f b)) in
       slot_in meta m is_plain a f xs is (feature_listed meta is_plain (get m.kind a) f refl plain.0 plain.1)
@@ -110,11 +110,11 @@ module _ (meta : Meta) (sound : Sound meta) (m : State) (good : Good meta m) (xs
         | Some g ↦ λ is.
             let back = some_rank (get m.row (x, g, s)) (sym (good.rows.mirrored s f x g is) ∙ ap is_some here) in
             let slot = row_slot x g s back.0 (among_in x xs one) back.1 in
-            let near : around (opposite_of meta g) x g (s, f, x) ≡ true = ap (λ o. around o x g (s, f, x)) (sound.both f g is) ∙ ap (λ b. (text_eq x s && nat_eq g f) || b) (and_both _ _ (nat_equality.own f) (text_equality.own x)) ∙ or_true _ in
+            let near : is_row_or_mirror (opposite_of meta g) x g (s, f, x) ≡ true = ap (λ o. is_row_or_mirror o x g (s, f, x)) (sound.both f g is) ∙ ap (λ b. (text_eq x s && nat_eq g f) || b) (and_both _ _ (nat_equality.own f) (text_equality.own x)) ∙ or_true _ in
             absurd (true_false (is_touched meta slots (s, f, x)) (touched_by meta slots (x, g) (s, f, x) slot near) away)
       ] refl
 
-  gathered_among : (ys done : List Name) (y : Name) → is_among (gathered ys done) y ≡ is_among ys y || is_among done y
+  gathered_among : (ys done : List IdBytes) (y : IdBytes) → is_among (gathered ys done) y ≡ is_among ys y || is_among done y
   gathered_among [] done y = refl
   gathered_among (z ∷ zs) done y = gathered_among zs (z ∷ done) y ∙ swap (is_among zs y) (text_eq y z) (is_among done y)
     where
@@ -129,17 +129,17 @@ module _ (meta : Meta) (sound : Sound meta) (m : State) (good : Good meta m) (xs
   or_false false = refl
 
   -- a row that is near one of the features has one of the elements at an end
-  near_end : (s : AttrKey) (o : Option ℕ) (k : RowKey) → In s slots → around o s.0 s.1 k ≡ true → is_among xs k.0 || is_among xs k.2 ≡ true
+  near_end : (s : AttrKey) (o : Option ℕ) (k : RowKey) → In s slots → is_row_or_mirror o s.0 s.1 k ≡ true → is_among xs k.0 || is_among xs k.2 ≡ true
   near_end s o k is near =
       let one = (in_slots meta m is_plain s xs is).0 in
       elim (text_eq s.0 k.0) as (λ b. text_eq s.0 k.0 ≡ b → (b && nat_eq s.1 k.1) || is_mirror o s.0 k ≡ true → is_among xs k.0 || is_among xs k.2 ≡ true) [
-        | true ↦ λ e _. ap (λ b. b || is_among xs k.2) (in_among k.0 xs (subst (λ (z : Name). In z xs) (text_equality.exact s.0 k.0 e) one))
+        | true ↦ λ e _. ap (λ b. b || is_among xs k.2) (in_among k.0 xs (subst (λ (z : IdBytes). In z xs) (text_equality.exact s.0 k.0 e) one))
         | false ↦ λ _ g. by_mirror o g one
       ] refl near
     where
       by_mirror : (o : Option ℕ) → is_mirror o s.0 k ≡ true → In s.0 xs → is_among xs k.0 || is_among xs k.2 ≡ true
       by_mirror None g one = cc
-      by_mirror (Some f) g one = ap (λ b. is_among xs k.0 || b) (in_among k.2 xs (subst (λ (z : Name). In z xs) (text_equality.exact s.0 k.2 (and_second (nat_eq f k.1) _ g)) one)) ∙ or_true _
+      by_mirror (Some f) g one = ap (λ b. is_among xs k.0 || b) (in_among k.2 xs (subst (λ (z : IdBytes). In z xs) (text_equality.exact s.0 k.2 (and_second (nat_eq f k.1) _ g)) one)) ∙ or_true _
 
   -- the rows that stay are those with both ends outside
   pub rows_left : without (is_gone meta slots (gathered xs [])) m.row ≡ without (λ (k : RowKey). is_among xs k.0 || is_among xs k.2) m.row

@@ -15,7 +15,7 @@ use Rattle.ecore_meta.specs.declared.meta.Kind.TheVariants.{Attr, AttrMany, Boun
 use Rattle.ecore_meta.specs.declared.meta.Value.{Value}
 use Rattle.model_state.specs.declared.step.Step.{Step}
 use Rattle.model_state.specs.declared.step.Step.TheVariants.{Put}
-use Rattle.model_state.specs.Keys.{Name, AttrKey, attr_cmp, id_cmp}
+use Rattle.model_state.specs.Keys.{IdBytes, AttrKey, attr_cmp, id_cmp}
 use Rattle.model_state.specs.Lists.{values_of}
 use Rattle.model_state.specs.State.{State}
 use Rattle.model_state.specs.Steps.{class_has, fold}
@@ -23,7 +23,7 @@ use Rattle.model_state.specs.Typing.{kind_of, is_attr, upper_of, value_eq}
 use Rattle.model_state.specs.Good.{Good, Sound, AttrOk, ValuesOk}
 use Rattle.model_state.proofs.Orders.{attr_order}
 use Rattle.model_laws.proofs.Runs.{fold_append, steps_keep_good}
-use Rattle.edit_laws.specs.Attributes.{held, put_made}
+use Rattle.edit_laws.specs.Attributes.{single_value, put_made}
 use Rattle.edit_laws.specs.ManyValues.{clear_made, dels}
 use Rattle.edit_laws.proofs.AttributeEdits.{put_meets}
 use Rattle.edit_laws.proofs.ManyEdits.{clear_meets}
@@ -55,7 +55,7 @@ or_right false c h g = h
 
 -- the step that unsets an attribute, by its entry
 abbrev put_by : AttrKey → Option (List Value) → List Step
-put_by s o = cond (option_eq value_eq (held o) None) [] (Put s.0 s.1 (held o) None ∷ [])
+put_by s o = cond (option_eq value_eq (single_value o) None) [] (Put s.0 s.1 (single_value o) None ∷ [])
 
 module _ (meta : Meta) (sound : Sound meta) (m : State) where
   -- these attributes are as before
@@ -116,7 +116,7 @@ entry_kind : (meta : Meta) (c : Option ℕ) (f : ℕ) (vs : List Value) → Attr
 entry_kind meta None f vs ok = absurd ok
 entry_kind meta (Some c) f vs ok = (ok.0, value_kind meta (kind_of meta f) (upper_of meta f) vs ok.1)
 
-module _ (meta : Meta) (m : State) (good : Good meta m) (xs : List Name) where
+module _ (meta : Meta) (m : State) (good : Good meta m) (xs : List IdBytes) where
   abbrev slots : List AttrKey
   slots = slots_of meta m is_attribute xs
 

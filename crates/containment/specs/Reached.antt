@@ -4,7 +4,7 @@ use Rattle.std.specs.List.{list_any}
 use Rattle.std.specs.BTreeSet.{BTreeSet, contains}
 use Rattle.finite_maps.specs.Equal.{text_eq}
 use Rattle.ecore_meta.specs.Meta.{Meta}
-use Rattle.model_state.specs.Keys.{Name, AttrKey, RowKey, attr_cmp}
+use Rattle.model_state.specs.Keys.{IdBytes, AttrKey, RowKey, attr_cmp}
 use Rattle.model_state.specs.Typing.{opposite_of}
 
 -- the same feature of the same element
@@ -16,7 +16,7 @@ abbrev pub HasSlots : BTreeSet AttrKey → List AttrKey → Type 0
 HasSlots set slots = (k : AttrKey) → contains attr_cmp set k ≡ list_any (is_slot k) slots
 
 -- the set has a feature of an element, if it is one
-abbrev pub has_other : BTreeSet AttrKey → Name → Option ℕ → Bool
+abbrev pub has_other : BTreeSet AttrKey → IdBytes → Option ℕ → Bool
 has_other set b None = false
 has_other set b (Some g) = contains attr_cmp set (b, g)
 

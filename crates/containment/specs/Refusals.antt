@@ -5,7 +5,7 @@ use Rattle.ecore_meta.specs.Meta.{Meta}
 use Rattle.model_state.specs.declared.entry.Entry.{Entry}
 use Rattle.model_state.specs.declared.step.Place.{Place}
 use Rattle.model_state.specs.declared.step.Place.TheVariants.{Root, Inside}
-use Rattle.model_state.specs.Keys.{Name}
+use Rattle.model_state.specs.Keys.{IdBytes}
 use Rattle.model_state.specs.State.{State, place_eq}
 use Rattle.model_state.specs.Steps.{class_has, may_move, may_stand, has_room}
 use Rattle.model_state.specs.Typing.{kind_of, contains_kind}
@@ -21,7 +21,7 @@ abbrev pub first_refusal : List (Bool × MoveFault) → Option MoveFault
 first_refusal [] = None
 first_refusal (t ∷ ts) = cond t.0 (first_refusal ts) (Some t.1)
 
--- want of memory, or the refusal
+-- out of memory, or the refusal
 abbrev pub IsRefusal : Option MoveFault → MoveFault → Type 0
 IsRefusal first e = (e ≡ Memory) ⊎ (first ≡ Some e)
 
@@ -34,9 +34,9 @@ is_place meta m (Inside a f) = class_has meta (get m.kind a) f && contains_kind 
 abbrev pub IsPlace : Meta → State → Place → Type 0
 IsPlace meta m p = is_place meta m p ≡ true
 
--- ---- the elements that another comes among
+-- ---- the elements among which another is put
 -- the elements of a place, but for the one given
-abbrev pub others_in : State → Place → Option Name → List Entry
+abbrev pub others_in : State → Place → Option IdBytes → List Entry
 others_in m p None = children m.place m.prank p
 others_in m p (Some e) = without_entry e (children m.place m.prank p)
 
@@ -61,11 +61,11 @@ abbrev pub create_refusal : Meta → State → ℕ → Place → Option MoveFaul
 create_refusal meta m c p = first_refusal (create_tests meta m c p)
 
 -- where an element stands
-abbrev pub place_of : State → Name → Place
+abbrev pub place_of : State → IdBytes → Place
 place_of m e = unwrap_or (get m.place e) Root
 
 -- the index is one of the others or their end, and where the element doesn't stand there yet there is a rank
-abbrev pub within_tests : Name → List Entry → Option ℕ → List (Bool × MoveFault)
+abbrev pub within_tests : IdBytes → List Entry → Option ℕ → List (Bool × MoveFault)
 within_tests e xs at =
     let others = without_entry e xs in
     let k = unwrap_or at (length others) in
@@ -78,7 +78,7 @@ arrival_tests meta m to xs at =
     (nat_le k (length xs), NoEntry) ∷ (has_room meta m to, Bound) ∷ (is_some (spot xs k).rank, Bound) ∷ []
 
 -- a move to a place with these containers: the element may stand there, is none of the containers, and then by whether it stands in that place
-abbrev pub move_tests : Meta → State → Name → Place → List Name → Option ℕ → List (Bool × MoveFault)
+abbrev pub move_tests : Meta → State → IdBytes → Place → List IdBytes → Option ℕ → List (Bool × MoveFault)
 move_tests meta m e to above at =
     let xs = children m.place m.prank to in
     (may_move meta m (get m.kind e) to, WrongType)
@@ -86,5 +86,5 @@ move_tests meta m e to above at =
     ∷ cond (place_eq (place_of m e) to) (within_tests e xs at) (arrival_tests meta m to xs at)
 
 -- why a move is refused at an index, None for the end
-abbrev pub move_refusal : Meta → State → Name → Place → List Name → Option ℕ → Option MoveFault
+abbrev pub move_refusal : Meta → State → IdBytes → Place → List IdBytes → Option ℕ → Option MoveFault
 move_refusal meta m e to above at = first_refusal (move_tests meta m e to above at)

@@ -7,7 +7,7 @@ use Rattle.ecore_meta.specs.Meta.{Meta}
 use Rattle.ecore_meta.specs.declared.meta.Kind.{Kind}
 use Rattle.model_state.specs.declared.entry.Entry.{Entry}
 use Rattle.model_state.specs.declared.step.Place.TheVariants.{Inside}
-use Rattle.model_state.specs.Keys.{Name}
+use Rattle.model_state.specs.Keys.{IdBytes}
 use Rattle.model_state.specs.Listing.{children, ids}
 use Rattle.model_state.specs.State.{State}
 use Rattle.model_state.specs.Steps.{class_has}
@@ -23,32 +23,32 @@ abbrev pub features_of : Meta → (Kind → Bool) → Option ℕ → List ℕ
 features_of meta p c = filter (λ f. class_has meta c f && p (kind_of meta f)) (numbers (length meta.features))
 
 -- the ids of entries
-abbrev pub ids_of : List Entry → List Name
+abbrev pub ids_of : List Entry → List IdBytes
 ids_of xs = map (λ (x : Entry). x.id) xs
 
 -- the children of some features of an element, feature by feature
-abbrev pub children_by : State → Name → List ℕ → List Name
+abbrev pub children_by : State → IdBytes → List ℕ → List IdBytes
 children_by m e [] = []
 children_by m e (f ∷ fs) = ids_of (children m.place m.prank (Inside e f)) ++ children_by m e fs
 
 -- the children of an element: those of its containments, by number
-abbrev pub children_of : Meta → State → Name → List Name
+abbrev pub children_of : Meta → State → IdBytes → List IdBytes
 children_of meta m e = children_by m e (features_of meta contains_kind (get m.kind e))
 
 -- what a function gives of each item, one after another
-abbrev pub each : (Name → List Name) → List Name → List Name
+abbrev pub each : (IdBytes → List IdBytes) → List IdBytes → List IdBytes
 each h [] = []
 each h (x ∷ xs) = h x ++ each h xs
 
 -- an element with what it contains down to n levels: the element, and then the same of its children in order, a level less
-abbrev pub levels : Meta → State → ℕ → Name → List Name
+abbrev pub levels : Meta → State → ℕ → IdBytes → List IdBytes
 levels meta m zero e = []
 levels meta m (suc n) e = e ∷ each (levels meta m n) (children_of meta m e)
 
 -- the subtree of an element: the element, and then the subtrees of its children in order; it has one level more at most than there are live elements
-abbrev pub subtree_of : Meta → State → Name → List Name
+abbrev pub subtree_of : Meta → State → IdBytes → List IdBytes
 subtree_of meta m e = levels meta m (suc (length (ids m))) e
 
 -- the element is in the list
-abbrev pub is_among : List Name → Name → Bool
+abbrev pub is_among : List IdBytes → IdBytes → Bool
 is_among xs e = list_any (text_eq e) xs

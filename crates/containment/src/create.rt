@@ -35,7 +35,7 @@ pub fn creation_spot<L: Look>(
 }
 
 /// The steps that create an element of a class at its spot, last in a place: the reranks of the others where there is no
-/// room behind the last, and then the new element.
+/// room after the last, and then the new element.
 pub fn create_at<L: Look>(
     alloc: Global,
     look: &L,
@@ -48,7 +48,7 @@ pub fn create_at<L: Look>(
     requires rank { (end_spot (children (L.state look.now).place (L.state look.now).prank place)).rank ≡ Some spot.rank }
     ensures made { IfOk result (λ s. s ≡ create_made (L.state look.now) e.now class place) }
 {
-    // The contract alone speaks of it.
+    // Only the contract needs it.
     let _look = look;
     let Spot { mut steps, rank } = spot;
     steps.push(Step::New {
@@ -62,7 +62,7 @@ pub fn create_at<L: Look>(
 
 /// The steps that create an element of a class, last in a place.
 ///
-/// The elements of the place are ranked anew where there is no room behind the last. Refused with WrongType before Bound.
+/// The elements of the place are renumbered where there is no room after the last. Refused with WrongType before Bound.
 pub fn create_steps<L: Look>(
     alloc: Global,
     look: &L,

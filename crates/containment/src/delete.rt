@@ -11,7 +11,7 @@ use ecore_meta::{List, Metamodel};
 use model_state::{Id, Look, Place, Step};
 use std::alloc::{AllocError, Global};
 
-/// The step by which an element goes from where it stands.
+/// The step by which an element is deleted where it stands.
 fn gone_step<L: Look>(alloc: Global, look: &L, e: &Id) -> Result<Step, AllocError>
     ensures { IfOk result (λ s. s ≡ gone_step (L.state look.now) e.now) }
 {
@@ -33,7 +33,7 @@ fn gone_step<L: Look>(alloc: Global, look: &L, e: &Id) -> Result<Step, AllocErro
     }
 }
 
-/// The steps by which elements go, the last first.
+/// The steps by which elements are deleted, the last first.
 fn gone<L: Look>(
     alloc: Global,
     look: &L,
@@ -48,7 +48,7 @@ fn gone<L: Look>(
     Ok(())
 }
 
-/// The steps by which elements go that contain no others than these.
+/// The steps by which elements are deleted that contain no others than these.
 fn removal<L: Look>(
     alloc: Global,
     look: &L,
@@ -71,7 +71,7 @@ fn removal<L: Look>(
 /// The steps that delete an element with all that it contains.
 ///
 /// First each reference out of the subtree is unlinked with its mirror, then each that is left to an element of it; then
-/// the attributes lose their values, the last first; then the elements go, the last first.
+/// the attributes lose their values, the last first; then the elements are deleted, the last first.
 pub fn delete_steps<L: Look>(
     alloc: Global,
     look: &L,

@@ -10,11 +10,11 @@ use thiserror::Error;
 /// Why an element is refused at a place.
 #[derive(Clone, Copy, Debug, PartialEq, Eq, Drop, Error)]
 pub enum MoveFault {
-    /// The element would come inside itself: it is the parent or one of the parent's containers.
+    /// The element would stand inside itself: it is the parent or one of the parent's containers.
     #[error("a cycle of containers")]
     WouldCycle,
     /// The place would get an element more and is at its upper bound, or it has no room at that index and is too long to
-    /// be ranked anew.
+    /// be renumbered.
     #[error("the place is full")]
     Bound,
     /// The element's class isn't the containment's type or below it.

@@ -96,7 +96,7 @@ fn move_to<L: Look>(
 /// The steps that put an element at an index of a place, None for its end; no step where it stands there.
 ///
 /// Within its place it gets another rank. Into another it is moved, with the containers of both places. Where there is no
-/// room at the index the others there are ranked anew before. Refused with WrongType, WouldCycle, NoEntry and Bound, in
+/// room at the index the others there are renumbered before. Refused with WrongType, WouldCycle, NoEntry and Bound, in
 /// this order.
 pub fn move_steps<L: Look>(
     alloc: Global,

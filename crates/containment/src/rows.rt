@@ -37,7 +37,7 @@ fn is_reached(
     }
 }
 
-/// The targets of a feature of an element whose rows are still there, once the rows of these features are gone.
+/// The targets of a feature of an element whose rows are still there, once the rows of these features are removed.
 fn left_of(
     alloc: Global,
     meta: &Metamodel,
@@ -59,7 +59,7 @@ fn left_of(
     Ok(left)
 }
 
-/// The unlinks of the rows of a slot that are left once the rows of the slots before are gone.
+/// The unlinks of the rows of a slot that are left once the rows of the slots before are removed.
 fn unlink_slot<L: Look>(
     alloc: Global,
     look: &L,
@@ -136,7 +136,7 @@ fn incoming_unlink<L: Look>(
     )
 }
 
-/// The unlinks of rows to an element that are left once the rows of the slots are gone.
+/// The unlinks of rows to an element that are left once the rows of the slots are removed.
 fn unlink_incoming<L: Look>(
     alloc: Global,
     look: &L,
@@ -156,7 +156,7 @@ fn unlink_incoming<L: Look>(
     Ok(())
 }
 
-/// The unlinks of the rows to one element that are left once the rows of the slots are gone.
+/// The unlinks of the rows to one element that are left once the rows of the slots are removed.
 fn unlink_to<L: Look>(
     alloc: Global,
     look: &L,
@@ -172,7 +172,7 @@ fn unlink_to<L: Look>(
     unlink_incoming(alloc, look, meta, slots, e, rows.as_slice(), steps)
 }
 
-/// The unlinks of the rows to elements that are left once the rows of the slots are gone.
+/// The unlinks of the rows to elements that are left once the rows of the slots are removed.
 pub fn incoming<L: Look>(
     alloc: Global,
     look: &L,

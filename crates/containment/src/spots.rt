@@ -73,14 +73,14 @@ pub fn find_spot(alloc: Global, others: List<Entry>, at: Option<u32>) -> Result<
     })
 }
 
-/// The rank behind the last element of the place, None where there is no room.
-fn rank_behind<L: Look>(look: &L, place: &Place) -> Option<u64>
+/// The rank after the last element of the place, None where there is no room.
+fn rank_after<L: Look>(look: &L, place: &Place) -> Option<u64>
     ensures { let xs = children (L.state look.now).place (L.state look.now).prank place.now in result ≡ rank_for (ranks_of xs) (length xs) }
 {
     rank_between(look.last_child(place).unwrap_or(0), None)
 }
 
-/// The spot behind the last element of a place. The elements there are listed only where they are to be ranked anew.
+/// The spot after the last element of a place. The elements there are listed only where they are to be renumbered.
 /// Refused with Bound.
 pub fn last_spot<L: Look>(alloc: Global, look: &L, place: &Place) -> Result<Spot, MoveFault>
     ensures steps { IfOk result (λ s. let xs = children (L.state look.now).place (L.state look.now).prank place.now in s.steps ≡ rerank_places xs (end_spot xs).ranks) }
@@ -88,7 +88,7 @@ pub fn last_spot<L: Look>(alloc: Global, look: &L, place: &Place) -> Result<Spot
     ensures taken { OnOk result (spot_refusal (children (L.state look.now).place (L.state look.now).prank place.now) None ≡ None) }
     ensures refused { IfErr result (λ e. IsRefusal (spot_refusal (children (L.state look.now).place (L.state look.now).prank place.now) None) e) }
 {
-    if let Some(rank) = rank_behind(look, place) {
+    if let Some(rank) = rank_after(look, place) {
         return Ok(Spot {
             steps: List::new(alloc),
             rank,
@@ -98,7 +98,7 @@ pub fn last_spot<L: Look>(alloc: Global, look: &L, place: &Place) -> Result<Spot
     find_spot(alloc, there, None)
 }
 
-/// The spot of an element that comes to a place, at an index of the elements there, None for their end. Refused with
+/// The spot of an element that is put into a place, at an index of the elements there, None for their end. Refused with
 /// NoEntry before Bound.
 pub fn arrival_spot<L: Look>(
     alloc: Global,
@@ -138,8 +138,8 @@ fn others_in<L: Look>(
 
 /// The spot of an element at an index of a place, None for its end, where the element that is skipped doesn't count.
 ///
-/// Refused with NoEntry where the index is behind the end, and then with Bound where there is no rank and the place is too
-/// long to be ranked anew. The upper bound of the place isn't looked at.
+/// Refused with NoEntry where the index is past the end, and then with Bound where there is no rank and the place is too
+/// long to be renumbered. The upper bound of the place isn't looked at.
 pub fn spot_steps<L: Look>(
     alloc: Global,
     look: &L,

@@ -12,7 +12,7 @@ use Rattle.ecore_meta.specs.declared.meta.Feature.{Feature}
 use Rattle.ecore_meta.specs.declared.meta.Kind.{Kind}
 use Rattle.ecore_meta.specs.declared.meta.Kind.TheVariants.{Attr, AttrMany, Skip}
 use Rattle.ecore_meta.specs.declared.meta.Value.{Value}
-use Rattle.model_state.specs.Keys.{Name, id_cmp}
+use Rattle.model_state.specs.Keys.{IdBytes, id_cmp}
 use Rattle.model_state.specs.Typing.{attr_fits, contains_to, has_feature, is_attr, is_concrete, is_many, is_plain, kind_of, many_fits, plain_to}
 use Rattle.model_state.specs.Good.{Good, PlaceOk}
 use Rattle.model_state.specs.Packages.{steps_all, steps_of}
@@ -88,12 +88,12 @@ class_stands meta kind c (Some p) None h = absurd h
 class_stands meta kind c (Some p) (Some r) h = concrete_class meta c h.0
 
 module _ (meta : Meta) (m : State) (good : Good meta m) where
-  its_place : (e : Name) (p : Place) → option_eq place_eq (get m.place e) (Some p) ≡ true → IsPlace meta p
+  its_place : (e : IdBytes) (p : Place) → option_eq place_eq (get m.place e) (Some p) ≡ true → IsPlace meta p
   its_place e p h =
       let is = (option_equality place_eq place_equality).exact (get m.place e) (Some p) h in
       place_stands meta m.kind (get m.kind e) p (get m.prank e) (subst (λ o. PlaceOk meta m.kind (get m.kind e) o (get m.prank e)) is (good.places.stands e))
 
-  its_class : (e : Name) (c : ℕ) → option_eq nat_eq (get m.kind e) (Some c) ≡ true → IsClass meta c
+  its_class : (e : IdBytes) (c : ℕ) → option_eq nat_eq (get m.kind e) (Some c) ≡ true → IsClass meta c
   its_class e c h =
       let is = number_equality.exact (get m.kind e) (Some c) h in
       class_stands meta m.kind c (get m.place e) (get m.prank e) (subst (λ o. PlaceOk meta m.kind o (get m.place e) (get m.prank e)) is (good.places.stands e))

@@ -3,7 +3,7 @@ use Rattle.std.specs.Prelude.{ℕ, suc, ◌+◌, ◌-◌, ◌^◌, ◌<◌, List
 use Rattle.std.specs.Fmt.{decimal}
 use Rattle.footprint.specs.declared.bucket.Bucket.{Bucket}
 use Rattle.footprint.specs.declared.bucket.Buckets.{Buckets}
-use Rattle.data_lines.specs.Lines.{behind_spaces}
+use Rattle.data_lines.specs.Lines.{after_spaces}
 use Rattle.data_lines.specs.Versions.{listed}
 
 -- a place of an operation whose number, one more, has 64 bits
@@ -24,7 +24,7 @@ numbers places = map (λ place. decimal (place + 1)) places
 
 -- the line of the bucket of the number n: the numbers of the operations of each side
 abbrev pub bucket_line : ℕ → Bucket → List ℕ
-bucket_line n b = codes "bucket" ++ behind_spaces (decimal n ∷ codes "theirs" ∷ listed (numbers b.theirs) ∷ codes "mine" ∷ listed (numbers b.mine) ∷ [])
+bucket_line n b = codes "bucket" ++ after_spaces (decimal n ∷ codes "theirs" ∷ listed (numbers b.theirs) ∷ codes "mine" ∷ listed (numbers b.mine) ∷ [])
 
 -- the lines of buckets, the first of them with the number n
 abbrev pub bucket_lines_from : ℕ → List Bucket → List (List ℕ)

@@ -18,10 +18,10 @@ use Rattle.model_state.specs.declared.step.Place.TheVariants.{Root, Inside}
 use Rattle.model_state.specs.declared.step.Step.{Step}
 use Rattle.model_state.specs.declared.step.Step.TheVariants.{Put, Ins, Del, Shift, Link, Unlink, RerankRow, New, Gone, Move, RerankPlace}
 
--- words, each behind a space
-abbrev pub behind_spaces : List (List ℕ) → List ℕ
-behind_spaces [] = []
-behind_spaces (word ∷ words) = 32 ∷ (word ++ behind_spaces words)
+-- words, each after a space
+abbrev pub after_spaces : List (List ℕ) → List ℕ
+after_spaces [] = []
+after_spaces (word ∷ words) = 32 ∷ (word ++ after_spaces words)
 
 -- `-` where something is missing
 abbrev pub optional : {X : Type 0} → (X → List ℕ) → Option X → List ℕ
@@ -67,7 +67,7 @@ step_words meta (RerankPlace e old new) = codes "place" ∷ e ∷ decimal old �
 
 -- a step's line begins with a space
 abbrev pub step_line : Meta → Step → List ℕ
-step_line meta s = behind_spaces (step_words meta s)
+step_line meta s = after_spaces (step_words meta s)
 
 -- the word for a kind of operation
 abbrev pub kind_word : OpKind → List ℕ
@@ -78,14 +78,14 @@ kind_word kinds.ManyAttribute = codes "many-attribute"
 kind_word kinds.Reference = codes "reference"
 kind_word kinds.Move = codes "move"
 
--- the words behind an operation's number
+-- the words after an operation's number
 abbrev pub kind_words : Operation → List (List ℕ)
 kind_words (Simple kind steps) = kind_word kind ∷ []
 kind_words (Composite name steps) = codes "composite" ∷ name ∷ []
 
 -- `op`, the operation's number and its kind
 abbrev pub operation_line : ℕ → Operation → List ℕ
-operation_line n o = codes "op" ++ behind_spaces (decimal n ∷ kind_words o)
+operation_line n o = codes "op" ++ after_spaces (decimal n ∷ kind_words o)
 
 -- the lines of operations, the first of them with the number n: each one's own line and then those of its steps
 abbrev pub lines_from : Meta → ℕ → List Operation → List (List ℕ)
@@ -98,4 +98,4 @@ operation_lines meta operations = lines_from meta 1 operations
 
 -- the lines of an open composite: `open` with its name, and then those of its steps
 unfoldable pub open_lines : Meta → List ℕ → List Step → List (List ℕ)
-open_lines meta name steps = (codes "open" ++ behind_spaces (name ∷ [])) ∷ map (step_line meta) steps
+open_lines meta name steps = (codes "open" ++ after_spaces (name ∷ [])) ∷ map (step_line meta) steps

@@ -6,11 +6,11 @@ use Rattle.serde_json.specs.Written.{compact_text}
 use Rattle.hex.specs.Hex.{encode_lower}
 use Rattle.ecore_meta.specs.Meta.{Meta}
 use Rattle.model_state.specs.declared.operation.Operation.{Operation}
-use Rattle.op_form.specs.Packages.{package_form}
+use Rattle.op_form.specs.Packages.{package_encoding}
 use Rattle.history_tree.specs.declared.version.Version.{Version}
 use Rattle.history_tree.specs.History.{History}
 use Rattle.history_tree.specs.Found.{branch_name, tags_of}
-use Rattle.data_lines.specs.Lines.{optional, operation_lines, behind_spaces}
+use Rattle.data_lines.specs.Lines.{optional, operation_lines, after_spaces}
 
 -- words, each after a comma
 abbrev pub after_commas : List (List ℕ) → List ℕ
@@ -26,7 +26,7 @@ listed (word ∷ words) = word ++ after_commas words
 abbrev pub version_line : History → ℕ → Version → List ℕ
 version_line h n v =
     decimal n
-    ++ behind_spaces (branch_name h v.branch ∷ optional decimal v.parent ∷ listed (map decimal v.merged) ∷ decimal (length v.«package»)
+    ++ after_spaces (branch_name h v.branch ∷ optional decimal v.parent ∷ listed (map decimal v.merged) ∷ decimal (length v.«package»)
     ∷ listed (tags_of h n) ∷ compact_text (string v.message) ∷ [])
 
 -- the lines of versions, the first of them with the number n
@@ -40,4 +40,4 @@ log_lines h = version_lines h 0 h.versions
 
 -- the lines of a package, and then `hex` with its bytes
 unfoldable pub package_lines : Meta → List Operation → List (List ℕ)
-package_lines meta operations = operation_lines meta operations ++ (codes "hex " ++ encode_lower (package_form operations)) ∷ []
+package_lines meta operations = operation_lines meta operations ++ (codes "hex " ++ encode_lower (package_encoding operations)) ∷ []

@@ -1,7 +1,7 @@
 //! The lines of buckets.
 ghost use Rattle.std.specs.Prelude.{◌≡◌, ◌++◌, ◌∷◌, [], All, IfOk, OnOk};
 ghost use Rattle.data_lines.specs.Buckets.{HasNumber, HasNumbers, HaveNumbers, bucket_line, bucket_lines, numbers};
-ghost use Rattle.data_lines.specs.Lines.{behind_spaces};
+ghost use Rattle.data_lines.specs.Lines.{after_spaces};
 ghost use Rattle.data_lines.specs.Versions.{listed};
 
 use crate::line::Line;

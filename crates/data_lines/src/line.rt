@@ -44,7 +44,7 @@ impl Line {
         Ok(())
     }
 
-    /// A further word, with a space in front.
+    /// A further word, after a space.
     pub(crate) fn push_word(&mut self, word: &str) -> Result<(), AllocError>
         ensures { OnOk result (self.new ≡ self.old ++ 32 ∷ word.now) }
     {

@@ -1,6 +1,6 @@
 //! The lines of operations, and those of an open composite.
 ghost use Rattle.std.specs.Prelude.{◌≡◌, ◌++◌, ◌∷◌, [], IfOk, OnOk, codes, map};
-ghost use Rattle.data_lines.specs.Lines.{kind_word, kind_words, open_lines, operation_line, operation_lines, behind_spaces, step_line};
+ghost use Rattle.data_lines.specs.Lines.{kind_word, kind_words, open_lines, operation_line, operation_lines, after_spaces, step_line};
 ghost use Rattle.data_lines.specs.Typed.{AreTyped, IsTypedPackage};
 ghost use Rattle.model_state.specs.Packages.{steps_of};
 
@@ -11,7 +11,7 @@ use model_state::{OpKind, Operation, Step};
 use std::alloc::{AllocError, Global};
 
 /// The lines of a package: for each operation `op N KIND`, with N from 1, and then one line a step. That its steps are of
-/// the metamodel is told by `is_typed_package`, and by `law_of_taken_steps` where they were taken.
+/// the metamodel is tested by `is_typed_package`, and known by `law_of_taken_steps` where they were taken.
 #[tactic(auto, unfolding(crate::specs::Lines::operation_lines))]
 pub fn operation_lines(
     alloc: Global,
@@ -30,7 +30,7 @@ pub fn operation_lines(
 }
 
 /// The lines of an open composite: `open NAME`, and then one line a step, as in the lines of a package. That the steps
-/// are of the metamodel is told by `are_typed`, and by `law_of_taken_steps` where they were taken.
+/// are of the metamodel is tested by `are_typed`, and known by `law_of_taken_steps` where they were taken.
 #[tactic(auto, unfolding(crate::specs::Lines::open_lines))]
 pub fn open_lines(
     alloc: Global,
@@ -48,7 +48,7 @@ pub fn open_lines(
 }
 
 fn open_line(alloc: Global, name: &Text) -> Result<Text, AllocError>
-    ensures { IfOk result (λ t. t ≡ codes "open" ++ behind_spaces (name.now ∷ [])) }
+    ensures { IfOk result (λ t. t ≡ codes "open" ++ after_spaces (name.now ∷ [])) }
 {
     let mut line = Line::new(alloc);
     line.push("open")?;
@@ -95,7 +95,7 @@ fn kind_word(kind: OpKind) -> &'static str
 }
 
 fn push_kind(line: &mut Line, operation: &Operation) -> Result<(), AllocError>
-    ensures { OnOk result (line.new ≡ line.old ++ behind_spaces (kind_words operation.now)) }
+    ensures { OnOk result (line.new ≡ line.old ++ after_spaces (kind_words operation.now)) }
 {
     match operation {
         Operation::Simple { kind, .. } => line.push_word(kind_word(*kind)),

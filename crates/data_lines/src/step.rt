@@ -1,7 +1,7 @@
 //! The line of a step.
 ghost use Rattle.std.specs.Prelude.{◌≡◌, ◌++◌, ◌∷◌, [], IfOk, OnOk, codes};
 ghost use Rattle.std.specs.Fmt.{decimal};
-ghost use Rattle.data_lines.specs.Lines.{class_name, feature_name, optional, place_word, behind_spaces, step_line, value_word};
+ghost use Rattle.data_lines.specs.Lines.{class_name, feature_name, optional, place_word, after_spaces, step_line, value_word};
 ghost use Rattle.data_lines.specs.Typed.{IsClass, IsFeature, IsPlace, IsTyped, IsValue, IsValueIfAny};
 
 use crate::line::Line;
@@ -61,7 +61,7 @@ fn push_step(line: &mut Line, meta: &Metamodel, step: &Step) -> Result<(), Alloc
 
 /// A kind of step, and the element that it changes.
 fn push_element(line: &mut Line, kind: &str, e: &Id) -> Result<(), AllocError>
-    ensures { OnOk result (line.new ≡ line.old ++ behind_spaces (kind.now ∷ e.now ∷ [])) }
+    ensures { OnOk result (line.new ≡ line.old ++ after_spaces (kind.now ∷ e.now ∷ [])) }
 {
     line.push_word(kind)?;
     line.push_word(e.as_str())
@@ -76,7 +76,7 @@ fn push_feature(
     f: u32,
 ) -> Result<(), AllocError>
     requires { IsFeature meta.now f }
-    ensures { OnOk result (line.new ≡ line.old ++ behind_spaces (kind.now ∷ e.now ∷ feature_name meta.now f ∷ [])) }
+    ensures { OnOk result (line.new ≡ line.old ++ after_spaces (kind.now ∷ e.now ∷ feature_name meta.now f ∷ [])) }
 {
     push_element(line, kind, e)?;
     line.push_word(feature_name(meta, f))
@@ -85,14 +85,14 @@ fn push_feature(
 /// A place, and the rank there.
 fn push_spot(line: &mut Line, meta: &Metamodel, place: &Place, rank: u64) -> Result<(), AllocError>
     requires { IsPlace meta.now place.now }
-    ensures { OnOk result (line.new ≡ line.old ++ behind_spaces (place_word meta.now place.now ∷ decimal rank ∷ [])) }
+    ensures { OnOk result (line.new ≡ line.old ++ after_spaces (place_word meta.now place.now ∷ decimal rank ∷ [])) }
 {
     push_place(line, meta, place)?;
     line.push_number(rank)
 }
 
 fn push_numbers(line: &mut Line, before: u64, after: u64) -> Result<(), AllocError>
-    ensures { OnOk result (line.new ≡ line.old ++ behind_spaces (decimal before ∷ decimal after ∷ [])) }
+    ensures { OnOk result (line.new ≡ line.old ++ after_spaces (decimal before ∷ decimal after ∷ [])) }
 {
     line.push_number(before)?;
     line.push_number(after)
@@ -110,7 +110,7 @@ fn push_change(
     requires feature { IsFeature meta.now f }
     requires old { IsValueIfAny meta.now f old.now }
     requires new { IsValueIfAny meta.now f new.now }
-    ensures { OnOk result (line.new ≡ line.old ++ behind_spaces (codes "put" ∷ e.now ∷ feature_name meta.now f ∷ optional (value_word meta.now f) old.now ∷ optional (value_word meta.now f) new.now ∷ [])) }
+    ensures { OnOk result (line.new ≡ line.old ++ after_spaces (codes "put" ∷ e.now ∷ feature_name meta.now f ∷ optional (value_word meta.now f) old.now ∷ optional (value_word meta.now f) new.now ∷ [])) }
 {
     push_feature(line, meta, "put", e, f)?;
     push_value_if_any(line, meta, f, old)?;
@@ -129,7 +129,7 @@ fn push_at(
 ) -> Result<(), AllocError>
     requires feature { IsFeature meta.now f }
     requires value { IsValue meta.now f v.now }
-    ensures { OnOk result (line.new ≡ line.old ++ behind_spaces (kind.now ∷ e.now ∷ feature_name meta.now f ∷ decimal at ∷ value_word meta.now f v.now ∷ [])) }
+    ensures { OnOk result (line.new ≡ line.old ++ after_spaces (kind.now ∷ e.now ∷ feature_name meta.now f ∷ decimal at ∷ value_word meta.now f v.now ∷ [])) }
 {
     push_feature(line, meta, kind, e, f)?;
     line.push_number(at as u64)?;
@@ -146,7 +146,7 @@ fn push_shift(
     to: u32,
 ) -> Result<(), AllocError>
     requires { IsFeature meta.now f }
-    ensures { OnOk result (line.new ≡ line.old ++ behind_spaces (codes "shift" ∷ e.now ∷ feature_name meta.now f ∷ decimal from ∷ decimal to ∷ [])) }
+    ensures { OnOk result (line.new ≡ line.old ++ after_spaces (codes "shift" ∷ e.now ∷ feature_name meta.now f ∷ decimal from ∷ decimal to ∷ [])) }
 {
     push_feature(line, meta, "shift", e, f)?;
     push_numbers(line, from as u64, to as u64)
@@ -164,7 +164,7 @@ fn push_row(
     rb: Option<u64>,
 ) -> Result<(), AllocError>
     requires { IsFeature meta.now f }
-    ensures { OnOk result (line.new ≡ line.old ++ behind_spaces (kind.now ∷ a.now ∷ feature_name meta.now f ∷ decimal ra ∷ b.now ∷ optional decimal rb ∷ [])) }
+    ensures { OnOk result (line.new ≡ line.old ++ after_spaces (kind.now ∷ a.now ∷ feature_name meta.now f ∷ decimal ra ∷ b.now ∷ optional decimal rb ∷ [])) }
 {
     push_feature(line, meta, kind, a, f)?;
     line.push_number(ra)?;
@@ -183,14 +183,14 @@ fn push_rank_of_row(
     new: u64,
 ) -> Result<(), AllocError>
     requires { IsFeature meta.now f }
-    ensures { OnOk result (line.new ≡ line.old ++ behind_spaces (codes "rerank" ∷ a.now ∷ feature_name meta.now f ∷ b.now ∷ decimal old ∷ decimal new ∷ [])) }
+    ensures { OnOk result (line.new ≡ line.old ++ after_spaces (codes "rerank" ∷ a.now ∷ feature_name meta.now f ∷ b.now ∷ decimal old ∷ decimal new ∷ [])) }
 {
     push_feature(line, meta, "rerank", a, f)?;
     line.push_word(b.as_str())?;
     push_numbers(line, old, new)
 }
 
-/// An element that comes or goes, with its class, its place and its rank there.
+/// An element that is created or deleted, with its class, its place and its rank there.
 fn push_birth(
     line: &mut Line,
     meta: &Metamodel,
@@ -202,7 +202,7 @@ fn push_birth(
 ) -> Result<(), AllocError>
     requires class { IsClass meta.now class }
     requires place { IsPlace meta.now place.now }
-    ensures { OnOk result (line.new ≡ line.old ++ behind_spaces (kind.now ∷ e.now ∷ class_name meta.now class ∷ place_word meta.now place.now ∷ decimal rank ∷ [])) }
+    ensures { OnOk result (line.new ≡ line.old ++ after_spaces (kind.now ∷ e.now ∷ class_name meta.now class ∷ place_word meta.now place.now ∷ decimal rank ∷ [])) }
 {
     push_element(line, kind, e)?;
     line.push_word(class_name(meta, class))?;
@@ -221,7 +221,7 @@ fn push_move(
 ) -> Result<(), AllocError>
     requires from { IsPlace meta.now from.now }
     requires to { IsPlace meta.now to.now }
-    ensures { OnOk result (line.new ≡ line.old ++ behind_spaces (codes "move" ∷ e.now ∷ place_word meta.now from.now ∷ decimal from_rank ∷ place_word meta.now to.now ∷ decimal to_rank ∷ [])) }
+    ensures { OnOk result (line.new ≡ line.old ++ after_spaces (codes "move" ∷ e.now ∷ place_word meta.now from.now ∷ decimal from_rank ∷ place_word meta.now to.now ∷ decimal to_rank ∷ [])) }
 {
     push_element(line, "move", e)?;
     push_spot(line, meta, from, from_rank)?;
@@ -230,7 +230,7 @@ fn push_move(
 
 /// The rank of an element before and after.
 fn push_rank_of_place(line: &mut Line, e: &Id, old: u64, new: u64) -> Result<(), AllocError>
-    ensures { OnOk result (line.new ≡ line.old ++ behind_spaces (codes "place" ∷ e.now ∷ decimal old ∷ decimal new ∷ [])) }
+    ensures { OnOk result (line.new ≡ line.old ++ after_spaces (codes "place" ∷ e.now ∷ decimal old ∷ decimal new ∷ [])) }
 {
     push_element(line, "place", e)?;
     push_numbers(line, old, new)

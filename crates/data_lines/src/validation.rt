@@ -5,8 +5,8 @@ ghost use Rattle.std.specs.Option.{option_copied, option_map};
 ghost use Rattle.std.specs.FinMap.{get};
 ghost use Rattle.model_state.specs.Listing.{children};
 ghost use Rattle.model_state.specs.declared.step.Place.TheVariants.{Inside};
-ghost use Rattle.data_lines.specs.Lines.{behind_spaces};
-ghost use Rattle.data_lines.specs.Validation.{feature_lines, features_at, held, line_if_short, lower_in, stands_in, validate_lines};
+ghost use Rattle.data_lines.specs.Lines.{after_spaces};
+ghost use Rattle.data_lines.specs.Validation.{feature_lines, features_at, held_count, line_if_short, lower_in, stands_in, validate_lines};
 
 use crate::line::Line;
 use ecore_meta::{Feature, Kind, List, Metamodel, Text};
@@ -15,7 +15,7 @@ use std::alloc::{AllocError, Global};
 
 /// The lines of the features that are below their lower bounds, `ID FEATURE COUNT LOWER`: the elements in the order of their
 /// ids, and the features of each by number. A single attribute counts 1 where it is set or has a default, the reference to
-/// the element around 1 where the element stands in its opposite; the others count their entries. Skipped features
+/// the container 1 where the element stands in its opposite; the others count their entries. Skipped features
 /// aren't tested.
 #[tactic(auto, unfolding(crate::specs::Validation::validate_lines))]
 pub fn validate_lines<L: Look>(
@@ -74,7 +74,7 @@ fn push_if_short<L: Look>(
     let Some(feature) = meta.get_feature(f) else {
         return Ok(());
     };
-    let count = held(alloc, look, e, f, &feature.kind)?;
+    let count = held_count(alloc, look, e, f, &feature.kind)?;
     let lower = lower_in(feature);
     if count < lower {
         lines.push(shortage_line(alloc, e, feature, count, lower)?)?;
@@ -89,7 +89,7 @@ fn shortage_line(
     count: u64,
     lower: u64,
 ) -> Result<Text, AllocError>
-    ensures { IfOk result (λ t. t ≡ e.now ++ behind_spaces (feature.now.name ∷ decimal count ∷ decimal lower ∷ [])) }
+    ensures { IfOk result (λ t. t ≡ e.now ++ after_spaces (feature.now.name ∷ decimal count ∷ decimal lower ∷ [])) }
 {
     let mut line = Line::new(alloc);
     line.push(e.as_str())?;
@@ -131,8 +131,14 @@ fn children_in<L: Look>(alloc: Global, look: &L, e: &Id, f: u32) -> Result<u64, 
 }
 
 /// How much the feature of the element holds.
-fn held<L: Look>(alloc: Global, look: &L, e: &Id, f: u32, kind: &Kind) -> Result<u64, AllocError>
-    ensures { IfOk result (λ n. n ≡ held (L.state look.now) e.now f kind.now) }
+fn held_count<L: Look>(
+    alloc: Global,
+    look: &L,
+    e: &Id,
+    f: u32,
+    kind: &Kind,
+) -> Result<u64, AllocError>
+    ensures { IfOk result (λ n. n ≡ held_count (L.state look.now) e.now f kind.now) }
 {
     match kind {
         Kind::Attr { default, .. } => {

@@ -5,9 +5,9 @@ ghost use Rattle.serde_json.specs.Data.{string};
 ghost use Rattle.serde_json.specs.Written.{compact_text};
 ghost use Rattle.hex.specs.Hex.{encode_lower};
 ghost use Rattle.history_tree.specs.Found.{branch_name, tags_of};
-ghost use Rattle.op_form.specs.Packages.{package_form};
+ghost use Rattle.op_form.specs.Packages.{package_encoding};
 ghost use Rattle.op_form.specs.Laws.{IsPackage};
-ghost use Rattle.data_lines.specs.Lines.{optional, operation_lines, behind_spaces};
+ghost use Rattle.data_lines.specs.Lines.{optional, operation_lines, after_spaces};
 ghost use Rattle.data_lines.specs.Typed.{IsTypedPackage};
 ghost use Rattle.data_lines.specs.Versions.{after_commas, listed, log_lines, package_lines, version_line};
 
@@ -35,7 +35,7 @@ pub fn log_lines(alloc: Global, history: &History) -> Result<List<Text>, AllocEr
 }
 
 /// The lines of a version's package, as `operation_lines` gives them, and then `hex ` and the bytes of the package in hexadecimal digits. That
-/// the package has bytes is told by `is_package` of `op_form`.
+/// the package has bytes is tested by `is_package` of `op_form`.
 #[tactic(auto, unfolding(crate::specs::Versions::package_lines))]
 pub fn package_lines(
     alloc: Global,
@@ -54,7 +54,7 @@ pub fn package_lines(
 /// `hex` and the bytes of a package.
 fn hex_line(alloc: Global, package: &Package) -> Result<Text, AllocError>
     requires { IsPackage «package».now }
-    ensures { IfOk result (λ t. t ≡ codes "hex " ++ encode_lower (package_form «package».now)) }
+    ensures { IfOk result (λ t. t ≡ codes "hex " ++ encode_lower (package_encoding «package».now)) }
 {
     let bytes = encode(alloc, package)?;
     let digits = hex::encode(alloc, bytes.as_slice())?;
@@ -90,7 +90,7 @@ fn push_origin(
     version: &Version,
 ) -> Result<(), AllocError>
     requires { version.now.branch < length history.now.history.branches }
-    ensures { OnOk result (line.new ≡ line.old ++ behind_spaces (branch_name history.now.history version.now.branch ∷ optional decimal version.now.parent ∷ listed (map decimal version.now.merged) ∷ [])) }
+    ensures { OnOk result (line.new ≡ line.old ++ after_spaces (branch_name history.now.history version.now.branch ∷ optional decimal version.now.parent ∷ listed (map decimal version.now.merged) ∷ [])) }
 {
     line.push_word(history.branch_name(version.branch))?;
     push_number_if_any(line, version.parent)?;
@@ -107,7 +107,7 @@ fn push_content(
     version: &Version,
 ) -> Result<(), AllocError>
     requires { n < length history.now.history.versions }
-    ensures { OnOk result (line.new ≡ line.old ++ behind_spaces (decimal (length version.now.«package») ∷ listed (tags_of history.now.history n) ∷ compact_text (string version.now.message) ∷ [])) }
+    ensures { OnOk result (line.new ≡ line.old ++ after_spaces (decimal (length version.now.«package») ∷ listed (tags_of history.now.history n) ∷ compact_text (string version.now.message) ∷ [])) }
 {
     line.push_number(version.package.len() as u64)?;
     let tags = history.tags_of(alloc, n)?;

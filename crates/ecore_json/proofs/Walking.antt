@@ -5,13 +5,13 @@ use Rattle.serde_json.specs.Find.{as_array}
 use Rattle.ecore_json.specs.declared.fault.WalkFault.{WalkFault}
 use Rattle.ecore_json.specs.declared.fault.WalkFault.TheVariants.{BadKey, LeftOut}
 use Rattle.ecore_json.specs.declared.table.Shape.{Shape}
-use Rattle.ecore_json.specs.declared.table.Place.{Place}
+use Rattle.ecore_json.specs.declared.table.Position.{Position}
 use Rattle.ecore_meta.specs.Names.{Name}
 use Rattle.ecore_json.specs.Table.{wants, required}
 use Rattle.ecore_json.specs.Walk.{«then», fails, shape_at, left_out, first_lacking, is_before, value_fault, shaped_fault, object_fault, array_fault, objects_fault, items_fault, keys_fault}
 
 -- ---- an object
-module _ (own : Name) (p : Place) where
+module _ (own : Name) (p : Position) where
   pub object_null : (d : Data) → d ≡ null → Some BadKey ≡ object_fault own p d
   unfolding object_fault
   object_null d is = sym (ap (object_fault own p) is)

@@ -62,7 +62,7 @@ of_document (Some d) = of_package (package_of d)
 unfoldable pub metamodel_of : List ℕ → Result Meta EcoreFault
 metamodel_of text = of_document (read text)
 
--- an answer is the metamodel that was read or the fault that was found, or want of memory
+-- an answer is the metamodel that was read or the fault that was found, or out of memory
 abbrev pub GivesMetamodel : Result Meta EcoreFault → Result Meta EcoreFault → Type 0
 GivesMetamodel (Ok m) read = read ≡ Ok m
 GivesMetamodel (Err Memory) read = Unit {0}
@@ -72,7 +72,7 @@ GivesMetamodel (Err BadKey) read = read ≡ Err BadKey
 GivesMetamodel (Err LeftOut) read = read ≡ Err LeftOut
 GivesMetamodel (Err (OfMeta e)) read = read ≡ Err (OfMeta e)
 
--- a fault of the rows; want of memory is none of theirs
+-- a fault of the rows; out of memory is none of theirs
 abbrev pub of_meta : MetaFault → EcoreFault
 of_meta meta.DupName = OfMeta meta.DupName
 of_meta meta.Unsupported = OfMeta meta.Unsupported

@@ -14,7 +14,7 @@ is_mark b = (b == 95) || (b == 36)
 abbrev pub is_name_byte : ℕ → Bool
 is_name_byte b = is_ascii_alphanumeric b || is_mark b
 
--- a letter, `_` or `$`, and letters, digits, `_` and `$` behind it, at most 128 bytes
+-- a letter, `_` or `$`, and letters, digits, `_` and `$` after it, at most 128 bytes
 abbrev pub is_name : Name → Bool
 is_name [] = false
 is_name (b ∷ bs) = (is_ascii_alphabetic b || is_mark b) && (nat_le (length bs) 127 && list_all is_name_byte bs)
@@ -23,33 +23,33 @@ is_name (b ∷ bs) = (is_ascii_alphabetic b || is_mark b) && (nat_le (length bs)
 abbrev pub is_feature_name : Name → Bool
 is_feature_name t = is_name t && not (bytes_eq t (codes "eClass") || bytes_eq t (codes "_id") || bytes_eq t (codes "$ref"))
 
--- what stands behind the prefix
-abbrev pub behind : Name → Name → Option Name
-behind [] t = Some t
-behind (p ∷ ps) [] = None
-behind (p ∷ ps) (b ∷ bs) = cond (p == b) (behind ps bs) None
+-- what stands after the prefix
+abbrev pub after_prefix : Name → Name → Option Name
+after_prefix [] t = Some t
+after_prefix (p ∷ ps) [] = None
+after_prefix (p ∷ ps) (b ∷ bs) = cond (p == b) (after_prefix ps bs) None
 
 -- the text, where it is a name
 abbrev pub if_name : Option Name → Option Name
 if_name None = None
 if_name (Some t) = cond (is_name t) (Some t) None
 
--- the name behind the prefix
-unfoldable pub name_behind : Name → Name → Option Name
-name_behind prefix t = if_name (behind prefix t)
+-- the name after the prefix
+unfoldable pub name_after : Name → Name → Option Name
+name_after prefix t = if_name (after_prefix prefix t)
 
 -- the first, or else the next
 abbrev pub or_else : {A : Type 0} → Option A → Option A → Option A
 or_else None next = next
 or_else (Some a) next = Some a
 
--- the classifier that a reference names, behind `//`, `#//` or the package's own prefix
+-- the classifier that a reference names, after `//`, `#//` or the package's own prefix
 unfoldable pub own_name : Name → Name → Option Name
-own_name own t = or_else (name_behind (codes "//") t) (or_else (name_behind (codes "#//") t) (name_behind own t))
+own_name own t = or_else (name_after (codes "//") t) (or_else (name_after (codes "#//") t) (name_after own t))
 
 -- the type of Ecore that a reference names
 unfoldable pub ecore_name : Name → Option Name
-ecore_name t = name_behind ecore_types t
+ecore_name t = name_after ecore_types t
 
 -- a reference names a type
 abbrev pub is_type_reference : Name → Name → Bool
@@ -59,7 +59,7 @@ is_type_reference own t = is_some (ecore_name t) || is_some (own_name own t)
 abbrev pub is_slash : ℕ → Bool
 is_slash b = b == 47
 
--- the names before and behind the first slash
+-- the names before and after the first slash
 abbrev pub two_names : Name → Option (Name × Name)
 two_names t = cond (is_name (before_first is_slash t) && is_name (after_first is_slash t)) (Some (before_first is_slash t, after_first is_slash t)) None
 
@@ -68,10 +68,10 @@ abbrev pub if_two : Option Name → Option (Name × Name)
 if_two None = None
 if_two (Some t) = two_names t
 
--- a class and a feature behind the prefix
-unfoldable pub pair_behind : Name → Name → Option (Name × Name)
-pair_behind prefix t = if_two (behind prefix t)
+-- a class and a feature after the prefix
+unfoldable pub pair_after : Name → Name → Option (Name × Name)
+pair_after prefix t = if_two (after_prefix prefix t)
 
 -- the class and the feature that a reference names
 unfoldable pub own_feature : Name → Name → Option (Name × Name)
-own_feature own t = or_else (pair_behind (codes "//") t) (or_else (pair_behind (codes "#//") t) (pair_behind own t))
+own_feature own t = or_else (pair_after (codes "//") t) (or_else (pair_after (codes "#//") t) (pair_after own t))

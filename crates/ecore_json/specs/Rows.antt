@@ -1,4 +1,4 @@
--- The rows that a package says, in its order: its classifiers with their features and literals, by name.
+-- The rows that a package describes, in its order: its classifiers with their features and literals, by name.
 use Rattle.std.specs.Prelude.{ℤ, pos, true, false, List, [], ◌∷◌, ◌++◌, map, codes, cond, Option, None, Some, is_some, option_and_then}
 use Rattle.std.specs.Option.{option_map_or}
 use Rattle.serde_json.specs.Data.{Data, Items, no_items, item}
@@ -124,7 +124,7 @@ classifier_row own d =
 abbrev pub own_prefix : Data → Name
 own_prefix d = text_at (codes "nsURI") d ++ codes "#//"
 
--- what a package says
+-- what a package describes
 unfoldable pub rows_of : Data → MetaRows
 rows_of d = record {
   name = text_at (codes "name") d;

@@ -12,10 +12,10 @@ use Rattle.ecore_json.specs.declared.fault.WalkFault.{WalkFault}
 use Rattle.ecore_json.specs.declared.fault.WalkFault.TheVariants.{BadKey, LeftOut}
 use Rattle.ecore_json.specs.declared.table.Shape.{Shape}
 use Rattle.ecore_json.specs.declared.table.Shape.TheVariants.{Package, Class, Enum, DataType, Literal, Attribute, Reference, TypeLink, OppositeLink}
-use Rattle.ecore_json.specs.declared.table.Place.{Place}
-use Rattle.ecore_json.specs.declared.table.Place.TheVariants.{Root, Classifier, Feature, Literal as InLiterals, TypeLink as OfTypeLink, OppositeLink as OfOppositeLink}
-use Rattle.ecore_json.specs.declared.table.Kind.{Kind}
-use Rattle.ecore_json.specs.declared.table.Kind.TheVariants.{Anything, Flag, Whole, Text, Name as OfName, FeatureName, TypeReference, OppositeReference}
+use Rattle.ecore_json.specs.declared.table.Position.{Position}
+use Rattle.ecore_json.specs.declared.table.Position.TheVariants.{Root, Classifier, Feature, Literal as InLiterals, TypeLink as OfTypeLink, OppositeLink as OfOppositeLink}
+use Rattle.ecore_json.specs.declared.table.ValueKind.{ValueKind}
+use Rattle.ecore_json.specs.declared.table.ValueKind.TheVariants.{Anything, Flag, Whole, Text, Name as OfName, FeatureName, TypeReference, OppositeReference}
 use Rattle.ecore_json.specs.declared.table.Wanted.{Wanted}
 use Rattle.ecore_json.specs.declared.table.Wanted.TheVariants.{Value, Object, Objects}
 use Rattle.ecore_meta.specs.Names.{Name}
@@ -60,7 +60,7 @@ feature_shape d =
     (cond (is_a ecore_reference d) (Some Reference) None)
 
 -- what the object of a place is, if it may stand there
-abbrev pub shape_at : Place → Data → Option Shape
+abbrev pub shape_at : Position → Data → Option Shape
 shape_at Root d = Some Package
 shape_at Classifier d = classifier_shape d
 shape_at Feature d = feature_shape d
@@ -145,7 +145,7 @@ fits None = false
 fits (Some n) = int_le (negsuc 2147483647) n && int_le n (pos 2147483647)
 
 -- the value is of the kind; own begins the references of the package
-abbrev pub is_of : Name → Kind → Data → Bool
+abbrev pub is_of : Name → ValueKind → Data → Bool
 is_of own Anything d = true
 is_of own Flag d = is_some (as_bool d)
 is_of own Whole d = fits (whole_in d)
@@ -156,7 +156,7 @@ is_of own TypeReference d = option_map_or (is_type_reference own) (as_str d) fal
 is_of own OppositeReference d = option_map_or (λ t. is_some (own_feature own t)) (as_str d) false
 
 -- the fault of the value at a key; one judges it as an object, many as an array of them
-abbrev pub value_fault : Name → Option Wanted → Data → (Place → Option WalkFault) → (Place → Option WalkFault) → Option WalkFault
+abbrev pub value_fault : Name → Option Wanted → Data → (Position → Option WalkFault) → (Position → Option WalkFault) → Option WalkFault
 value_fault own None d one many = Some BadKey
 value_fault own (Some (Value kind)) d one many = fails (not (is_of own kind d)) BadKey
 value_fault own (Some (Object p)) d one many = one p
@@ -169,7 +169,7 @@ shaped_fault (Some s) d keys = «then» (fails (left_out s d) LeftOut) (keys s (
 
 unfoldable mutual
   -- an object that stands in the place
-  pub object_fault : Name → Place → Data → Option WalkFault
+  pub object_fault : Name → Position → Data → Option WalkFault
   object_fault own p (object ms) = shaped_fault (shape_at p (object ms)) (object ms) (λ s lacking. keys_fault own s lacking ms)
   object_fault own p null = Some BadKey
   object_fault own p (boolean b) = Some BadKey
@@ -178,7 +178,7 @@ unfoldable mutual
   object_fault own p (array ds) = Some BadKey
 
   -- an array of them
-  pub array_fault : Name → Place → Data → Option WalkFault
+  pub array_fault : Name → Position → Data → Option WalkFault
   array_fault own p (array ds) = items_fault own p ds
   array_fault own p null = Some BadKey
   array_fault own p (boolean b) = Some BadKey
@@ -187,7 +187,7 @@ unfoldable mutual
   array_fault own p (object ms) = Some BadKey
 
   -- its items, one after another
-  pub items_fault : Name → Place → Items → Option WalkFault
+  pub items_fault : Name → Position → Items → Option WalkFault
   items_fault own p no_items = None
   items_fault own p (item d ds) = «then» (object_fault own p d) (items_fault own p ds)
 
@@ -200,7 +200,7 @@ unfoldable mutual
       (keys_fault own s lacking ms))
 
 -- an array of objects, or one that stands for the array of it alone
-abbrev pub objects_fault : Name → Place → Data → Option WalkFault
+abbrev pub objects_fault : Name → Position → Data → Option WalkFault
 objects_fault own p d = cond (is_some (as_array d)) (array_fault own p d) (object_fault own p d)
 
 -- the first fault of a package, whose own references begin with the text

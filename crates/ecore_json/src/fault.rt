@@ -33,7 +33,7 @@ pub enum EcoreFault {
     /// references in which one may stand twice.
     #[error("a part of Ecore is left out")]
     LeftOut,
-    /// A fault of what the document says.
+    /// A fault of what the document describes.
     #[error("{0}")]
     Meta(MetaFault),
     #[error("out of memory")]
@@ -72,7 +72,7 @@ impl EcoreFault {
     }
 }
 
-/// A fault of the rows; want of memory is none of theirs.
+/// A fault of the rows; out of memory is none of theirs.
 pub(crate) fn of_meta(fault: MetaFault) -> EcoreFault
     ensures { result ≡ of_meta fault }
 {

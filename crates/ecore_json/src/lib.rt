@@ -1,4 +1,4 @@
-//! Ecore documents in JSON: a text is read as the metamodel that it says, or refused with its first fault.
+//! Ecore documents in JSON: a text is read as the metamodel that it describes, or refused with its first fault.
 #![tactic(auto)]
 
 mod ecore;

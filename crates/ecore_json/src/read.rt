@@ -10,7 +10,7 @@ ghost use Rattle.ecore_json.specs.Rows.{rows_of};
 use crate::ecore;
 use crate::fault::{EcoreFault, WalkFault, of_meta};
 use crate::rows::{own_prefix, rows_of};
-use crate::table::Place;
+use crate::table::Position;
 use crate::walk::{is_a, object_fault};
 use ecore_meta::{MetaRows, Metamodel, build};
 use serde_json::Value;
@@ -56,13 +56,13 @@ fn built(alloc: Global, rows: &MetaRows) -> Result<Metamodel, EcoreFault>
     }
 }
 
-/// The metamodel that a package says, or its first fault.
+/// The metamodel that a package describes, or its first fault.
 fn of_package(alloc: Global, root: &Value) -> Result<Metamodel, EcoreFault>
     requires { Numbered (rows_of (view root.now)).classifiers }
     ensures { GivesMetamodel result (of_package (Some (view root.now))) }
 {
     let own = own_prefix(alloc, root)?;
-    match object_fault(own.as_str(), Place::Root, root) {
+    match object_fault(own.as_str(), Position::Root, root) {
         Some(WalkFault::BadKey) => Err(EcoreFault::BadKey),
         Some(WalkFault::LeftOut) => Err(EcoreFault::LeftOut),
         None => {
@@ -72,7 +72,7 @@ fn of_package(alloc: Global, root: &Value) -> Result<Metamodel, EcoreFault>
     }
 }
 
-/// The metamodel that the text of an Ecore document says, or its first fault.
+/// The metamodel that the text of an Ecore document describes, or its first fault.
 #[tactic(auto, unfolding(crate::specs::Metamodel::metamodel_of))]
 pub fn read_metamodel(alloc: Global, text: &str) -> Result<Metamodel, EcoreFault>
     requires short { length text.now < 2 ^ 32 - 1 }

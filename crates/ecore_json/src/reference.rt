@@ -1,11 +1,11 @@
 //! The names of a document, and its references to classifiers, to types of Ecore and to features.
 ghost use Rattle.std.specs.Prelude.{◌≡◌, option_copied, option_map};
 ghost use Rattle.std.specs.List.{list_all};
-ghost use Rattle.ecore_json.specs.References.{is_name, is_name_byte, is_feature_name, is_type_reference, behind, name_behind, own_name, ecore_name, pair_behind, own_feature, two_names};
+ghost use Rattle.ecore_json.specs.References.{is_name, is_name_byte, is_feature_name, is_type_reference, after_prefix, name_after, own_name, ecore_name, pair_after, own_feature, two_names};
 
 use crate::ecore;
 
-/// Whether a text is a name: a letter, `_` or `$`, and letters, digits, `_` or `$` behind it, all ASCII, at most
+/// Whether a text is a name: a letter, `_` or `$`, and letters, digits, `_` or `$` after it, all ASCII, at most
 /// 128 bytes.
 pub(crate) fn is_name(text: &str) -> bool
     ensures { result ≡ is_name text.now }
@@ -33,17 +33,17 @@ pub(crate) fn is_feature_name(text: &str) -> bool
     is_name(text) && !(text == "eClass" || text == "_id" || text == "$ref")
 }
 
-fn behind<'a>(prefix: &str, text: &'a str) -> Option<&'a str>
-    ensures { option_copied result ≡ behind prefix.now text.now }
+fn after_prefix<'a>(prefix: &str, text: &'a str) -> Option<&'a str>
+    ensures { option_copied result ≡ after_prefix prefix.now text.now }
 {
     text.strip_prefix(prefix)
 }
 
-#[tactic(auto, unfolding(crate::specs::References::name_behind))]
-fn name_behind<'a>(prefix: &str, text: &'a str) -> Option<&'a str>
-    ensures { option_copied result ≡ name_behind prefix.now text.now }
+#[tactic(auto, unfolding(crate::specs::References::name_after))]
+fn name_after<'a>(prefix: &str, text: &'a str) -> Option<&'a str>
+    ensures { option_copied result ≡ name_after prefix.now text.now }
 {
-    match behind(prefix, text) {
+    match after_prefix(prefix, text) {
         None => None,
         Some(name) => { if is_name(name) { Some(name) } else { None } }
     }
@@ -54,13 +54,13 @@ fn name_behind<'a>(prefix: &str, text: &'a str) -> Option<&'a str>
 pub(crate) fn own_name<'a>(own: &str, text: &'a str) -> Option<&'a str>
     ensures { option_copied result ≡ own_name own.now text.now }
 {
-    if let Some(name) = name_behind("//", text) {
+    if let Some(name) = name_after("//", text) {
         return Some(name);
     }
-    if let Some(name) = name_behind("#//", text) {
+    if let Some(name) = name_after("#//", text) {
         return Some(name);
     }
-    name_behind(own, text)
+    name_after(own, text)
 }
 
 /// The name of the type of Ecore that a reference names.
@@ -68,7 +68,7 @@ pub(crate) fn own_name<'a>(own: &str, text: &'a str) -> Option<&'a str>
 pub(crate) fn ecore_name(text: &str) -> Option<&str>
     ensures { option_copied result ≡ ecore_name text.now }
 {
-    name_behind(ecore::TYPES, text)
+    name_after(ecore::TYPES, text)
 }
 
 /// Whether a text names a type.
@@ -93,11 +93,11 @@ fn two_names(text: &str) -> Option<(&str, &str)>
     }
 }
 
-#[tactic(auto, unfolding(crate::specs::References::pair_behind))]
-fn pair_behind<'a>(prefix: &str, text: &'a str) -> Option<(&'a str, &'a str)>
-    ensures { option_map (λ p. (p.0.now, p.1.now)) result ≡ pair_behind prefix.now text.now }
+#[tactic(auto, unfolding(crate::specs::References::pair_after))]
+fn pair_after<'a>(prefix: &str, text: &'a str) -> Option<(&'a str, &'a str)>
+    ensures { option_map (λ p. (p.0.now, p.1.now)) result ≡ pair_after prefix.now text.now }
 {
-    match behind(prefix, text) {
+    match after_prefix(prefix, text) {
         None => None,
         Some(rest) => two_names(rest),
     }
@@ -108,11 +108,11 @@ fn pair_behind<'a>(prefix: &str, text: &'a str) -> Option<(&'a str, &'a str)>
 pub(crate) fn own_feature<'a>(own: &str, text: &'a str) -> Option<(&'a str, &'a str)>
     ensures { option_map (λ p. (p.0.now, p.1.now)) result ≡ own_feature own.now text.now }
 {
-    if let Some(pair) = pair_behind("//", text) {
+    if let Some(pair) = pair_after("//", text) {
         return Some(pair);
     }
-    if let Some(pair) = pair_behind("#//", text) {
+    if let Some(pair) = pair_after("#//", text) {
         return Some(pair);
     }
-    pair_behind(own, text)
+    pair_after(own, text)
 }

@@ -1,4 +1,4 @@
-//! The rows that a package without a fault says: classes, features, enums and literals, with names still to be
+//! The rows that a package without a fault describes: classes, features, enums and literals, with names still to be
 //! resolved.
 ghost use Rattle.std.specs.Prelude.{◌≡◌, IfOk, map, option_copied, string_bytes};
 ghost use Rattle.serde_json.specs.View.{view};
@@ -238,7 +238,7 @@ pub(crate) fn own_prefix(alloc: Global, root: &Value) -> Result<String, AllocErr
     Ok(prefix)
 }
 
-/// What a package says, where its own references begin with `own`.
+/// What a package describes, where its own references begin with `own`.
 #[tactic(auto, unfolding(crate::specs::Rows::rows_of))]
 pub(crate) fn rows_of(alloc: Global, own: &str, root: &Value) -> Result<MetaRows, AllocError>
     requires { own.now ≡ own_prefix (view root.now) }

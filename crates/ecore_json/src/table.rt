@@ -20,7 +20,7 @@ pub(crate) enum Shape {
 
 /// Where an object stands, which says what it may be.
 #[derive(Clone, Copy)]
-pub(crate) enum Place {
+pub(crate) enum Position {
     Root,
     Classifier,
     Feature,
@@ -31,7 +31,7 @@ pub(crate) enum Place {
 
 /// What a value that holds no object is to be.
 #[derive(Clone, Copy)]
-pub(crate) enum Kind {
+pub(crate) enum ValueKind {
     Anything,
     Flag,
     /// A whole number of 32 bits, signed.
@@ -46,123 +46,123 @@ pub(crate) enum Kind {
 /// What a key asks of its value.
 #[derive(Clone, Copy)]
 pub(crate) enum Wanted {
-    Value(Kind),
+    Value(ValueKind),
     /// An object of that place.
-    Object(Place),
+    Object(Position),
     /// An array of them, or a single one.
-    Objects(Place),
+    Objects(Position),
 }
 
 const PACKAGE: [(&str, Wanted); 8] = [
-    ("_id", Wanted::Value(Kind::Anything)),
-    ("eAnnotations", Wanted::Value(Kind::Anything)),
-    ("eClass", Wanted::Value(Kind::Anything)),
-    ("eClassifiers", Wanted::Objects(Place::Classifier)),
-    ("eSubpackages", Wanted::Value(Kind::Anything)),
-    ("name", Wanted::Value(Kind::Name)),
-    ("nsPrefix", Wanted::Value(Kind::Anything)),
-    ("nsURI", Wanted::Value(Kind::Text)),
+    ("_id", Wanted::Value(ValueKind::Anything)),
+    ("eAnnotations", Wanted::Value(ValueKind::Anything)),
+    ("eClass", Wanted::Value(ValueKind::Anything)),
+    ("eClassifiers", Wanted::Objects(Position::Classifier)),
+    ("eSubpackages", Wanted::Value(ValueKind::Anything)),
+    ("name", Wanted::Value(ValueKind::Name)),
+    ("nsPrefix", Wanted::Value(ValueKind::Anything)),
+    ("nsURI", Wanted::Value(ValueKind::Text)),
 ];
 
 const CLASS: [(&str, Wanted); 13] = [
-    ("_id", Wanted::Value(Kind::Anything)),
-    ("abstract", Wanted::Value(Kind::Flag)),
-    ("eAnnotations", Wanted::Value(Kind::Anything)),
-    ("eClass", Wanted::Value(Kind::Anything)),
-    ("eGenericSuperTypes", Wanted::Value(Kind::Anything)),
-    ("eOperations", Wanted::Value(Kind::Anything)),
-    ("eStructuralFeatures", Wanted::Objects(Place::Feature)),
-    ("eSuperTypes", Wanted::Objects(Place::TypeLink)),
-    ("eTypeParameters", Wanted::Value(Kind::Anything)),
-    ("instanceClassName", Wanted::Value(Kind::Anything)),
-    ("instanceTypeName", Wanted::Value(Kind::Anything)),
-    ("interface", Wanted::Value(Kind::Anything)),
-    ("name", Wanted::Value(Kind::Name)),
+    ("_id", Wanted::Value(ValueKind::Anything)),
+    ("abstract", Wanted::Value(ValueKind::Flag)),
+    ("eAnnotations", Wanted::Value(ValueKind::Anything)),
+    ("eClass", Wanted::Value(ValueKind::Anything)),
+    ("eGenericSuperTypes", Wanted::Value(ValueKind::Anything)),
+    ("eOperations", Wanted::Value(ValueKind::Anything)),
+    ("eStructuralFeatures", Wanted::Objects(Position::Feature)),
+    ("eSuperTypes", Wanted::Objects(Position::TypeLink)),
+    ("eTypeParameters", Wanted::Value(ValueKind::Anything)),
+    ("instanceClassName", Wanted::Value(ValueKind::Anything)),
+    ("instanceTypeName", Wanted::Value(ValueKind::Anything)),
+    ("interface", Wanted::Value(ValueKind::Anything)),
+    ("name", Wanted::Value(ValueKind::Name)),
 ];
 
 const ENUM: [(&str, Wanted); 8] = [
-    ("_id", Wanted::Value(Kind::Anything)),
-    ("eAnnotations", Wanted::Value(Kind::Anything)),
-    ("eClass", Wanted::Value(Kind::Anything)),
-    ("eLiterals", Wanted::Objects(Place::Literal)),
-    ("instanceClassName", Wanted::Value(Kind::Anything)),
-    ("instanceTypeName", Wanted::Value(Kind::Anything)),
-    ("name", Wanted::Value(Kind::Name)),
-    ("serializable", Wanted::Value(Kind::Anything)),
+    ("_id", Wanted::Value(ValueKind::Anything)),
+    ("eAnnotations", Wanted::Value(ValueKind::Anything)),
+    ("eClass", Wanted::Value(ValueKind::Anything)),
+    ("eLiterals", Wanted::Objects(Position::Literal)),
+    ("instanceClassName", Wanted::Value(ValueKind::Anything)),
+    ("instanceTypeName", Wanted::Value(ValueKind::Anything)),
+    ("name", Wanted::Value(ValueKind::Name)),
+    ("serializable", Wanted::Value(ValueKind::Anything)),
 ];
 
 const DATA_TYPE: [(&str, Wanted); 7] = [
-    ("_id", Wanted::Value(Kind::Anything)),
-    ("eAnnotations", Wanted::Value(Kind::Anything)),
-    ("eClass", Wanted::Value(Kind::Anything)),
-    ("instanceClassName", Wanted::Value(Kind::Anything)),
-    ("instanceTypeName", Wanted::Value(Kind::Anything)),
-    ("name", Wanted::Value(Kind::Name)),
-    ("serializable", Wanted::Value(Kind::Anything)),
+    ("_id", Wanted::Value(ValueKind::Anything)),
+    ("eAnnotations", Wanted::Value(ValueKind::Anything)),
+    ("eClass", Wanted::Value(ValueKind::Anything)),
+    ("instanceClassName", Wanted::Value(ValueKind::Anything)),
+    ("instanceTypeName", Wanted::Value(ValueKind::Anything)),
+    ("name", Wanted::Value(ValueKind::Name)),
+    ("serializable", Wanted::Value(ValueKind::Anything)),
 ];
 
 const LITERAL: [(&str, Wanted); 6] = [
-    ("_id", Wanted::Value(Kind::Anything)),
-    ("eAnnotations", Wanted::Value(Kind::Anything)),
-    ("eClass", Wanted::Value(Kind::Anything)),
-    ("literal", Wanted::Value(Kind::Text)),
-    ("name", Wanted::Value(Kind::Name)),
-    ("value", Wanted::Value(Kind::Whole)),
+    ("_id", Wanted::Value(ValueKind::Anything)),
+    ("eAnnotations", Wanted::Value(ValueKind::Anything)),
+    ("eClass", Wanted::Value(ValueKind::Anything)),
+    ("literal", Wanted::Value(ValueKind::Text)),
+    ("name", Wanted::Value(ValueKind::Name)),
+    ("value", Wanted::Value(ValueKind::Whole)),
 ];
 
 const ATTRIBUTE: [(&str, Wanted); 17] = [
-    ("_id", Wanted::Value(Kind::Anything)),
-    ("changeable", Wanted::Value(Kind::Anything)),
-    ("defaultValueLiteral", Wanted::Value(Kind::Text)),
-    ("derived", Wanted::Value(Kind::Flag)),
-    ("eAnnotations", Wanted::Value(Kind::Anything)),
-    ("eClass", Wanted::Value(Kind::Anything)),
-    ("eGenericType", Wanted::Value(Kind::Anything)),
-    ("eType", Wanted::Object(Place::TypeLink)),
-    ("iD", Wanted::Value(Kind::Anything)),
-    ("lowerBound", Wanted::Value(Kind::Whole)),
-    ("name", Wanted::Value(Kind::FeatureName)),
-    ("ordered", Wanted::Value(Kind::Anything)),
-    ("transient", Wanted::Value(Kind::Flag)),
-    ("unique", Wanted::Value(Kind::Flag)),
-    ("unsettable", Wanted::Value(Kind::Anything)),
-    ("upperBound", Wanted::Value(Kind::Whole)),
-    ("volatile", Wanted::Value(Kind::Flag)),
+    ("_id", Wanted::Value(ValueKind::Anything)),
+    ("changeable", Wanted::Value(ValueKind::Anything)),
+    ("defaultValueLiteral", Wanted::Value(ValueKind::Text)),
+    ("derived", Wanted::Value(ValueKind::Flag)),
+    ("eAnnotations", Wanted::Value(ValueKind::Anything)),
+    ("eClass", Wanted::Value(ValueKind::Anything)),
+    ("eGenericType", Wanted::Value(ValueKind::Anything)),
+    ("eType", Wanted::Object(Position::TypeLink)),
+    ("iD", Wanted::Value(ValueKind::Anything)),
+    ("lowerBound", Wanted::Value(ValueKind::Whole)),
+    ("name", Wanted::Value(ValueKind::FeatureName)),
+    ("ordered", Wanted::Value(ValueKind::Anything)),
+    ("transient", Wanted::Value(ValueKind::Flag)),
+    ("unique", Wanted::Value(ValueKind::Flag)),
+    ("unsettable", Wanted::Value(ValueKind::Anything)),
+    ("upperBound", Wanted::Value(ValueKind::Whole)),
+    ("volatile", Wanted::Value(ValueKind::Flag)),
 ];
 
 const REFERENCE: [(&str, Wanted); 20] = [
-    ("_id", Wanted::Value(Kind::Anything)),
-    ("changeable", Wanted::Value(Kind::Anything)),
-    ("containment", Wanted::Value(Kind::Flag)),
-    ("defaultValueLiteral", Wanted::Value(Kind::Anything)),
-    ("derived", Wanted::Value(Kind::Flag)),
-    ("eAnnotations", Wanted::Value(Kind::Anything)),
-    ("eClass", Wanted::Value(Kind::Anything)),
-    ("eGenericType", Wanted::Value(Kind::Anything)),
-    ("eKeys", Wanted::Value(Kind::Anything)),
-    ("eOpposite", Wanted::Object(Place::OppositeLink)),
-    ("eType", Wanted::Object(Place::TypeLink)),
-    ("lowerBound", Wanted::Value(Kind::Whole)),
-    ("name", Wanted::Value(Kind::FeatureName)),
-    ("ordered", Wanted::Value(Kind::Anything)),
-    ("resolveProxies", Wanted::Value(Kind::Anything)),
-    ("transient", Wanted::Value(Kind::Flag)),
-    ("unique", Wanted::Value(Kind::Flag)),
-    ("unsettable", Wanted::Value(Kind::Anything)),
-    ("upperBound", Wanted::Value(Kind::Whole)),
-    ("volatile", Wanted::Value(Kind::Flag)),
+    ("_id", Wanted::Value(ValueKind::Anything)),
+    ("changeable", Wanted::Value(ValueKind::Anything)),
+    ("containment", Wanted::Value(ValueKind::Flag)),
+    ("defaultValueLiteral", Wanted::Value(ValueKind::Anything)),
+    ("derived", Wanted::Value(ValueKind::Flag)),
+    ("eAnnotations", Wanted::Value(ValueKind::Anything)),
+    ("eClass", Wanted::Value(ValueKind::Anything)),
+    ("eGenericType", Wanted::Value(ValueKind::Anything)),
+    ("eKeys", Wanted::Value(ValueKind::Anything)),
+    ("eOpposite", Wanted::Object(Position::OppositeLink)),
+    ("eType", Wanted::Object(Position::TypeLink)),
+    ("lowerBound", Wanted::Value(ValueKind::Whole)),
+    ("name", Wanted::Value(ValueKind::FeatureName)),
+    ("ordered", Wanted::Value(ValueKind::Anything)),
+    ("resolveProxies", Wanted::Value(ValueKind::Anything)),
+    ("transient", Wanted::Value(ValueKind::Flag)),
+    ("unique", Wanted::Value(ValueKind::Flag)),
+    ("unsettable", Wanted::Value(ValueKind::Anything)),
+    ("upperBound", Wanted::Value(ValueKind::Whole)),
+    ("volatile", Wanted::Value(ValueKind::Flag)),
 ];
 
 const TYPE: [(&str, Wanted); 3] = [
-    ("$ref", Wanted::Value(Kind::TypeReference)),
-    ("_id", Wanted::Value(Kind::Anything)),
-    ("eClass", Wanted::Value(Kind::Anything)),
+    ("$ref", Wanted::Value(ValueKind::TypeReference)),
+    ("_id", Wanted::Value(ValueKind::Anything)),
+    ("eClass", Wanted::Value(ValueKind::Anything)),
 ];
 
 const OPPOSITE: [(&str, Wanted); 3] = [
-    ("$ref", Wanted::Value(Kind::OppositeReference)),
-    ("_id", Wanted::Value(Kind::Anything)),
-    ("eClass", Wanted::Value(Kind::Anything)),
+    ("$ref", Wanted::Value(ValueKind::OppositeReference)),
+    ("_id", Wanted::Value(ValueKind::Anything)),
+    ("eClass", Wanted::Value(ValueKind::Anything)),
 ];
 
 /// The keys that an object of the shape may have, each with what it asks of its value.

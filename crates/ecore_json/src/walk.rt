@@ -8,7 +8,7 @@ ghost use Rattle.ecore_json.specs.Table.{required};
 use crate::ecore;
 use crate::fault::WalkFault;
 use crate::reference::{is_feature_name, is_name, is_type_reference, own_feature};
-use crate::table::{Kind, Place, Shape, Wanted, required, wants};
+use crate::table::{Position, Shape, ValueKind, Wanted, required, wants};
 use serde_json::{Map, Value};
 
 /// Whether an object says that it is of that class of Ecore.
@@ -50,16 +50,16 @@ fn feature_shape(value: &Value) -> Option<Shape>
     }
 }
 
-fn shape_at(place: Place, value: &Value) -> Option<Shape>
+fn shape_at(place: Position, value: &Value) -> Option<Shape>
     ensures { result ≡ shape_at place (view value.now) }
 {
     match place {
-        Place::Root => Some(Shape::Package),
-        Place::Classifier => classifier_shape(value),
-        Place::Feature => feature_shape(value),
-        Place::Literal => Some(Shape::Literal),
-        Place::TypeLink => Some(Shape::TypeLink),
-        Place::OppositeLink => Some(Shape::OppositeLink),
+        Position::Root => Some(Shape::Package),
+        Position::Classifier => classifier_shape(value),
+        Position::Feature => feature_shape(value),
+        Position::Literal => Some(Shape::Literal),
+        Position::TypeLink => Some(Shape::TypeLink),
+        Position::OppositeLink => Some(Shape::OppositeLink),
     }
 }
 
@@ -184,27 +184,27 @@ fn is_whole(value: &Value) -> bool
 }
 
 /// Whether a value is of the kind, where the package's own references begin with `own`.
-fn is_of(own: &str, kind: Kind, value: &Value) -> bool
+fn is_of(own: &str, kind: ValueKind, value: &Value) -> bool
     ensures { result ≡ is_of own.now kind (view value.now) }
 {
     match kind {
-        Kind::Anything => true,
-        Kind::Flag => value.is_boolean(),
-        Kind::Whole => is_whole(value),
-        Kind::Text => value.is_string(),
-        Kind::Name => match value.as_str() {
+        ValueKind::Anything => true,
+        ValueKind::Flag => value.is_boolean(),
+        ValueKind::Whole => is_whole(value),
+        ValueKind::Text => value.is_string(),
+        ValueKind::Name => match value.as_str() {
             None => false,
             Some(text) => is_name(text),
         },
-        Kind::FeatureName => match value.as_str() {
+        ValueKind::FeatureName => match value.as_str() {
             None => false,
             Some(text) => is_feature_name(text),
         },
-        Kind::TypeReference => match value.as_str() {
+        ValueKind::TypeReference => match value.as_str() {
             None => false,
             Some(text) => is_type_reference(own, text),
         },
-        Kind::OppositeReference => match value.as_str() {
+        ValueKind::OppositeReference => match value.as_str() {
             None => false,
             Some(text) => own_feature(own, text).is_some(),
         },
@@ -213,7 +213,7 @@ fn is_of(own: &str, kind: Kind, value: &Value) -> bool
 
 /// The first fault of the object that stands in a place, if it has one.
 #[cycle(walk)]
-pub(crate) fn object_fault(own: &str, place: Place, value: &Value) -> Option<WalkFault>
+pub(crate) fn object_fault(own: &str, place: Position, value: &Value) -> Option<WalkFault>
     ensures { result ≡ object_fault own.now place (view value.now) }
 {
     match value {
@@ -279,7 +279,7 @@ fn value_fault(own: &str, wanted: Option<Wanted>, value: &Value) -> Option<WalkF
 }
 
 #[cycle(walk)]
-fn objects_fault(own: &str, place: Place, value: &Value) -> Option<WalkFault>
+fn objects_fault(own: &str, place: Position, value: &Value) -> Option<WalkFault>
     ensures { result ≡ objects_fault own.now place (view value.now) }
 {
     match value {
@@ -293,7 +293,7 @@ fn objects_fault(own: &str, place: Place, value: &Value) -> Option<WalkFault>
 }
 
 #[cycle(walk)]
-fn items_fault(own: &str, place: Place, items: &Vec<Value>) -> Option<WalkFault>
+fn items_fault(own: &str, place: Position, items: &Vec<Value>) -> Option<WalkFault>
     ensures { result ≡ items_fault own.now place (items_view items.now.items) }
 {
     for item in items {

@@ -6,7 +6,7 @@ use Rattle.std.specs.Option.{option_and_then}
 use Rattle.std.specs.BTreeSet.{BTreeSet}
 use Rattle.std.proofs.lemmas.List.{length-map}
 use Rattle.ecore_meta.specs.Names.{Name, number_of}
-use Rattle.ecore_meta.specs.Document.{Rows, classifier_name, classifier_named, class_in, class_number, numbered, supers_in, feature_total}
+use Rattle.ecore_meta.specs.Document.{ClassifierRows, classifier_name, classifier_named, class_in, class_number, numbered, supers_in, feature_total}
 use Rattle.ecore_meta.specs.Drafts.{draft, drafts, drafts_from}
 use Rattle.ecore_meta.specs.Faults.{own_of, inherited, all_inherited, literal, literals_in}
 use Rattle.ecore_meta.specs.Faults.{first_true}
@@ -40,7 +40,7 @@ features_is sets i own supers done is rising =
     ∙ sym (map_map (flat_map (own_of own)) (λ c. filter (is_above supers c) (range_with_len 0 (length supers))) (range_with_len 0 (length supers)))
 
 -- the classes of a document are numbered below their count
-class_below : (all : Rows) (c f e : ℕ) (rows : Rows) (p n first : ℕ) → slice_get (numbered c f e rows) p ≡ Some (OfClass n first) → n < c + length (supers_in all rows)
+class_below : (all : ClassifierRows) (c f e : ℕ) (rows : ClassifierRows) (p n first : ℕ) → slice_get (numbered c f e rows) p ≡ Some (OfClass n first) → n < c + length (supers_in all rows)
 class_below all c f e [] p n first h = cc
 class_below all c f e (Class r ∷ rows) zero n first h = let same : c ≡ n = cc in omega (arith, same)
 class_below all c f e (Enum r ∷ rows) zero n first h = cc
@@ -49,7 +49,7 @@ class_below all c f e (Class r ∷ rows) (suc p) n first h = let more = class_be
 class_below all c f e (Enum r ∷ rows) (suc p) n first h = class_below all c f (suc e) rows p n first h
 class_below all c f e (Plain t ∷ rows) (suc p) n first h = class_below all c f e rows p n first h
 
-number_below : (all : Rows) (q : Name) (n : ℕ) → class_number all q ≡ Some n → n < length (supers_in all all)
+number_below : (all : ClassifierRows) (q : Name) (n : ℕ) → class_number all q ≡ Some n → n < length (supers_in all all)
 unfolding classifier_named
 number_below all q n h = by_place (number_of q (map classifier_name all)) h
   where
@@ -63,7 +63,7 @@ number_below all q n h = by_place (number_of q (map classifier_name all)) h
     by_place None h = cc
     by_place (Some p) h = by_kind p (slice_get (numbered 0 0 0 all) p) refl h
 
-listed_below : (all : Rows) (b : ℕ) (names : List Name) → list_any (nat_eq b) (filter_map (class_number all) names) ≡ true → b < length (supers_in all all)
+listed_below : (all : ClassifierRows) (b : ℕ) (names : List Name) → list_any (nat_eq b) (filter_map (class_number all) names) ≡ true → b < length (supers_in all all)
 listed_below all b [] h = cc
 listed_below all b (t ∷ names) h = by_number (class_number all t) refl (λ k. listed_below all b names k) h
   where
@@ -73,52 +73,52 @@ listed_below all b (t ∷ names) h = by_number (class_number all t) refl (λ k. 
         (λ e. subst (λ x. x < length (supers_in all all)) (sym (nat_same b n e)) (number_below all t n is))
         more
 
-row_below : (all rows : Rows) (c b : ℕ) → list_any (nat_eq b) (supers_of (supers_in all rows) c) ≡ true → b < length (supers_in all all)
+row_below : (all rows : ClassifierRows) (c b : ℕ) → list_any (nat_eq b) (supers_of (supers_in all rows) c) ≡ true → b < length (supers_in all all)
 row_below all [] c b h = cc
 row_below all (Class r ∷ rows) zero b h = listed_below all b r.supers h
 row_below all (Class r ∷ rows) (suc c) b h = row_below all rows c b h
 row_below all (Enum e ∷ rows) c b h = row_below all rows c b h
 row_below all (Plain t ∷ rows) c b h = row_below all rows c b h
 
-pub supers_inside : (all : Rows) (supers : List (List ℕ)) → supers ≡ supers_in all all → Inside supers
+pub supers_inside : (all : ClassifierRows) (supers : List (List ℕ)) → supers ≡ supers_in all all → Inside supers
 supers_inside all supers is c b h =
     subst (λ s. b < length s) (sym is) (row_below all all c b (subst (λ s. list_any (nat_eq b) (supers_of s c) ≡ true) is h))
 
-pub supers_few : (all rows : Rows) → length (supers_in all rows) ≤ length rows
+pub supers_few : (all rows : ClassifierRows) → length (supers_in all rows) ≤ length rows
 supers_few all [] = omega arith
 supers_few all (Class c ∷ rows) = let more = supers_few all rows in omega (arith, more)
 supers_few all (Enum e ∷ rows) = let more = supers_few all rows in omega (arith, more)
 supers_few all (Plain t ∷ rows) = let more = supers_few all rows in omega (arith, more)
 
-drafts_count : (all : Rows) (n : ℕ) (rows : Rows) → length (drafts_from all n rows) ≡ feature_total rows
+drafts_count : (all : ClassifierRows) (n : ℕ) (rows : ClassifierRows) → length (drafts_from all n rows) ≡ feature_total rows
 drafts_count all n [] = refl
 drafts_count all n (Class c ∷ rows) = length-append (map (draft all n) c.features) (drafts_from all (suc n) rows) ∙ ap (λ k. k + length (drafts_from all (suc n) rows)) (length-map c.features (draft all n)) ∙ ap (λ k. length c.features + k) (drafts_count all (suc n) rows)
 drafts_count all n (Enum e ∷ rows) = drafts_count all n rows ∙ omega arith
 drafts_count all n (Plain t ∷ rows) = drafts_count all n rows ∙ omega arith
 
-pub drafts_few : (rows : Rows) → length (drafts rows) ≡ feature_total rows
+pub drafts_few : (rows : ClassifierRows) → length (drafts rows) ≡ feature_total rows
 unfolding drafts
 drafts_few rows = drafts_count rows 0 rows
 
-pub literals_short : (rows : Rows) → AreFew rows → AreShort (literals_in rows)
+pub literals_short : (rows : ClassifierRows) → AreFew rows → AreShort (literals_in rows)
 literals_short [] few = tt
 literals_short (Class c ∷ rows) few = literals_short rows few.1
 literals_short (Enum e ∷ rows) few = (subst (λ k. k < 4294967296) (sym (length-map e.literals literal)) (omega (arith, few.0)), literals_short rows few.1)
 literals_short (Plain t ∷ rows) few = literals_short rows few.1
 
-pub classes_count : (n : ℕ) (fs : List (List ℕ)) (rows : Rows) → length (classes_from n fs rows) ≤ length rows
+pub classes_count : (n : ℕ) (fs : List (List ℕ)) (rows : ClassifierRows) → length (classes_from n fs rows) ≤ length rows
 classes_count n fs [] = omega arith
 classes_count n fs (Class c ∷ rows) = let more = classes_count (suc n) fs rows in omega (arith, more)
 classes_count n fs (Enum e ∷ rows) = let more = classes_count n fs rows in omega (arith, more)
 classes_count n fs (Plain t ∷ rows) = let more = classes_count n fs rows in omega (arith, more)
 
-pub classes_supers : (all : Rows) (n : ℕ) (fs : List (List ℕ)) (rows : Rows) → length (supers_in all rows) ≡ length (classes_from n fs rows)
+pub classes_supers : (all : ClassifierRows) (n : ℕ) (fs : List (List ℕ)) (rows : ClassifierRows) → length (supers_in all rows) ≡ length (classes_from n fs rows)
 classes_supers all n fs [] = refl
 classes_supers all n fs (Class c ∷ rows) = ap (λ k. suc k) (classes_supers all (suc n) fs rows)
 classes_supers all n fs (Enum e ∷ rows) = classes_supers all n fs rows
 classes_supers all n fs (Plain t ∷ rows) = classes_supers all n fs rows
 
-pub literals_count : (rows : Rows) → length (literals_in rows) ≤ length rows
+pub literals_count : (rows : ClassifierRows) → length (literals_in rows) ≤ length rows
 literals_count [] = omega arith
 literals_count (Class c ∷ rows) = let more = literals_count rows in omega (arith, more)
 literals_count (Enum e ∷ rows) = let more = literals_count rows in omega (arith, more)

@@ -129,7 +129,7 @@ none_of : (o : Option ℕ) → false ≡ is_some o → o ≡ None
 none_of None h = refl
 none_of (Some n) h = cc
 
--- the index with the next name tells the list so far
+-- the index with the next name is that of the list so far
 pub still_told : {X : Type 0} (name : X → Name) (xs : List X) (i : ℕ) (d : X) → i < length xs → false ≡ is_some (number_of (name (get_or xs i d)) (map name (take i xs))) → (x : Name) → x ≡ name (get_or xs i d) → (f : Name → Option ℕ) → ((q : Name) → f q ≡ number_of q (map name (take i xs))) → (q : Name) → update bytes_eq f x (Some i) q ≡ number_of q (map name (take (i + 1) xs))
 still_told name xs i d h new x is f told q =
     ap (λ z. cond (bytes_eq z q) (Some i) (f q)) is

@@ -3,7 +3,7 @@ use Rattle.std.proofs.Common.{◌≡◌, ◌↔◌, ℕ, ◌<◌, Bool, true, fa
 use Rattle.std.specs.Prelude.{nat_lt}
 use Rattle.std.specs.List.{list_any}
 use Rattle.ecore_meta.specs.Build.{AreFew, Numbered, is_numbered}
-use Rattle.ecore_meta.specs.Document.{Rows, feature_total}
+use Rattle.ecore_meta.specs.Document.{ClassifierRows, feature_total}
 use Rattle.ecore_meta.specs.Faults.{Few, is_many}
 use Rattle.ecore_meta.specs.declared.rows.ClassifierRow.{ClassifierRow}
 use Rattle.ecore_meta.specs.declared.rows.ClassifierRow.TheVariants.{Class, Enum, Plain}
@@ -56,15 +56,15 @@ not_many (Class c) h = of_true _ (is_less (length c.features) 4294967295 h)
 not_many (Enum e) h = of_true _ (is_less (length e.literals) 4294967295 h)
 not_many (Plain t) h = refl
 
-all_few : (rows : Rows) → list_any is_many rows ≡ false → AreFew rows
+all_few : (rows : ClassifierRows) → list_any is_many rows ≡ false → AreFew rows
 all_few [] h = tt
 all_few (row ∷ rows) h = let at = neither (is_many row) (list_any is_many rows) h in (few_of row at.0, all_few rows at.1)
 
-none_many : (rows : Rows) → AreFew rows → list_any is_many rows ≡ false
+none_many : (rows : ClassifierRows) → AreFew rows → list_any is_many rows ≡ false
 none_many [] h = refl
 none_many (row ∷ rows) h = none (is_many row) (list_any is_many rows) (not_many row h.0) (none_many rows h.1)
 
-pub numbered_is : (rows : Rows) (b : Bool) → b ≡ is_numbered rows → IsTrue b ↔ Numbered rows
+pub numbered_is : (rows : ClassifierRows) (b : Bool) → b ≡ is_numbered rows → IsTrue b ↔ Numbered rows
 numbered_is rows b is = (forth, back)
   where
     forth : b ≡ true → Numbered rows

@@ -8,7 +8,7 @@ use Rattle.std.proofs.lemmas.List.Folds.{list_any-append}
 use Rattle.std.proofs.lemmas.Map.Views.{any-filter_same}
 use Rattle.std.proofs.lemmas.Bool.{or_left, or_right}
 use Rattle.ecore_meta.specs.Build.{classes_from, meta_of}
-use Rattle.ecore_meta.specs.Document.{Rows, supers_in}
+use Rattle.ecore_meta.specs.Document.{ClassifierRows, supers_in}
 use Rattle.ecore_meta.specs.Drafts.{draft, drafts, drafts_from}
 use Rattle.ecore_meta.specs.Faults.{features_of, inherited, own_features, own_of}
 use Rattle.ecore_meta.specs.Meta.{has_feature}
@@ -54,7 +54,7 @@ range_bounds a (suc n) x h = or_split (nat_eq x a) (list_any (nat_eq x) (range_w
     (λ e. let same : x ≡ a = nat_same x a e in (omega (arith, same), omega (arith, same)))
     (λ e. let more = range_bounds (a + 1) n x e in (omega (arith, more.0), omega (arith, more.1)))
 
-draft_owner : (all : Rows) (n : ℕ) (fs : List FeatureRow) (k : ℕ) (d : Draft) → slice_get (map (draft all n) fs) k ≡ Some d → d.owner ≡ n
+draft_owner : (all : ClassifierRows) (n : ℕ) (fs : List FeatureRow) (k : ℕ) (d : Draft) → slice_get (map (draft all n) fs) k ≡ Some d → d.owner ≡ n
 draft_owner all n [] k d h = cc
 draft_owner all n (f ∷ fs) zero d h = owner (draft all n f) d h refl
   where
@@ -63,7 +63,7 @@ draft_owner all n (f ∷ fs) zero d h = owner (draft all n f) d h refl
 draft_owner all n (f ∷ fs) (suc k) d h = draft_owner all n fs k d h
 
 -- a number below the first is none of those that the classes declare
-own_from : (f : ℕ) (rows : Rows) (b x : ℕ) → list_any (nat_eq x) (own_of (own_features f rows) b) ≡ true → f ≤ x
+own_from : (f : ℕ) (rows : ClassifierRows) (b x : ℕ) → list_any (nat_eq x) (own_of (own_features f rows) b) ≡ true → f ≤ x
 own_from f [] b x h = cc
 own_from f (Class c ∷ rows) zero x h = (range_bounds f (length c.features) x h).0
 own_from f (Class c ∷ rows) (suc b) x h = let more = own_from (f + length c.features) rows b x h in omega (arith, more)
@@ -71,10 +71,10 @@ own_from f (Enum e ∷ rows) b x h = own_from f rows b x h
 own_from f (Plain t ∷ rows) b x h = own_from f rows b x h
 
 -- where a feature's number stands: the class that declares it, and no other
-abbrev pub Stands : ℕ → ℕ → Rows → ℕ → Draft → Type 0
+abbrev pub Stands : ℕ → ℕ → ClassifierRows → ℕ → Draft → Type 0
 Stands n f rows x d = (b : ℕ) × (d.owner ≡ n + b) × (b < length (own_features f rows)) × (list_any (nat_eq x) (own_of (own_features f rows) b) ≡ true)
 
-owner_has : (all : Rows) (n : ℕ) (rows : Rows) (f k x : ℕ) (d : Draft) → x ≡ f + k → slice_get (drafts_from all n rows) k ≡ Some d → Stands n f rows x d
+owner_has : (all : ClassifierRows) (n : ℕ) (rows : ClassifierRows) (f k x : ℕ) (d : Draft) → x ≡ f + k → slice_get (drafts_from all n rows) k ≡ Some d → Stands n f rows x d
 owner_has all n [] f k x d e h = cc
 owner_has all n (Class c ∷ rows) f k x d e h = by_place (λ j. owner_has all (suc n) rows (f + length c.features) j x d) (split k (length c.features))
   where
@@ -91,7 +91,7 @@ owner_has all n (Class c ∷ rows) f k x d e h = by_place (λ j. owner_has all (
 owner_has all n (Enum r ∷ rows) f k x d e h = owner_has all n rows f k x d e h
 owner_has all n (Plain t ∷ rows) f k x d e h = owner_has all n rows f k x d e h
 
-owner_one : (all : Rows) (n : ℕ) (rows : Rows) (f k x : ℕ) (d : Draft) (b : ℕ) → x ≡ f + k → slice_get (drafts_from all n rows) k ≡ Some d → list_any (nat_eq x) (own_of (own_features f rows) b) ≡ true → d.owner ≡ n + b
+owner_one : (all : ClassifierRows) (n : ℕ) (rows : ClassifierRows) (f k x : ℕ) (d : Draft) (b : ℕ) → x ≡ f + k → slice_get (drafts_from all n rows) k ≡ Some d → list_any (nat_eq x) (own_of (own_features f rows) b) ≡ true → d.owner ≡ n + b
 owner_one all n [] f k x d b e h m = cc
 owner_one all n (Class c ∷ rows) f k x d b e h m = by_place b m (λ j a. owner_one all (suc n) rows (f + length c.features) j x d a) (split k (length c.features))
   where
@@ -109,14 +109,14 @@ owner_one all n (Class c ∷ rows) f k x d b e h m = by_place b m (λ j a. owner
 owner_one all n (Enum r ∷ rows) f k x d b e h m = owner_one all n rows f k x d b e h m
 owner_one all n (Plain t ∷ rows) f k x d b e h m = owner_one all n rows f k x d b e h m
 
-own_count : (all : Rows) (f : ℕ) (rows : Rows) → length (own_features f rows) ≡ length (supers_in all rows)
+own_count : (all : ClassifierRows) (f : ℕ) (rows : ClassifierRows) → length (own_features f rows) ≡ length (supers_in all rows)
 own_count all f [] = refl
 own_count all f (Class c ∷ rows) = ap (λ k. suc k) (own_count all (f + length c.features) rows)
 own_count all f (Enum e ∷ rows) = own_count all f rows
 own_count all f (Plain t ∷ rows) = own_count all f rows
 
 -- the class of a number has the features of that number
-class_has : (all : Rows) (n : ℕ) (fs : List (List ℕ)) (rows : Rows) (c f : ℕ) → c < length (supers_in all rows) → option_map_or (λ (class : Made). list_any (nat_eq f) class.features) (slice_get (classes_from n fs rows) c) false ≡ list_any (nat_eq f) (own_of fs (n + c))
+class_has : (all : ClassifierRows) (n : ℕ) (fs : List (List ℕ)) (rows : ClassifierRows) (c f : ℕ) → c < length (supers_in all rows) → option_map_or (λ (class : Made). list_any (nat_eq f) class.features) (slice_get (classes_from n fs rows) c) false ≡ list_any (nat_eq f) (own_of fs (n + c))
 class_has all n fs [] c f h = absurd (omega arith)
 class_has all n fs (Class r ∷ rows) zero f h = ap (λ k. list_any (nat_eq f) (own_of fs k)) (plus_none n)
   where
@@ -129,7 +129,7 @@ class_has all n fs (Class r ∷ rows) (suc c) f h = class_has all (suc n) fs row
 class_has all n fs (Enum e ∷ rows) c f h = class_has all n fs rows c f h
 class_has all n fs (Plain t ∷ rows) c f h = class_has all n fs rows c f h
 
-class_none : (all : Rows) (n : ℕ) (fs : List (List ℕ)) (rows : Rows) (c f : ℕ) → length (supers_in all rows) ≤ c → option_map_or (λ (class : Made). list_any (nat_eq f) class.features) (slice_get (classes_from n fs rows) c) false ≡ false
+class_none : (all : ClassifierRows) (n : ℕ) (fs : List (List ℕ)) (rows : ClassifierRows) (c f : ℕ) → length (supers_in all rows) ≤ c → option_map_or (λ (class : Made). list_any (nat_eq f) class.features) (slice_get (classes_from n fs rows) c) false ≡ false
 class_none all n fs [] c f h = refl
 class_none all n fs (Class r ∷ rows) zero f h = absurd (omega arith)
 class_none all n fs (Class r ∷ rows) (suc c) f h = class_none all (suc n) fs rows c f (omega arith)
@@ -165,7 +165,7 @@ kept_is : (p : ℕ → Bool) (b : ℕ) (xs : List ℕ) → list_any (nat_eq b) (
 kept_is p b xs = any-filter_same (nat_eq b) p (p b) (λ k e. ap p (sym (nat_same b k e))) xs
 
 module _ (rows : MetaRows) (c f : ℕ) (d : Draft) (is : slice_get (drafts rows.classifiers) f ≡ Some d) where
-  abbrev pub all : Rows
+  abbrev pub all : ClassifierRows
   all = rows.classifiers
 
   abbrev pub supers : List (List ℕ)

@@ -5,7 +5,7 @@ use Rattle.std.specs.Ordering.{int_eq}
 use Rattle.std.specs.List.{list_any}
 use Rattle.std.specs.Option.{option_map_or}
 use Rattle.ecore_meta.specs.Build.{classes_from, container, end_number, feature_from, kind_in, meta_of, plain}
-use Rattle.ecore_meta.specs.Document.{Rows, supers_in}
+use Rattle.ecore_meta.specs.Document.{ClassifierRows, supers_in}
 use Rattle.ecore_meta.specs.Drafts.{drafts}
 use Rattle.ecore_meta.specs.Faults.{answers, any_from, bad_bound, bad_default, bad_end, clash, contains_back, dup_name, fault, features_of, no_type, super_cycle, unsupported, first_true, is_at, is_self, is_to, is_unanswered, last_fault, literals_in}
 use Rattle.ecore_meta.specs.Meta.{Meta, has_feature, is_a}
@@ -32,7 +32,7 @@ passed : {F : Type 0} (b : Bool) (x : F) (o : Option F) → cond b (Some x) o �
 passed true x o h = cc
 passed false x o h = (refl, h)
 
-no_last_fault : (rows : Rows) → fault rows ≡ None → last_fault (drafts rows) (literals_in rows) ≡ None
+no_last_fault : (rows : ClassifierRows) → fault rows ≡ None → last_fault (drafts rows) (literals_in rows) ≡ None
 no_last_fault rows none =
     let ds = drafts rows in
     let supers = supers_in rows rows in
@@ -208,7 +208,7 @@ module _ (rows : MetaRows) (none : fault rows.classifiers ≡ None) where
   kind_at : (f : ℕ) (d : Draft) → slice_get ds f ≡ Some d → kind_of (meta_of rows) f ≡ kind_in literals ds d d.target
   kind_at f d is = got_of (λ (x : Feature). x.kind) (feature_from literals ds) ds f ∙ ap (λ o. option_map_or (λ (x : Draft). kind_in literals ds x x.target) o Skip) is
 
-  -- what an opposite tells
+  -- what an opposite shows
   opposed : (P : Type 0) (f g : ℕ) → opposite_of (meta_of rows) f ≡ Some g → ((d other : Draft) → slice_get ds f ≡ Some d → Mirrored ds f d g other → P) → P
   opposed P f g h more = by_draft (slice_get ds f) refl
     where

@@ -1,4 +1,4 @@
--- Paths of supertypes, and the bounded search that tells them.
+-- Paths of supertypes, and the bounded search that finds them.
 use Rattle.std.proofs.Common.{◌≡◌, ◌↔◌, IsTrue, ℕ, zero, suc, ◌+◌, ◌<◌, ◌≤◌, Bool, true, false, List, [], ◌∷◌, ◌++◌, ◌||◌, ◌&&◌, cond, refl, sym, ap, subst, ◌∙◌, arith, length, length-append, take, take-take, map, get_or, ◌⊎◌, inl, inr, nat_eq, rules}
 use Rattle.std.specs.Prelude.{slice_get, is_some}
 use Rattle.std.specs.List.{list_any, IsDistinct, AllByRecursion}

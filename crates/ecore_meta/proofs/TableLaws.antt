@@ -49,7 +49,7 @@ got_last [] x (suc i) h = absurd (omega arith)
 got_last (y ∷ ys) x zero h = absurd (omega arith)
 got_last (y ∷ ys) x (suc i) h = got_last ys x i (omega arith)
 
--- the sets so far tell of the classes below n
+-- the sets so far are those of the classes below n
 abbrev pub HasBelow : List (List ℕ) → List (BTreeSet ℕ) → ℕ → Type 0
 HasBelow supers sets n = (c d : ℕ) → c < n → option_map_or (λ s. contains nat_cmp s d) (slice_get sets c) false ≡ is_above supers c d
 

@@ -2,7 +2,7 @@
 use Rattle.std.specs.Prelude.{ℕ, ℤ, pos, negsuc, min, suc, ◌<◌, List, [], ◌∷◌, Option, None, Some, map, length, cond, Bool, nat_lt, not, ◌&&◌}
 use Rattle.std.specs.List.{list_any}
 use Rattle.std.specs.Ordering.{int_eq}
-use Rattle.ecore_meta.specs.Document.{Rows, supers_in, feature_total}
+use Rattle.ecore_meta.specs.Document.{ClassifierRows, supers_in, feature_total}
 use Rattle.ecore_meta.specs.Drafts.{drafts}
 use Rattle.ecore_meta.specs.Faults.{contains_back, is_skipped, own_of, features_of, literals_in, is_many, Few}
 use Rattle.ecore_meta.specs.Meta.{Meta}
@@ -42,7 +42,7 @@ default_in literals s (Some text) = value_of literals s text
 abbrev pub attribute : List (List EnumLiteral) → Draft → Scalar → Kind
 attribute literals d s = cond (int_eq d.upper (pos 1)) (Attr s (default_in literals s d.default_text)) (AttrMany s d.unique)
 
--- a reference to the element around, by the containment that is its opposite
+-- a reference to the container, by the containment that is its opposite
 abbrev pub container : ℕ → End → Kind
 container c Open = Skip
 container c Nowhere = Skip
@@ -52,7 +52,7 @@ container c (At g) = Container c g
 abbrev pub plain : Draft → ℕ → Kind
 plain d c = cond (int_eq d.upper (negsuc 0)) (Free c (end_number d.end)) (Bounded c (end_number d.end))
 
--- a reference: elements inside, the element around where the opposite has elements inside, or links
+-- a reference: elements inside, the container where the opposite has elements inside, or links
 abbrev pub reference : List Draft → Draft → ℕ → Kind
 reference ds d c = cond d.containment (Contains c (end_number d.end)) (cond (contains_back ds d.end) (container c d.end) (plain d c))
 
@@ -77,7 +77,7 @@ abbrev pub feature_from : List (List EnumLiteral) → List Draft → Draft → F
 feature_from literals ds d = record { owner = d.owner; name = d.name; lower = lower_from d; upper = upper_from d; kind = kind_in literals ds d d.target }
 
 -- the classes with the features of each
-abbrev pub classes_from : ℕ → List (List ℕ) → Rows → List Class
+abbrev pub classes_from : ℕ → List (List ℕ) → ClassifierRows → List Class
 classes_from n features [] = []
 classes_from n features (ClassOf c ∷ rows) = record { name = c.name; is_abstract = c.is_abstract; features = own_of features n } ∷ classes_from (suc n) features rows
 classes_from n features (Enum e ∷ rows) = classes_from n features rows
@@ -94,16 +94,16 @@ meta_of rows = record {
 }
 
 -- the features or literals of each classifier can be numbered
-abbrev pub AreFew : Rows → Type 0
+abbrev pub AreFew : ClassifierRows → Type 0
 AreFew [] = Unit {0}
 AreFew (row ∷ rows) = Few row × AreFew rows
 
 -- fewer than 2^32 - 1 classifiers, features, and literals of an enum
-pub record Numbered (rows : Rows) : Type 0 where
+pub record Numbered (rows : ClassifierRows) : Type 0 where
   pub classifiers : length rows < 4294967295
   pub features : feature_total rows < 4294967295
   pub parts : AreFew rows
 
 -- the same as a test
-abbrev pub is_numbered : Rows → Bool
+abbrev pub is_numbered : ClassifierRows → Bool
 is_numbered rows = nat_lt (length rows) 4294967295 && (nat_lt (feature_total rows) 4294967295 && not (list_any is_many rows))

@@ -2,7 +2,7 @@
 use Rattle.std.specs.Prelude.{ℕ, suc, List, [], ◌∷◌, ◌++◌, Option, None, Some, map, codes, cond, if◌then◌else◌}
 use Rattle.std.specs.Str.{bytes_eq}
 use Rattle.ecore_meta.specs.Names.{Name}
-use Rattle.ecore_meta.specs.Document.{Rows, classifier_named, feature_number}
+use Rattle.ecore_meta.specs.Document.{ClassifierRows, classifier_named, feature_number}
 use Rattle.ecore_meta.specs.declared.rows.ClassifierRow.TheVariants.{Class, Enum, Plain}
 use Rattle.ecore_meta.specs.declared.rows.FeatureRow.{FeatureRow}
 use Rattle.ecore_meta.specs.declared.rows.OppositeRow.{OppositeRow}
@@ -36,7 +36,7 @@ own_scalar (Some (OfEnum e empty)) = cond empty Missing (Values (Literal e))
 own_scalar (Some OfPlain) = Values Text
 
 -- an attribute's type: one of the package or of Ecore
-abbrev pub value_target : Rows → TypeName → Target
+abbrev pub value_target : ClassifierRows → TypeName → Target
 value_target all (Own t) = own_scalar (classifier_named all t)
 value_target all (Ecore t) = ecore_scalar t
 
@@ -48,12 +48,12 @@ own_class (Some (OfEnum e empty)) = Missing
 own_class (Some OfPlain) = Missing
 
 -- a reference's type is a class of the package
-abbrev pub class_target : Rows → TypeName → Target
+abbrev pub class_target : ClassifierRows → TypeName → Target
 class_target all (Own t) = own_class (classifier_named all t)
 class_target all (Ecore t) = Missing
 
 -- what a feature's type is; that of a skipped feature is not looked at
-abbrev pub target_of : Rows → FeatureRow → Target
+abbrev pub target_of : ClassifierRows → FeatureRow → Target
 target_of all f = cond f.skipped Skipped (cond f.is_reference (class_target all f.target) (value_target all f.target))
 
 -- the opposite that was found, or nowhere
@@ -62,16 +62,16 @@ end_at None = Nowhere
 end_at (Some n) = At n
 
 -- the opposite of that name, where one is named
-abbrev pub named_end : Rows → Option OppositeRow → End
+abbrev pub named_end : ClassifierRows → Option OppositeRow → End
 named_end all None = Open
 named_end all (Some o) = end_at (feature_number all o.class o.feature)
 
 -- the opposite that a reference names; attributes and skipped features have none
-abbrev pub end_of : Rows → FeatureRow → End
+abbrev pub end_of : ClassifierRows → FeatureRow → End
 end_of all f = cond f.skipped Open (cond f.is_reference (named_end all f.opposite) Open)
 
 -- a feature that the class of that number declares
-abbrev pub draft : Rows → ℕ → FeatureRow → Draft
+abbrev pub draft : ClassifierRows → ℕ → FeatureRow → Draft
 draft all owner f = record {
   owner = owner;
   name = f.name;
@@ -85,12 +85,12 @@ draft all owner f = record {
 }
 
 -- the features in the order of their declaration, from the class of that number on
-abbrev pub drafts_from : Rows → ℕ → Rows → List Draft
+abbrev pub drafts_from : ClassifierRows → ℕ → ClassifierRows → List Draft
 drafts_from all n [] = []
 drafts_from all n (Class c ∷ rows) = map (draft all n) c.features ++ drafts_from all (suc n) rows
 drafts_from all n (Enum e ∷ rows) = drafts_from all n rows
 drafts_from all n (Plain t ∷ rows) = drafts_from all n rows
 
 -- the features of a document, in the order of their declaration
-unfoldable pub drafts : Rows → List Draft
+unfoldable pub drafts : ClassifierRows → List Draft
 drafts all = drafts_from all 0 all

@@ -5,7 +5,7 @@ use Rattle.std.specs.List.{list_any, filter, flat_map, range_with_len}
 use Rattle.std.specs.Option.{option_map_or}
 use Rattle.ecore_meta.specs.Names.{Name, has_repeat}
 use Rattle.ecore_meta.specs.Supers.{is_above, supers_of}
-use Rattle.ecore_meta.specs.Document.{Rows, classifier_name, feature_names, class_number, supers_in}
+use Rattle.ecore_meta.specs.Document.{ClassifierRows, classifier_name, feature_names, class_number, supers_in}
 use Rattle.ecore_meta.specs.Drafts.{drafts}
 use Rattle.ecore_meta.specs.Values.{value_of}
 use Rattle.ecore_meta.specs.declared.fault.MetaFault.{MetaFault}
@@ -27,7 +27,7 @@ repeats_within (Enum e) = has_repeat (map (λ l. l.name) e.literals) || has_repe
 repeats_within (Plain t) = false
 
 -- two classifiers have one name, or one of them has such a repeat
-abbrev pub dup_name : Rows → Bool
+abbrev pub dup_name : ClassifierRows → Bool
 dup_name rows = has_repeat (map classifier_name rows) || list_any repeats_within rows
 
 -- a type of Ecore that is not read
@@ -51,13 +51,13 @@ is_missing (Elements c) = false
 is_missing (Values s) = false
 
 -- a supertype is no class of the package
-abbrev pub lacks_super : Rows → ClassifierRow → Bool
+abbrev pub lacks_super : ClassifierRows → ClassifierRow → Bool
 lacks_super all (Class c) = list_any (λ t. not (is_some (class_number all t))) c.supers
 lacks_super all (Enum e) = false
 lacks_super all (Plain t) = false
 
 -- a supertype or a feature's type is none of the package that fits
-abbrev pub no_type : Rows → List Draft → Bool
+abbrev pub no_type : ClassifierRows → List Draft → Bool
 no_type rows ds = list_any (lacks_super rows) rows || list_any (λ d. is_missing d.target) ds
 
 -- a class is above one of its supertypes
@@ -69,7 +69,7 @@ abbrev pub super_cycle : List (List ℕ) → Bool
 super_cycle supers = list_any (is_cyclic supers) (range_with_len 0 (length supers))
 
 -- the numbers of the features that each class declares, from a number on
-abbrev pub own_features : ℕ → Rows → List (List ℕ)
+abbrev pub own_features : ℕ → ClassifierRows → List (List ℕ)
 own_features f [] = []
 own_features f (Class c ∷ rows) = range_with_len f (length c.features) ∷ own_features (f + length c.features) rows
 own_features f (Enum e ∷ rows) = own_features f rows
@@ -176,7 +176,7 @@ abbrev pub literal : LiteralRow → EnumLiteral
 literal row = record { name = row.name; text = row.literal }
 
 -- the literals of each enum
-abbrev pub literals_in : Rows → List (List EnumLiteral)
+abbrev pub literals_in : ClassifierRows → List (List EnumLiteral)
 literals_in [] = []
 literals_in (Class c ∷ rows) = literals_in rows
 literals_in (Enum e ∷ rows) = map literal e.literals ∷ literals_in rows
@@ -198,7 +198,7 @@ last_fault ds literals =
     ∷ [])
 
 -- the first fault, where the last ones are known
-abbrev pub fault_of : Rows → List Draft → List (List ℕ) → List (List ℕ) → Option MetaFault → Option MetaFault
+abbrev pub fault_of : ClassifierRows → List Draft → List (List ℕ) → List (List ℕ) → Option MetaFault → Option MetaFault
 fault_of rows ds supers features last =
     cond (dup_name rows) (Some DupName)
     (cond (unsupported ds) (Some UnsupportedFault)
@@ -207,14 +207,14 @@ fault_of rows ds supers features last =
     (cond (clash ds features) (Some Clash) last))))
 
 -- the features of every class of a document
-abbrev pub features_of : Rows → List (List ℕ)
+abbrev pub features_of : ClassifierRows → List (List ℕ)
 features_of rows = all_inherited (supers_in rows rows) (own_features 0 rows)
 
 -- the first fault of a document
-abbrev pub fault : Rows → Option MetaFault
+abbrev pub fault : ClassifierRows → Option MetaFault
 fault rows = fault_of rows (drafts rows) (supers_in rows rows) (features_of rows) (last_fault (drafts rows) (literals_in rows))
 
--- an answer of build but want of memory names the first fault
+-- an answer of build but out of memory names the first fault
 abbrev pub IsFault : Option MetaFault → MetaFault → Type 0
 IsFault first Memory = Unit {0}
 IsFault first DupName = first ≡ Some DupName

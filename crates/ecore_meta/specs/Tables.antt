@@ -1,4 +1,4 @@
--- What the table of the classes above each class tells.
+-- What the table of the classes above each class holds.
 use Rattle.std.specs.Prelude.{◌≡◌, ◌<◌, ℕ, false, List, map, slice_get, length}
 use Rattle.std.specs.List.{filter, range_with_len}
 use Rattle.std.specs.Ordering.{nat_cmp}
@@ -18,7 +18,7 @@ abbrev pub all_above : List (List ℕ) → List (List ℕ)
 all_above supers = map (λ c. filter (is_above supers c) (range_with_len 0 (length supers))) (range_with_len 0 (length supers))
 
 -- what holds of a metamodel, and of its table of the classes above each class
-pub record Holds (meta : Meta) (above : List (BTreeSet ℕ)) : Type 0 where
+pub record HasTable (meta : Meta) (above : List (BTreeSet ℕ)) : Type 0 where
   pub agrees : Agrees meta.supers above
   pub inside : Inside meta.supers
   pub as_many : length meta.supers ≡ length meta.classes

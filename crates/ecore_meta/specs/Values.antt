@@ -41,7 +41,7 @@ wide o = option_and_then (λ n. cond (in_width 9223372036854775808 n) (Some n) N
 abbrev pub narrow : ℕ → ℤ → Option Value
 narrow half n = cond (in_width half n) (Some (Whole n)) None
 
--- the whole number that a text says, where the width holds it
+-- the whole number that a text stands for, where the width holds it
 abbrev pub whole_in : ℕ → List ℕ → Option Value
 whole_in half text = option_and_then (narrow half) (whole_of text)
 
@@ -95,7 +95,7 @@ abbrev pub AreShort : List (List EnumLiteral) → Type 0
 AreShort [] = Unit {0}
 AreShort (ls ∷ literals) = (length ls < 4294967296) × AreShort literals
 
--- why a text was not read: it stands for no value, or memory was wanting
+-- why a text was not read: it stands for no value, or there was no memory
 abbrev pub IsBad : Option Value → ValueFault → Type 0
 IsBad value Bad = value ≡ None
 IsBad value Memory = Unit {0}

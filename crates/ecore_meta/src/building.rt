@@ -31,7 +31,7 @@ pub(crate) struct Parts {
     pub literals: Vec<Vec<EnumLiteral>>,
 }
 
-/// The parts of a document, or its first fault of those that the names and the supertypes tell.
+/// The parts of a document, or its first fault of those that the names and the supertypes show.
 fn checked(alloc: Global, rows: &[ClassifierRow]) -> Result<Parts, MetaFault>
     requires { Numbered rows.now }
     ensures fault { IfErr result (IsFault (fault rows.now)) }

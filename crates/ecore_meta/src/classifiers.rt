@@ -31,10 +31,10 @@ pub(crate) struct Classifiers<'a> {
 }
 
 impl<'a> Model for Classifiers<'a> {
-    ghost use Rattle.ecore_meta.specs.Document.{Rows};
+    ghost use Rattle.ecore_meta.specs.Document.{ClassifierRows};
     ghost use Rattle.ecore_meta.specs.Classifiers.{Tells};
 
-    ghost Value = { Rows };
+    ghost Value = { ClassifierRows };
 
     ghost view = { λ a. a.rows.now };
 

@@ -1,4 +1,4 @@
-//! The drafts of features: type, opposite and owner resolved from names to numbers, or told to be missing.
+//! The drafts of features: type, opposite and owner resolved from names to numbers, or reported to be missing.
 ghost use Rattle.std.specs.Prelude.{◌≡◌, ◌<◌, ◌+◌, ◌++◌, IfOk, OnOk, length, map};
 ghost use Rattle.ecore_meta.specs.Drafts.{class_target, draft, drafts, ecore_scalar, end_of, target_of, value_target};
 

@@ -1,5 +1,5 @@
 //! Metamodels in Ecore's terms: classes with features, references with opposites, and enums. A metamodel is built
-//! of the rows that a document says, or refused with the first fault.
+//! of the rows that a document describes, or refused with the first fault.
 #![tactic(auto)]
 
 mod building;

@@ -55,7 +55,7 @@ pub enum Kind {
         target: u32,
         opposite: Option<u32>,
     },
-    /// The element around, told by the place alone.
+    /// The container, which the place alone gives.
     Container {
         target: u32,
         opposite: u32,

@@ -76,13 +76,13 @@ fn literal_at(literals: &[EnumLiteral], n: u32) -> Option<&EnumLiteral>
 impl Model for Metamodel {
     ghost use Rattle.std.specs.Prelude.{map};
     ghost use Rattle.ecore_meta.specs.Meta.{Meta};
-    ghost use Rattle.ecore_meta.specs.Tables.{Holds};
+    ghost use Rattle.ecore_meta.specs.Tables.{HasTable};
 
     ghost Value = { Meta };
 
     ghost view = { λ a. record { uri = a.uri; classes = a.classes.items; features = a.features.items; supers = map (λ v. v.items) a.supers.items; literals = map (λ v. v.items) a.literals.items } };
 
-    ghost invariant = { λ a. Holds (record { uri = a.uri; classes = a.classes.items; features = a.features.items; supers = map (λ v. v.items) a.supers.items; literals = map (λ v. v.items) a.literals.items }) a.above.items };
+    ghost invariant = { λ a. HasTable (record { uri = a.uri; classes = a.classes.items; features = a.features.items; supers = map (λ v. v.items) a.supers.items; literals = map (λ v. v.items) a.literals.items }) a.above.items };
 }
 
 impl Metamodel {

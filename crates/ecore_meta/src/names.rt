@@ -1,4 +1,4 @@
-//! Indexes by name, which tell a name that stands twice, over classifiers, features and literals.
+//! Indexes by name, which show a name that stands twice, over classifiers, features and literals.
 ghost use Rattle.std.specs.Prelude.{◌≡◌, IfOk, map};
 ghost use Rattle.ecore_meta.specs.Names.{Indexes};
 ghost use Rattle.ecore_meta.specs.Document.{classifier_name, feature_names};

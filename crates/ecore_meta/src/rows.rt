@@ -16,7 +16,7 @@ pub struct MetaRows {
     pub classifiers: List<ClassifierRow>,
 }
 
-/// A classifier as a document says it.
+/// A classifier as a document describes it.
 #[derive(Debug, Drop)]
 pub enum ClassifierRow {
     Class(ClassRow),
@@ -25,7 +25,7 @@ pub enum ClassifierRow {
     Plain(Text),
 }
 
-/// A class as a document says it: its supertypes and the types of its features are names, which may be none of the document's.
+/// A class as a document describes it: its supertypes and the types of its features are names, which may be none of the document's.
 #[derive(Debug, Drop)]
 pub struct ClassRow {
     pub name: Text,
@@ -36,14 +36,14 @@ pub struct ClassRow {
     pub features: List<FeatureRow>,
 }
 
-/// An enum as a document says it, with its literals in their order.
+/// An enum as a document describes it, with its literals in their order.
 #[derive(Debug, Drop)]
 pub struct EnumRow {
     pub name: Text,
     pub literals: List<LiteralRow>,
 }
 
-/// A literal of an enum as a document says it.
+/// A literal of an enum as a document describes it.
 #[derive(Debug, Drop)]
 pub struct LiteralRow {
     pub name: Text,
@@ -69,7 +69,7 @@ pub struct OppositeRow {
     pub feature: Text,
 }
 
-/// An attribute or a reference as a document says it; the names in it may be none of the document's.
+/// An attribute or a reference as a document describes it; the names in it may be none of the document's.
 #[derive(Debug, Drop)]
 pub struct FeatureRow {
     pub name: Text,

@@ -70,7 +70,7 @@ None {"eClass":"E#//EClass","name":"A","eStructuralFeatures":[{"eClass":"E#//EAt
 Some(Meta(BadDefault)) {"eClass":"E#//EClass","name":"A","eStructuralFeatures":[{"eClass":"E#//EAttribute","name":"x","eType":{"$ref":"//E"},"defaultValueLiteral":"c"}]},{"eClass":"E#//EEnum","name":"E","eLiterals":[{"name":"a","literal":"x"},{"name":"b"}]}
 None {"eClass":"E#//EClass","name":"A","eStructuralFeatures":[{"eClass":"E#//EAttribute","name":"x","eType":{"$ref":"//E"},"defaultValueLiteral":"a"}]},{"eClass":"E#//EEnum","name":"E","eLiterals":[{"name":"a","literal":"x"},{"name":"b"}]}"###;
 
-// Classifiers for each fault, the last that is looked for first; their names are apart.
+// Classifiers for each fault, the last that is looked for first; their names differ.
 const FAULTS: &str =
     r###"Some(Meta(BadDefault)) {"eClass":"E#//EClass","name":"K","eStructuralFeatures":[{"eClass":"E#//EAttribute","name":"x","eType":{"$ref":"E#//EInt"},"defaultValueLiteral":"x"}]}
 Some(Meta(BadBound)) {"eClass":"E#//EClass","name":"J","eStructuralFeatures":[{"eClass":"E#//EAttribute","name":"x","lowerBound":2,"eType":{"$ref":"E#//EInt"}}]}
@@ -82,9 +82,9 @@ Some(Meta(NoType)) {"eClass":"E#//EClass","name":"C","eStructuralFeatures":[{"eC
 Some(Meta(Unsupported)) {"eClass":"E#//EClass","name":"B","eStructuralFeatures":[{"eClass":"E#//EAttribute","name":"x","eType":{"$ref":"E#//EDouble"}}]}
 Some(Meta(DupName)) {"eClass":"E#//EClass","name":"A"},{"eClass":"E#//EClass","name":"A"}"###;
 
-// With all that are looked for later before it, a fault is told.
+// With all that are looked for later before it, a fault is reported.
 #[test]
-fn of_many_faults_the_first_in_order_is_told(rt: HostRuntime) -> Result<(), Fail> {
+fn of_many_faults_the_first_in_order_is_reported(rt: HostRuntime) -> Result<(), Fail> {
     let alloc = rt.alloc();
     let mut before = String::from_str(alloc, PACKAGE)?;
     for line in FAULTS.lines() {

@@ -1,7 +1,7 @@
 //! Events, byte for byte as the format's tables have them. Bytes are written in hex, a field a word.
 use model_state::Operation;
 use op_form::{
-    Event, FormFault, decode, decode_event, encode_event, has_form, reverse, reverse_op,
+    Event, FormFault, decode, decode_event, encode_event, has_encoding, reverse, reverse_op,
 };
 use std::alloc::Global;
 use std::process::Abort;
@@ -82,14 +82,14 @@ fn check_event(rt: &impl Abort, alloc: Global, line: &str) -> Result<(), Fail> {
     add_fields(rt, alloc, &mut bytes, text)?;
     let event = decode_event(alloc, bytes.as_slice())?;
     assert_eq!(rt; format!(in alloc; "{event:?}")?.as_str(), wanted, "{text}");
-    assert!(rt; has_form(&event), "{text}");
+    assert!(rt; has_encoding(&event), "{text}");
     let spelled = encode_event(alloc, &event)?;
     assert_eq!(rt; spelled.as_slice(), bytes.as_slice(), "{text}");
     Ok(())
 }
 
 #[test]
-fn events_are_spelled_and_every_prefix_is_no_form(rt: HostRuntime) -> Result<(), Fail> {
+fn events_are_spelled_and_every_prefix_is_no_encoding(rt: HostRuntime) -> Result<(), Fail> {
     let alloc = rt.alloc();
     for line in EVENTS.lines() {
         check_event(&rt, alloc, line)?;
@@ -121,7 +121,7 @@ const NO_EVENTS: &str = "0f 00000001 = 0
 03 00000001 00000001 01 03 00000001 01 0000000162 00000001 01 02 02 = 27";
 
 #[test]
-fn bytes_of_no_event_are_no_form(rt: HostRuntime) -> Result<(), Fail> {
+fn bytes_of_no_event_are_no_encoding(rt: HostRuntime) -> Result<(), Fail> {
     let alloc = rt.alloc();
     for line in NO_EVENTS.lines() {
         let (text, wanted) = line.split_once(" = ").unwrap_or((line, ""));

@@ -10,7 +10,7 @@ use Rattle.ecore_meta.specs.declared.meta.Value.{Value}
 use Rattle.ecore_meta.specs.declared.meta.Kind.{Kind}
 use Rattle.ecore_meta.specs.declared.meta.Kind.TheVariants.{Attr, AttrMany, Bounded, Free, Contains, Container, Skip}
 use Rattle.model_state.specs.declared.step.Step.TheVariants.{Put}
-use Rattle.model_state.specs.Keys.{Name}
+use Rattle.model_state.specs.Keys.{IdBytes}
 use Rattle.model_state.specs.Typing.{value_eq, kind_of, upper_of, is_attr, attr_fits, is_default}
 use Rattle.model_state.specs.State.{State}
 use Rattle.model_state.specs.Steps.{tests, Can, fold, single, value_fits, not_default}
@@ -20,7 +20,7 @@ use Rattle.model_state.proofs.StepTests.{pass, value_equality, values_equality}
 use Rattle.finite_maps.proofs.Cases.{not_false}
 use Rattle.model_laws.proofs.Births.{has_class}
 use Rattle.model_laws.proofs.Runs.{fold_more}
-use Rattle.edit_laws.specs.Attributes.{held, taken, put_after, put_made, IsAttribute}
+use Rattle.edit_laws.specs.Attributes.{single_value, taken, put_after, put_made, IsAttribute}
 use Rattle.edit_laws.specs.Laws.{SetAttrMeets, UnsetAttrMeets}
 
 abbrev fits_by : Meta → Kind → Option Value → Bool
@@ -32,7 +32,7 @@ differs_by k None = true
 differs_by k (Some v) = not (is_default k v)
 
 abbrev Facts : Meta → Kind → Option (List Value) → Type 0
-Facts meta k o = (o ≡ single (held o)) × (fits_by meta k (held o) ≡ true) × (differs_by k (held o) ≡ true)
+Facts meta k o = (o ≡ single (single_value o)) × (fits_by meta k (single_value o) ≡ true) × (differs_by k (single_value o) ≡ true)
 
 by_values : (meta : Meta) (k : Kind) (upper : Option ℕ) (vs : List Value) → is_attr k ≡ true → ValuesOk meta k upper vs → Facts meta k (Some vs)
 by_values meta (Attr scalar default) upper [] is ok = absurd ok
@@ -58,33 +58,33 @@ not_default_is : (meta : Meta) (f : ℕ) (o : Option Value) → differs_by (kind
 not_default_is meta f None h = refl
 not_default_is meta f (Some v) h = h
 
-pub put_meets : (meta : Meta) (m : State) → Good meta m → (e : Name) (f : ℕ) (new : Option Value) → IsAttribute meta m e f → value_fits meta f new ≡ true → not_default meta f new ≡ true
+pub put_meets : (meta : Meta) (m : State) → Good meta m → (e : IdBytes) (f : ℕ) (new : Option Value) → IsAttribute meta m e f → value_fits meta f new ≡ true → not_default meta f new ≡ true
     → fold meta m (put_made m e f new) ≡ Some (put_after m e f new)
 put_meets meta m good e f new is fits differs =
     let o = get m.attr (e, f) in
     let known = facts meta (get m.kind e) f o is.1 (good.attrs.typed e f) in
-    elim (option_eq value_eq (held o) new) as (λ t. option_eq value_eq (held o) new ≡ t → fold meta m (cond t [] (Put e f (held o) new ∷ [])) ≡ Some (put_after m e f new)) [
+    elim (option_eq value_eq (single_value o) new) as (λ t. option_eq value_eq (single_value o) new ≡ t → fold meta m (cond t [] (Put e f (single_value o) new ∷ [])) ≡ Some (put_after m e f new)) [
       | true ↦ λ equal.
-          let same : o ≡ single new = known.0 ∙ ap single ((option_equality value_eq value_equality).exact (held o) new equal) in
+          let same : o ≡ single new = known.0 ∙ ap single ((option_equality value_eq value_equality).exact (single_value o) new equal) in
           ap (λ attr. Some (record m { attr = attr })) (sym (set_here attr_order m.attr (e, f) (single new) same))
       | false ↦ λ apart.
-          let can : Can meta m (Put e f (held o) new) = pass (tests meta m (Put e f (held o) new)) (
+          let can : Can meta m (Put e f (single_value o) new) = pass (tests meta m (Put e f (single_value o) new)) (
             has_class meta (get m.kind e) f is.0,
             (
               is.0,
               (
                 is.1,
                 (
-                  value_fits_is meta f (held o) known.1,
+                  value_fits_is meta f (single_value o) known.1,
                   (
                     fits,
                     (
                       not_false _ apart,
                       (
-                        not_default_is meta f (held o) known.2,
+                        not_default_is meta f (single_value o) known.2,
                         (
                           differs,
-                          (ap (λ x. option_eq (list_eq value_eq) x (single (held o))) known.0 ∙ values_equality.own (single (held o)), tt),
+                          (ap (λ x. option_eq (list_eq value_eq) x (single (single_value o))) known.0 ∙ values_equality.own (single (single_value o)), tt),
                         ),
                       ),
                     ),
@@ -93,7 +93,7 @@ put_meets meta m good e f new is fits differs =
               ),
             ),
           ) in
-          fold_more meta m (Put e f (held o) new) [] can
+          fold_more meta m (Put e f (single_value o) new) [] can
     ] refl
 
 pub taken_fits : (meta : Meta) (f : ℕ) (v : Value) → attr_fits meta (kind_of meta f) v ≡ true → value_fits meta f (taken meta f v) ≡ true

@@ -16,7 +16,7 @@ use Rattle.model_state.specs.declared.entry.Entry.{Entry}
 use Rattle.model_state.specs.declared.step.Place.{Place}
 use Rattle.model_state.specs.declared.step.Step.{Step}
 use Rattle.model_state.specs.declared.step.Step.TheVariants.{New, RerankPlace}
-use Rattle.model_state.specs.Keys.{Name, id_cmp}
+use Rattle.model_state.specs.Keys.{IdBytes, id_cmp}
 use Rattle.model_state.specs.State.{State, is_live, place_eq}
 use Rattle.model_state.specs.Steps.{tests, Can, fold}
 use Rattle.model_state.specs.Good.{Good, Sound, PlaceOk}
@@ -36,10 +36,10 @@ abbrev pub Stand : State → List Entry → Type 0
 Stand m [] = Unit {0}
 Stand m (x ∷ xs) = (is_live m x.id ≡ true) × (get m.prank x.id ≡ Some x.rank) × (list_any (λ (y : Entry). text_eq x.id y.id) xs ≡ false) × Stand m xs
 
-pub names_differ : (x y : Name) → text_eq x y ≡ false → eq_by_cmp id_cmp y x ≡ false
+pub names_differ : (x y : IdBytes) → text_eq x y ≡ false → eq_by_cmp id_cmp y x ≡ false
 names_differ x y differ = not_so (eq_by_cmp id_cmp y x) (λ same. true_false (text_eq x y) (ap (text_eq x) (same_key id_order y x same) ∙ text_equality.own x) differ)
 
-stand_still : (m : State) (x : Name) (v : Option ℕ) (xs : List Entry) → list_any (λ (y : Entry). text_eq x y.id) xs ≡ false → Stand m xs → Stand (record m { prank = set m.prank x v }) xs
+stand_still : (m : State) (x : IdBytes) (v : Option ℕ) (xs : List Entry) → list_any (λ (y : Entry). text_eq x y.id) xs ≡ false → Stand m xs → Stand (record m { prank = set m.prank x v }) xs
 stand_still m x v [] differ stand = tt
 stand_still m x v (y ∷ ys) differ stand = (
   stand.0,
@@ -48,7 +48,7 @@ stand_still m x v (y ∷ ys) differ stand = (
   stand_still m x v ys (or_second (text_eq x y.id) _ differ) stand.3,
 )
 
-place_can : (meta : Meta) (m : State) (e : Name) (old new : ℕ) → is_live m e ≡ true → get m.prank e ≡ Some old → nat_eq old new ≡ false → Can meta m (RerankPlace e old new)
+place_can : (meta : Meta) (m : State) (e : IdBytes) (old new : ℕ) → is_live m e ≡ true → get m.prank e ≡ Some old → nat_eq old new ≡ false → Can meta m (RerankPlace e old new)
 place_can meta m e old new live here differ =
     pass (tests meta m (RerankPlace e old new)) (live, (not_false _ differ, (ap (λ o. option_eq nat_eq o (Some old)) here ∙ number_equality.own (Some old), tt)))
 
@@ -78,19 +78,19 @@ placed_live meta kind None p (Some r) ok = absurd ok
 placed_live meta kind (Some c) p None ok = absurd ok
 placed_live meta kind (Some c) p (Some r) ok = (refl, refl)
 
-abbrev pub spot_of : FinMap id_cmp ℕ → Name × Place → Entry
+abbrev pub spot_of : FinMap id_cmp ℕ → IdBytes × Place → Entry
 spot_of prank e = record { rank = rank_at prank e.0; id = e.0 }
 
 abbrev pub LiveHere : State → Entry → Type 0
 LiveHere m x = (is_live m x.id ≡ true) × (get m.prank x.id ≡ Some x.rank)
 
 module _ (meta : Meta) (m : State) (good : Good meta m) (p : Place) where
-  mapped : (es : List (Name × Place)) → AllByRecursion (λ (e : Name × Place). get m.place e.0 ≡ Some e.1) es → AllByRecursion (LiveHere m) (map (spot_of m.prank) (filter (λ (e : Name × Place). place_eq p e.1) es))
+  mapped : (es : List (IdBytes × Place)) → AllByRecursion (λ (e : IdBytes × Place). get m.place e.0 ≡ Some e.1) es → AllByRecursion (LiveHere m) (map (spot_of m.prank) (filter (λ (e : IdBytes × Place). place_eq p e.1) es))
   mapped [] all = tt
   mapped (e ∷ es) all =
       let rest = mapped es all.1 in
       let ok = placed_live meta m.kind (get m.kind e.0) e.1 (get m.prank e.0) (subst (λ o. PlaceOk meta m.kind (get m.kind e.0) o (get m.prank e.0)) all.0 (good.places.stands e.0)) in
-      elim (place_eq p e.1) as (λ b. AllByRecursion (LiveHere m) (map (spot_of m.prank) (cond {A = List (Name × Place)} b (e ∷ filter (λ (e : Name × Place). place_eq p e.1) es) (filter (λ (e : Name × Place). place_eq p e.1) es)))) [
+      elim (place_eq p e.1) as (λ b. AllByRecursion (LiveHere m) (map (spot_of m.prank) (cond {A = List (IdBytes × Place)} b (e ∷ filter (λ (e : IdBytes × Place). place_eq p e.1) es) (filter (λ (e : IdBytes × Place). place_eq p e.1) es)))) [
         | true ↦ ((ok.0, ok.1), rest)
         | false ↦ rest
       ]
@@ -98,13 +98,13 @@ module _ (meta : Meta) (m : State) (good : Good meta m) (p : Place) where
   pub children_live : AllByRecursion (LiveHere m) (children m.place m.prank p)
   children_live = all-in_order entry_cmp (LiveHere m) _ (mapped (entries m.place) (entries_held id_order m.place))
 
-  pub one_child : (i : Name) → tally (λ (x : Entry). text_eq i x.id) (children m.place m.prank p) ≤ 1
+  pub one_child : (i : IdBytes) → tally (λ (x : Entry). text_eq i x.id) (children m.place m.prank p) ≤ 1
   one_child i =
-      let q = λ (e : Name × Place). place_eq p e.1 && text_eq i e.0 in
+      let q = λ (e : IdBytes × Place). place_eq p e.1 && text_eq i e.0 in
       let same : tally (λ (x : Entry). text_eq i x.id) (children m.place m.prank p) ≡ count q m.place =
       tally-in_order entry_cmp (λ (x : Entry). text_eq i x.id) (map (spot_of m.prank) (picked (λ e. place_eq p e.1) m.place))
       ∙ tally-map (λ (x : Entry). text_eq i x.id) (spot_of m.prank) (picked (λ e. place_eq p e.1) m.place)
-      ∙ tally-filter (λ (e : Name × Place). place_eq p e.1) (λ (e : Name × Place). text_eq i e.0) (entries m.place) in
+      ∙ tally-filter (λ (e : IdBytes × Place). place_eq p e.1) (λ (e : IdBytes × Place). text_eq i e.0) (entries m.place) in
       let none : count q (set m.place i None) ≡ 0 = count_none id_order q (set m.place i None) (λ k v is.
       not_so (q (k, v)) (λ pass.
       some_none (get (set m.place i None) k) v is (ap (get (set m.place i None)) (sym (text_equality.exact i k (and_second (place_eq p v) _ pass))) ∙ get-set_same id_order m.place i None))) in
@@ -118,7 +118,7 @@ module _ (meta : Meta) (m : State) (good : Good meta m) (p : Place) where
       one true = omega arith
       one false = omega arith
 
-      counted : (o : Option Place) → counts (λ (e : Name × Place). place_eq p e.1 && text_eq i e.0) i o ≤ 1
+      counted : (o : Option Place) → counts (λ (e : IdBytes × Place). place_eq p e.1 && text_eq i e.0) i o ≤ 1
       counted None = omega arith
       counted (Some v) = one (place_eq p v && text_eq i i)
 

@@ -12,7 +12,7 @@ use Rattle.ecore_meta.specs.Meta.{Meta}
 use Rattle.model_state.specs.declared.entry.Entry.{Entry}
 use Rattle.model_state.specs.declared.step.Step.{Step}
 use Rattle.model_state.specs.declared.step.Step.TheVariants.{RerankRow}
-use Rattle.model_state.specs.Keys.{Name}
+use Rattle.model_state.specs.Keys.{IdBytes}
 use Rattle.model_state.specs.Typing.{opposite_of}
 use Rattle.model_state.specs.State.{State}
 use Rattle.model_state.specs.Steps.{fold}
@@ -35,7 +35,7 @@ use Rattle.edit_laws.proofs.LinkEdits.{left_targets, ranked_missing, none_withou
 pub idle_from : (meta : Meta) (m : State) (ss : List Step) (row : Rows) → fold meta m ss ≡ Some (record m { row = row }) → ss ≡ [] → row ≡ m.row
 idle_from meta m ss row run none = ap (λ (x : State). x.row) (same_state (record m { row = row }) m (sym run ∙ ap (fold meta m) none))
 
-pub join_has : (meta : Meta) → Sound meta → (a : Name) (f : ℕ) (ra : Option ℕ) (b : Name) (row : Rows) (o : Option ℕ) → opposite_of meta f ≡ o → get (join o a f ra b row) (a, f, b) ≡ ra
+pub join_has : (meta : Meta) → Sound meta → (a : IdBytes) (f : ℕ) (ra : Option ℕ) (b : IdBytes) (row : Rows) (o : Option ℕ) → opposite_of meta f ≡ o → get (join o a f ra b row) (a, f, b) ≡ ra
 join_has meta sound a f ra b row None is = get-set_same row_order row (a, f, b) ra
 join_has meta sound a f ra b row (Some g) is =
     let r = ranked b g (targets row b g) (end_spot (targets row b g)).ranks row in
@@ -45,7 +45,7 @@ join_has meta sound a f ra b row (Some g) is =
 nothing_if : (o : Option ℕ) (r : ℕ) (ss : List Step) → o ≡ Some r → cond (is_some o) [] ss ≡ []
 nothing_if o r ss is = ap (λ (x : Option ℕ). cond (is_some x) [] ss) is
 
-module _ (meta : Meta) (sound : Sound meta) (m : State) (a : Name) (f : ℕ) (b : Name) where
+module _ (meta : Meta) (sound : Sound meta) (m : State) (a : IdBytes) (f : ℕ) (b : IdBytes) where
   abbrev joined_row : Rows
   joined_row = join (opposite_of meta f) a f (Some 4294967296) b (clear_there meta (opposite_of meta f) f b (clear (opposite_of meta f) a f m.row))
 
@@ -66,8 +66,8 @@ set_ref_idle meta sound m good a f b may = (
 )
 
 -- ---- link, unlink and unset: a row that was not there, or was, is there no more
-module _ (meta : Meta) (sound : Sound meta) (m : State) (good : Good meta m) (a : Name) (f : ℕ) where
-  pub link_still : (b : Name) (k : ℕ) → MayLink meta m a f b k → link_after meta a f b k m.row ≡ m.row → link_made meta m.row a f b k ≡ []
+module _ (meta : Meta) (sound : Sound meta) (m : State) (good : Good meta m) (a : IdBytes) (f : ℕ) where
+  pub link_still : (b : IdBytes) (k : ℕ) → MayLink meta m a f b k → link_after meta a f b k m.row ≡ m.row → link_made meta m.row a f b k ≡ []
   link_still b k may same =
       let o = opposite_of meta f in
       let left = clear_there meta o f b m.row in
@@ -76,27 +76,27 @@ module _ (meta : Meta) (sound : Sound meta) (m : State) (good : Good meta m) (a 
       absurd (some_none (get m.row (a, f, b)) (unwrap_or (spot (targets m.row a f) k).rank 0)
       (ap (λ row. get row (a, f, b)) (sym same) ∙ join_has meta sound a f s.rank b (ranked a f (targets left a f) s.ranks left) o refl ∙ rank) may.absent)
 
-  pub unlink_still : (b : Name) → is_some (get m.row (a, f, b)) ≡ true → unlink_after meta a f b m.row ≡ m.row → unlink_made meta m.row a f b ≡ []
+  pub unlink_still : (b : IdBytes) → is_some (get m.row (a, f, b)) ≡ true → unlink_after meta a f b m.row ≡ m.row → unlink_made meta m.row a f b ≡ []
   unlink_still b there same =
       absurd (some_none (get m.row (a, f, b)) (unwrap_or (get m.row (a, f, b)) 0) (some_of (get m.row (a, f, b)) there)
       (ap (λ row. get row (a, f, b)) (sym same) ∙ pair_row meta sound a f (opposite_of meta f) m.row b))
 
-  no_entries : (xs : List Entry) → AllByRecursion (λ (x : Entry). get m.row (a, f, x.id) ≡ Some x.rank) xs → ((y : Name) → get m.row (a, f, y) ≡ None) → xs ≡ []
+  no_entries : (xs : List Entry) → AllByRecursion (λ (x : Entry). get m.row (a, f, x.id) ≡ Some x.rank) xs → ((y : IdBytes) → get m.row (a, f, y) ≡ None) → xs ≡ []
   no_entries [] all none = refl
   no_entries (x ∷ xs) all none = absurd (some_none (get m.row (a, f, x.id)) x.rank all.0 (none x.id))
 
   pub unset_still : unset_after meta a f m.row ≡ m.row → unset_made meta m.row a f ≡ []
   unset_still same =
       let o = opposite_of meta f in
-      let none : (y : Name) → get m.row (a, f, y) ≡ None = λ y. ap (λ row. get row (a, f, y)) (sym same) ∙ clear_gone o a f m.row (a, f, y) (own_near o a f y) in
+      let none : (y : IdBytes) → get m.row (a, f, y) ≡ None = λ y. ap (λ row. get row (a, f, y)) (sym same) ∙ clear_gone o a f m.row (a, f, y) (own_near o a f y) in
       ap (λ xs. unlinks m.row o a f (backwards xs)) (no_entries (targets m.row a f) (targets_held m.row a f) none)
 
 -- ---- reorder: each entry has the rank that it had
 same_number : (x y : ℕ) → Some x ≡ Some y → x ≡ y
 same_number x y e = cc
 
-no_reranks : (a : Name) (f : ℕ) (xs : List Entry) (rs : List ℕ) (row : Rows) → Held row row None a f xs
-    → ((y : Name) → list_any (λ (x : Entry). text_eq y x.id) xs ≡ true → get (ranked a f xs rs row) (a, f, y) ≡ get row (a, f, y)) → reranks a f xs rs ≡ []
+no_reranks : (a : IdBytes) (f : ℕ) (xs : List Entry) (rs : List ℕ) (row : Rows) → Held row row None a f xs
+    → ((y : IdBytes) → list_any (λ (x : Entry). text_eq y x.id) xs ≡ true → get (ranked a f xs rs row) (a, f, y) ≡ get row (a, f, y)) → reranks a f xs rs ≡ []
 no_reranks a f [] rs row held alike = refl
 no_reranks a f (x ∷ xs) [] row held alike = refl
 no_reranks a f (x ∷ xs) (r ∷ rs) row held alike =
@@ -107,13 +107,13 @@ no_reranks a f (x ∷ xs) (r ∷ rs) row held alike =
     let rest : reranks a f xs rs ≡ [] = no_reranks a f xs rs row held.3 (λ y among. ap (λ w. get (ranked a f xs rs w) (a, f, y)) (sym stays) ∙ alike y (or_right (text_eq y x.id) _ among)) in
     ap (λ t. cond {A = List Step} t (reranks a f xs rs) (RerankRow a f x.id x.rank r ∷ reranks a f xs rs)) (ap (nat_eq x.rank) (sym rank) ∙ nat_equality.own x.rank) ∙ rest
 
-no_rerank : (a : Name) (f : ℕ) (b : Name) (r s : ℕ) → r ≡ s → reranks a f (record { rank = r; id = b } ∷ []) (s ∷ []) ≡ []
+no_rerank : (a : IdBytes) (f : ℕ) (b : IdBytes) (r s : ℕ) → r ≡ s → reranks a f (record { rank = r; id = b } ∷ []) (s ∷ []) ≡ []
 no_rerank a f b r s is = ap (λ t. cond {A = List Step} t [] (RerankRow a f b r s ∷ [])) (ap (nat_eq r) (sym is) ∙ nat_equality.own r)
 
 both_none : (xs ys : List Step) → xs ≡ [] → ys ≡ [] → xs ++ ys ≡ []
 both_none xs ys h g = ap (λ l. l ++ ys) h ∙ g
 
-module _ (meta : Meta) (sound : Sound meta) (m : State) (good : Good meta m) (a : Name) (f : ℕ) (b : Name) (k : ℕ) (may : MayReorder m a f b k) where
+module _ (meta : Meta) (sound : Sound meta) (m : State) (good : Good meta m) (a : IdBytes) (f : ℕ) (b : IdBytes) (k : ℕ) (may : MayReorder m a f b k) where
   abbrev others : List Entry
   others = without_entry b (targets m.row a f)
 
@@ -123,8 +123,8 @@ module _ (meta : Meta) (sound : Sound meta) (m : State) (good : Good meta m) (a 
   moved_still : set ranked_row (a, f, b) (spot others k).rank ≡ m.row → reranks a f others (spot others k).ranks ++ reranks a f (record { rank = unwrap_or (get m.row (a, f, b)) 0; id = b } ∷ []) (unwrap_or (spot others k).rank 0 ∷ []) ≡ []
   moved_still same =
       let mine : get m.row (a, f, b) ≡ (spot others k).rank = ap (λ row. get row (a, f, b)) (sym same) ∙ get-set_same row_order ranked_row (a, f, b) (spot others k).rank in
-      let apart : (y : Name) → list_any (λ (x : Entry). text_eq y x.id) others ≡ true → text_eq b y ≡ false = λ y among.
-      not_so (text_eq b y) (λ is. true_false (list_any (λ (x : Entry). text_eq b x.id) others) (ap (λ (z : Name). list_any (λ (x : Entry). text_eq z x.id) others) (text_equality.exact b y is) ∙ among) (none_without b (targets m.row a f))) in
+      let apart : (y : IdBytes) → list_any (λ (x : Entry). text_eq y x.id) others ≡ true → text_eq b y ≡ false = λ y among.
+      not_so (text_eq b y) (λ is. true_false (list_any (λ (x : Entry). text_eq b x.id) others) (ap (λ (z : IdBytes). list_any (λ (x : Entry). text_eq z x.id) others) (text_equality.exact b y is) ∙ among) (none_without b (targets m.row a f))) in
       both_none (reranks a f others (spot others k).ranks) _
       (no_reranks a f others (spot others k).ranks m.row (others_held meta sound m good a f b k may)
       (λ y among. sym (get-set_other row_order ranked_row (a, f, b) (spot others k).rank (a, f, y) (targets_differ a f b y (apart y among))) ∙ ap (λ row. get row (a, f, y)) same))

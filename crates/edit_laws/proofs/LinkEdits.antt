@@ -10,7 +10,7 @@ use Rattle.finite_maps.proofs.EqualLaws.{apart, text_equality}
 use Rattle.ecore_meta.specs.Meta.{Meta}
 use Rattle.model_state.specs.declared.entry.Entry.{Entry}
 use Rattle.model_state.specs.declared.step.Step.{Step}
-use Rattle.model_state.specs.Keys.{Name, RowKey}
+use Rattle.model_state.specs.Keys.{IdBytes, RowKey}
 use Rattle.model_state.specs.Typing.{opposite_of, row_upper}
 use Rattle.model_state.specs.State.{State, row_count}
 use Rattle.model_state.specs.Steps.{fold}
@@ -20,7 +20,7 @@ use Rattle.model_state.proofs.Orders.{row_order}
 use Rattle.finite_maps.proofs.Cases.{no_some, or_first, or_second}
 use Rattle.edit_laws.specs.Spot.{spot, end_spot}
 use Rattle.edit_laws.specs.Rows.{Rows, clear, ranked, link_step, reranks}
-use Rattle.edit_laws.specs.References.{is_one, clear_there, join, displace, others_there, rank_there, reranks_there, room_there, MayLink, MayReorder, backwards, without_entry, stands_at}
+use Rattle.edit_laws.specs.References.{holds_one, clear_there, join, displace, others_there, rank_there, reranks_there, room_there, MayLink, MayReorder, backwards, without_entry, stands_at}
 use Rattle.edit_laws.specs.Laws.{LinkMeets, UnlinkMeets, UnsetMeets, ReorderMeets}
 use Rattle.edit_laws.proofs.Lists.{Apart, targets_held, targets_has, targets_apart, targets_alike, apart_from, one_passes}
 use Rattle.edit_laws.proofs.Pairs.{some_of}
@@ -28,15 +28,15 @@ use Rattle.edit_laws.proofs.Clears.{Leads, Held, held_from, unlinks_lead, cleare
 use Rattle.edit_laws.proofs.Joins.{leads_on, join_leads, join_steps, CanJoin, targets_there, count_at, count_there, one_room, no_targets, ranked_other, ranked_there, not_of}
 use Rattle.edit_laws.proofs.Sets.{clear_gone, own_near, no_mirror, there_kept, displace_leads}
 
-module _ (meta : Meta) (sound : Sound meta) (m : State) (good : Good meta m) (a : Name) (f : ℕ) (b : Name) (k : ℕ) (may : MayLink meta m a f b k) where
+module _ (meta : Meta) (sound : Sound meta) (m : State) (good : Good meta m) (a : IdBytes) (f : ℕ) (b : IdBytes) (k : ℕ) (may : MayLink meta m a f b k) where
   abbrev left : Option ℕ → Rows
   left o = clear_there meta o f b m.row
 
   -- a's list is not displaced
-  a_kept : (o : Option ℕ) → opposite_of meta f ≡ o → (y : Name) → get (left o) (a, f, y) ≡ get m.row (a, f, y)
+  a_kept : (o : Option ℕ) → opposite_of meta f ≡ o → (y : IdBytes) → get (left o) (a, f, y) ≡ get m.row (a, f, y)
   a_kept None is y = refl
   a_kept (Some g) is y =
-      elim (is_one meta g) as (λ t. get (cond t (clear (Some f) b g m.row) m.row) (a, f, y) ≡ get m.row (a, f, y)) [
+      elim (holds_one meta g) as (λ t. get (cond t (clear (Some f) b g m.row) m.row) (a, f, y) ≡ get m.row (a, f, y)) [
         | true ↦ there_kept meta sound m good b g a f (sound.both f g is) (no_mirror meta sound m good a f b g is may.absent) y
         | false ↦ refl
       ]
@@ -64,14 +64,14 @@ module _ (meta : Meta) (sound : Sound meta) (m : State) (good : Good meta m) (a 
     next_free = ap (λ n. is_below n (row_upper meta f)) (count_there next (left o) a f next_there ∙ count_at (left o) m.row a f (a_kept o is)) ∙ may.free
 
   -- b's list in the end
-  b_same : (g : ℕ) (is : opposite_of meta f ≡ Some g) (y : Name) → get (next (Some g) is) (b, g, y) ≡ get (left (Some g)) (b, g, y)
+  b_same : (g : ℕ) (is : opposite_of meta f ≡ Some g) (y : IdBytes) → get (next (Some g) is) (b, g, y) ≡ get (left (Some g)) (b, g, y)
   b_same g is y = ranked_other a f (targets (left (Some g)) a f) (spot (targets (left (Some g)) a f) k).ranks (left (Some g)) (b, g, y) (not_of a f b g y (sound.other f g is))
 
   pub others_are : (o : Option ℕ) (is : opposite_of meta f ≡ o) → targets_there (next o is) o b ≡ others_there meta m.row o b
   others_are None is = refl
   others_are (Some g) is =
       targets_alike (next (Some g) is) (left (Some g)) b g (b_same g is)
-      ∙ elim (is_one meta g) as (λ t. targets (cond t (clear (Some f) b g m.row) m.row) b g ≡ cond t [] (targets m.row b g)) [
+      ∙ elim (holds_one meta g) as (λ t. targets (cond t (clear (Some f) b g m.row) m.row) b g ≡ cond t [] (targets m.row b g)) [
         | true ↦ no_targets (clear (Some f) b g m.row) b g (λ y. clear_gone (Some f) b g m.row (b, g, y) (own_near (Some f) b g y))
         | false ↦ refl
       ]
@@ -79,7 +79,7 @@ module _ (meta : Meta) (sound : Sound meta) (m : State) (good : Good meta m) (a 
   room_left : (g : ℕ) (is : opposite_of meta f ≡ Some g) → room_there meta m (Some g) b ≡ true → is_below (count (λ (e : RowKey × ℕ). is_of b g e.0) (next (Some g) is)) (row_upper meta g) ≡ true
   room_left g is room =
       ap (λ n. is_below n (row_upper meta g)) (count_at (next (Some g) is) (left (Some g)) b g (b_same g is))
-      ∙ elim (is_one meta g) as (λ t. is_one meta g ≡ t → t || is_below (row_count m b g) (row_upper meta g) ≡ true → is_below (count (λ (e : RowKey × ℕ). is_of b g e.0) (cond t (clear (Some f) b g m.row) m.row)) (row_upper meta g) ≡ true) [
+      ∙ elim (holds_one meta g) as (λ t. holds_one meta g ≡ t → t || is_below (row_count m b g) (row_upper meta g) ≡ true → is_below (count (λ (e : RowKey × ℕ). is_of b g e.0) (cond t (clear (Some f) b g m.row) m.row)) (row_upper meta g) ≡ true) [
         | true ↦ λ one _. one_room meta (clear (Some f) b g m.row) b g one (λ y. clear_gone (Some f) b g m.row (b, g, y) (own_near (Some f) b g y))
         | false ↦ λ _ room. room
       ] refl room
@@ -180,7 +180,7 @@ fewer p q (x ∷ xs) =
     later : (c n k : ℕ) → n ≤ k → n ≤ c + k
     later c n k h = omega arith
 
-pub none_without : (b : Name) (xs : List Entry) → list_any (λ (x : Entry). text_eq b x.id) (without_entry b xs) ≡ false
+pub none_without : (b : IdBytes) (xs : List Entry) → list_any (λ (x : Entry). text_eq b x.id) (without_entry b xs) ≡ false
 none_without b [] = refl
 none_without b (x ∷ xs) =
     elim (text_eq b x.id) as (λ t. text_eq b x.id ≡ t → list_any (λ (x : Entry). text_eq b x.id) (cond {A = List Entry} (not t) (x ∷ without_entry b xs) (without_entry b xs)) ≡ false) [
@@ -188,7 +188,7 @@ none_without b (x ∷ xs) =
       | false ↦ λ is. ap (λ t. t || list_any (λ (x : Entry). text_eq b x.id) (without_entry b xs)) is ∙ none_without b xs
     ] refl
 
-pub ranked_missing : (a : Name) (f : ℕ) (b : Name) (xs : List Entry) (rs : List ℕ) (row : Rows) → list_any (λ (x : Entry). text_eq b x.id) xs ≡ false → get (ranked a f xs rs row) (a, f, b) ≡ get row (a, f, b)
+pub ranked_missing : (a : IdBytes) (f : ℕ) (b : IdBytes) (xs : List Entry) (rs : List ℕ) (row : Rows) → list_any (λ (x : Entry). text_eq b x.id) xs ≡ false → get (ranked a f xs rs row) (a, f, b) ≡ get row (a, f, b)
 ranked_missing a f b [] rs row h = refl
 ranked_missing a f b (x ∷ _) [] row h = refl
 ranked_missing a f b (x ∷ xs) (r ∷ rs) row h =
@@ -198,7 +198,7 @@ ranked_missing a f b (x ∷ xs) (r ∷ rs) row h =
 pub at_most : (n k : ℕ) → n ≤ k → k ≤ 1 → n ≤ 1
 at_most n k h g = omega arith
 
-module _ (meta : Meta) (sound : Sound meta) (m : State) (good : Good meta m) (a : Name) (f : ℕ) (b : Name) (k : ℕ) (may : MayReorder m a f b k) where
+module _ (meta : Meta) (sound : Sound meta) (m : State) (good : Good meta m) (a : IdBytes) (f : ℕ) (b : IdBytes) (k : ℕ) (may : MayReorder m a f b k) where
   abbrev others : List Entry
   others = without_entry b (targets m.row a f)
 

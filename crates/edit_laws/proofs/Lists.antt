@@ -15,7 +15,7 @@ use Rattle.finite_maps.proofs.CountLaws.{count-set, count_none}
 use Rattle.finite_maps.proofs.EqualLaws.{text_equality, nat_equality, and_first, and_second, and_both}
 use Rattle.finite_maps.proofs.SortLaws.{tally-in_order, tally-map}
 use Rattle.model_state.specs.declared.entry.Entry.{Entry}
-use Rattle.model_state.specs.Keys.{Name, RowKey, row_cmp}
+use Rattle.model_state.specs.Keys.{IdBytes, RowKey, row_cmp}
 use Rattle.model_state.specs.Listing.{entry_cmp, is_of, row_entry, targets}
 use Rattle.model_state.proofs.Orders.{row_order}
 use Rattle.finite_maps.proofs.Cases.{not_so, some_none}
@@ -145,17 +145,17 @@ module _ {K X : Type 0} {R : K → K → _} (o : IsKeyOrder R) where
   entries_held m = all_alike (λ e. find R e.0 (entries m) ≡ Some e.1) (λ e. get m e.0 ≡ Some e.1) (λ e h. get-entries m e.0 ∙ h) (entries m) (found_all (entries m) (entries_sorted m))
 
 -- ---- targets
-pub of_exact : (a : Name) (f : ℕ) (k : RowKey) → is_of a f k ≡ true → k ≡ (a, f, k.2)
+pub of_exact : (a : IdBytes) (f : ℕ) (k : RowKey) → is_of a f k ≡ true → k ≡ (a, f, k.2)
 of_exact a f k h =
     let same = text_equality.exact a k.0 (and_first _ _ h) in
     let feature = nat_equality.exact f k.1 (and_second (text_eq a k.0) _ h) in
     let back = sym same in let back' = sym feature in
     λ i. (back i, back' i, k.2)
 
-pub of_own : (a : Name) (f : ℕ) (b : Name) → is_of a f (a, f, b) ≡ true
+pub of_own : (a : IdBytes) (f : ℕ) (b : IdBytes) → is_of a f (a, f, b) ≡ true
 of_own a f b = and_both _ _ (text_equality.own a) (nat_equality.own f)
 
-module _ (row : FinMap row_cmp ℕ) (a : Name) (f : ℕ) where
+module _ (row : FinMap row_cmp ℕ) (a : IdBytes) (f : ℕ) where
   mapped : (es : List (RowKey × ℕ)) → AllByRecursion (λ (e : RowKey × ℕ). get row e.0 ≡ Some e.1) es → AllByRecursion (λ (x : Entry). get row (a, f, x.id) ≡ Some x.rank) (map row_entry (filter (λ (e : RowKey × ℕ). is_of a f e.0) es))
   mapped [] all = tt
   mapped (e ∷ es) all =
@@ -169,13 +169,13 @@ module _ (row : FinMap row_cmp ℕ) (a : Name) (f : ℕ) where
   targets_held = all-in_order entry_cmp (λ (x : Entry). get row (a, f, x.id) ≡ Some x.rank) _ (mapped (entries row) (entries_held row_order row))
 
   -- each row is there
-  pub targets_has : (y : Name) (r : ℕ) → get row (a, f, y) ≡ Some r → list_any (λ (x : Entry). text_eq y x.id) (targets row a f) ≡ true
+  pub targets_has : (y : IdBytes) (r : ℕ) → get row (a, f, y) ≡ Some r → list_any (λ (x : Entry). text_eq y x.id) (targets row a f) ≡ true
   targets_has y r is =
       any-in_order entry_cmp (λ (x : Entry). text_eq y x.id) _
       ∙ any-map (λ (x : Entry). text_eq y x.id) row_entry _
       ∙ picked_has row_order (λ e. is_of a f e.0) row (λ e. text_eq y e.0.2) (a, f, y) r is (of_own a f y) (text_equality.own y)
 
-  pub one_passes : (i : Name) → tally (λ (x : Entry). text_eq i x.id) (targets row a f) ≤ 1
+  pub one_passes : (i : IdBytes) → tally (λ (x : Entry). text_eq i x.id) (targets row a f) ≤ 1
   one_passes i =
       let p = λ (e : RowKey × ℕ). is_of a f e.0 && text_eq i e.0.2 in
       let k : RowKey = (a, f, i) in
@@ -185,7 +185,7 @@ module _ (row : FinMap row_cmp ℕ) (a : Name) (f : ℕ) where
       ∙ tally-filter (λ (e : RowKey × ℕ). is_of a f e.0) (λ (e : RowKey × ℕ). text_eq i e.0.2) (entries row) in
       let none : count p (set row k None) ≡ 0 = count_none row_order p (set row k None) (λ q v is.
       not_so (p (q, v)) (λ pass.
-      let key : q ≡ k = of_exact a f q (and_first _ _ pass) ∙ ap (λ (z : Name). (a, f, z)) (sym (text_equality.exact i q.2 (and_second (is_of a f q) _ pass))) in
+      let key : q ≡ k = of_exact a f q (and_first _ _ pass) ∙ ap (λ (z : IdBytes). (a, f, z)) (sym (text_equality.exact i q.2 (and_second (is_of a f q) _ pass))) in
       some_none (get (set row k None) q) v is (ap (get (set row k None)) key ∙ get-set_same row_order row k None))) in
       let sum : count p (set row k None) + counts p k (get row k) ≡ count p row + 0 = count-set row_order p row k None in
       subst (λ n. n ≤ 1) (sym same) (at_most (counts p k (get row k)) (count p (set row k None)) (count p row) (counted (get row k)) none sum)
@@ -206,7 +206,7 @@ abbrev pub Apart : List Entry → Type 0
 Apart [] = Unit {0}
 Apart (x ∷ xs) = (list_any (λ (y : Entry). text_eq x.id y.id) xs ≡ false) × Apart xs
 
-pub apart_from : (xs : List Entry) → ((i : Name) → tally (λ (x : Entry). text_eq i x.id) xs ≤ 1) → Apart xs
+pub apart_from : (xs : List Entry) → ((i : IdBytes) → tally (λ (x : Entry). text_eq i x.id) xs ≤ 1) → Apart xs
 apart_from [] h = tt
 apart_from (x ∷ xs) h = (
   none_tallied (λ (y : Entry). text_eq x.id y.id) xs (rest_none (tally (λ (y : Entry). text_eq x.id y.id) xs) (subst (λ b. cond b 1 0 + tally (λ (y : Entry). text_eq x.id y.id) xs ≤ 1) (text_equality.own x.id) (h x.id))),
@@ -219,11 +219,11 @@ apart_from (x ∷ xs) h = (
     less : (c n : ℕ) → c + n ≤ 1 → n ≤ 1
     less c n h = omega arith
 
-pub targets_apart : (row : FinMap row_cmp ℕ) (a : Name) (f : ℕ) → Apart (targets row a f)
+pub targets_apart : (row : FinMap row_cmp ℕ) (a : IdBytes) (f : ℕ) → Apart (targets row a f)
 targets_apart row a f = apart_from (targets row a f) (one_passes row a f)
 
 -- where two maps have the same rows of a feature, its targets are the same
-pub targets_alike : (r s : FinMap row_cmp ℕ) (a : Name) (f : ℕ) → ((y : Name) → get r (a, f, y) ≡ get s (a, f, y)) → targets r a f ≡ targets s a f
+pub targets_alike : (r s : FinMap row_cmp ℕ) (a : IdBytes) (f : ℕ) → ((y : IdBytes) → get r (a, f, y) ≡ get s (a, f, y)) → targets r a f ≡ targets s a f
 targets_alike r s a f alike =
     ap (λ es. in_order entry_cmp (map row_entry es)) (same_entries row_cmp row_order.total row_order.exact (where_key row_cmp (is_of a f) (entries r)) (where_key row_cmp (is_of a f) (entries s))
     (is_sorted-where_key row_cmp (is_of a f) (entries r) (entries_sorted r)) (is_sorted-where_key row_cmp (is_of a f) (entries s) (entries_sorted s))

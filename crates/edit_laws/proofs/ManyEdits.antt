@@ -1,4 +1,4 @@
--- Values come into a many-valued attribute, go, and change places.
+-- Values are inserted into a many-valued attribute, removed, and shifted.
 use Rattle.std.proofs.lemmas.Bool.Decides.{nat_tests}
 use Rattle.std.proofs.Common.{◌≡◌, ℕ, ◌+◌, Bool, true, false, cond, List, [], ◌∷◌, ◌++◌, length, zero, suc, refl, sym, ap, ◌∙◌, arith, nat_lt, nat_eq}
 use Rattle.std.specs.Prelude.{Option, None, Some, slice_get}
@@ -12,7 +12,7 @@ use Rattle.finite_maps.proofs.EqualLaws.{IsEquality, and_first, and_second, opti
 use Rattle.ecore_meta.specs.Meta.{Meta}
 use Rattle.ecore_meta.specs.declared.meta.Value.{Value}
 use Rattle.model_state.specs.declared.step.Step.TheVariants.{Ins, Del, Shift}
-use Rattle.model_state.specs.Keys.{Name}
+use Rattle.model_state.specs.Keys.{IdBytes}
 use Rattle.model_state.specs.Lists.{entry_of, values_of, shifted}
 use Rattle.model_state.specs.Typing.{value_eq, kind_of, many_fits}
 use Rattle.model_state.specs.State.{State}
@@ -32,13 +32,13 @@ value_test = option_equality value_eq value_equality
 pub values_test : IsEquality (list_eq value_eq)
 values_test = list_equality value_eq value_equality
 
--- ---- a value comes in
-pub insert_meets : (meta : Meta) (m : State) (e : Name) (f : ℕ) (k : ℕ) (v : Value) → MayInsert meta m e f k v → fold meta m (insert_made e f k v) ≡ Some (insert_after m e f k v)
+-- ---- a value is inserted
+pub insert_meets : (meta : Meta) (m : State) (e : IdBytes) (f : ℕ) (k : ℕ) (v : Value) → MayInsert meta m e f k v → fold meta m (insert_made e f k v) ≡ Some (insert_after m e f k v)
 insert_meets meta m e f k v may =
     fold_more meta m (Ins e f k v) []
     (pass (tests meta m (Ins e f k v)) (has_class meta (get m.kind e) f may.many.0, (may.many.0, (may.many.1, (may.typed, (may.within, (not_false _ may.once, (may.room, (may.few, tt)))))))))
 
--- ---- a value goes
+-- ---- a value is removed
 -- the value at a place of a list
 at_place : {A : Type 0} (xs : List A) (k : ℕ) → nat_lt k (length xs) ≡ true → (x : A) × (slice_get xs k ≡ Some x)
 at_place [] k h = absurd (none k h)
@@ -60,14 +60,14 @@ passes_at p (y ∷ ys) zero x is all = ap p (same x y (sym is)) ∙ and_first (p
     same x y e = cc
 passes_at p (y ∷ ys) (suc k) x is all = passes_at p ys k x is (and_second (p y) _ all)
 
-del_can : (meta : Meta) (m : State) (e : Name) (f : ℕ) (k : ℕ) (v : Value) → IsMany meta m e f → many_fits meta (kind_of meta f) v ≡ true → nat_lt k (length (values_in m e f)) ≡ true → slice_get (values_in m e f) k ≡ Some v → Can meta m (Del e f k v)
+del_can : (meta : Meta) (m : State) (e : IdBytes) (f : ℕ) (k : ℕ) (v : Value) → IsMany meta m e f → many_fits meta (kind_of meta f) v ≡ true → nat_lt k (length (values_in m e f)) ≡ true → slice_get (values_in m e f) k ≡ Some v → Can meta m (Del e f k v)
 del_can meta m e f k v many fits less is =
     pass (tests meta m (Del e f k v)) (has_class meta (get m.kind e) f many.0, (many.0, (many.1, (fits, (less, (ap (λ o. option_eq value_eq o (Some v)) is ∙ value_test.own (Some v), tt))))))
 
-fits_at : (meta : Meta) (m : State) → Good meta m → (e : Name) (f : ℕ) (k : ℕ) (v : Value) → IsMany meta m e f → slice_get (values_in m e f) k ≡ Some v → many_fits meta (kind_of meta f) v ≡ true
+fits_at : (meta : Meta) (m : State) → Good meta m → (e : IdBytes) (f : ℕ) (k : ℕ) (v : Value) → IsMany meta m e f → slice_get (values_in m e f) k ≡ Some v → many_fits meta (kind_of meta f) v ≡ true
 fits_at meta m good e f k v many is = passes_at (many_fits meta (kind_of meta f)) (values_in m e f) k v is (from_entry meta (get m.kind e) f (get m.attr (e, f)) many.1 (good.attrs.typed e f)).typed
 
-pub remove_meets : (meta : Meta) (m : State) → Good meta m → (e : Name) (f : ℕ) (k : ℕ) → IsMany meta m e f → nat_lt k (length (values_in m e f)) ≡ true → fold meta m (remove_made m e f k) ≡ Some (remove_after m e f k)
+pub remove_meets : (meta : Meta) (m : State) → Good meta m → (e : IdBytes) (f : ℕ) (k : ℕ) → IsMany meta m e f → nat_lt k (length (values_in m e f)) ≡ true → fold meta m (remove_made m e f k) ≡ Some (remove_after m e f k)
 remove_meets meta m good e f k many less =
     let found = at_place (values_in m e f) k less in
     ap (λ (o : Option Value). fold meta m (option_map_or (λ v. Del e f k v ∷ []) o [])) found.1
@@ -75,11 +75,11 @@ remove_meets meta m good e f k many less =
 
 -- ---- the values of an attribute
 -- those that it is given
-pub values_now : (m : State) (e : Name) (f : ℕ) (vs : List Value) → values_in (with_values m e f vs) e f ≡ vs
+pub values_now : (m : State) (e : IdBytes) (f : ℕ) (vs : List Value) → values_in (with_values m e f vs) e f ≡ vs
 values_now m e f vs = ap values_of (get-set_same attr_order m.attr (e, f) (entry_of vs)) ∙ part vs
 
 -- the values that an attribute has already
-pub with_same : (meta : Meta) (m : State) → Good meta m → (e : Name) (f : ℕ) (vs : List Value) → vs ≡ values_in m e f → with_values m e f vs ≡ m
+pub with_same : (meta : Meta) (m : State) → Good meta m → (e : IdBytes) (f : ℕ) (vs : List Value) → vs ≡ values_in m e f → with_values m e f vs ≡ m
 with_same meta m good e f vs same =
     ap (λ attr. record m { attr = attr })
     (set_here attr_order m.attr (e, f) (entry_of vs) (sym (ap entry_of same ∙ whole meta (get m.kind e) f (get m.attr (e, f)) (good.attrs.typed e f))))
@@ -94,7 +94,7 @@ shifted_own vs from to less same =
     let found = at_place vs from less in
     ap (shifted vs from) (sym same) ∙ shifted_is vs from from found.0 found.1 ∙ insert-remove vs from found.0 found.1
 
-pub shift_meets : (meta : Meta) (m : State) → Good meta m → (e : Name) (f : ℕ) (from to : ℕ) → IsMany meta m e f → nat_lt from (length (values_in m e f)) ≡ true → nat_lt to (length (values_in m e f)) ≡ true
+pub shift_meets : (meta : Meta) (m : State) → Good meta m → (e : IdBytes) (f : ℕ) (from to : ℕ) → IsMany meta m e f → nat_lt from (length (values_in m e f)) ≡ true → nat_lt to (length (values_in m e f)) ≡ true
     → fold meta m (shift_made m e f from to) ≡ Some (shift_after m e f from to)
 shift_meets meta m good e f from to many from_in to_in =
     let vs = values_in m e f in
@@ -109,7 +109,7 @@ shift_meets meta m good e f from to many from_in to_in =
           (pass (tests meta m (Shift e f from to)) (has_class meta (get m.kind e) f many.0, (many.0, (many.1, (not_false _ other, (from_in, (to_in, tt)))))))
     ] refl
 
--- ---- all values go
+-- ---- all values are removed
 append_nil : {A : Type 0} (xs : List A) → xs ++ [] ≡ xs
 append_nil [] = refl
 append_nil (x ∷ xs) = ap (λ l. x ∷ l) (append_nil xs)
@@ -139,8 +139,8 @@ last_in xs y = ap (nat_lt (length xs)) (length_one xs y) ∙ less (length xs)
     less : (n : ℕ) → nat_lt n (n + 1) ≡ true
     less n = grind (arith, nat_tests)
 
-module _ (meta : Meta) (m : State) (e : Name) (f : ℕ) (many : IsMany meta m e f) where
-  -- the values behind those in front go, the last first
+module _ (meta : Meta) (m : State) (e : IdBytes) (f : ℕ) (many : IsMany meta m e f) where
+  -- the values after the first ones are removed, the last first
   dels_lead : (front vs : List Value) (n : ℕ) → length front ≡ n → list_all (many_fits meta (kind_of meta f)) vs ≡ true → fold meta (with_values m e f (front ++ vs)) (dels e f n vs) ≡ Some (with_values m e f front)
   dels_lead front [] n long fit = ap (λ ws. Some (with_values m e f ws)) (append_nil front)
   dels_lead front (v ∷ vs) n long fit =
@@ -157,7 +157,7 @@ module _ (meta : Meta) (m : State) (e : Name) (f : ℕ) (many : IsMany meta m e 
       ∙ ap (λ ws. Some (with_values (with_values m e f more) e f ws)) left
       ∙ ap (λ attr. Some (record m { attr = attr })) (set_twice attr_order m.attr (e, f) (entry_of more) (entry_of front))
 
-pub clear_meets : (meta : Meta) (m : State) → Good meta m → (e : Name) (f : ℕ) → IsMany meta m e f → fold meta m (clear_made m e f) ≡ Some (clear_after m e f)
+pub clear_meets : (meta : Meta) (m : State) → Good meta m → (e : IdBytes) (f : ℕ) → IsMany meta m e f → fold meta m (clear_made m e f) ≡ Some (clear_after m e f)
 clear_meets meta m good e f many =
     ap (λ n. fold meta n (clear_made m e f)) (sym (with_same meta m good e f (values_in m e f) refl))
     ∙ dels_lead meta m e f many [] (values_in m e f) 0 refl (from_entry meta (get m.kind e) f (get m.attr (e, f)) many.1 (good.attrs.typed e f)).typed

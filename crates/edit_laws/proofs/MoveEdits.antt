@@ -12,7 +12,7 @@ use Rattle.ecore_meta.specs.Meta.{Meta}
 use Rattle.model_state.specs.declared.entry.Entry.{Entry}
 use Rattle.model_state.specs.declared.step.Place.{Place}
 use Rattle.model_state.specs.declared.step.Step.TheVariants.{Move}
-use Rattle.model_state.specs.Keys.{Name}
+use Rattle.model_state.specs.Keys.{IdBytes}
 use Rattle.model_state.specs.State.{State, is_live, place_eq}
 use Rattle.model_state.specs.Steps.{tests, Can, fold}
 use Rattle.model_state.specs.Good.{Good, Sound, PlaceOk}
@@ -30,7 +30,7 @@ use Rattle.edit_laws.proofs.Pairs.{some_of}
 use Rattle.edit_laws.proofs.LinkEdits.{all_filter, fewer, none_without, at_most}
 use Rattle.edit_laws.proofs.Creates.{spot_of, Stand, names_differ, rerank_leads, placed_live, LiveHere, children_live, one_child, stand_from, children_stand}
 
-pub ranked_missing : (e : Name) (xs : List Entry) (rs : List ℕ) (prank : Ranks) → list_any (λ (x : Entry). text_eq e x.id) xs ≡ false → get (ranked_places xs rs prank) e ≡ get prank e
+pub ranked_missing : (e : IdBytes) (xs : List Entry) (rs : List ℕ) (prank : Ranks) → list_any (λ (x : Entry). text_eq e x.id) xs ≡ false → get (ranked_places xs rs prank) e ≡ get prank e
 ranked_missing e [] rs prank h = refl
 ranked_missing e (x ∷ xs) [] prank h = refl
 ranked_missing e (x ∷ xs) (r ∷ rs) prank h =
@@ -38,10 +38,10 @@ ranked_missing e (x ∷ xs) (r ∷ rs) prank h =
     ∙ get-set_other id_order prank x.id (Some r) e (names_differ x.id e (apart text_eq text_equality e x.id (or_first (text_eq e x.id) _ h)))
 
 -- what is known of an element that stands in a place
-pub placed : (meta : Meta) (m : State) → Good meta m → (e : Name) (p : Place) → get m.place e ≡ Some p → (is_live m e ≡ true) × (get m.prank e ≡ Some (rank_at m.prank e))
+pub placed : (meta : Meta) (m : State) → Good meta m → (e : IdBytes) (p : Place) → get m.place e ≡ Some p → (is_live m e ≡ true) × (get m.prank e ≡ Some (rank_at m.prank e))
 placed meta m good e p is = placed_live meta m.kind (get m.kind e) p (get m.prank e) (subst (λ o. PlaceOk meta m.kind (get m.kind e) o (get m.prank e)) is (good.places.stands e))
 
-module _ (meta : Meta) (sound : Sound meta) (m : State) (good : Good meta m) (e : Name) (p : Place) (k : ℕ) (may : MayMoveWithin m e p k) where
+module _ (meta : Meta) (sound : Sound meta) (m : State) (good : Good meta m) (e : IdBytes) (p : Place) (k : ℕ) (may : MayMoveWithin m e p k) where
   abbrev others : List Entry
   others = without_entry e (children m.place m.prank p)
 
@@ -76,10 +76,10 @@ move_within_meets meta sound m good e p k may = within meta sound m good e p k m
 
 -- each of a place's children stands there
 module _ (m : State) (p : Place) where
-  mapped : (es : List (Name × Place)) → AllByRecursion (λ (e : Name × Place). get m.place e.0 ≡ Some e.1) es → AllByRecursion (λ (x : Entry). get m.place x.id ≡ Some p) (map (spot_of m.prank) (filter (λ (e : Name × Place). place_eq p e.1) es))
+  mapped : (es : List (IdBytes × Place)) → AllByRecursion (λ (e : IdBytes × Place). get m.place e.0 ≡ Some e.1) es → AllByRecursion (λ (x : Entry). get m.place x.id ≡ Some p) (map (spot_of m.prank) (filter (λ (e : IdBytes × Place). place_eq p e.1) es))
   mapped [] all = tt
   mapped (e ∷ es) all =
-      elim (place_eq p e.1) as (λ b. place_eq p e.1 ≡ b → AllByRecursion (λ (x : Entry). get m.place x.id ≡ Some p) (map (spot_of m.prank) (cond {A = List (Name × Place)} b (e ∷ filter (λ (e : Name × Place). place_eq p e.1) es) (filter (λ (e : Name × Place). place_eq p e.1) es)))) [
+      elim (place_eq p e.1) as (λ b. place_eq p e.1 ≡ b → AllByRecursion (λ (x : Entry). get m.place x.id ≡ Some p) (map (spot_of m.prank) (cond {A = List (IdBytes × Place)} b (e ∷ filter (λ (e : IdBytes × Place). place_eq p e.1) es) (filter (λ (e : IdBytes × Place). place_eq p e.1) es)))) [
         | true ↦ λ is. (all.0 ∙ ap Some (sym (place_equality.exact p e.1 is)), mapped es all.1)
         | false ↦ λ _. mapped es all.1
       ] refl
@@ -88,7 +88,7 @@ module _ (m : State) (p : Place) where
   children_there = all-in_order entry_cmp (λ (x : Entry). get m.place x.id ≡ Some p) _ (mapped (entries m.place) (entries_held id_order m.place))
 
 -- an element of another place is not among them
-none_such : (m : State) (e : Name) (from to : Place) → get m.place e ≡ Some from → place_eq from to ≡ false → (xs : List Entry) → AllByRecursion (λ (x : Entry). get m.place x.id ≡ Some to) xs → list_any (λ (x : Entry). text_eq e x.id) xs ≡ false
+none_such : (m : State) (e : IdBytes) (from to : Place) → get m.place e ≡ Some from → place_eq from to ≡ false → (xs : List Entry) → AllByRecursion (λ (x : Entry). get m.place x.id ≡ Some to) xs → list_any (λ (x : Entry). text_eq e x.id) xs ≡ false
 none_such m e from to is elsewhere [] all = refl
 none_such m e from to is elsewhere (x ∷ xs) all =
     let other : text_eq e x.id ≡ false = not_so (text_eq e x.id) (λ same.
@@ -96,7 +96,7 @@ none_such m e from to is elsewhere (x ∷ xs) all =
     true_false (place_eq from to) (ap (place_eq from) (sym (same_Some from to there)) ∙ place_equality.own from) elsewhere) in
     ap (λ b. b || list_any (λ (x : Entry). text_eq e x.id) xs) other ∙ none_such m e from to is elsewhere xs all.1
 
-pub not_there : (meta : Meta) (m : State) (good : Good meta m) (e : Name) (from to : Place) → get m.place e ≡ Some from → place_eq from to ≡ false → list_any (λ (x : Entry). text_eq e x.id) (children m.place m.prank to) ≡ false
+pub not_there : (meta : Meta) (m : State) (good : Good meta m) (e : IdBytes) (from to : Place) → get m.place e ≡ Some from → place_eq from to ≡ false → list_any (λ (x : Entry). text_eq e x.id) (children m.place m.prank to) ≡ false
 not_there meta m good e from to is elsewhere = none_such m e from to is elsewhere (children m.place m.prank to) (children_there m to)
 
 pub move_to_meets : MoveToMeets

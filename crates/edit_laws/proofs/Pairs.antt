@@ -13,7 +13,7 @@ use Rattle.ecore_meta.specs.declared.meta.Kind.{Kind}
 use Rattle.ecore_meta.specs.declared.meta.Kind.TheVariants.{Bounded, Free}
 use Rattle.model_state.specs.declared.step.Step.{Step}
 use Rattle.model_state.specs.declared.step.Step.TheVariants.{Link, Unlink, RerankRow}
-use Rattle.model_state.specs.Keys.{Name, RowKey, row_cmp}
+use Rattle.model_state.specs.Keys.{IdBytes, RowKey, row_cmp}
 use Rattle.model_state.specs.Typing.{opposite_of, row_upper, kind_of, plain_to, is_plain}
 use Rattle.model_state.specs.State.{State, row_count}
 use Rattle.model_state.specs.Steps.{tests, Can, apply, may_link, class_has, mirror_given, mirror_at, mirror_room}
@@ -24,7 +24,7 @@ use Rattle.finite_maps.proofs.Cases.{not_false, not_so, true_false, no_some}
 use Rattle.edit_laws.specs.Rows.{Rows, set_pair, unlink_step, link_step, mirror_rank}
 
 -- rows of different features
-pub rows_apart : (a : Name) (f : ℕ) (b : Name) (x : Name) (g : ℕ) (y : Name) → nat_eq f g ≡ false → eq_by_cmp row_cmp (a, f, b) (x, g, y) ≡ false
+pub rows_apart : (a : IdBytes) (f : ℕ) (b : IdBytes) (x : IdBytes) (g : ℕ) (y : IdBytes) → nat_eq f g ≡ false → eq_by_cmp row_cmp (a, f, b) (x, g, y) ≡ false
 rows_apart a f b x g y differ = not_so (eq_by_cmp row_cmp (a, f, b) (x, g, y)) (λ same.
     true_false (nat_eq f g) (ap (λ (q : RowKey). nat_eq f q.1) (sym (same_key row_order (a, f, b) (x, g, y) same)) ∙ nat_equality.own f) differ)
 
@@ -67,13 +67,13 @@ pub record Takes (meta : Meta) (m : State) (s : Step) (row : Rows) : Type 0 wher
   pub can : Can meta m s
   pub leaves : apply meta m s ≡ record m { row = row }
 
--- two writes of rows of different features may change places
-pub pair_swap : (meta : Meta) → Sound meta → (row : Rows) (a : Name) (f : ℕ) (b : Name) (g : ℕ) (v w : Option ℕ) → opposite_of meta f ≡ Some g → set (set row (b, g, a) w) (a, f, b) v ≡ set (set row (a, f, b) v) (b, g, a) w
+-- two writes of rows of different features commute
+pub pair_swap : (meta : Meta) → Sound meta → (row : Rows) (a : IdBytes) (f : ℕ) (b : IdBytes) (g : ℕ) (v w : Option ℕ) → opposite_of meta f ≡ Some g → set (set row (b, g, a) w) (a, f, b) v ≡ set (set row (a, f, b) v) (b, g, a) w
 pair_swap meta sound row a f b g v w is = set_swap row_order row (b, g, a) (a, f, b) w v (rows_apart a f b b g a (sound.other f g is))
 
 module _ (meta : Meta) (sound : Sound meta) (m : State) (good : Good meta m) where
   -- ---- Unlink
-  unlink_can : (a : Name) (f : ℕ) (ra : ℕ) (b : Name) (rb : Option ℕ) → get m.row (a, f, b) ≡ Some ra → mirror_given (opposite_of meta f) f rb ≡ true → mirror_at m (opposite_of meta f) a b rb ≡ true → Can meta m (Unlink a f ra b rb)
+  unlink_can : (a : IdBytes) (f : ℕ) (ra : ℕ) (b : IdBytes) (rb : Option ℕ) → get m.row (a, f, b) ≡ Some ra → mirror_given (opposite_of meta f) f rb ≡ true → mirror_at m (opposite_of meta f) a b rb ≡ true → Can meta m (Unlink a f ra b rb)
   unlink_can a f ra b rb here given there =
       let typed : may_link meta (get m.kind a) f (get m.kind b) ≡ true = row_typed meta (get m.kind a) f (get m.kind b) (get m.row (a, f, b)) ra here (good.rows.typed a f b) in
       pass (tests meta m (Unlink a f ra b rb)) (
@@ -96,7 +96,7 @@ module _ (meta : Meta) (sound : Sound meta) (m : State) (good : Good meta m) whe
         ),
       )
 
-  unlink_by : (a : Name) (f : ℕ) (ra : ℕ) (b : Name) (o : Option ℕ) → opposite_of meta f ≡ o → get m.row (a, f, b) ≡ Some ra → Takes meta m (unlink_step o a f ra b (mirror_rank m.row o a b)) (set_pair m.row a f b o None None)
+  unlink_by : (a : IdBytes) (f : ℕ) (ra : ℕ) (b : IdBytes) (o : Option ℕ) → opposite_of meta f ≡ o → get m.row (a, f, b) ≡ Some ra → Takes meta m (unlink_step o a f ra b (mirror_rank m.row o a b)) (set_pair m.row a f b o None None)
   unlink_by a f ra b None is here = record {
     can = unlink_can a f ra b None here (ap (λ o. mirror_given o f None) is) (ap (λ o. mirror_at m o a b None) is);
     leaves = ap (λ o. record m { row = set_pair m.row a f b o None None }) is;
@@ -116,11 +116,11 @@ module _ (meta : Meta) (sound : Sound meta) (m : State) (good : Good meta m) whe
         }
       ] refl
 
-  pub unlink_takes : (a : Name) (f : ℕ) (ra : ℕ) (b : Name) → get m.row (a, f, b) ≡ Some ra → Takes meta m (unlink_step (opposite_of meta f) a f ra b (mirror_rank m.row (opposite_of meta f) a b)) (set_pair m.row a f b (opposite_of meta f) None None)
+  pub unlink_takes : (a : IdBytes) (f : ℕ) (ra : ℕ) (b : IdBytes) → get m.row (a, f, b) ≡ Some ra → Takes meta m (unlink_step (opposite_of meta f) a f ra b (mirror_rank m.row (opposite_of meta f) a b)) (set_pair m.row a f b (opposite_of meta f) None None)
   unlink_takes a f ra b here = unlink_by a f ra b (opposite_of meta f) refl here
 
   -- ---- Link
-  link_can : (a : Name) (f : ℕ) (ra : ℕ) (b : Name) (rb : Option ℕ) → may_link meta (get m.kind a) f (get m.kind b) ≡ true → mirror_given (opposite_of meta f) f rb ≡ true → get m.row (a, f, b) ≡ None
+  link_can : (a : IdBytes) (f : ℕ) (ra : ℕ) (b : IdBytes) (rb : Option ℕ) → may_link meta (get m.kind a) f (get m.kind b) ≡ true → mirror_given (opposite_of meta f) f rb ≡ true → get m.row (a, f, b) ≡ None
       → is_below (row_count m a f) (row_upper meta f) ≡ true → mirror_room meta m (opposite_of meta f) b ≡ true → Can meta m (Link a f ra b rb)
   link_can a f ra b rb typed given none room room' =
       pass (tests meta m (Link a f ra b rb)) (
@@ -149,7 +149,7 @@ module _ (meta : Meta) (sound : Sound meta) (m : State) (good : Good meta m) whe
   mirror_may (Some c) f None g is h = cc
   mirror_may (Some c) f (Some d) g is h = sound.mirrors c f d g is h
 
-  link_by : (a : Name) (f : ℕ) (ra : ℕ) (b : Name) (rb : ℕ) (o : Option ℕ) → opposite_of meta f ≡ o → may_link meta (get m.kind a) f (get m.kind b) ≡ true → get m.row (a, f, b) ≡ None
+  link_by : (a : IdBytes) (f : ℕ) (ra : ℕ) (b : IdBytes) (rb : ℕ) (o : Option ℕ) → opposite_of meta f ≡ o → may_link meta (get m.kind a) f (get m.kind b) ≡ true → get m.row (a, f, b) ≡ None
       → is_below (row_count m a f) (row_upper meta f) ≡ true → mirror_room meta m o b ≡ true → Takes meta m (link_step o a f ra b rb) (set_pair m.row a f b o (Some ra) (Some rb))
   link_by a f ra b rb None is typed none room room' = record {
     can = link_can a f ra b None typed (ap (λ o. mirror_given o f None) is) none room (ap (λ o. mirror_room meta m o b) is);
@@ -169,13 +169,13 @@ module _ (meta : Meta) (sound : Sound meta) (m : State) (good : Good meta m) whe
         }
       ] refl
 
-  pub link_takes : (a : Name) (f : ℕ) (ra : ℕ) (b : Name) (rb : ℕ) → may_link meta (get m.kind a) f (get m.kind b) ≡ true → get m.row (a, f, b) ≡ None
+  pub link_takes : (a : IdBytes) (f : ℕ) (ra : ℕ) (b : IdBytes) (rb : ℕ) → may_link meta (get m.kind a) f (get m.kind b) ≡ true → get m.row (a, f, b) ≡ None
       → is_below (row_count m a f) (row_upper meta f) ≡ true → mirror_room meta m (opposite_of meta f) b ≡ true
       → Takes meta m (link_step (opposite_of meta f) a f ra b rb) (set_pair m.row a f b (opposite_of meta f) (Some ra) (Some rb))
   link_takes a f ra b rb typed none room room' = link_by a f ra b rb (opposite_of meta f) refl typed none room room'
 
   -- ---- RerankRow
-  pub rerank_takes : (a : Name) (f : ℕ) (b : Name) (old new : ℕ) → get m.row (a, f, b) ≡ Some old → nat_eq old new ≡ false → Takes meta m (RerankRow a f b old new) (set m.row (a, f, b) (Some new))
+  pub rerank_takes : (a : IdBytes) (f : ℕ) (b : IdBytes) (old new : ℕ) → get m.row (a, f, b) ≡ Some old → nat_eq old new ≡ false → Takes meta m (RerankRow a f b old new) (set m.row (a, f, b) (Some new))
   rerank_takes a f b old new here differ =
       let typed : may_link meta (get m.kind a) f (get m.kind b) ≡ true = row_typed meta (get m.kind a) f (get m.kind b) (get m.row (a, f, b)) old here (good.rows.typed a f b) in
       record {

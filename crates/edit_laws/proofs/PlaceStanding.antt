@@ -14,7 +14,7 @@ use Rattle.finite_maps.proofs.SortLaws.{rises-in_order}
 use Rattle.ecore_meta.specs.Meta.{Meta}
 use Rattle.model_state.specs.declared.entry.Entry.{Entry}
 use Rattle.model_state.specs.declared.step.Place.{Place}
-use Rattle.model_state.specs.Keys.{Name}
+use Rattle.model_state.specs.Keys.{IdBytes}
 use Rattle.model_state.specs.State.{State, is_live, place_eq}
 use Rattle.model_state.specs.Good.{Good, Sound}
 use Rattle.model_state.specs.Listing.{children}
@@ -38,7 +38,7 @@ abbrev pub rank_there : Place → Option Place → Option ℕ → Option ℕ
 rank_there p None r = None
 rank_there p (Some q) r = cond (place_eq p q) r None
 
--- the elements of a place tell their ranks
+-- the elements of a place have their ranks
 abbrev pub ranks_there : State → Place → Ranking
 ranks_there m p y = rank_there p (get m.place y) (get m.prank y)
 
@@ -57,7 +57,7 @@ module _ (meta : Meta) (m : State) (good : Good meta m) (p : Place) where
   pub child_ranks : AllByRecursion (λ (x : Entry). get m.prank x.id ≡ Some x.rank) (children m.place m.prank p)
   child_ranks = live_ranks m (children m.place m.prank p) (children_live meta m good p)
 
-  children_has : (y : Name) (r : ℕ) → ranks_there m p y ≡ Some r → has_id y (children m.place m.prank p) ≡ true
+  children_has : (y : IdBytes) (r : ℕ) → ranks_there m p y ≡ Some r → has_id y (children m.place m.prank p) ≡ true
   children_has y r is =
       elim (get m.place y) as (λ o. get m.place y ≡ o → rank_there p o (get m.prank y) ≡ Some r → has_id y (children m.place m.prank p) ≡ true) [
         | None ↦ λ _ none. cc
@@ -80,7 +80,7 @@ module _ (meta : Meta) (m : State) (good : Good meta m) (p : Place) where
   }
 
 -- ---- the ranks that a place gets
-set_on : (e : Name) (v : Option ℕ) (prank : Ranks) (xs : List Entry) → has_id e xs ≡ false → AllByRecursion (λ (x : Entry). get prank x.id ≡ Some x.rank) xs → AllByRecursion (λ (x : Entry). get (set prank e v) x.id ≡ Some x.rank) xs
+set_on : (e : IdBytes) (v : Option ℕ) (prank : Ranks) (xs : List Entry) → has_id e xs ≡ false → AllByRecursion (λ (x : Entry). get prank x.id ≡ Some x.rank) xs → AllByRecursion (λ (x : Entry). get (set prank e v) x.id ≡ Some x.rank) xs
 set_on e v prank [] far held = tt
 set_on e v prank (x ∷ xs) far held = (
   get-set_other id_order prank e v x.id (names_differ e x.id (or_first (text_eq e x.id) _ far)) ∙ held.0,
@@ -96,7 +96,7 @@ ranked_held (x ∷ xs) (r ∷ rs) prank once held =
       ranked_held xs rs next once.1 (set_on x.id (Some r) prank xs once.0 held.1),
     )
 
-placed_still : (m n : State) (p : Place) (e : Name) → ((y : Name) → text_eq e y ≡ false → get n.place y ≡ get m.place y) → (xs : List Entry) (rs : List ℕ) → has_id e xs ≡ false → AllByRecursion (λ (x : Entry). get m.place x.id ≡ Some p) xs → AllByRecursion (λ (x : Entry). get n.place x.id ≡ Some p) (reranked xs rs)
+placed_still : (m n : State) (p : Place) (e : IdBytes) → ((y : IdBytes) → text_eq e y ≡ false → get n.place y ≡ get m.place y) → (xs : List Entry) (rs : List ℕ) → has_id e xs ≡ false → AllByRecursion (λ (x : Entry). get m.place x.id ≡ Some p) xs → AllByRecursion (λ (x : Entry). get n.place x.id ≡ Some p) (reranked xs rs)
 placed_still m n p e alike [] rs far all = tt
 placed_still m n p e alike (x ∷ xs) [] far all = (alike x.id (or_first (text_eq e x.id) _ far) ∙ all.0, whole xs (or_second (text_eq e x.id) _ far) all.1)
   where
@@ -109,7 +109,7 @@ same_place : (x y : Place) → Some x ≡ Some y → x ≡ y
 same_place x y e = cc
 
 -- an element of the list stands in its place
-found : (m : State) (p : Place) (y : Name) (xs : List Entry) → AllByRecursion (λ (x : Entry). get m.place x.id ≡ Some p) xs → has_id y xs ≡ true → get m.place y ≡ Some p
+found : (m : State) (p : Place) (y : IdBytes) (xs : List Entry) → AllByRecursion (λ (x : Entry). get m.place x.id ≡ Some p) xs → has_id y xs ≡ true → get m.place y ≡ Some p
 found m p y [] all has = cc
 found m p y (x ∷ xs) all has =
     elim (text_eq y x.id) as (λ b. text_eq y x.id ≡ b → b || has_id y xs ≡ true → get m.place y ≡ Some p) [
@@ -117,16 +117,16 @@ found m p y (x ∷ xs) all has =
       | false ↦ λ _ later. found m p y xs all.1 later
     ] refl has
 
--- the element comes to stand in the place, with the rank of its spot among the others there
-pub record Arrives (m n : State) (p : Place) (e : Name) (k r : ℕ) (others : List Entry) : Type 0 where
+-- the element is put into the place, with the rank of its spot among the others there
+pub record Arrives (m n : State) (p : Place) (e : IdBytes) (k r : ℕ) (others : List Entry) : Type 0 where
   pub are : without_entry e (children m.place m.prank p) ≡ others
   pub here : get n.place e ≡ Some p
-  pub elsewhere : (y : Name) → text_eq e y ≡ false → get n.place y ≡ get m.place y
+  pub elsewhere : (y : IdBytes) → text_eq e y ≡ false → get n.place y ≡ get m.place y
   pub ranks : n.prank ≡ set (ranked_places others (spot others k).ranks m.prank) e (Some r)
   pub within : k ≤ length others
   pub ranked : (spot others k).rank ≡ Some r
 
-module _ (meta : Meta) (m n : State) (good : Good meta m) (good' : Good meta n) (p : Place) (e : Name) (k r : ℕ) (others : List Entry) (a : Arrives m n p e k r others) where
+module _ (meta : Meta) (m n : State) (good : Good meta m) (good' : Good meta n) (p : Place) (e : IdBytes) (k r : ℕ) (others : List Entry) (a : Arrives m n p e k r others) where
   abbrev rs : List ℕ
   rs = (spot others k).ranks
 
@@ -149,7 +149,7 @@ module _ (meta : Meta) (m n : State) (good : Good meta m) (good' : Good meta n) 
   new_ranks = subst (λ w. AllByRecursion (λ (x : Entry). get w x.id ≡ Some x.rank) (reranked others rs)) (sym a.ranks)
       (set_on e (Some r) next (reranked others rs) (has-reranked e others rs ∙ far) (ranked_held others rs m.prank others_apart others_ranks))
 
-  rank_kept : (y : Name) → text_eq e y ≡ false → has_id y others ≡ false → get n.prank y ≡ get m.prank y
+  rank_kept : (y : IdBytes) → text_eq e y ≡ false → has_id y others ≡ false → get n.prank y ≡ get m.prank y
   rank_kept y differ none = ap (λ w. get w y) a.ranks ∙ get-set_other id_order next e (Some r) y (names_differ e y differ) ∙ ranked_missing y others rs m.prank none
 
   pub arrives_here : StandsAt (children m.place m.prank p) (children n.place n.prank p) e k
@@ -167,7 +167,7 @@ module _ (meta : Meta) (m n : State) (good : Good meta m) (good' : Good meta n) 
     turned : place_eq q p ≡ false
     turned = not_so (place_eq q p) (λ same. true_false (place_eq p q) (ap (place_eq p) (place_equality.exact q p same) ∙ place_equality.own p) apart)
 
-    alike_at : (y : Name) → text_eq e y ≡ false → (o : Option Place) → get m.place y ≡ o → rank_there q o (get n.prank y) ≡ rank_there q o (get m.prank y)
+    alike_at : (y : IdBytes) → text_eq e y ≡ false → (o : Option Place) → get m.place y ≡ o → rank_there q o (get n.prank y) ≡ rank_there q o (get m.prank y)
     alike_at y differ None at = refl
     alike_at y differ (Some z) at =
         elim (place_eq q z) as (λ b. place_eq q z ≡ b → cond b (get n.prank y) None ≡ cond b (get m.prank y) None) [
@@ -177,7 +177,7 @@ module _ (meta : Meta) (m n : State) (good : Good meta m) (good' : Good meta n) 
           | false ↦ λ _. refl
         ] refl
 
-    alike : (y : Name) → text_eq e y ≡ false → ranks_there n q y ≡ ranks_there m q y
+    alike : (y : IdBytes) → text_eq e y ≡ false → ranks_there n q y ≡ ranks_there m q y
     alike y differ = ap (λ o. rank_there q o (get n.prank y)) (a.elsewhere y differ) ∙ alike_at y differ (get m.place y) refl
 
     held_out : (xs : List Entry) → AllHeld (ranks_there m q) xs → AllHeld (ranks_there n q) (without_entry e xs)
@@ -188,7 +188,7 @@ module _ (meta : Meta) (m n : State) (good : Good meta m) (good' : Good meta n) 
           | false ↦ λ differ. (alike x.id differ ∙ held.0, held_out xs held.1)
         ] refl
 
-    has_out : (y : Name) (s : ℕ) → ranks_there n q y ≡ Some s → has_id y (without_entry e (children m.place m.prank q)) ≡ true
+    has_out : (y : IdBytes) (s : ℕ) → ranks_there n q y ≡ Some s → has_id y (without_entry e (children m.place m.prank q)) ≡ true
     has_out y s is =
         elim (text_eq e y) as (λ b. text_eq e y ≡ b → has_id y (without_entry e (children m.place m.prank q)) ≡ true) [
           | true ↦ λ same. absurd (some_none (ranks_there n q y) s is (
@@ -230,7 +230,7 @@ create_stands meta sound m good e c p may =
     })
 
 -- ---- move
-module _ (meta : Meta) (sound : Sound meta) (m : State) (good : Good meta m) (e : Name) (p : Place) (k : ℕ) (may : MayMoveWithin m e p k) (inside : nat_le k (length (without_entry e (children m.place m.prank p))) ≡ true) where
+module _ (meta : Meta) (sound : Sound meta) (m : State) (good : Good meta m) (e : IdBytes) (p : Place) (k : ℕ) (may : MayMoveWithin m e p k) (inside : nat_le k (length (without_entry e (children m.place m.prank p))) ≡ true) where
   abbrev rest : List Entry
   rest = without_entry e (children m.place m.prank p)
 

@@ -4,11 +4,11 @@ use Rattle.std.specs.Prelude.{Option, None, Some, is_some}
 use Rattle.std.specs.FinMap.{get}
 use Rattle.finite_maps.proofs.Cases.{no_some, not_true}
 use Rattle.ecore_meta.specs.Meta.{Meta}
-use Rattle.model_state.specs.Keys.{Name}
+use Rattle.model_state.specs.Keys.{IdBytes}
 use Rattle.model_state.specs.Listing.{targets}
 use Rattle.model_state.specs.State.{State}
 use Rattle.edit_laws.specs.declared.fault.EditFault.{EditFault}
-use Rattle.edit_laws.specs.References.{is_one, MaySet, MayLink, MayReorder}
+use Rattle.edit_laws.specs.References.{holds_one, MaySet, MayLink, MayReorder}
 use Rattle.edit_laws.specs.Refusals.{first_refusal, set_ref_tests, set_ref_refusal, link_index, link_tests, link_refusal, unlink_tests, unlink_refusal, reorder_tests, reorder_refusal}
 
 -- all tests pass
@@ -32,8 +32,8 @@ left_or : (b c : Bool) → b || c ≡ true → b ≡ false → c ≡ true
 left_or true c h g = cc
 left_or false c h g = h
 
-module _ (meta : Meta) (m : State) (a : Name) (f : ℕ) (b : Name) where
-  pub may_set : is_one meta f ≡ true → set_ref_refusal meta m a f b ≡ None → MaySet meta m a f b
+module _ (meta : Meta) (m : State) (a : IdBytes) (f : ℕ) (b : IdBytes) where
+  pub may_set : holds_one meta f ≡ true → set_ref_refusal meta m a f b ≡ None → MaySet meta m a f b
   may_set one open_ =
       let p = all_pass (set_ref_tests meta m a f b) open_ in
       record {
@@ -58,7 +58,7 @@ module _ (meta : Meta) (m : State) (a : Name) (f : ℕ) (b : Name) where
   pub link_within : (at : Option ℕ) → link_refusal meta m a f b at ≡ None → nat_le (link_index m a f at) (length (targets m.row a f)) ≡ true
   link_within at open_ = (all_pass (link_tests meta m a f b (link_index m a f at)) open_).1.1.0
 
-module _ (m : State) (a : Name) (f : ℕ) (b : Name) where
+module _ (m : State) (a : IdBytes) (f : ℕ) (b : IdBytes) where
   pub may_unlink : unlink_refusal m a f b ≡ None → is_some (get m.row (a, f, b)) ≡ true
   may_unlink open_ = (all_pass (unlink_tests m a f b) open_).0
 

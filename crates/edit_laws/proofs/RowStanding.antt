@@ -16,15 +16,15 @@ use Rattle.finite_maps.proofs.NestedLaws.{get-without}
 use Rattle.finite_maps.proofs.SortLaws.{rises-in_order}
 use Rattle.ecore_meta.specs.Meta.{Meta}
 use Rattle.model_state.specs.declared.entry.Entry.{Entry}
-use Rattle.model_state.specs.Keys.{Name, RowKey, row_cmp}
+use Rattle.model_state.specs.Keys.{IdBytes, RowKey, row_cmp}
 use Rattle.model_state.specs.Typing.{opposite_of}
 use Rattle.model_state.specs.State.{State}
 use Rattle.model_state.specs.Good.{Good, Sound}
 use Rattle.model_state.specs.Listing.{is_of, row_entry, targets}
 use Rattle.model_state.proofs.Orders.{entry_order, row_order}
 use Rattle.edit_laws.specs.Spot.{spot, end_spot}
-use Rattle.edit_laws.specs.Rows.{Rows, around, clear, ranked}
-use Rattle.edit_laws.specs.References.{is_one, clear_there, join, rank_there, without_entry, stands_at, MayLink, MayReorder, MaySet, link_after, reorder_after, set_ref_after}
+use Rattle.edit_laws.specs.Rows.{Rows, is_row_or_mirror, clear, ranked}
+use Rattle.edit_laws.specs.References.{holds_one, clear_there, join, rank_there, without_entry, stands_at, MayLink, MayReorder, MaySet, link_after, reorder_after, set_ref_after}
 use Rattle.edit_laws.specs.Standing.{reranked, StandsAt, StandsLast, is_displaced, staying, is_list, is_end, Joined}
 use Rattle.edit_laws.proofs.Lists.{Apart, targets_held, targets_has, targets_apart, targets_alike}
 use Rattle.edit_laws.proofs.Pairs.{rows_apart, some_of}
@@ -37,11 +37,11 @@ use Rattle.edit_laws.proofs.Sets.{no_mirror}
 use Rattle.edit_laws.proofs.LinkEdits.{all_filter, left_targets, none_without, ranked_missing}
 use Rattle.edit_laws.proofs.Told.{Ranking, AllHeld, Tells, has_id, one_list, apart_filter, has-reranked, rises_filter, stands, stands_still, length_without, without_none}
 
--- the targets of a feature tell the ranks of its rows
-abbrev pub ranks_in : Rows → Name → ℕ → Ranking
+-- the targets of a feature have the ranks of its rows
+abbrev pub ranks_in : Rows → IdBytes → ℕ → Ranking
 ranks_in row a f y = get row (a, f, y)
 
-pub targets_tell : (row : Rows) (a : Name) (f : ℕ) → Tells (ranks_in row a f) (targets row a f)
+pub targets_tell : (row : Rows) (a : IdBytes) (f : ℕ) → Tells (ranks_in row a f) (targets row a f)
 targets_tell row a f = record {
   up = rises-in_order entry_order (map row_entry (picked (λ e. is_of a f e.0) row));
   once = targets_apart row a f;
@@ -50,14 +50,14 @@ targets_tell row a f = record {
 }
 
 -- ---- the ranks that a list gets
-held_on : (row : Rows) (a : Name) (f : ℕ) (e : Name) (v : Option ℕ) (xs : List Entry) → has_id e xs ≡ false → AllHeld (ranks_in row a f) xs → AllHeld (ranks_in (set row (a, f, e) v) a f) xs
+held_on : (row : Rows) (a : IdBytes) (f : ℕ) (e : IdBytes) (v : Option ℕ) (xs : List Entry) → has_id e xs ≡ false → AllHeld (ranks_in row a f) xs → AllHeld (ranks_in (set row (a, f, e) v) a f) xs
 held_on row a f e v [] far held = tt
 held_on row a f e v (x ∷ xs) far held = (
   get-set_other row_order row (a, f, e) v (a, f, x.id) (targets_differ a f e x.id (or_first (text_eq e x.id) _ far)) ∙ held.0,
   held_on row a f e v xs (or_second (text_eq e x.id) _ far) held.1,
 )
 
-ranked_held : (a : Name) (f : ℕ) (xs : List Entry) (rs : List ℕ) (row : Rows) → Apart xs → AllHeld (ranks_in row a f) xs → AllHeld (ranks_in (ranked a f xs rs row) a f) (reranked xs rs)
+ranked_held : (a : IdBytes) (f : ℕ) (xs : List Entry) (rs : List ℕ) (row : Rows) → Apart xs → AllHeld (ranks_in row a f) xs → AllHeld (ranks_in (ranked a f xs rs row) a f) (reranked xs rs)
 ranked_held a f [] rs row once held = tt
 ranked_held a f (x ∷ xs) [] row once held = held
 ranked_held a f (x ∷ xs) (r ∷ rs) row once held =
@@ -66,8 +66,8 @@ ranked_held a f (x ∷ xs) (r ∷ rs) row once held =
       ranked_held a f xs rs next once.1 (held_on row a f x.id (Some r) xs once.0 held.1),
     )
 
--- a row that comes with the rank of its spot, the others with theirs
-module _ (row : Rows) (a : Name) (f : ℕ) (b : Name) (k r : ℕ) (others : List Entry) (are : without_entry b (targets row a f) ≡ others) where
+-- a row that is added with the rank of its spot, the others with theirs
+module _ (row : Rows) (a : IdBytes) (f : ℕ) (b : IdBytes) (k r : ℕ) (others : List Entry) (are : without_entry b (targets row a f) ≡ others) where
   abbrev after : Rows
   after = set (ranked a f others (spot others k).ranks row) (a, f, b) (Some r)
 
@@ -92,8 +92,8 @@ module _ (row : Rows) (a : Name) (f : ℕ) (b : Name) (k r : ℕ) (others : List
         still = λ y differ none. get-set_other row_order next (a, f, b) (Some r) (a, f, y) (targets_differ a f b y differ) ∙ ranked_missing a f y others (spot others k).ranks row none;
       }) le is
 
--- ---- rows that go
-filter_has : (p : Entry → Bool) (y : Name) (r : ℕ) (g : Ranking) (xs : List Entry) → AllHeld g xs → g y ≡ Some r → has_id y xs ≡ true → p (record { rank = r; id = y }) ≡ true → has_id y (filter p xs) ≡ true
+-- ---- rows that are removed
+filter_has : (p : Entry → Bool) (y : IdBytes) (r : ℕ) (g : Ranking) (xs : List Entry) → AllHeld g xs → g y ≡ Some r → has_id y xs ≡ true → p (record { rank = r; id = y }) ≡ true → has_id y (filter p xs) ≡ true
 filter_has p y r g [] held is has pass = cc
 filter_has p y r g (x ∷ xs) held is has pass =
     elim (text_eq y x.id) as (λ b. text_eq y x.id ≡ b → has_id y (cond {A = List Entry} (p x) (x ∷ filter p xs) (filter p xs)) ≡ true) [
@@ -120,7 +120,7 @@ filter_has p y r g (x ∷ xs) held is has pass =
     other_or true c h g = cc
     other_or false c h g = h
 
-module _ (gone : RowKey → Bool) (row : Rows) (x : Name) (h : ℕ) where
+module _ (gone : RowKey → Bool) (row : Rows) (x : IdBytes) (h : ℕ) where
   kept_held : (es : List Entry) → AllHeld (ranks_in row x h) es → AllHeld (ranks_in (without gone row) x h) (filter (λ (e : Entry). not (gone (x, h, e.id))) es)
   kept_held [] held = tt
   kept_held (e ∷ es) held =
@@ -129,7 +129,7 @@ module _ (gone : RowKey → Bool) (row : Rows) (x : Name) (h : ℕ) where
         | false ↦ λ stays. (get-without row_order gone row (x, h, e.id) ∙ ap (λ b. cond b None (get row (x, h, e.id))) stays ∙ held.0, kept_held es held.1)
       ] refl
 
-  kept_has : (y : Name) (r : ℕ) → get (without gone row) (x, h, y) ≡ Some r → has_id y (staying gone row x h) ≡ true
+  kept_has : (y : IdBytes) (r : ℕ) → get (without gone row) (x, h, y) ≡ Some r → has_id y (staying gone row x h) ≡ true
   kept_has y r is =
       elim (gone (x, h, y)) as (λ b. gone (x, h, y) ≡ b → cond b None (get row (x, h, y)) ≡ Some r → has_id y (staying gone row x h) ≡ true) [
         | true ↦ λ _ none. cc
@@ -145,11 +145,11 @@ module _ (gone : RowKey → Bool) (row : Rows) (x : Name) (h : ℕ) where
     has = kept_has;
   })
 
--- where the opposite holds one, the rows to b go
-there_without : (meta : Meta) (o : Option ℕ) (f : ℕ) (b : Name) (row : Rows) → clear_there meta o f b row ≡ without (is_displaced meta o f b) row
+-- where the opposite holds one, the rows to b are removed
+there_without : (meta : Meta) (o : Option ℕ) (f : ℕ) (b : IdBytes) (row : Rows) → clear_there meta o f b row ≡ without (is_displaced meta o f b) row
 there_without meta None f b row = same row_order _ _ (λ q. sym (get-without row_order (λ (k : RowKey). false) row q))
 there_without meta (Some g) f b row =
-    elim (is_one meta g) as (λ t. cond t (clear (Some f) b g row) row ≡ without (λ (k : RowKey). t && around (Some f) b g k) row) [
+    elim (holds_one meta g) as (λ t. cond t (clear (Some f) b g row) row ≡ without (λ (k : RowKey). t && is_row_or_mirror (Some f) b g k) row) [
       | true ↦ refl
       | false ↦ same row_order _ _ (λ q. sym (get-without row_order (λ (k : RowKey). false) row q))
     ]
@@ -168,17 +168,17 @@ without_twice p q row = same row_order _ _ (λ k.
     either false false o = refl
 
 -- ---- a row and its mirror
-other_list : (a : Name) (f : ℕ) (b x : Name) (h : ℕ) (y : Name) → is_list a f x h ≡ false → eq_by_cmp row_cmp (x, h, y) (a, f, b) ≡ false
+other_list : (a : IdBytes) (f : ℕ) (b x : IdBytes) (h : ℕ) (y : IdBytes) → is_list a f x h ≡ false → eq_by_cmp row_cmp (x, h, y) (a, f, b) ≡ false
 other_list a f b x h y away = not_so (eq_by_cmp row_cmp (x, h, y) (a, f, b)) (λ same.
     true_false (is_list a f x h) (ap (is_of a f) (same_key row_order (x, h, y) (a, f, b) same) ∙ and_both _ _ (text_equality.own a) (nat_equality.own f)) away)
 
-not_among : (g : Ranking) (e : Name) (xs : List Entry) → AllHeld g xs → g e ≡ None → has_id e xs ≡ false
+not_among : (g : Ranking) (e : IdBytes) (xs : List Entry) → AllHeld g xs → g e ≡ None → has_id e xs ≡ false
 not_among g e [] held none = refl
 not_among g e (x ∷ xs) held none =
     ap (λ b. b || has_id e xs) (not_so (text_eq e x.id) (λ same. some_none (g x.id) x.rank held.0 (ap g (sym (text_equality.exact e x.id same)) ∙ none)))
     ∙ not_among g e xs held.1 none
 
-module _ (meta : Meta) (sound : Sound meta) (a : Name) (f : ℕ) (ra : Option ℕ) (b : Name) (row : Rows) where
+module _ (meta : Meta) (sound : Sound meta) (a : IdBytes) (f : ℕ) (ra : Option ℕ) (b : IdBytes) (row : Rows) where
   abbrev there : ℕ → List Entry
   there g = targets row b g
 
@@ -211,7 +211,7 @@ module _ (meta : Meta) (sound : Sound meta) (a : Name) (f : ℕ) (ra : Option �
       (subst (λ w. StandsAt (there g) (targets (set (evened_row g) (b, g, a) w) b g) a (length (there g))) (sym (some_of s.rank some)) last))
 
   -- the other lists
-  pub join_others : (o : Option ℕ) (x : Name) (h : ℕ) → is_end o a f b x h ≡ false → targets (join o a f ra b row) x h ≡ targets row x h
+  pub join_others : (o : Option ℕ) (x : IdBytes) (h : ℕ) → is_end o a f b x h ≡ false → targets (join o a f ra b row) x h ≡ targets row x h
   join_others None x h away = targets_alike (set row (a, f, b) ra) row x h (λ y. get-set_other row_order row (a, f, b) ra (x, h, y) (other_list a f b x h y away))
   join_others (Some g) x h away = targets_alike (join (Some g) a f ra b row) row x h (λ y.
       get-set_other row_order (set (evened_row g) (a, f, b) ra) (b, g, a) (end_spot (there g)).rank (x, h, y) (other_list b g a x h y (or_second (is_list a f x h) _ away))
@@ -222,7 +222,7 @@ module _ (meta : Meta) (sound : Sound meta) (a : Name) (f : ℕ) (ra : Option �
 number_le : (n k : ℕ) → nat_le n k ≡ true → n ≤ k
 number_le n k h = grind (arith, nat_tests)
 
-module _ (meta : Meta) (sound : Sound meta) (m : State) (good : Good meta m) (a : Name) (f : ℕ) (b : Name) (k : ℕ) (may : MayLink meta m a f b k) (inside : nat_le k (length (targets m.row a f)) ≡ true) where
+module _ (meta : Meta) (sound : Sound meta) (m : State) (good : Good meta m) (a : IdBytes) (f : ℕ) (b : IdBytes) (k : ℕ) (may : MayLink meta m a f b k) (inside : nat_le k (length (targets m.row a f)) ≡ true) where
   abbrev left : Option ℕ → Rows
   left o = clear_there meta o f b m.row
 
@@ -239,7 +239,7 @@ module _ (meta : Meta) (sound : Sound meta) (m : State) (good : Good meta m) (a 
     same_list : others o ≡ targets m.row a f
     same_list = left_targets meta sound m good a f b k may o is
 
-    left_list : (x : Name) (h : ℕ) → targets (left o) x h ≡ staying (is_displaced meta o f b) m.row x h
+    left_list : (x : IdBytes) (h : ℕ) → targets (left o) x h ≡ staying (is_displaced meta o f b) m.row x h
     left_list x h = ap (λ row. targets row x h) (there_without meta o f b m.row) ∙ targets_without (is_displaced meta o f b) m.row x h
 
     ranked_so : (spot (others o) k).rank ≡ Some (unwrap_or (spot (others o) k).rank 0)
@@ -261,11 +261,11 @@ module _ (meta : Meta) (sound : Sound meta) (m : State) (good : Good meta m) (a 
         (subst (λ w. StandsAt (others o) (targets (set (next o) (a, f, b) w) a f) b k) (sym ranked_so)
         (row_stands (left o) a f b k r (others o) alone le ranked_so))
 
-    own_away : (x : Name) (h : ℕ) (o : Option ℕ) → is_end o a f b x h ≡ false → is_list a f x h ≡ false
+    own_away : (x : IdBytes) (h : ℕ) (o : Option ℕ) → is_end o a f b x h ≡ false → is_list a f x h ≡ false
     own_away x h None away = away
     own_away x h (Some g) away = or_first (is_list a f x h) _ away
 
-    link_others : (x : Name) (h : ℕ) → is_end o a f b x h ≡ false → targets (linked o) x h ≡ staying (is_displaced meta o f b) m.row x h
+    link_others : (x : IdBytes) (h : ℕ) → is_end o a f b x h ≡ false → targets (linked o) x h ≡ staying (is_displaced meta o f b) m.row x h
     link_others x h away =
         join_others meta sound a f (spot (others o) k).rank b (next o) o x h away
         ∙ targets_alike (next o) (left o) x h (λ y. ranked_other a f (others o) (spot (others o) k).ranks (left o) (x, h, y) (own_away x h o away))
@@ -306,9 +306,9 @@ pub link_stands : LinkStands
 link_stands meta sound m good a f b k may inside = (link_comes meta sound m good a f b k may inside, link_joins meta sound m good a f b k may inside)
 
 -- ---- set
-module _ (meta : Meta) (sound : Sound meta) (m : State) (good : Good meta m) (a : Name) (f : ℕ) (b : Name) (may : MaySet meta m a f b) (none : get m.row (a, f, b) ≡ None) where
+module _ (meta : Meta) (sound : Sound meta) (m : State) (good : Good meta m) (a : IdBytes) (f : ℕ) (b : IdBytes) (may : MaySet meta m a f b) (none : get m.row (a, f, b) ≡ None) where
   abbrev gone : Option ℕ → RowKey → Bool
-  gone o k = around o a f k || is_displaced meta o f b k
+  gone o k = is_row_or_mirror o a f k || is_displaced meta o f b k
 
   abbrev kept : Option ℕ → Rows
   kept o = clear_there meta o f b (clear o a f m.row)
@@ -317,9 +317,9 @@ module _ (meta : Meta) (sound : Sound meta) (m : State) (good : Good meta m) (a 
   set_row o = join o a f (Some 4294967296) b (kept o)
 
   kept_without : (o : Option ℕ) → kept o ≡ without (gone o) m.row
-  kept_without o = there_without meta o f b (clear o a f m.row) ∙ without_twice (around o a f) (is_displaced meta o f b) m.row
+  kept_without o = there_without meta o f b (clear o a f m.row) ∙ without_twice (is_row_or_mirror o a f) (is_displaced meta o f b) m.row
 
-  kept_list : (o : Option ℕ) (x : Name) (h : ℕ) → targets (kept o) x h ≡ staying (gone o) m.row x h
+  kept_list : (o : Option ℕ) (x : IdBytes) (h : ℕ) → targets (kept o) x h ≡ staying (gone o) m.row x h
   kept_list o x h = ap (λ row. targets row x h) (kept_without o) ∙ targets_without (gone o) m.row x h
 
   set_here : (o : Option ℕ) → opposite_of meta f ≡ o → StandsAt (targets (kept o) a f) (targets (set_row o) a f) b 0
@@ -361,7 +361,7 @@ set_ref_stands meta sound m good a f b may none = set_joins meta sound m good a 
 number_lt : (n k : ℕ) → nat_lt n k ≡ true → suc n ≤ k
 number_lt n k h = grind (arith, nat_tests)
 
-module _ (meta : Meta) (m : State) (a : Name) (f : ℕ) (b : Name) (k : ℕ) (may : MayReorder m a f b k) (inside : nat_lt k (length (targets m.row a f)) ≡ true) where
+module _ (meta : Meta) (m : State) (a : IdBytes) (f : ℕ) (b : IdBytes) (k : ℕ) (may : MayReorder m a f b k) (inside : nat_lt k (length (targets m.row a f)) ≡ true) where
   abbrev list : List Entry
   list = targets m.row a f
 
@@ -389,7 +389,7 @@ module _ (meta : Meta) (m : State) (a : Name) (f : ℕ) (b : Name) (k : ℕ) (ma
             subst (λ w. StandsAt list (targets (set (ranked a f rest (spot rest k).ranks m.row) (a, f, b) w) a f) b k) (sym so) (row_stands m.row a f b k r rest refl le_rest so)
       ] refl
 
-  pub reorder_others : (x : Name) (h : ℕ) → is_list a f x h ≡ false → targets (reorder_after a f b k m.row) x h ≡ targets m.row x h
+  pub reorder_others : (x : IdBytes) (h : ℕ) → is_list a f x h ≡ false → targets (reorder_after a f b k m.row) x h ≡ targets m.row x h
   reorder_others x h away =
       elim (stands_at b k list) as (λ t. targets (cond t m.row put) x h ≡ targets m.row x h) [
         | true ↦ refl

@@ -8,7 +8,7 @@ use Rattle.std.specs.Ordering.{is_lt, nat_cmp}
 use Rattle.finite_maps.specs.Sorts.{put_in, in_order}
 use Rattle.finite_maps.proofs.SortLaws.{Rises, rises-in_order}
 use Rattle.model_state.specs.declared.entry.Entry.{Entry}
-use Rattle.model_state.specs.Keys.{Name, id_cmp}
+use Rattle.model_state.specs.Keys.{IdBytes, id_cmp}
 use Rattle.model_state.specs.Listing.{entry_cmp, last_rank}
 use Rattle.model_state.specs.Ranks.{rank_between}
 use Rattle.model_state.proofs.EntryLaws.{first_greater, first_less, nat_greater, nat_less, ranks_above}
@@ -83,7 +83,7 @@ within lo hi r h =
     halved is wide = (omega arith, omega arith)
 
 -- where there is a rank between those of a list that rises, it fits in there
-fits_between : (e : Name) (r lo : ℕ) (xs : List Entry) (k : ℕ) → Rises entry_cmp xs → AllByRecursion (λ (x : Entry). lo ≤ x.rank) xs → k ≤ length xs → rank_between (before lo (ranks_of xs) k) (slice_get (ranks_of xs) k) ≡ Some r
+fits_between : (e : IdBytes) (r lo : ℕ) (xs : List Entry) (k : ℕ) → Rises entry_cmp xs → AllByRecursion (λ (x : Entry). lo ≤ x.rank) xs → k ≤ length xs → rank_between (before lo (ranks_of xs) k) (slice_get (ranks_of xs) k) ≡ Some r
     → (lo < r) × Fits (record { rank = r; id = e }) k xs
 fits_between e r lo [] zero up all le h = (above_last lo r _ h, tt)
 fits_between e r lo [] (suc k) up all le h = absurd (omega arith)
@@ -101,7 +101,7 @@ all_least : (xs : List Entry) → AllByRecursion (λ (x : Entry). 0 ≤ x.rank) 
 all_least [] = tt
 all_least (x ∷ xs) = (omega arith, all_least xs)
 
-fits_for : (e : Name) (r : ℕ) (xs : List Entry) (k : ℕ) → Rises entry_cmp xs → k ≤ length xs → rank_for (ranks_of xs) k ≡ Some r → Fits (record { rank = r; id = e }) k xs
+fits_for : (e : IdBytes) (r : ℕ) (xs : List Entry) (k : ℕ) → Rises entry_cmp xs → k ≤ length xs → rank_for (ranks_of xs) k ≡ Some r → Fits (record { rank = r; id = e }) k xs
 fits_for e r xs k up le h = (fits_between e r 0 xs k up (all_least xs) le (sym (between_is (ranks_of xs) k (subst (λ n. k ≤ n) (sym (length_ranks xs)) le)) ∙ h)).1
   where
     length_ranks : (xs : List Entry) → length (ranks_of xs) ≡ length xs
@@ -117,7 +117,7 @@ nothing_behind : (xs : List Entry) → slice_get (ranks_of xs) (length xs) ≡ N
 nothing_behind [] = refl
 nothing_behind (x ∷ xs) = nothing_behind xs
 
--- the rank behind the last entry is known by that of the last
+-- the rank after the last entry is known by that of the last
 pub end_rank : (xs : List Entry) → rank_for (ranks_of xs) (length xs) ≡ rank_between (unwrap_or (last_rank xs) 0) None
 end_rank xs =
     between_is (ranks_of xs) (length xs) (subst (λ n. length xs ≤ n) (sym (length_ranks xs)) (omega arith))
@@ -160,7 +160,7 @@ pub record Opens (new : Entry) (k : ℕ) (ys : List Entry) : Type 0 where
   pub up : Rises entry_cmp ys
   pub fits : Fits new k ys
 
-opens_by : (xs : List Entry) (k r : ℕ) (e : Name) → Rises entry_cmp xs → k ≤ length xs → (o : Option ℕ) → rank_for (ranks_of xs) k ≡ o → (spot_by o xs k).rank ≡ Some r
+opens_by : (xs : List Entry) (k r : ℕ) (e : IdBytes) → Rises entry_cmp xs → k ≤ length xs → (o : Option ℕ) → rank_for (ranks_of xs) k ≡ o → (spot_by o xs k).rank ≡ Some r
     → Opens (record { rank = r; id = e }) k (reranked xs (spot_by o xs k).ranks)
 opens_by xs k r e up le (Some q) is h =
     subst (λ ys. Opens (record { rank = r; id = e }) k ys) (sym (reranked_same xs)) (record { up = up; fits = fits_for e r xs k up le (is ∙ h) })
@@ -175,7 +175,7 @@ opens_by xs k r e up le None is h =
     there true h = h
     there false h = cc
 
-pub opens : (xs : List Entry) (k r : ℕ) (e : Name) → Rises entry_cmp xs → k ≤ length xs → (spot xs k).rank ≡ Some r → Opens (record { rank = r; id = e }) k (reranked xs (spot xs k).ranks)
+pub opens : (xs : List Entry) (k r : ℕ) (e : IdBytes) → Rises entry_cmp xs → k ≤ length xs → (spot xs k).rank ≡ Some r → Opens (record { rank = r; id = e }) k (reranked xs (spot xs k).ranks)
 opens xs k r e up le h = opens_by xs k r e up le (rank_for (ranks_of xs) k) refl h
 
 ids-insert : (ys : List Entry) (k : ℕ) (new : Entry) → ids_of (insert ys k new) ≡ insert (ids_of ys) k new.id
@@ -184,7 +184,7 @@ ids-insert [] (suc k) new = refl
 ids-insert (y ∷ ys) zero new = refl
 ids-insert (y ∷ ys) (suc k) new = ap (λ l. y.id ∷ l) (ids-insert ys k new)
 
-pub spot_opens : (xs : List Entry) (k r : ℕ) (e : Name) → Rises entry_cmp xs → k ≤ length xs → (spot xs k).rank ≡ Some r
+pub spot_opens : (xs : List Entry) (k r : ℕ) (e : IdBytes) → Rises entry_cmp xs → k ≤ length xs → (spot xs k).rank ≡ Some r
     → ids_of (in_order entry_cmp (record { rank = r; id = e } ∷ reranked xs (spot xs k).ranks)) ≡ insert (ids_of xs) k e
 spot_opens xs k r e up le h =
     let new : Entry = record { rank = r; id = e } in

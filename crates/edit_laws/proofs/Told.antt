@@ -14,7 +14,7 @@ use Rattle.finite_maps.proofs.Cases.{not_so, true_false, or_first, or_second}
 use Rattle.finite_maps.proofs.EqualLaws.{apart, text_equality}
 use Rattle.finite_maps.proofs.SortLaws.{Rises, rises-in_order, tally-in_order}
 use Rattle.model_state.specs.declared.entry.Entry.{Entry}
-use Rattle.model_state.specs.Keys.{Name}
+use Rattle.model_state.specs.Keys.{IdBytes}
 use Rattle.model_state.specs.Listing.{entry_cmp}
 use Rattle.model_state.proofs.Orders.{entry_order}
 use Rattle.edit_laws.specs.Spot.{spot}
@@ -26,10 +26,10 @@ use Rattle.edit_laws.proofs.Spots.{spot_opens}
 
 -- the rank of each element that is in a list
 abbrev pub Ranking : Type 0
-Ranking = Name → Option ℕ
+Ranking = IdBytes → Option ℕ
 
 -- the element is in the list
-abbrev pub has_id : Name → List Entry → Bool
+abbrev pub has_id : IdBytes → List Entry → Bool
 has_id e xs = list_any (λ (x : Entry). text_eq e x.id) xs
 
 -- the entries have these ranks
@@ -41,7 +41,7 @@ pub record Tells (g : Ranking) (xs : List Entry) : Type 0 where
   pub up : Rises entry_cmp xs
   pub once : Apart xs
   pub held : AllHeld g xs
-  pub has : (y : Name) (r : ℕ) → g y ≡ Some r → has_id y xs ≡ true
+  pub has : (y : IdBytes) (r : ℕ) → g y ≡ Some r → has_id y xs ≡ true
 
 -- ---- there is one such list
 neither : (o : Ordering) → is_lt o ≡ false → is_lt (ordering_reverse o) ≡ false → o ≡ Equal
@@ -74,10 +74,10 @@ low g x y (z ∷ zs) here held above is =
     ] refl
 
 -- the ranking without an element
-abbrev but : Name → Ranking → Ranking
+abbrev but : IdBytes → Ranking → Ranking
 but e g y = cond (text_eq e y) None (g y)
 
-held_but : (g : Ranking) (e : Name) (xs : List Entry) → has_id e xs ≡ false → AllHeld g xs → AllHeld (but e g) xs
+held_but : (g : Ranking) (e : IdBytes) (xs : List Entry) → has_id e xs ≡ false → AllHeld g xs → AllHeld (but e g) xs
 held_but g e [] far held = tt
 held_but g e (x ∷ xs) far held = (ap (λ b. cond b None (g x.id)) (or_first (text_eq e x.id) _ far) ∙ held.0, held_but g e xs (or_second (text_eq e x.id) _ far) held.1)
 
@@ -110,16 +110,16 @@ one_list (x ∷ xs) (y ∷ ys) g t u =
     let rest : xs ≡ ys = one_list xs ys (but x.id g) (tail_tells g x xs t) (subst (λ (w : Entry). Tells (but w.id g) ys) (sym head) (tail_tells g y ys u)) in
     λ i. head i ∷ rest i
 
--- ---- an element comes into the list, and the others are ranked anew
+-- ---- an element is inserted into the list, and the others are renumbered
 none_tallied : (p : Entry → Bool) (xs : List Entry) → list_any p xs ≡ false → tally p xs ≡ 0
 none_tallied p [] h = refl
 none_tallied p (x ∷ xs) h = ap (λ b. cond b 1 0 + tally p xs) (or_first (p x) _ h) ∙ ap (λ n. 0 + n) (none_tallied p xs (or_second (p x) _ h))
 
-at_most_one : (i : Name) (xs : List Entry) → Apart xs → tally (λ (x : Entry). text_eq i x.id) xs ≤ 1
+at_most_one : (i : IdBytes) (xs : List Entry) → Apart xs → tally (λ (x : Entry). text_eq i x.id) xs ≤ 1
 at_most_one i [] once = omega arith
 at_most_one i (x ∷ xs) once =
     elim (text_eq i x.id) as (λ b. text_eq i x.id ≡ b → cond b 1 0 + tally (λ (x : Entry). text_eq i x.id) xs ≤ 1) [
-      | true ↦ λ same. alone _ (none_tallied (λ (x : Entry). text_eq i x.id) xs (ap (λ (w : Name). has_id w xs) (text_equality.exact i x.id same) ∙ once.0))
+      | true ↦ λ same. alone _ (none_tallied (λ (x : Entry). text_eq i x.id) xs (ap (λ (w : IdBytes). has_id w xs) (text_equality.exact i x.id same) ∙ once.0))
       | false ↦ λ _. further _ (at_most_one i xs once.1)
     ] refl
   where
@@ -132,7 +132,7 @@ at_most_one i (x ∷ xs) once =
 pub ordered_apart : (xs : List Entry) → Apart xs → Apart (in_order entry_cmp xs)
 ordered_apart xs once = apart_from (in_order entry_cmp xs) (λ i. subst (λ n. n ≤ 1) (sym (tally-in_order entry_cmp (λ (x : Entry). text_eq i x.id) xs)) (at_most_one i xs once))
 
-pub has-reranked : (y : Name) (xs : List Entry) (rs : List ℕ) → has_id y (reranked xs rs) ≡ has_id y xs
+pub has-reranked : (y : IdBytes) (xs : List Entry) (rs : List ℕ) → has_id y (reranked xs rs) ≡ has_id y xs
 has-reranked y [] rs = refl
 has-reranked y (x ∷ xs) [] = refl
 has-reranked y (x ∷ xs) (r ∷ rs) = ap (λ b. text_eq y x.id || b) (has-reranked y xs rs)
@@ -143,18 +143,18 @@ apart-reranked (x ∷ xs) [] once = once
 apart-reranked (x ∷ xs) (r ∷ rs) once = (has-reranked x.id xs rs ∙ once.0, apart-reranked xs rs once.1)
 
 -- another element is in the list without one as it is in the list
-pub has-without : (e y : Name) (xs : List Entry) → text_eq e y ≡ false → has_id y (without_entry e xs) ≡ has_id y xs
+pub has-without : (e y : IdBytes) (xs : List Entry) → text_eq e y ≡ false → has_id y (without_entry e xs) ≡ has_id y xs
 has-without e y [] differ = refl
 has-without e y (x ∷ xs) differ =
     elim (text_eq e x.id) as (λ b. text_eq e x.id ≡ b → has_id y (cond {A = List Entry} (not b) (x ∷ without_entry e xs) (without_entry e xs)) ≡ text_eq y x.id || has_id y xs) [
       | true ↦ λ same.
-          let other : text_eq y x.id ≡ false = apart text_eq text_equality x.id y (ap (λ (w : Name). text_eq w y) (sym (text_equality.exact e x.id same)) ∙ differ) in
+          let other : text_eq y x.id ≡ false = apart text_eq text_equality x.id y (ap (λ (w : IdBytes). text_eq w y) (sym (text_equality.exact e x.id same)) ∙ differ) in
           has-without e y xs differ ∙ ap (λ b. b || has_id y xs) (sym other)
       | false ↦ λ _. ap (λ b. text_eq y x.id || b) (has-without e y xs differ)
     ] refl
 
 -- a list without an element that it doesn't have
-pub without_none : (e : Name) (xs : List Entry) → has_id e xs ≡ false → without_entry e xs ≡ xs
+pub without_none : (e : IdBytes) (xs : List Entry) → has_id e xs ≡ false → without_entry e xs ≡ xs
 without_none e [] far = refl
 without_none e (x ∷ xs) far =
     ap (λ b. cond {A = List Entry} (not b) (x ∷ without_entry e xs) (without_entry e xs)) (or_first (text_eq e x.id) _ far)
@@ -162,7 +162,7 @@ without_none e (x ∷ xs) far =
 
 -- a list without what doesn't pass
 module _ (p : Entry → Bool) where
-  far_filter : (y : Name) (xs : List Entry) → has_id y xs ≡ false → has_id y (filter p xs) ≡ false
+  far_filter : (y : IdBytes) (xs : List Entry) → has_id y xs ≡ false → has_id y (filter p xs) ≡ false
   far_filter y [] far = refl
   far_filter y (x ∷ xs) far =
       elim (p x) as (λ b. has_id y (cond {A = List Entry} b (x ∷ filter p xs) (filter p xs)) ≡ false) [
@@ -187,39 +187,39 @@ module _ (p : Entry → Bool) where
       ]
 
 -- an element without which the list is one shorter
-pub length_without : (e : Name) (xs : List Entry) → Apart xs → has_id e xs ≡ true → length xs ≡ suc (length (without_entry e xs))
+pub length_without : (e : IdBytes) (xs : List Entry) → Apart xs → has_id e xs ≡ true → length xs ≡ suc (length (without_entry e xs))
 length_without e [] once is = cc
 length_without e (x ∷ xs) once is =
     elim (text_eq e x.id) as (λ b. text_eq e x.id ≡ b → suc (length xs) ≡ suc (length (cond {A = List Entry} (not b) (x ∷ without_entry e xs) (without_entry e xs)))) [
-      | true ↦ λ same. ap (λ l. suc (length l)) (sym (without_none e xs (ap (λ (w : Name). has_id w xs) (text_equality.exact e x.id same) ∙ once.0)))
+      | true ↦ λ same. ap (λ l. suc (length l)) (sym (without_none e xs (ap (λ (w : IdBytes). has_id w xs) (text_equality.exact e x.id same) ∙ once.0)))
       | false ↦ λ differ. ap suc (length_without e xs once.1 (other_or (text_eq e x.id) _ is differ))
     ] refl
 
 -- what stands at an index is in the list
-stands_in : (e : Name) (k : ℕ) (xs : List Entry) → stands_at e k xs ≡ true → has_id e xs ≡ true
+stands_in : (e : IdBytes) (k : ℕ) (xs : List Entry) → stands_at e k xs ≡ true → has_id e xs ≡ true
 stands_in e k [] at = cc
 stands_in e zero (x ∷ xs) at = ap (λ b. b || has_id e xs) (flipped at)
   where
     flipped : text_eq x.id e ≡ true → text_eq e x.id ≡ true
-    flipped h = ap (λ (w : Name). text_eq w x.id) (sym (text_equality.exact x.id e h)) ∙ text_equality.own x.id
+    flipped h = ap (λ (w : IdBytes). text_eq w x.id) (sym (text_equality.exact x.id e h)) ∙ text_equality.own x.id
 stands_in e (suc k) (x ∷ xs) at = or_right (text_eq e x.id) _ (stands_in e k xs at)
 
 -- an element that stands at the index already
-pub stands_still : (e : Name) (k : ℕ) (xs : List Entry) → Apart xs → stands_at e k xs ≡ true → StandsAt xs xs e k
+pub stands_still : (e : IdBytes) (k : ℕ) (xs : List Entry) → Apart xs → stands_at e k xs ≡ true → StandsAt xs xs e k
 stands_still e k [] once at = cc
 stands_still e zero (x ∷ xs) once at =
     let same : x.id ≡ e = text_equality.exact x.id e at in
-    let far : has_id e xs ≡ false = ap (λ (w : Name). has_id w xs) (sym same) ∙ once.0 in
+    let far : has_id e xs ≡ false = ap (λ (w : IdBytes). has_id w xs) (sym same) ∙ once.0 in
     let own : text_eq e x.id ≡ true = ap (text_eq e) same ∙ text_equality.own e in
     let rest : without_entry e (x ∷ xs) ≡ xs = ap (λ b. cond {A = List Entry} (not b) (x ∷ without_entry e xs) (without_entry e xs)) own ∙ without_none e xs far in
     ap (λ i. i ∷ ids_of xs) same ∙ ap (λ l. e ∷ ids_of l) (sym rest)
 stands_still e (suc k) (x ∷ xs) once at =
     let differ : text_eq e x.id ≡ false = not_so (text_eq e x.id) (λ same.
-    true_false (has_id e xs) (stands_in e k xs at) (ap (λ (w : Name). has_id w xs) (text_equality.exact e x.id same) ∙ once.0)) in
+    true_false (has_id e xs) (stands_in e k xs at) (ap (λ (w : IdBytes). has_id w xs) (text_equality.exact e x.id same) ∙ once.0)) in
     let rest : without_entry e (x ∷ xs) ≡ x ∷ without_entry e xs = ap (λ b. cond {A = List Entry} (not b) (x ∷ without_entry e xs) (without_entry e xs)) differ in
     ap (λ l. x.id ∷ l) (stands_still e k xs once.1 at) ∙ ap (λ l. insert (ids_of l) (suc k) e) (sym rest)
 
-module _ (g h : Ranking) (xs zs others : List Entry) (rs : List ℕ) (e : Name) (r : ℕ) where
+module _ (g h : Ranking) (xs zs others : List Entry) (rs : List ℕ) (e : IdBytes) (r : ℕ) where
   -- the list after has the others with their new ranks, and the element with its own
   pub record Comes : Type 0 where
     pub old : Tells g xs
@@ -227,7 +227,7 @@ module _ (g h : Ranking) (xs zs others : List Entry) (rs : List ℕ) (e : Name) 
     pub are : without_entry e xs ≡ others
     pub here : h e ≡ Some r
     pub held : AllHeld h (reranked others rs)
-    pub still : (y : Name) → text_eq e y ≡ false → has_id y others ≡ false → h y ≡ g y
+    pub still : (y : IdBytes) → text_eq e y ≡ false → has_id y others ≡ false → h y ≡ g y
 
   abbrev all : List Entry
   all = record { rank = r; id = e } ∷ reranked others rs
@@ -236,7 +236,7 @@ module _ (g h : Ranking) (xs zs others : List Entry) (rs : List ℕ) (e : Name) 
     far : has_id e others ≡ false
     far = subst (λ l. has_id e l ≡ false) c.are (none_without e xs)
 
-    among : (y : Name) (s : ℕ) → h y ≡ Some s → text_eq e y ≡ false → has_id y others ≡ true
+    among : (y : IdBytes) (s : ℕ) → h y ≡ Some s → text_eq e y ≡ false → has_id y others ≡ true
     among y s is differ =
         elim (has_id y others) as (λ b. has_id y others ≡ b → b ≡ true) [
           | true ↦ λ _. refl
@@ -244,7 +244,7 @@ module _ (g h : Ranking) (xs zs others : List Entry) (rs : List ℕ) (e : Name) 
               (ap (has_id y) (sym c.are) ∙ has-without e y xs differ ∙ c.old.has y s (sym (c.still y differ none) ∙ is)) none)
         ] refl
 
-    there : (y : Name) (s : ℕ) → h y ≡ Some s → text_eq y e || has_id y (reranked others rs) ≡ true
+    there : (y : IdBytes) (s : ℕ) → h y ≡ Some s → text_eq y e || has_id y (reranked others rs) ≡ true
     there y s is =
         elim (text_eq y e) as (λ b. text_eq y e ≡ b → b || has_id y (reranked others rs) ≡ true) [
           | true ↦ λ _. refl
@@ -260,7 +260,7 @@ module _ (g h : Ranking) (xs zs others : List Entry) (rs : List ℕ) (e : Name) 
     })
 
 -- with the ranks of the spot at an index of the others, the element stands there
-pub stands : (g h : Ranking) (xs zs others : List Entry) (e : Name) (k r : ℕ) → Comes g h xs zs others (spot others k).ranks e r → k ≤ length others → (spot others k).rank ≡ Some r → StandsAt xs zs e k
+pub stands : (g h : Ranking) (xs zs others : List Entry) (e : IdBytes) (k r : ℕ) → Comes g h xs zs others (spot others k).ranks e r → k ≤ length others → (spot others k).rank ≡ Some r → StandsAt xs zs e k
 stands g h xs zs others e k r c le is =
     ap ids_of (comes g h xs zs others (spot others k).ranks e r c)
     ∙ spot_opens others k r e (subst (Rises entry_cmp) c.are (rises_filter (λ (x : Entry). not (text_eq e x.id)) xs c.old.up)) le is

@@ -3,7 +3,7 @@ use Rattle.std.specs.Prelude.{ℕ, Bool, not, cond, List, [], ◌∷◌, Option,
 use Rattle.std.specs.FinMap.{get}
 use Rattle.finite_maps.specs.Maps.{is_below}
 use Rattle.ecore_meta.specs.Meta.{Meta}
-use Rattle.model_state.specs.Keys.{Name}
+use Rattle.model_state.specs.Keys.{IdBytes}
 use Rattle.model_state.specs.State.{State, row_count}
 use Rattle.model_state.specs.Steps.{may_link}
 use Rattle.model_state.specs.Typing.{opposite_of, row_upper}
@@ -20,15 +20,15 @@ first_refusal (t ∷ ts) = cond t.0 (first_refusal ts) (Some t.1)
 
 -- ---- the tests of each edit in order, each with the refusal where it fails
 -- unlink: the row is there
-abbrev pub unlink_tests : State → Name → ℕ → Name → List (Bool × EditFault)
+abbrev pub unlink_tests : State → IdBytes → ℕ → IdBytes → List (Bool × EditFault)
 unlink_tests m a f b = (is_some (get m.row (a, f, b)), NoEntry) ∷ []
 
 -- why an unlink is refused
-abbrev pub unlink_refusal : State → Name → ℕ → Name → Option EditFault
+abbrev pub unlink_refusal : State → IdBytes → ℕ → IdBytes → Option EditFault
 unlink_refusal m a f b = first_refusal (unlink_tests m a f b)
 
 -- set: the target is of the feature's type; what is there needs no more; there is room for the mirror, and a rank
-abbrev pub set_ref_tests : Meta → State → Name → ℕ → Name → List (Bool × EditFault)
+abbrev pub set_ref_tests : Meta → State → IdBytes → ℕ → IdBytes → List (Bool × EditFault)
 set_ref_tests meta m a f b =
     (may_link meta (get m.kind a) f (get m.kind b), WrongType)
     ∷ (is_some (get m.row (a, f, b)) || room_there meta m (opposite_of meta f) b, Bound)
@@ -36,11 +36,11 @@ set_ref_tests meta m a f b =
     ∷ []
 
 -- why a set is refused
-abbrev pub set_ref_refusal : Meta → State → Name → ℕ → Name → Option EditFault
+abbrev pub set_ref_refusal : Meta → State → IdBytes → ℕ → IdBytes → Option EditFault
 set_ref_refusal meta m a f b = first_refusal (set_ref_tests meta m a f b)
 
 -- link: the target is of the feature's type and isn't there, the index is one, and both lists have room and a rank
-abbrev pub link_tests : Meta → State → Name → ℕ → Name → ℕ → List (Bool × EditFault)
+abbrev pub link_tests : Meta → State → IdBytes → ℕ → IdBytes → ℕ → List (Bool × EditFault)
 link_tests meta m a f b k =
     (may_link meta (get m.kind a) f (get m.kind b), WrongType)
     ∷ (not (is_some (get m.row (a, f, b))), AlreadyThere)
@@ -52,15 +52,15 @@ link_tests meta m a f b k =
     ∷ []
 
 -- the index at which a link is asked for, None for the end of the list
-abbrev pub link_index : State → Name → ℕ → Option ℕ → ℕ
+abbrev pub link_index : State → IdBytes → ℕ → Option ℕ → ℕ
 link_index m a f at = unwrap_or at (length (targets m.row a f))
 
 -- why a link is refused at an index, None for the end
-abbrev pub link_refusal : Meta → State → Name → ℕ → Name → Option ℕ → Option EditFault
+abbrev pub link_refusal : Meta → State → IdBytes → ℕ → IdBytes → Option ℕ → Option EditFault
 link_refusal meta m a f b at = first_refusal (link_tests meta m a f b (link_index m a f at))
 
 -- reorder: the row is there, the index is one of the list's, and where the target doesn't stand at it yet there is a rank
-abbrev pub reorder_tests : State → Name → ℕ → Name → ℕ → List (Bool × EditFault)
+abbrev pub reorder_tests : State → IdBytes → ℕ → IdBytes → ℕ → List (Bool × EditFault)
 reorder_tests m a f b k =
     (is_some (get m.row (a, f, b)), NoEntry)
     ∷ (nat_lt k (length (targets m.row a f)), NoEntry)
@@ -68,5 +68,5 @@ reorder_tests m a f b k =
     ∷ []
 
 -- why a reorder is refused
-abbrev pub reorder_refusal : State → Name → ℕ → Name → ℕ → Option EditFault
+abbrev pub reorder_refusal : State → IdBytes → ℕ → IdBytes → ℕ → Option EditFault
 reorder_refusal m a f b k = first_refusal (reorder_tests m a f b k)

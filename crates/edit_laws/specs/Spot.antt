@@ -1,4 +1,4 @@
--- The rank of an entry that comes into a list, and the ranks of the others, which are spread anew where there is no room.
+-- The rank of an entry that is inserted into a list, and the ranks of the others, which are renumbered where there is no room.
 use Rattle.std.specs.Prelude.{ℕ, ◌+◌, ◌-◌, ◌*◌, cond, List, [], ◌∷◌, map, length, Option, None, Some, unwrap_or, slice_get, nat_eq, nat_lt}
 use Rattle.model_state.specs.declared.entry.Entry.{Entry}
 use Rattle.model_state.specs.Ranks.{rank_between}
@@ -7,7 +7,7 @@ use Rattle.model_state.specs.Ranks.{rank_between}
 abbrev pub ranks_of : List Entry → List ℕ
 ranks_of xs = map (λ x. x.rank) xs
 
--- the rank of an entry that comes to stand at an index of the others: between its neighbours, or after the last
+-- the rank of an entry that is put at an index of the others: between its neighbours, or after the last
 abbrev pub rank_for : List ℕ → ℕ → Option ℕ
 rank_for rs k = rank_between (cond (nat_eq k 0) 0 (unwrap_or (slice_get rs (k - 1)) 0)) (slice_get rs k)
 
@@ -16,12 +16,12 @@ abbrev pub evened : ℕ → List Entry → List ℕ
 evened n [] = []
 evened n (x ∷ xs) = (n * 4294967296) ∷ evened (n + 1) xs
 
--- the ranks of the other entries, and that of the new one, None where there is no room and the list is too long to be ranked anew
+-- the ranks of the other entries, and that of the new one, None where there is no room and the list is too long to be renumbered
 pub record Spot : Type 0 where
   pub ranks : List ℕ
   pub rank : Option ℕ
 
--- the others keep their ranks where there is one for the new entry, and are else ranked anew
+-- the others keep their ranks where there is one for the new entry, and are else renumbered
 abbrev pub spot_by : Option ℕ → List Entry → ℕ → Spot
 spot_by (Some r) xs k = record { ranks = ranks_of xs; rank = Some r }
 spot_by None xs k = record { ranks = evened 1 xs; rank = cond (nat_lt (length xs) 4294967295) (rank_for (evened 1 xs) k) None }
@@ -30,6 +30,6 @@ spot_by None xs k = record { ranks = evened 1 xs; rank = cond (nat_lt (length xs
 abbrev pub spot : List Entry → ℕ → Spot
 spot xs k = spot_by (rank_for (ranks_of xs) k) xs k
 
--- the spot behind the last entry
+-- the spot after the last entry
 abbrev pub end_spot : List Entry → Spot
 end_spot xs = spot xs (length xs)

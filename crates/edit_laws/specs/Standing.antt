@@ -5,25 +5,25 @@ use Rattle.finite_maps.specs.Equal.{text_eq}
 use Rattle.finite_maps.specs.Sorts.{in_order}
 use Rattle.ecore_meta.specs.Meta.{Meta}
 use Rattle.model_state.specs.declared.entry.Entry.{Entry}
-use Rattle.model_state.specs.Keys.{Name, RowKey}
+use Rattle.model_state.specs.Keys.{IdBytes, RowKey}
 use Rattle.model_state.specs.Typing.{opposite_of}
 use Rattle.model_state.specs.Listing.{children, entry_cmp, targets}
 use Rattle.model_state.specs.State.{State, place_eq}
 use Rattle.model_state.specs.declared.step.Place.{Place}
 use Rattle.edit_laws.specs.Spot.{spot}
-use Rattle.edit_laws.specs.Rows.{Rows, around}
-use Rattle.edit_laws.specs.References.{is_one, without_entry}
+use Rattle.edit_laws.specs.Rows.{Rows, is_row_or_mirror}
+use Rattle.edit_laws.specs.References.{holds_one, without_entry}
 
 -- the ids of entries
-abbrev pub ids_of : List Entry → List Name
+abbrev pub ids_of : List Entry → List IdBytes
 ids_of xs = map (λ (x : Entry). x.id) xs
 
 -- the list after is the list before without the element, with the element inserted at index k
-abbrev pub StandsAt : List Entry → List Entry → Name → ℕ → Type 0
+abbrev pub StandsAt : List Entry → List Entry → IdBytes → ℕ → Type 0
 StandsAt before after e k = ids_of after ≡ insert (ids_of (without_entry e before)) k e
 
 -- the same at the end of the others
-abbrev pub StandsLast : List Entry → List Entry → Name → Type 0
+abbrev pub StandsLast : List Entry → List Entry → IdBytes → Type 0
 StandsLast before after e = StandsAt before after e (length (without_entry e before))
 
 -- the entries with the ranks given
@@ -34,36 +34,36 @@ reranked (x ∷ xs) (r ∷ rs) = record { rank = r; id = x.id } ∷ reranked xs 
 
 -- an entry with the rank of the spot at index k stands at k of a list by rank and then by id, and the others as they did
 abbrev pub SpotStands : Type 0
-SpotStands = (xs : List Entry) (k r : ℕ) (e : Name) → in_order entry_cmp xs ≡ xs → k ≤ length xs → (spot xs k).rank ≡ Some r
+SpotStands = (xs : List Entry) (k r : ℕ) (e : IdBytes) → in_order entry_cmp xs ≡ xs → k ≤ length xs → (spot xs k).rank ≡ Some r
     → ids_of (in_order entry_cmp (record { rank = r; id = e } ∷ reranked xs (spot xs k).ranks)) ≡ insert (ids_of xs) k e
 
 -- ---- references
--- the row goes where b gets another source by the reference f: where its opposite o holds one, the rows to b by f and their mirrors
-abbrev pub is_displaced : Meta → Option ℕ → ℕ → Name → RowKey → Bool
+-- the row is removed where b gets another source by the reference f: where its opposite o holds one, the rows to b by f and their mirrors
+abbrev pub is_displaced : Meta → Option ℕ → ℕ → IdBytes → RowKey → Bool
 is_displaced meta None f b k = false
-is_displaced meta (Some g) f b k = is_one meta g && around (Some f) b g k
+is_displaced meta (Some g) f b k = holds_one meta g && is_row_or_mirror (Some f) b g k
 
--- the entries of a list that stay, where such rows go
-abbrev pub staying : (RowKey → Bool) → Rows → Name → ℕ → List Entry
+-- the entries of a list that stay, where such rows are removed
+abbrev pub staying : (RowKey → Bool) → Rows → IdBytes → ℕ → List Entry
 staying gone row x h = filter (λ (e : Entry). not (gone (x, h, e.id))) (targets row x h)
 
 -- the list of x and h is that of a and f
-abbrev pub is_list : Name → ℕ → Name → ℕ → Bool
+abbrev pub is_list : IdBytes → ℕ → IdBytes → ℕ → Bool
 is_list a f x h = text_eq a x && nat_eq f h
 
 -- it is that, or that of b and the opposite
-abbrev pub is_end : Option ℕ → Name → ℕ → Name → Name → ℕ → Bool
+abbrev pub is_end : Option ℕ → IdBytes → ℕ → IdBytes → IdBytes → ℕ → Bool
 is_end None a f b x h = is_list a f x h
 is_end (Some g) a f b x h = is_list a f x h || is_list b g x h
 
--- the lists after a row from a to b came: b stands at index k, a last in the opposite's list, and the other lists have what stays
-pub record Joined (meta : Meta) (gone : RowKey → Bool) (before after : Rows) (a : Name) (f : ℕ) (b : Name) (k : ℕ) : Type 0 where
+-- the lists after a row from a to b was added: b stands at index k, a last in the opposite's list, and the other lists have what stays
+pub record Joined (meta : Meta) (gone : RowKey → Bool) (before after : Rows) (a : IdBytes) (f : ℕ) (b : IdBytes) (k : ℕ) : Type 0 where
   pub here : StandsAt (staying gone before a f) (targets after a f) b k
   pub mirror : (g : ℕ) → opposite_of meta f ≡ Some g → StandsLast (staying gone before b g) (targets after b g) a
-  pub others : (x : Name) (h : ℕ) → is_end (opposite_of meta f) a f b x h ≡ false → targets after x h ≡ staying gone before x h
+  pub others : (x : IdBytes) (h : ℕ) → is_end (opposite_of meta f) a f b x h ≡ false → targets after x h ≡ staying gone before x h
 
 -- ---- places
--- the lists after an element came to stand in a place: it stands at index k there, and each other place has what it had, without it
-pub record Placed (before after : State) (e : Name) (p : Place) (k : ℕ) : Type 0 where
+-- the lists after an element was put into a place: it stands at index k there, and each other place has what it had, without it
+pub record Placed (before after : State) (e : IdBytes) (p : Place) (k : ℕ) : Type 0 where
   pub here : StandsAt (children before.place before.prank p) (children after.place after.prank p) e k
   pub others : (q : Place) → place_eq p q ≡ false → children after.place after.prank q ≡ without_entry e (children before.place before.prank q)

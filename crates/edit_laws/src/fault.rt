@@ -32,14 +32,14 @@ pub enum EditFault {
     /// The text isn't a value of the attribute's type, or for a reference isn't a JSON text.
     #[error("no value of the feature's type")]
     BadValue,
-    /// The class of the target, or of the element that comes inside another, isn't the feature's type or below it.
+    /// The class of the target, or of the element that is put inside another, isn't the feature's type or below it.
     #[error("a wrong type")]
     WrongType,
-    /// A list or place would get an entry more and is at its upper bound or has 4,294,967,295 values, or it is to be ranked
-    /// anew and is too long for it. An entry that the edit itself displaces isn't counted.
+    /// A list or place would get an entry more and is at its upper bound or has 4,294,967,295 values, or it is to be
+    /// renumbered and is too long for it. An entry that the edit itself displaces isn't counted.
     #[error("the list is full")]
     Bound,
-    /// The element would come inside itself: it is the new parent, or one of the parent's containers.
+    /// The element would stand inside itself: it is the new parent, or one of the parent's containers.
     #[error("a cycle of containers")]
     WouldCycle,
     /// The attribute holds each value once, and holds this one, or the reference has the target.

@@ -39,7 +39,7 @@ pub fn law_of_many_value_edits()
 {}
 
 /// An entry stands where it was asked for. In a list by rank and then by id, one with the rank of the spot at an index
-/// stands at that index of the others, and these stand as they did, ranked anew or not. So a target that is linked or
+/// stands at that index of the others, and these stand as they did, renumbered or not. So a target that is linked or
 /// reordered stands at its index, its source last in the opposite's list, a new element last in its place and one that
 /// moves at its index, and each other list is as it was, without what the edit takes away.
 pub fn law_of_standing()

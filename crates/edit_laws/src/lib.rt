@@ -1,4 +1,4 @@
-//! Single edits of a model: what each leaves, said without steps, the steps that are made for it, when it is refused, and
+//! Single edits of a model: what each leaves, defined without steps, the steps that are made for it, when it is refused, and
 //! the laws that the steps lead there. A law is the contract of a function that does nothing.
 #![tactic(auto)]
 

@@ -4,7 +4,7 @@ use Rattle.std.specs.Prelude.{Option, None, is_some, Result, Ok, Err, if◌then�
 use Rattle.std.specs.FinMap.{get}
 use Rattle.ecore_meta.specs.Meta.{Meta}
 use Rattle.model_state.specs.declared.step.Place.{Place}
-use Rattle.model_state.specs.Keys.{Name}
+use Rattle.model_state.specs.Keys.{IdBytes}
 use Rattle.model_state.specs.Listing.{targets}
 use Rattle.model_state.specs.State.{State, is_live}
 use Rattle.model_state.specs.Steps.{value_fits, not_default}
@@ -18,7 +18,7 @@ use Rattle.containment.specs.Containers.{containers_of}
 use Rattle.edits.specs.Edits.{Effect, Creates, Moves, Deletes, Puts, Clears, Inserts, Removes, Shifts, Refers, Forgets, Links, Unlinks, Reorders}
 
 -- an element may move to a place
-pub record MayMove (meta : Meta) (m : State) (e : Name) (to : Place) (at : Option ℕ) : Type 0 where
+pub record MayMove (meta : Meta) (m : State) (e : IdBytes) (to : Place) (at : Option ℕ) : Type 0 where
   pub live : is_live m e ≡ true
   pub is : IsPlace meta m to
   pub taken : move_refusal meta m e to (containers_of m to) at ≡ None

@@ -14,7 +14,7 @@ use Rattle.finite_maps.proofs.MapLaws.{get-set_other, same_key}
 use Rattle.finite_maps.proofs.CountLaws.{count-set}
 use Rattle.finite_maps.proofs.EqualLaws.{nat_equality, and_both, and_first, and_second}
 use Rattle.model_state.specs.Ident.{is_id, is_id_byte}
-use Rattle.model_state.specs.Keys.{Name, id_cmp}
+use Rattle.model_state.specs.Keys.{IdBytes, id_cmp}
 use Rattle.model_state.specs.Listing.{ids}
 use Rattle.model_state.specs.State.{State, is_live}
 use Rattle.model_state.proofs.Orders.{id_order}
@@ -118,7 +118,7 @@ first_free_is m ws (suc n) k =
       | false ↦ λ dead. record { from = omega arith; to = omega arith; before = λ i low high. absurd (omega arith); free = λ less. dead }
     ] refl
 
-counted : (e : Name) (o : Option ℕ) → is_some o ≡ true → counts (λ _. true) e o ≡ 1
+counted : (e : IdBytes) (o : Option ℕ) → is_some o ≡ true → counts (λ _. true) e o ≡ 1
 counted e None h = cc
 counted e (Some v) h = refl
 
@@ -154,7 +154,7 @@ length-map h (x ∷ xs) = ap suc (length-map h xs)
 -- not all of more numbers than there are live elements are taken
 not_all : (m : State) (ws n : ℕ) → n ≡ length (ids m) → n + 1 < 2 ^ 64 → ((i : ℕ) → 1 ≤ i → i ≤ n + 1 → is_live m (numbered ws i) ≡ true) → ⊥
 not_all m ws n long small live =
-    let all : length (ids m) ≡ count (λ _. true) m.kind = length-map (λ (e : Name × ℕ). e.0) (entries m.kind) ∙ sym (all_counted (entries m.kind)) in
+    let all : length (ids m) ≡ count (λ _. true) m.kind = length-map (λ (e : IdBytes × ℕ). e.0) (entries m.kind) ∙ sym (all_counted (entries m.kind)) in
     let more : n + 1 ≤ count (λ _. true) m.kind = many_there ws n 1 m.kind (omega arith) (λ i low high. live i low (omega arith)) in
     omega (arith, all, more, long)
 

@@ -1,4 +1,4 @@
--- An element is created, moves or goes: what its tests have shown, and the steps taken one by one.
+-- An element is created, moved or deleted: what its tests have shown, and the steps taken one by one.
 use Rattle.std.proofs.Common.{◌≡◌, ℕ, Bool, true, false, cond, not, refl, sym, ap, subst, ◌∙◌, ◌&&◌}
 use Rattle.std.specs.Prelude.{Option, None, Some, is_some, unwrap_or, Result, Ok, Err, if◌then◌else◌}
 use Rattle.std.specs.FinMap.{get}
@@ -7,7 +7,7 @@ use Rattle.ecore_meta.specs.Meta.{Meta}
 use Rattle.model_state.specs.declared.step.Place.{Place}
 use Rattle.model_state.specs.declared.step.Place.TheVariants as places
 use Rattle.model_state.specs.Ident.{is_id}
-use Rattle.model_state.specs.Keys.{Name}
+use Rattle.model_state.specs.Keys.{IdBytes}
 use Rattle.model_state.specs.State.{State, is_live}
 use Rattle.model_state.specs.Steps.{fold, class_has, place_live}
 use Rattle.model_state.specs.Typing.{kind_of, is_concrete, contains_kind}
@@ -35,7 +35,7 @@ same_place : (x y : Place) → ◌≡◌ {A = Result Place EditFault} (Ok x) (Ok
 same_place x y h = cc
 
 -- ---- the place of a destination
-inside_is : (meta : Meta) (m : State) (a : Name) (r : Result ℕ EditFault) → ((f : ℕ) → r ≡ Ok f → class_has meta (get m.kind a) f ≡ true) → (p : Place) → place_inside meta a r ≡ Ok p → IsPlace meta m p
+inside_is : (meta : Meta) (m : State) (a : IdBytes) (r : Result ℕ EditFault) → ((f : ℕ) → r ≡ Ok f → class_has meta (get m.kind a) f ≡ true) → (p : Place) → place_inside meta a r ≡ Ok p → IsPlace meta m p
 inside_is meta m a (Err e) held p h = cc
 inside_is meta m a (Ok f) held p h =
     let contains = passed (contains_kind (kind_of meta f)) _ _ p h in
@@ -46,7 +46,7 @@ place_is meta m Root p h = subst (IsPlace meta m) (same_place places.Root p h) r
 place_is meta m (Inside a name) p h = inside_is meta m a (feature_at meta (class_at m a) name) (feature_held meta m a name) p h
 
 -- ---- create
-create_in_allowed : (meta : Meta) (m : State) → Good meta m → (c : ℕ) → is_concrete meta c ≡ true → (r : Result Place EditFault) → ((p : Place) → r ≡ Ok p → IsPlace meta m p) → (e : Name) (effect : Effect) → create_in meta m c r e ≡ Ok effect → Allowed meta m effect
+create_in_allowed : (meta : Meta) (m : State) → Good meta m → (c : ℕ) → is_concrete meta c ≡ true → (r : Result Place EditFault) → ((p : Place) → r ≡ Ok p → IsPlace meta m p) → (e : IdBytes) (effect : Effect) → create_in meta m c r e ≡ Ok effect → Allowed meta m effect
 create_in_allowed meta m good c concrete (Err fault) is e effect h = cc
 create_in_allowed meta m good c concrete (Ok p) is e effect h =
     let taken = not_full (create_refusal meta m c p) (new_effect m c p e) effect h in
@@ -56,26 +56,26 @@ create_in_allowed meta m good c concrete (Ok p) is e effect h =
     allowed_as meta m (Creates e c p) effect fresh.1
     (record { fresh = fresh.0; parent = parent_live meta m good p (is p refl); concrete = concrete; typed = t.0; room = t.1.0; ranked = t.1.1.0 })
 
-pub create_allowed : (meta : Meta) (m : State) → Good meta m → (o : Option ℕ) (to : Destination) (e : Name) (effect : Effect) → create_effect meta m o to e ≡ Ok effect → Allowed meta m effect
+pub create_allowed : (meta : Meta) (m : State) → Good meta m → (o : Option ℕ) (to : Destination) (e : IdBytes) (effect : Effect) → create_effect meta m o to e ≡ Ok effect → Allowed meta m effect
 create_allowed meta m good None to e effect h = cc
 create_allowed meta m good (Some c) to e effect h =
     let concrete = passed (is_concrete meta c) _ _ effect h in
     create_in_allowed meta m good c concrete.0 (place_at meta m to) (place_is meta m to) e effect concrete.1
 
 -- ---- move
-move_in_allowed : (meta : Meta) (m : State) (e : Name) → is_live m e ≡ true → (r : Result Place EditFault) → ((p : Place) → r ≡ Ok p → IsPlace meta m p) → (at : Option ℕ) (effect : Effect) → move_in meta m e r at ≡ Ok effect → Allowed meta m effect
+move_in_allowed : (meta : Meta) (m : State) (e : IdBytes) → is_live m e ≡ true → (r : Result Place EditFault) → ((p : Place) → r ≡ Ok p → IsPlace meta m p) → (at : Option ℕ) (effect : Effect) → move_in meta m e r at ≡ Ok effect → Allowed meta m effect
 move_in_allowed meta m e live (Err fault) is at effect h = cc
 move_in_allowed meta m e live (Ok p) is at effect h =
     let taken = not_full (move_refusal meta m e p (containers_of m p) at) (Ok (Moves e p at)) effect h in
     allowed_as meta m (Moves e p at) effect taken.1 (record { live = live; is = is p refl; taken = taken.0 })
 
-pub move_allowed : (meta : Meta) (m : State) (e : Name) (to : Destination) (at : Option ℕ) (effect : Effect) → move_effect meta m e to at ≡ Ok effect → Allowed meta m effect
+pub move_allowed : (meta : Meta) (m : State) (e : IdBytes) (to : Destination) (at : Option ℕ) (effect : Effect) → move_effect meta m e to at ≡ Ok effect → Allowed meta m effect
 move_allowed meta m e to at effect h =
     let live = passed (is_some (class_at m e)) _ _ effect h in
     move_in_allowed meta m e (class_held m e live.0) (place_at meta m to) (place_is meta m to) at effect live.1
 
 -- the steps are those of the move to the place
-pub move_meets : (meta : Meta) → Sound meta → (m : State) → Good meta m → (e : Name) (to : Place) (at : Option ℕ) → MayMove meta m e to at
+pub move_meets : (meta : Meta) → Sound meta → (m : State) → Good meta m → (e : IdBytes) (to : Place) (at : Option ℕ) → MayMove meta m e to at
     → fold meta m (move_made m e to at (containers_of m (place_of m e)) (containers_of m to)) ≡ Some (move_after m e to at)
 move_meets meta sound m good e to at may =
     let here = live_place meta m good e may.live in
@@ -90,7 +90,7 @@ move_meets meta sound m good e to at may =
     })
 
 -- ---- delete
-pub delete_allowed : (meta : Meta) (m : State) (e : Name) (effect : Effect) → delete_effect m e ≡ Ok effect → Allowed meta m effect
+pub delete_allowed : (meta : Meta) (m : State) (e : IdBytes) (effect : Effect) → delete_effect m e ≡ Ok effect → Allowed meta m effect
 delete_allowed meta m e effect h =
     let live = passed (is_some (class_at m e)) _ _ effect h in
     allowed_as meta m (Deletes e) effect live.1 (class_held m e live.0)

@@ -16,7 +16,7 @@ use Rattle.model_state.specs.declared.step.Place.{Place}
 use Rattle.model_state.specs.declared.step.Place.TheVariants.{Root}
 use Rattle.model_state.specs.declared.step.Step.{Step}
 use Rattle.model_state.specs.declared.step.Step.TheVariants.{RerankPlace}
-use Rattle.model_state.specs.Keys.{Name}
+use Rattle.model_state.specs.Keys.{IdBytes}
 use Rattle.model_state.specs.Listing.{children, rank_at}
 use Rattle.model_state.specs.State.{State, is_live, place_eq}
 use Rattle.model_state.specs.Good.{Good, Sound}
@@ -48,15 +48,15 @@ some_place : (x y : Place) → Some x ≡ Some y → x ≡ y
 some_place x y e = cc
 
 -- ---- delete: the element was there, and is there no more
-pub deleted : (meta : Meta) (m : State) (e : Name) → is_live m e ≡ true → delete_after meta m e ≡ m → ⊥
+pub deleted : (meta : Meta) (m : State) (e : IdBytes) → is_live m e ≡ true → delete_after meta m e ≡ m → ⊥
 deleted meta m e live same =
     let here : is_among (subtree_of meta m e) e ≡ true = or_left (text_eq e e) _ (text_equality.own e) in
     let gone : get m.kind e ≡ None = ap (λ (x : State). get x.kind e) (sym same) ∙ get-without id_order (is_among (subtree_of meta m e)) m.kind e ∙ ap (λ b. cond b None (get m.kind e)) here in
     true_false (is_live m e) live (ap is_some gone)
 
 -- ---- move within a place: each element has the rank that it had
-no_reranks : (m : State) (xs : List Entry) (rs : List ℕ) (prank : Ranks) → ((x : Name) → list_any (λ (y : Entry). text_eq x y.id) xs ≡ true → get prank x ≡ get m.prank x) → Stand m xs
-    → ((y : Name) → list_any (λ (x : Entry). text_eq y x.id) xs ≡ true → get (ranked_places xs rs prank) y ≡ get prank y) → rerank_places xs rs ≡ []
+no_reranks : (m : State) (xs : List Entry) (rs : List ℕ) (prank : Ranks) → ((x : IdBytes) → list_any (λ (y : Entry). text_eq x y.id) xs ≡ true → get prank x ≡ get m.prank x) → Stand m xs
+    → ((y : IdBytes) → list_any (λ (x : Entry). text_eq y x.id) xs ≡ true → get (ranked_places xs rs prank) y ≡ get prank y) → rerank_places xs rs ≡ []
 no_reranks m [] rs prank old stand alike = refl
 no_reranks m (x ∷ xs) [] prank old stand alike = refl
 no_reranks m (x ∷ xs) (r ∷ rs) prank old stand alike =
@@ -69,13 +69,13 @@ no_reranks m (x ∷ xs) (r ∷ rs) prank old stand alike =
     let rest : rerank_places xs rs ≡ [] = no_reranks m xs rs prank (λ y among. old y (or_right (text_eq y x.id) _ among)) stand.3 (λ y among. ap (λ w. get (ranked_places xs rs w) y) (sym stays) ∙ alike y (or_right (text_eq y x.id) _ among)) in
     ap (λ t. cond {A = List Step} t (rerank_places xs rs) (RerankPlace x.id x.rank r ∷ rerank_places xs rs)) (ap (nat_eq x.rank) (sym rank) ∙ nat_equality.own x.rank) ∙ rest
 
-no_rerank : (e : Name) (r s : ℕ) → r ≡ s → rerank_places (record { rank = r; id = e } ∷ []) (s ∷ []) ≡ []
+no_rerank : (e : IdBytes) (r s : ℕ) → r ≡ s → rerank_places (record { rank = r; id = e } ∷ []) (s ∷ []) ≡ []
 no_rerank e r s is = ap (λ t. cond {A = List Step} t [] (RerankPlace e r s ∷ [])) (ap (nat_eq r) (sym is) ∙ nat_equality.own r)
 
 both_none : (xs ys : List Step) → xs ≡ [] → ys ≡ [] → xs ++ ys ≡ []
 both_none xs ys h g = ap (λ l. l ++ ys) h ∙ g
 
-module _ (meta : Meta) (sound : Sound meta) (m : State) (good : Good meta m) (e : Name) (p : Place) (k : ℕ) (may : MayMoveWithin m e p k) where
+module _ (meta : Meta) (sound : Sound meta) (m : State) (good : Good meta m) (e : IdBytes) (p : Place) (k : ℕ) (may : MayMoveWithin m e p k) where
   abbrev others : List Entry
   others = without_entry e (children m.place m.prank p)
 
@@ -87,8 +87,8 @@ module _ (meta : Meta) (sound : Sound meta) (m : State) (good : Good meta m) (e 
   moved_still whole =
       let same : set next e (spot others k).rank ≡ m.prank = ap (λ (x : State). x.prank) whole in
       let mine : get m.prank e ≡ (spot others k).rank = ap (λ w. get w e) (sym same) ∙ get-set_same id_order next e (spot others k).rank in
-      let apart : (y : Name) → list_any (λ (x : Entry). text_eq y x.id) others ≡ true → text_eq e y ≡ false = λ y among.
-      not_so (text_eq e y) (λ is. true_false (list_any (λ (x : Entry). text_eq e x.id) others) (ap (λ (z : Name). list_any (λ (x : Entry). text_eq z x.id) others) (text_equality.exact e y is) ∙ among) (none_without e (children m.place m.prank p))) in
+      let apart : (y : IdBytes) → list_any (λ (x : Entry). text_eq y x.id) others ≡ true → text_eq e y ≡ false = λ y among.
+      not_so (text_eq e y) (λ is. true_false (list_any (λ (x : Entry). text_eq e x.id) others) (ap (λ (z : IdBytes). list_any (λ (x : Entry). text_eq z x.id) others) (text_equality.exact e y is) ∙ among) (none_without e (children m.place m.prank p))) in
       both_none (rerank_places others (spot others k).ranks) _
       (no_reranks m others (spot others k).ranks m.prank (λ _ _. refl) (others_stand meta sound m good e p k may)
       (λ y among. sym (get-set_other id_order next e (spot others k).rank y (names_differ e y (apart y among))) ∙ ap (λ w. get w y) same))
@@ -103,7 +103,7 @@ module _ (meta : Meta) (sound : Sound meta) (m : State) (good : Good meta m) (e 
       ] same
 
 -- ---- move
-module _ (meta : Meta) (sound : Sound meta) (m : State) (good : Good meta m) (e : Name) (to : Place) (at : Option ℕ) (up down : List Name) (may : MayMove meta m e to at) where
+module _ (meta : Meta) (sound : Sound meta) (m : State) (good : Good meta m) (e : IdBytes) (to : Place) (at : Option ℕ) (up down : List IdBytes) (may : MayMove meta m e to at) where
   abbrev xs : List Entry
   xs = children m.place m.prank to
 
@@ -116,7 +116,7 @@ module _ (meta : Meta) (sound : Sound meta) (m : State) (good : Good meta m) (e 
   stands : get m.place e ≡ Some (place_of m e)
   stands = let here = live_place meta m good e may.live in here.1 ∙ ap Some (sym (ap (λ o. unwrap_or o Root) here.1))
 
-  -- an element that comes to another place was not there
+  -- an element that is moved to another place was not there
   not_moved : place_eq (place_of m e) to ≡ false → move_to_after m e to outer ≡ m → ⊥
   not_moved differ same =
       let there : Some (place_of m e) ≡ Some to = sym stands ∙ ap (λ (x : State). get x.place e) (sym same) ∙ get-set_same id_order m.place e (Some to) in

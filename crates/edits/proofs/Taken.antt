@@ -19,7 +19,7 @@ use Rattle.ecore_meta.specs.declared.meta.Value.{Value}
 use Rattle.model_state.specs.declared.entry.Entry.{Entry}
 use Rattle.model_state.specs.declared.step.Place.TheVariants.{Root}
 use Rattle.model_state.specs.Ident.{is_id}
-use Rattle.model_state.specs.Keys.{Name}
+use Rattle.model_state.specs.Keys.{IdBytes}
 use Rattle.model_state.specs.Listing.{children}
 use Rattle.model_state.specs.State.{State, is_live}
 use Rattle.model_state.specs.Steps.{fold, class_has, value_fits, not_default}
@@ -29,7 +29,7 @@ use Rattle.edits.specs.declared.edit.Edit.{Edit}
 use Rattle.edits.specs.declared.edit.Edit.TheVariants.{Create, Delete, Set, Unset, Add, Remove, Shift, Link, Unlink, Reorder, Move}
 use Rattle.edit_laws.specs.declared.fault.EditFault.{EditFault}
 use Rattle.edit_laws.specs.declared.fault.EditFault.TheVariants.{NoFeature}
-use Rattle.edit_laws.specs.References.{is_one, MaySet, MayLink, MayReorder}
+use Rattle.edit_laws.specs.References.{holds_one, MaySet, MayLink, MayReorder}
 use Rattle.edit_laws.specs.Refusals.{set_ref_refusal, link_index, link_refusal, unlink_refusal, reorder_refusal}
 use Rattle.edit_laws.specs.Spot.{rank_for, ranks_of, spot_by}
 use Rattle.edit_laws.specs.Places.{MayCreate}
@@ -65,12 +65,12 @@ with_feature meta (Err e) effect x h = cc
 with_feature meta (Ok f) effect x h = record { feature = f; named = refl; comes = h }
 
 -- ---- the rows of attributes
-module _ (meta : Meta) (m : State) (e : Name) (f : ℕ) (has : class_has meta (get m.kind e) f ≡ true) (effect : Effect) where
+module _ (meta : Meta) (m : State) (e : IdBytes) (f : ℕ) (has : class_has meta (get m.kind e) f ≡ true) (effect : Effect) where
   put_allowed : (o : Option Value) → is_attr (kind_of meta f) ≡ true → ((v : Value) → o ≡ Some v → attr_fits meta (kind_of meta f) v ≡ true) → put_effect meta e f o ≡ Ok effect → Allowed meta m effect
   put_allowed None is fit h = cc
   put_allowed (Some v) is fit h = allowed_as meta m (Puts e f (taken meta f v)) effect h ((has, is), taken_fits meta f v (fit v refl), taken_differs meta f v)
 
-  refer_allowed : is_one meta f ≡ true → (o : Option Name) → refer_effect meta m e f o ≡ Ok effect → Allowed meta m effect
+  refer_allowed : holds_one meta f ≡ true → (o : Option IdBytes) → refer_effect meta m e f o ≡ Ok effect → Allowed meta m effect
   refer_allowed one None h = cc
   refer_allowed one (Some b) h =
       let live = passed (is_some (class_at m b)) _ _ effect h in
@@ -80,7 +80,7 @@ module _ (meta : Meta) (m : State) (e : Name) (f : ℕ) (has : class_has meta (g
   set_allowed : (reading : Reading) → IsTyped meta reading → (text : List ℕ) (k : Kind) → kind_of meta f ≡ k → set_effect reading meta m e f k text ≡ Ok effect → Allowed meta m effect
   set_allowed reading typed text (Attr scalar default) is h = put_allowed (reading scalar text) (ap is_attr is) (λ v read. ap (λ k. attr_fits meta k v) is ∙ typed scalar text v read) h
   set_allowed reading typed text (Bounded target opposite) is h =
-      let one = passed (is_one meta f) _ _ effect h in
+      let one = passed (holds_one meta f) _ _ effect h in
       refer_allowed one.0 (target_in (reading types.Text text)) one.1
   set_allowed reading typed text k is h = cc
 
@@ -128,21 +128,21 @@ module _ (meta : Meta) (m : State) (e : Name) (f : ℕ) (has : class_has meta (g
       allowed_as meta m (Shifts e f from to) effect within_to.1 ((has, ap is_many is), within.0, within_to.0)
   shift_allowed from to k is h = cc
 
-  link_allowed : (b : Name) (at : Option ℕ) (k : Kind) → link_effect meta m e f k b at ≡ Ok effect → Allowed meta m effect
+  link_allowed : (b : IdBytes) (at : Option ℕ) (k : Kind) → link_effect meta m e f k b at ≡ Ok effect → Allowed meta m effect
   link_allowed b at k h =
       let listed = passed (is_listed meta f k) _ _ effect h in
       let live = passed (is_some (class_at m b)) _ _ effect listed.1 in
       let open_ = not_refused (link_refusal meta m e f b at) (Links e f b (link_index m e f at)) effect live.1 in
       allowed_as meta m (Links e f b (link_index m e f at)) effect open_.1 (may_link meta m e f b at open_.0, link_within meta m e f b at open_.0)
 
-  unlink_allowed : (b : Name) (k : Kind) → unlink_effect meta m e f k b ≡ Ok effect → Allowed meta m effect
+  unlink_allowed : (b : IdBytes) (k : Kind) → unlink_effect meta m e f k b ≡ Ok effect → Allowed meta m effect
   unlink_allowed b k h =
       let listed = passed (is_listed meta f k) _ _ effect h in
       let formed = passed (is_id b) _ _ effect listed.1 in
       let open_ = not_refused (unlink_refusal m e f b) (Unlinks e f b) effect formed.1 in
       allowed_as meta m (Unlinks e f b) effect open_.1 (may_unlink m e f b open_.0)
 
-  reorder_allowed : (b : Name) (i : ℕ) (k : Kind) → reorder_effect meta m e f k b i ≡ Ok effect → Allowed meta m effect
+  reorder_allowed : (b : IdBytes) (i : ℕ) (k : Kind) → reorder_effect meta m e f k b i ≡ Ok effect → Allowed meta m effect
   reorder_allowed b i k h =
       let listed = passed (is_listed meta f k) _ _ effect h in
       let formed = passed (is_id b) _ _ effect listed.1 in

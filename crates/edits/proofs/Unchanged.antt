@@ -12,7 +12,7 @@ use Rattle.ecore_meta.specs.Meta.{Meta}
 use Rattle.ecore_meta.specs.declared.meta.Value.{Value}
 use Rattle.model_state.specs.declared.step.Step.{Step}
 use Rattle.model_state.specs.declared.step.Step.TheVariants.{Put, Shift}
-use Rattle.model_state.specs.Keys.{Name}
+use Rattle.model_state.specs.Keys.{IdBytes}
 use Rattle.model_state.specs.Lists.{shifted}
 use Rattle.model_state.specs.State.{State}
 use Rattle.model_state.specs.Steps.{fold, single}
@@ -20,7 +20,7 @@ use Rattle.model_state.specs.Good.{Good, Sound}
 use Rattle.model_state.specs.Typing.{value_eq}
 use Rattle.model_state.proofs.Orders.{id_order, attr_order}
 use Rattle.model_laws.proofs.Runs.{same_state}
-use Rattle.edit_laws.specs.Attributes.{held}
+use Rattle.edit_laws.specs.Attributes.{single_value}
 use Rattle.edit_laws.specs.Rows.{Rows}
 use Rattle.edit_laws.specs.References.{set_ref_after, link_after, unlink_after, unset_after, reorder_after}
 use Rattle.edit_laws.specs.ManyValues.{values_in, with_values, dels}
@@ -38,12 +38,12 @@ use Rattle.edits.proofs.Taken.{allowed, made_leads}
 nothing_made : (meta : Meta) (m n : State) (ss : List Step) → fold meta m ss ≡ Some n → ss ≡ [] → n ≡ m
 nothing_made meta m n ss run none = same_state n m (sym run ∙ ap (fold meta m) none)
 
-held_single : (v : Option Value) → held (single v) ≡ v
+held_single : (v : Option Value) → single_value (single v) ≡ v
 held_single None = refl
 held_single (Some v) = refl
 
 -- values that change nothing are those that are there
-same_values : (m : State) (e : Name) (f : ℕ) (vs : List Value) → with_values m e f vs ≡ m → vs ≡ values_in m e f
+same_values : (m : State) (e : IdBytes) (f : ℕ) (vs : List Value) → with_values m e f vs ≡ m → vs ≡ values_in m e f
 same_values m e f vs same = sym (values_now m e f vs) ∙ ap (λ (x : State). values_in x e f) same
 
 longer : (vs : List Value) (k : ℕ) (v : Value) → nat_le k (length vs) ≡ true → insert vs k v ≡ vs → ⊥
@@ -71,8 +71,8 @@ still meta sound m good (Moves e place at) may same = move_still meta sound m go
 still meta sound m good (Deletes e) may same = absurd (deleted meta m e may same)
 still meta sound m good (Puts e f v) may same =
     let here : get m.attr (e, f) ≡ single v = ap (λ (x : State). get x.attr (e, f)) (sym same) ∙ get-set_same attr_order m.attr (e, f) (single v) in
-    let equal : option_eq value_eq (held (get m.attr (e, f))) v ≡ true = ap (λ o. option_eq value_eq (held o) v) here ∙ ap (λ o. option_eq value_eq o v) (held_single v) ∙ value_test.own v in
-    ap (λ b. cond {A = List Step} b [] (Put e f (held (get m.attr (e, f))) v ∷ [])) equal
+    let equal : option_eq value_eq (single_value (get m.attr (e, f))) v ≡ true = ap (λ o. option_eq value_eq (single_value o) v) here ∙ ap (λ o. option_eq value_eq o v) (held_single v) ∙ value_test.own v in
+    ap (λ b. cond {A = List Step} b [] (Put e f (single_value (get m.attr (e, f))) v ∷ [])) equal
 still meta sound m good (Clears e f) may same = ap (dels e f 0) (sym (same_values m e f [] same))
 still meta sound m good (Inserts e f k v) may same = absurd (longer (values_in m e f) k v may.within (same_values m e f (insert (values_in m e f) k v) same))
 still meta sound m good (Removes e f k) may same = absurd (shorter (values_in m e f) k may.1 (same_values m e f (remove (values_in m e f) k) same))

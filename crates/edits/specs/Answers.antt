@@ -6,7 +6,7 @@ use Rattle.model_state.specs.Packages.{steps_of}
 use Rattle.edit_laws.specs.declared.fault.EditFault.{EditFault}
 use Rattle.edit_laws.specs.declared.fault.EditFault.TheVariants.{Memory}
 
--- the answer is the one that is due, or want of memory
+-- the answer is the one that is due, or out of memory
 abbrev pub Answers : {A : Type 0} → Result A EditFault → Result A EditFault → Type 0
 Answers (Ok x) due = due ≡ Ok x
 Answers (Err fault) due = (fault ≡ Memory) ⊎ (due ≡ Err fault)

@@ -18,7 +18,7 @@ use Rattle.model_state.specs.declared.step.Place.{Place}
 use Rattle.model_state.specs.declared.step.Place.TheVariants as places
 use Rattle.model_state.specs.declared.step.Step.{Step}
 use Rattle.model_state.specs.Ident.{is_id}
-use Rattle.model_state.specs.Keys.{Name}
+use Rattle.model_state.specs.Keys.{IdBytes}
 use Rattle.model_state.specs.State.{State, is_live}
 use Rattle.model_state.specs.Typing.{value_eq, kind_of, upper_of, is_concrete, is_plain, contains_kind}
 use Rattle.edits.specs.declared.edit.Edit.{Edit}
@@ -28,7 +28,7 @@ use Rattle.edits.specs.declared.edit.Destination.TheVariants.{Root, Inside}
 use Rattle.edits.specs.declared.edit.Recorded.{Recorded}
 use Rattle.edit_laws.specs.declared.fault.EditFault.{EditFault}
 use Rattle.edit_laws.specs.declared.fault.EditFault.TheVariants.{NoElement, IdInUse, BadId, NoClass, Abstract, NoFeature, WrongKind, BadValue, Bound, AlreadyThere, NoEntry}
-use Rattle.edit_laws.specs.References.{is_one, set_ref_after, set_ref_made, link_after, link_made, unlink_after, unlink_made, unset_after, unset_made, reorder_after, reorder_made}
+use Rattle.edit_laws.specs.References.{holds_one, set_ref_after, set_ref_made, link_after, link_made, unlink_after, unlink_made, unset_after, unset_made, reorder_after, reorder_made}
 use Rattle.edit_laws.specs.Refusals.{set_ref_refusal, link_index, link_refusal, unlink_refusal, reorder_refusal}
 use Rattle.edit_laws.specs.Places.{create_after, create_made}
 use Rattle.edit_laws.specs.Attributes.{taken, put_after, put_made}
@@ -47,45 +47,45 @@ Reading = Scalar → List ℕ → Option Value
 
 -- the effect of an edit, with its names looked up and its value read
 pub data Effect : Type 0 where
-  -- an element of a class comes, last in a place
-  Creates : Name → ℕ → Place → Effect
-  -- an element comes to stand in a place, at an index of the others there, None for their end
-  Moves : Name → Place → Option ℕ → Effect
-  -- an element goes with its subtree
-  Deletes : Name → Effect
+  -- an element of a class is created, last in a place
+  Creates : IdBytes → ℕ → Place → Effect
+  -- an element is put into a place, at an index of the others there, None for their end
+  Moves : IdBytes → Place → Option ℕ → Effect
+  -- an element is deleted with its subtree
+  Deletes : IdBytes → Effect
   -- a single attribute has the value, or none
-  Puts : Name → ℕ → Option Value → Effect
+  Puts : IdBytes → ℕ → Option Value → Effect
   -- a many-valued attribute has no value
-  Clears : Name → ℕ → Effect
-  -- a value comes into a many-valued attribute at an index
-  Inserts : Name → ℕ → ℕ → Value → Effect
-  -- the value of such an attribute at an index goes
-  Removes : Name → ℕ → ℕ → Effect
+  Clears : IdBytes → ℕ → Effect
+  -- a value is inserted into a many-valued attribute at an index
+  Inserts : IdBytes → ℕ → ℕ → Value → Effect
+  -- the value of such an attribute at an index is removed
+  Removes : IdBytes → ℕ → ℕ → Effect
   -- the value of such an attribute at an index is taken out and put at another
-  Shifts : Name → ℕ → ℕ → ℕ → Effect
+  Shifts : IdBytes → ℕ → ℕ → ℕ → Effect
   -- a plain reference has the target alone
-  Refers : Name → ℕ → Name → Effect
+  Refers : IdBytes → ℕ → IdBytes → Effect
   -- a plain reference has no target
-  Forgets : Name → ℕ → Effect
-  -- the target comes into a plain reference, at an index
-  Links : Name → ℕ → Name → ℕ → Effect
-  -- the target of a plain reference goes
-  Unlinks : Name → ℕ → Name → Effect
+  Forgets : IdBytes → ℕ → Effect
+  -- the target is inserted into a plain reference, at an index
+  Links : IdBytes → ℕ → IdBytes → ℕ → Effect
+  -- the target of a plain reference is removed
+  Unlinks : IdBytes → ℕ → IdBytes → Effect
   -- the target of a plain reference stands at an index
-  Reorders : Name → ℕ → Name → ℕ → Effect
+  Reorders : IdBytes → ℕ → IdBytes → ℕ → Effect
 
 -- ---- the effect of an edit, or its first refusal
 -- the class of the live element of that id; a word that is no id names no element
-abbrev pub class_at : State → Name → Option ℕ
+abbrev pub class_at : State → IdBytes → Option ℕ
 class_at m word = if is_id word then get m.kind word else None
 
 -- the feature of that name of an element, by its class
-abbrev pub feature_at : Meta → Option ℕ → Name → Result ℕ EditFault
+abbrev pub feature_at : Meta → Option ℕ → IdBytes → Result ℕ EditFault
 feature_at meta None name = Err NoElement
 feature_at meta (Some class) name = ok_or (feature_named meta class name) NoFeature
 
 -- the containment of an element, where the feature is one
-abbrev pub place_inside : Meta → Name → Result ℕ EditFault → Result Place EditFault
+abbrev pub place_inside : Meta → IdBytes → Result ℕ EditFault → Result Place EditFault
 place_inside meta a (Err fault) = Err fault
 place_inside meta a (Ok f) = if not (contains_kind (kind_of meta f)) then Err WrongKind else Ok (places.Inside a f)
 
@@ -100,37 +100,37 @@ unless_full None effect = effect
 unless_full (Some fault) effect = Err (edit_fault fault)
 
 -- the id is of the form and not live
-abbrev pub new_effect : State → ℕ → Place → Name → Result Effect EditFault
+abbrev pub new_effect : State → ℕ → Place → IdBytes → Result Effect EditFault
 new_effect m class place id =
     if not (is_id id) then Err BadId
     else if is_live m id then Err IdInUse
     else Ok (Creates id class place)
 
 -- the place is one, and takes an element of the class
-abbrev pub create_in : Meta → State → ℕ → Result Place EditFault → Name → Result Effect EditFault
+abbrev pub create_in : Meta → State → ℕ → Result Place EditFault → IdBytes → Result Effect EditFault
 create_in meta m class (Err fault) id = Err fault
 create_in meta m class (Ok place) id = unless_full (create_refusal meta m class place) (new_effect m class place id)
 
 -- the class is one and is not abstract
-abbrev pub create_effect : Meta → State → Option ℕ → Destination → Name → Result Effect EditFault
+abbrev pub create_effect : Meta → State → Option ℕ → Destination → IdBytes → Result Effect EditFault
 create_effect meta m None to id = Err NoClass
 create_effect meta m (Some class) to id = if not (is_concrete meta class) then Err Abstract else create_in meta m class (place_at meta m to) id
 
 -- the place is one, and takes the element at the index
-abbrev pub move_in : Meta → State → Name → Result Place EditFault → Option ℕ → Result Effect EditFault
+abbrev pub move_in : Meta → State → IdBytes → Result Place EditFault → Option ℕ → Result Effect EditFault
 move_in meta m e (Err fault) at = Err fault
 move_in meta m e (Ok place) at = unless_full (move_refusal meta m e place (containers_of m place) at) (Ok (Moves e place at))
 
 -- the element is live
-abbrev pub move_effect : Meta → State → Name → Destination → Option ℕ → Result Effect EditFault
+abbrev pub move_effect : Meta → State → IdBytes → Destination → Option ℕ → Result Effect EditFault
 move_effect meta m e to at = if not (is_some (class_at m e)) then Err NoElement else move_in meta m e (place_at meta m to) at
 
 -- the element is live
-abbrev pub delete_effect : State → Name → Result Effect EditFault
+abbrev pub delete_effect : State → IdBytes → Result Effect EditFault
 delete_effect m e = if not (is_some (class_at m e)) then Err NoElement else Ok (Deletes e)
 
 -- a default is held as not set
-abbrev pub put_effect : Meta → Name → ℕ → Option Value → Result Effect EditFault
+abbrev pub put_effect : Meta → IdBytes → ℕ → Option Value → Result Effect EditFault
 put_effect meta e f None = Err BadValue
 put_effect meta e f (Some v) = Ok (Puts e f (taken meta f v))
 
@@ -140,25 +140,25 @@ unless_refused None effect = Ok effect
 unless_refused (Some fault) effect = Err fault
 
 -- the id that a value names a target by: a text
-abbrev pub target_in : Option Value → Option Name
+abbrev pub target_in : Option Value → Option IdBytes
 target_in (Some (Text id)) = Some id
 target_in value = None
 
 -- the value is a text, the id of a live element, which the reference may have
-abbrev pub refer_effect : Meta → State → Name → ℕ → Option Name → Result Effect EditFault
+abbrev pub refer_effect : Meta → State → IdBytes → ℕ → Option IdBytes → Result Effect EditFault
 refer_effect meta m a f None = Err BadValue
 refer_effect meta m a f (Some b) =
     if not (is_some (class_at m b)) then Err NoElement
     else unless_refused (set_ref_refusal meta m a f b) (Refers a f b)
 
 -- the feature is a single attribute, and the text a value of its type; or it is a plain reference of upper bound 1, and the text names its target
-abbrev pub set_effect : Reading → Meta → State → Name → ℕ → Kind → List ℕ → Result Effect EditFault
+abbrev pub set_effect : Reading → Meta → State → IdBytes → ℕ → Kind → List ℕ → Result Effect EditFault
 set_effect reading meta m e f (Attr scalar default) text = put_effect meta e f (reading scalar text)
-set_effect reading meta m e f (Bounded target opposite) text = if not (is_one meta f) then Err WrongKind else refer_effect meta m e f (target_in (reading types.Text text))
+set_effect reading meta m e f (Bounded target opposite) text = if not (holds_one meta f) then Err WrongKind else refer_effect meta m e f (target_in (reading types.Text text))
 set_effect reading meta m e f kind text = Err WrongKind
 
 -- the feature is an attribute or a plain reference
-abbrev pub unset_effect : Name → ℕ → Kind → Result Effect EditFault
+abbrev pub unset_effect : IdBytes → ℕ → Kind → Result Effect EditFault
 unset_effect e f (Attr scalar default) = Ok (Puts e f None)
 unset_effect e f (AttrMany scalar unique) = Ok (Clears e f)
 unset_effect e f (Bounded target opposite) = Ok (Forgets e f)
@@ -166,7 +166,7 @@ unset_effect e f (Free target opposite) = Ok (Forgets e f)
 unset_effect e f kind = Err WrongKind
 
 -- there is a value, which is not held yet where each is held once, and room for it under the upper bound and under 2^32 values
-abbrev pub insert_effect : Name → ℕ → Bool → Option ℕ → List Value → ℕ → Option Value → Result Effect EditFault
+abbrev pub insert_effect : IdBytes → ℕ → Bool → Option ℕ → List Value → ℕ → Option Value → Result Effect EditFault
 insert_effect e f unique upper vs k None = Err BadValue
 insert_effect e f unique upper vs k (Some v) =
     if unique && list_any (value_eq v) vs then Err AlreadyThere
@@ -175,7 +175,7 @@ insert_effect e f unique upper vs k (Some v) =
     else Ok (Inserts e f k v)
 
 -- the feature is a many-valued attribute, the index is one of its values or their end, and the text is a value of its type
-abbrev pub add_effect : Reading → Meta → State → Name → ℕ → Kind → Option ℕ → List ℕ → Result Effect EditFault
+abbrev pub add_effect : Reading → Meta → State → IdBytes → ℕ → Kind → Option ℕ → List ℕ → Result Effect EditFault
 add_effect reading meta m e f (AttrMany scalar unique) at text =
     let vs = values_in m e f in
     let k = unwrap_or at (length vs) in
@@ -184,12 +184,12 @@ add_effect reading meta m e f (AttrMany scalar unique) at text =
 add_effect reading meta m e f kind at text = Err WrongKind
 
 -- the feature is a many-valued attribute, and the index that of a value
-abbrev pub remove_effect : State → Name → ℕ → Kind → ℕ → Result Effect EditFault
+abbrev pub remove_effect : State → IdBytes → ℕ → Kind → ℕ → Result Effect EditFault
 remove_effect m e f (AttrMany scalar unique) k = if not (nat_lt k (length (values_in m e f))) then Err NoEntry else Ok (Removes e f k)
 remove_effect m e f kind k = Err WrongKind
 
 -- the feature is a many-valued attribute, and both indices those of values
-abbrev pub shift_effect : State → Name → ℕ → Kind → ℕ → ℕ → Result Effect EditFault
+abbrev pub shift_effect : State → IdBytes → ℕ → Kind → ℕ → ℕ → Result Effect EditFault
 shift_effect m e f (AttrMany scalar unique) from to =
     if not (nat_lt from (length (values_in m e f))) then Err NoEntry
     else if not (nat_lt to (length (values_in m e f))) then Err NoEntry
@@ -198,24 +198,24 @@ shift_effect m e f kind from to = Err WrongKind
 
 -- a plain reference whose upper bound isn't 1
 abbrev pub is_listed : Meta → ℕ → Kind → Bool
-is_listed meta f kind = is_plain kind && not (is_one meta f)
+is_listed meta f kind = is_plain kind && not (holds_one meta f)
 
 -- the feature is such a reference, the target a live element, and the list takes it at the index, None for the end
-abbrev pub link_effect : Meta → State → Name → ℕ → Kind → Name → Option ℕ → Result Effect EditFault
+abbrev pub link_effect : Meta → State → IdBytes → ℕ → Kind → IdBytes → Option ℕ → Result Effect EditFault
 link_effect meta m a f kind b at =
     if not (is_listed meta f kind) then Err WrongKind
     else if not (is_some (class_at m b)) then Err NoElement
     else unless_refused (link_refusal meta m a f b at) (Links a f b (link_index m a f at))
 
 -- the feature is such a reference, and has the target; a word that is no id names no target
-abbrev pub unlink_effect : Meta → State → Name → ℕ → Kind → Name → Result Effect EditFault
+abbrev pub unlink_effect : Meta → State → IdBytes → ℕ → Kind → IdBytes → Result Effect EditFault
 unlink_effect meta m a f kind b =
     if not (is_listed meta f kind) then Err WrongKind
     else if not (is_id b) then Err NoEntry
     else unless_refused (unlink_refusal m a f b) (Unlinks a f b)
 
 -- the feature is such a reference, has the target, and the index is one of its list
-abbrev pub reorder_effect : Meta → State → Name → ℕ → Kind → Name → ℕ → Result Effect EditFault
+abbrev pub reorder_effect : Meta → State → IdBytes → ℕ → Kind → IdBytes → ℕ → Result Effect EditFault
 reorder_effect meta m a f kind b k =
     if not (is_listed meta f kind) then Err WrongKind
     else if not (is_id b) then Err NoEntry
@@ -240,7 +240,7 @@ effect_of reading meta m ws (Unlink id feature target) = of_feature meta (featur
 effect_of reading meta m ws (Reorder id feature target index) = of_feature meta (feature_at meta (class_at m id) feature) (λ f kind. reorder_effect meta m id f kind target index)
 effect_of reading meta m ws (Move id destination index) = move_effect meta m id destination index
 
--- ---- the model after an effect, said without steps
+-- ---- the model after an effect, defined without steps
 -- what each effect leaves
 abbrev pub after : Meta → State → Effect → State
 after meta m (Creates e class place) = create_after m e class place
@@ -286,8 +286,8 @@ operation_kind (Removes e f k) = kinds.ManyAttribute
 operation_kind (Shifts e f from to) = kinds.ManyAttribute
 operation_kind effect = kinds.Reference
 
--- the id of the element that comes
-abbrev pub new_id : Effect → Option Name
+-- the id of the element that is created
+abbrev pub new_id : Effect → Option IdBytes
 new_id (Creates e class place) = Some e
 new_id effect = None
 

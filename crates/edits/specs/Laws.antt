@@ -11,7 +11,7 @@ use Rattle.model_state.specs.Typing.{fits}
 use Rattle.model_state.specs.Good.{Good, Sound}
 use Rattle.edits.specs.declared.edit.Edit.{Edit}
 use Rattle.edits.specs.FreshIds.{HasFirst, IsFirst, numbered, fresh_id}
-use Rattle.edits.specs.Standing.{Stands}
+use Rattle.edits.specs.Standing.{StandsAsAsked}
 use Rattle.edits.specs.Edits.{Reading, Effect, effect_of, made, after}
 
 -- which text is which value: each is of its type
@@ -36,7 +36,7 @@ EditsKeepGood = (meta : Meta) → Sound meta → (m : State) → Good meta m →
 -- an entry stands in it where the edit asked for it
 abbrev pub EditsStand : Type 0
 EditsStand = (meta : Meta) → Sound meta → (m : State) → Good meta m → (reading : Reading) → IsTyped meta reading → (ws : ℕ) (edit : Edit) (effect : Effect) → effect_of reading meta m ws edit ≡ Ok effect
-    → Stands meta m (after meta m effect) effect
+    → StandsAsAsked meta m (after meta m effect) effect
 
 -- the first number whose id is not live gives the fresh id
 abbrev pub FirstIsFresh : Type 0

@@ -21,7 +21,7 @@ pub enum Edit {
         destination: Destination,
         id: Option<Text>,
     },
-    /// An element goes, with all that it contains and all references from and to these.
+    /// An element is deleted, with all that it contains and all references from and to these.
     Delete {
         id: Text,
     },
@@ -31,19 +31,19 @@ pub enum Edit {
         feature: Text,
         value: Text,
     },
-    /// All values of an attribute go, or all targets of a plain reference with their opposites.
+    /// All values of an attribute are removed, or all targets of a plain reference with their opposites.
     Unset {
         id: Text,
         feature: Text,
     },
-    /// A value comes into a many-valued attribute, in front of the value at that index, or last where there is none.
+    /// A value is inserted into a many-valued attribute, before the value at that index, or last where there is none.
     Add {
         id: Text,
         feature: Text,
         at: Option<u32>,
         value: Text,
     },
-    /// The value at an index of a many-valued attribute goes.
+    /// The value at an index of a many-valued attribute is removed.
     Remove {
         id: Text,
         feature: Text,
@@ -56,27 +56,27 @@ pub enum Edit {
         from: u32,
         to: u32,
     },
-    /// A target comes into a plain reference whose upper bound isn't 1, at an index of the others, or last where there is none.
+    /// A target is inserted into a plain reference whose upper bound isn't 1, at an index of the others, or last where there is none.
     Link {
         id: Text,
         feature: Text,
         target: Text,
         index: Option<u32>,
     },
-    /// A target of a plain reference whose upper bound isn't 1 goes, and its opposite with it.
+    /// A target of a plain reference whose upper bound isn't 1 is removed, and its opposite with it.
     Unlink {
         id: Text,
         feature: Text,
         target: Text,
     },
-    /// A target of a plain reference whose upper bound isn't 1 comes to stand at an index of its list.
+    /// A target of a plain reference whose upper bound isn't 1 is put at an index of its list.
     Reorder {
         id: Text,
         feature: Text,
         target: Text,
         index: u32,
     },
-    /// An element comes to stand in a place, at an index of the others there, or last where there is none.
+    /// An element is put into a place, at an index of the others there, or last where there is none.
     Move {
         id: Text,
         destination: Destination,

@@ -1,4 +1,4 @@
-//! The ids that a workspace gives to elements that come without one.
+//! The ids that a workspace gives to elements that are created without one.
 ghost use Rattle.std.specs.Prelude.{◌≡◌, IfOk, OnOk, true};
 ghost use Rattle.model_state.specs.Ident.{is_id};
 ghost use Rattle.edits.specs.FreshIds.{numbered};
@@ -10,7 +10,7 @@ use std::alloc::{AllocError, Global};
 ///
 /// # Errors
 ///
-/// Want of memory.
+/// Out of memory.
 pub fn numbered_id(alloc: Global, ws: u32, k: u64) -> Result<Id, AllocError>
     ensures id { IfOk result (λ id. id ≡ numbered ws k) }
     ensures form { OnOk result (is_id (numbered ws k) ≡ true) }

@@ -4,17 +4,17 @@ use Rattle.std.specs.Prelude.{IsTrue}
 use Rattle.host_port.specs.Host.{Told, Disk, GoesOn, Throughout, KeepsDisk, KeepsSaid, AddsPart, disk_now, said_now}
 use Rattle.host_port.proofs.Course.{carry_on, told_next, adds_none, said_kept_now, kept_now}
 use Rattle.command_runs.specs.Runs.{Answer, listed}
-use Rattle.command_runs.specs.Stops.{IsStepping}
+use Rattle.command_runs.specs.Crashes.{IsStepping}
 use Rattle.op_form.specs.declared.event.Event.{Event}
 use Rattle.plain_repository.specs.State.{State}
-use Rattle.plain_repository.specs.Store.{Stands}
+use Rattle.plain_repository.specs.Store.{StandsForEvents}
 use Rattle.emf_session.specs.Session.{IsStoreOf, IsEntering}
 use Rattle.emf_session.proofs.Entering.{entering_step, say_step, say_part}
 
 -- from a to b the command is carried out
 module _ (a b : Told) (s : State) (answer : Answer Event) (course : GoesOn a b) (said : KeepsSaid a b)
     (entering : (made : List Event) → IsStoreOf (disk_now a) s made → Throughout a b (λ disk said. IsEntering made answer.event disk)) where
-  pub entered_moments : (made : List Event) → IsStoreOf (disk_now a) s made → Throughout a b (IsStepping Stands made answer.event (said_now a))
+  pub entered_moments : (made : List Event) → IsStoreOf (disk_now a) s made → Throughout a b (IsStepping StandsForEvents made answer.event (said_now a))
   entered_moments made holds = entering_step a b s made answer.event (entering made holds) said
 
   -- from b to d its reply is printed
@@ -24,8 +24,8 @@ module _ (a b : Told) (s : State) (answer : Answer Event) (course : GoesOn a b) 
     pub said_added : IsTrue a.tells → (made : List Event) → IsStoreOf (disk_now a) s made → IsStoreOf (disk_now d) now (made ++ listed answer.event)
     said_added told made holds = subst (λ (x : Disk). IsStoreOf x now (made ++ listed answer.event)) (sym (kept_now b d on disk (told_next a b course told))) (added told made holds)
 
-    pub said_moments : (made : List Event) → IsStoreOf (disk_now a) s made → Throughout a d (IsStepping Stands made answer.event (said_now a))
-    said_moments made holds told = carry_on a b d (IsStepping Stands made answer.event (said_now a)) course on (entered_moments made holds)
+    pub said_moments : (made : List Event) → IsStoreOf (disk_now a) s made → Throughout a d (IsStepping StandsForEvents made answer.event (said_now a))
+    said_moments made holds told = carry_on a b d (IsStepping StandsForEvents made answer.event (said_now a)) course on (entered_moments made holds)
         (say_step b d now made answer.event (said_now a) (added told made holds) disk) told
 
     pub said_part : Throughout a d (λ disk said. AddsPart (said_now a) answer.reply said)

@@ -2,32 +2,32 @@
 use Rattle.std.proofs.Common.{◌≡◌, inl, inr, ⊎_elim, ℕ, ◌+◌, List, [], ◌∷◌, ◌++◌, length, take, Option, Some, None, refl, sym, ◌∙◌, ap, subst, arith}
 use Rattle.std.specs.Prelude.{IsTrue, IsSome, map}
 use Rattle.std.proofs.lemmas.List.{append-nil}
-use Rattle.host_port.specs.Host.{Told, Disk, MayLeave, Throughout, KeepsDisk, KeepsSaid, AddsPart, disk_now, said_now, StopLeaves}
+use Rattle.host_port.specs.Host.{Told, Disk, MayLeave, Throughout, KeepsDisk, KeepsSaid, AddsPart, disk_now, said_now, CrashLeaves}
 use Rattle.host_port.proofs.Course.{still_disk}
 use Rattle.page_pool.specs.Frames.{Frames}
 use Rattle.page_pool.specs.Paged.{PagedState, frames_for}
-use Rattle.commit_journal.specs.Journal.{StandsFor, IsAtRest, IsBeforeOrAfter, Fits, Holds}
+use Rattle.commit_journal.specs.Journal.{StandsFor, IsAtRest, IsBeforeOrAfter, RecordFits, HoldsRecord}
 use Rattle.commit_journal.proofs.Torn.{left_settled}
-use Rattle.commit_journal.proofs.Ends.{stands, length-behind_gate}
+use Rattle.commit_journal.proofs.Ends.{stands, length-after_gate}
 use Rattle.command_runs.specs.Runs.{listed}
-use Rattle.command_runs.specs.Stops.{IsStepping}
+use Rattle.command_runs.specs.Crashes.{IsStepping}
 use Rattle.command_runs.proofs.RunLaws.{played-append}
 use Rattle.op_form.specs.declared.event.Event.{Event}
-use Rattle.op_form.specs.Events.{event_form}
+use Rattle.op_form.specs.Events.{event_encoding}
 use Rattle.plain_repository.specs.State.{State, empty}
 use Rattle.plain_repository.specs.Events.{play, playable, are_playable}
-use Rattle.plain_repository.specs.Store.{Stands}
+use Rattle.plain_repository.specs.Store.{StandsForEvents}
 use Rattle.plain_repository.proofs.Stores.{map-more, playable-more}
 use Rattle.emf_session.specs.Session.{IsStoreOf, IsEntering, IsRecordOf, frames_held}
 
-pub rest_leaves : (disk : Disk) (state : State) (made : List Event) → IsStoreOf disk state made → StopLeaves (λ x. Stands x made) disk
+pub rest_leaves : (disk : Disk) (state : State) (made : List Event) → IsStoreOf disk state made → CrashLeaves (λ x. StandsForEvents x made) disk
 rest_leaves disk state made holds x left = record {
-  forms = subst (λ (l : List ℕ). StandsFor l (map event_form made)) (sym (left_settled disk x holds.rests.journal.settled left)) (stands disk.now (map event_form made) state.end holds.rests.journal.ends);
+  forms = subst (λ (l : List ℕ). StandsFor l (map event_encoding made)) (sym (left_settled disk x holds.rests.journal.settled left)) (stands disk.now (map event_encoding made) state.end holds.rests.journal.ends);
   playable = holds.rests.playable;
 }
 
-pub holds_stands : (disk : Disk) (state : State) (made : List Event) → IsStoreOf disk state made → Stands disk.now made
-holds_stands disk state made holds = record { forms = stands disk.now (map event_form made) state.end holds.rests.journal.ends; playable = holds.rests.playable }
+pub holds_stands : (disk : Disk) (state : State) (made : List Event) → IsStoreOf disk state made → StandsForEvents disk.now made
+holds_stands disk state made holds = record { forms = stands disk.now (map event_encoding made) state.end holds.rests.journal.ends; playable = holds.rests.playable }
 
 -- no record is ready where there is no event alone
 pub none_ready : (pool : Frames) (state : State) (event : Option Event) (ready : Option PagedState) → ready ≡ None → IsRecordOf pool state event ready → event ≡ None
@@ -48,26 +48,26 @@ event_ready pool state (Some event) ready is some = refl
 pub record IsOf (pool : Frames) (state : State) (event : Option Event) (prepared : PagedState) : Type 0 where
   pub made : Event
   pub event_is : event ≡ Some made
-  pub holds : Holds pool prepared (event_form made)
+  pub holds : HoldsRecord pool prepared (event_encoding made)
   pub playable : IsTrue (playable state made)
-  pub fits : Fits state.end (length (event_form made))
+  pub fits : RecordFits state.end (length (event_encoding made))
 
 pub some_ready : (pool : Frames) (state : State) (event : Option Event) (ready : Option PagedState) (prepared : PagedState) → ready ≡ Some prepared → IsRecordOf pool state event ready → IsOf pool state event prepared
 some_ready pool state None ready prepared some is = let none : ready ≡ None = is in absurd cc
 some_ready pool state (Some event) ready prepared some is =
     let there = is.0.is in
     let same : is.0.prepared ≡ prepared = cc in
-    record { made = event; event_is = refl; holds = subst (λ (p : PagedState). Holds pool p (event_form event)) same is.0.holds; playable = is.1; fits = is.2 }
+    record { made = event; event_is = refl; holds = subst (λ (p : PagedState). HoldsRecord pool p (event_encoding event)) same is.0.holds; playable = is.1; fits = is.2 }
 
 -- the frames that a record takes that is ready
 pub held_some : (ready : Option PagedState) (prepared : PagedState) → ready ≡ Some prepared → frames_held ready ≡ length prepared.frames
 held_some ready prepared is = ap frames_held is
 
 -- of a record that alone is out
-pub held_alone : (pool : Frames) (prepared : PagedState) (form : List ℕ) (out out_now : ℕ) → Holds pool prepared form → out_now ≡ out + frames_for (length form + 5) → out ≡ 0 → out_now ≡ length prepared.frames
+pub held_alone : (pool : Frames) (prepared : PagedState) (form : List ℕ) (out out_now : ℕ) → HoldsRecord pool prepared form → out_now ≡ out + frames_for (length form + 5) → out ≡ 0 → out_now ≡ length prepared.frames
 held_alone pool prepared form out out_now holds more none =
     let count = holds.count in
-    let size = length-behind_gate form in
+    let size = length-after_gate form in
     omega (arith, count, size, more, none)
 
 pub held_none : (ready : Option PagedState) → ready ≡ None → frames_held ready ≡ 0
@@ -88,39 +88,39 @@ module _ (a b : Told) (state : State) (made : List Event) (event : Event) (can :
   could : IsTrue (are_playable empty (made ++ event ∷ []))
   could = playable-more empty made event holds.rests.playable (subst (λ (s : State). IsTrue (playable s event)) holds.state_is can)
 
-  pub event_added : (disk : Disk) (next : State) (end_next : ℕ) (bytes : List ℕ) → bytes ≡ event_form event → next ≡ play state event → next.end ≡ end_next → IsAtRest disk (map event_form made ++ bytes ∷ []) end_next
+  pub event_added : (disk : Disk) (next : State) (end_next : ℕ) (bytes : List ℕ) → bytes ≡ event_encoding event → next ≡ play state event → next.end ≡ end_next → IsAtRest disk (map event_encoding made ++ bytes ∷ []) end_next
       → IsStoreOf disk next (made ++ event ∷ [])
   event_added disk next end_next bytes bytes_is next_is end_is rest = record {
     rests = record {
-      journal = subst (λ (n : ℕ). IsAtRest disk (map event_form (made ++ event ∷ [])) n) (sym end_is)
-          (subst (λ (l : List (List ℕ)). IsAtRest disk l end_next) (ap (λ (l : List ℕ). map event_form made ++ l ∷ []) bytes_is ∙ sym (map-more made event)) rest);
+      journal = subst (λ (n : ℕ). IsAtRest disk (map event_encoding (made ++ event ∷ [])) n) (sym end_is)
+          (subst (λ (l : List (List ℕ)). IsAtRest disk l end_next) (ap (λ (l : List ℕ). map event_encoding made ++ l ∷ []) bytes_is ∙ sym (map-more made event)) rest);
       playable = could;
     };
     state_is = next_is ∙ ap (λ (s : State). play s event) holds.state_is ∙ sym (played-append play empty made (event ∷ []));
   }
 
-  pub event_entering : (bytes : List ℕ) → bytes ≡ event_form event → Throughout a b (λ disk said. StopLeaves (IsBeforeOrAfter (map event_form made) bytes) disk) → Throughout a b (λ disk said. IsEntering made (Some event) disk)
+  pub event_entering : (bytes : List ℕ) → bytes ≡ event_encoding event → Throughout a b (λ disk said. CrashLeaves (IsBeforeOrAfter (map event_encoding made) bytes) disk) → Throughout a b (λ disk said. IsEntering made (Some event) disk)
   event_entering bytes bytes_is moments told t low high x left =
       ⊎_elim
       (λ old. inl (record { forms = old; playable = holds.rests.playable }))
-      (λ new. inr (record { forms = subst (λ (l : List (List ℕ)). StandsFor x l) (ap (λ (l : List ℕ). map event_form made ++ l ∷ []) bytes_is ∙ sym (map-more made event)) new; playable = could }))
+      (λ new. inr (record { forms = subst (λ (l : List (List ℕ)). StandsFor x l) (ap (λ (l : List ℕ). map event_encoding made ++ l ∷ []) bytes_is ∙ sym (map-more made event)) new; playable = could }))
       (moments told t low high x left)
 
 -- the moments of a command
 module _ (a b : Told) (state : State) (made : List Event) (event : Option Event) where
-  -- nothing is written or said
-  pub quiet_step : IsStoreOf (disk_now a) state made → KeepsDisk a b → KeepsSaid a b → Throughout a b (IsStepping Stands made event (said_now a))
+  -- nothing is written or printed
+  pub quiet_step : IsStoreOf (disk_now a) state made → KeepsDisk a b → KeepsSaid a b → Throughout a b (IsStepping StandsForEvents made event (said_now a))
   quiet_step holds disk said told t low high x left = inl (rest_leaves (disk_now a) state made holds x (subst (λ d. MayLeave d x) (disk told t low high) left), said told t low high)
 
   -- the event is written
-  pub entering_step : Throughout a b (λ disk said. IsEntering made event disk) → KeepsSaid a b → Throughout a b (IsStepping Stands made event (said_now a))
+  pub entering_step : Throughout a b (λ disk said. IsEntering made event disk) → KeepsSaid a b → Throughout a b (IsStepping StandsForEvents made event (said_now a))
   entering_step moments said told t low high x left = ⊎_elim (λ old. inl (old, said told t low high)) (λ new. inr new) (moments told t low high x left)
 
-  -- the reply is said
-  pub say_step : (before : List ℕ) → IsStoreOf (disk_now a) state (made ++ listed event) → KeepsDisk a b → Throughout a b (IsStepping Stands made event before)
+  -- the reply is printed
+  pub say_step : (before : List ℕ) → IsStoreOf (disk_now a) state (made ++ listed event) → KeepsDisk a b → Throughout a b (IsStepping StandsForEvents made event before)
   say_step before holds disk told t low high x left = inr (rest_leaves (disk_now a) state (made ++ listed event) holds x (subst (λ d. MayLeave d x) (disk told t low high) left))
 
--- the bytes said after calls that said none
+-- the bytes printed after calls that printed none
 pub say_part : (a b : Told) (before bytes reply : List ℕ) → bytes ≡ reply → (IsTrue a.tells → said_now a ≡ before) → Throughout a b (λ disk said. AddsPart (said_now a) bytes said) → Throughout a b (λ disk said. AddsPart before reply said)
 say_part a b before bytes reply is same part told t low high =
     let p = part told t low high in

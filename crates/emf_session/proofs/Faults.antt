@@ -8,7 +8,7 @@ use Rattle.emf_session.specs.declared.answered.SessionFault.TheVariants.{DiskFau
 use Rattle.emf_session.specs.Session.{IfMade}
 use Rattle.emf_session.specs.State.{SessionState}
 
--- an error is of one fault, and says the same as any other call's error
+-- an error is of one fault, and means the same as any other call's error
 pub same_fault : {T E : Type 0} (x y : E) → IsErrOf {T = T} {E = E} (Err x) y → x ≡ y
 same_fault x y is = cc
 

@@ -3,7 +3,7 @@ use Rattle.std.proofs.Common.{◌≡◌, ◌⊎◌, inl, inr, ℕ, ◌+◌, ◌^
 use Rattle.std.specs.Prelude.{IsTrue, map}
 use Rattle.std.proofs.lemmas.Bool.{cases_lt}
 use Rattle.std.proofs.lemmas.List.{append-nil, length-take}
-use Rattle.host_port.specs.Host.{Told, Disk, MayLeave, GoesOn, Throughout, KeepsDisk, KeepsSaid, KeepsInput, disk_now, StopLeaves}
+use Rattle.host_port.specs.Host.{Told, Disk, MayLeave, GoesOn, Throughout, KeepsDisk, KeepsSaid, KeepsInput, disk_now, CrashLeaves}
 use Rattle.host_port.proofs.Course.{carry_on, at_last, told_next, course_on, kept_now, keeps_said_on, keeps_input_on}
 use Rattle.commit_journal.specs.Journal.{WalkState, StandsFor, StandsForSame, StandsForNone, IsWalked, IsAtRest, IsStuck, ReadsTo, MountedFrom, records, header, new_file}
 use Rattle.commit_journal.proofs.Torn.{left_settled}
@@ -12,10 +12,10 @@ use Rattle.commit_journal.proofs.Mounting.{length-new_file}
 use Rattle.command_runs.specs.Runs.{played}
 use Rattle.command_runs.proofs.RunLaws.{played-append}
 use Rattle.op_form.specs.declared.event.Event.{Event}
-use Rattle.op_form.specs.Events.{event_form}
+use Rattle.op_form.specs.Events.{event_encoding}
 use Rattle.plain_repository.specs.State.{State, empty}
 use Rattle.plain_repository.specs.Events.{play, playable}
-use Rattle.plain_repository.specs.Store.{Stands, StandsForNoEvents, IsDamaged}
+use Rattle.plain_repository.specs.Store.{StandsForEvents, StandsForNoEvents, IsDamaged}
 use Rattle.plain_repository.proofs.Stores.{from_mounted, reads_first, none_has, map-more, playable-more}
 use Rattle.commit_journal.specs.declared.fault.JournalFault.{JournalFault}
 use Rattle.commit_journal.specs.declared.fault.JournalFault.TheVariants.{Damaged, DiskFault, Memory}
@@ -23,13 +23,13 @@ use Rattle.commit_journal.specs.Walk as journal
 use Rattle.emf_session.specs.Session.{IsStoreOf, IsReplayed, AtDamage, fault_of}
 use Rattle.emf_session.proofs.Playing.{play_end}
 
--- until the first sync the disk is that of the entry; then a stop leaves a file that stands for the same
+-- until the first sync the disk is that of the entry; then a crash leaves a file that stands for the same
 abbrev pub IsMounting : Disk → Disk → Type 0
-IsMounting entry disk = (disk ≡ entry) ⊎ StopLeaves (StandsForSame entry.now) disk
+IsMounting entry disk = (disk ≡ entry) ⊎ CrashLeaves (StandsForSame entry.now) disk
 
 -- the event that was played
 abbrev pub Played : State → List ℕ → State → Type 0
-Played state bytes next = (event : Event) × IsTrue (playable state event) × (bytes ≡ event_form event) × (next ≡ play state event)
+Played state bytes next = (event : Event) × IsTrue (playable state event) × (bytes ≡ event_encoding event) × (next ≡ play state event)
 
 -- where the reading of a store stands
 pub record Replays (entry now : Told) (walk : WalkState) (state : State) : Type 0 where
@@ -84,7 +84,7 @@ module _ (entry a b : Told) (walk : WalkState) (state : State) (replays : Replay
   replays_on next bytes after ended low next_is event walked = record {
     ended = ended ∙ replays.ended;
     low = low;
-    end = ap (λ (s : State). s.end) event.3 ∙ play_end state event.0 ∙ (let e : state.end + 5 + length (event_form event.0) ≡ next.next = omega (arith, replays.end, ap length event.2, next_is) in e);
+    end = ap (λ (s : State). s.end) event.3 ∙ play_end state event.0 ∙ (let e : state.end + 5 + length (event_encoding event.0) ≡ next.next = omega (arith, replays.end, ap length event.2, next_is) in e);
     course = keeps_course;
     said = keeps_said;
     input = keeps_input;
@@ -92,7 +92,7 @@ module _ (entry a b : Told) (walk : WalkState) (state : State) (replays : Replay
         let had = replays.replayed told in (
           had.0 ++ event.0 ∷ [],
           record {
-            walked = subst (λ (l : List (List ℕ)). IsWalked (disk_now b) l next.next) (ap (λ (l : List ℕ). map event_form had.0 ++ l ∷ []) event.2 ∙ sym (map-more had.0 event.0)) (walked (told_a told) (map event_form had.0) had.1.walked);
+            walked = subst (λ (l : List (List ℕ)). IsWalked (disk_now b) l next.next) (ap (λ (l : List ℕ). map event_encoding had.0 ++ l ∷ []) event.2 ∙ sym (map-more had.0 event.0)) (walked (told_a told) (map event_encoding had.0) had.1.walked);
             playable = playable-more empty had.0 event.0 had.1.playable (subst (λ (s : State). IsTrue (playable s event.0)) had.1.state_is event.1);
             state_is = event.3 ∙ ap (λ (s : State). play s event.0) had.1.state_is ∙ sym (played-append play empty had.0 (event.0 ∷ []));
           },
@@ -105,13 +105,13 @@ module _ (entry a b : Told) (walk : WalkState) (state : State) (replays : Replay
 
   -- the closed gate is found
   pub opened : (end : ℕ) → state.end ≡ end → (IsTrue a.tells → (forms : List (List ℕ)) → IsWalked (disk_now a) forms walk.next → IsAtRest (disk_now b) forms end)
-      → IsTrue entry.tells → (made : List Event) × IsStoreOf (disk_now b) state made × Stands (disk_now entry).now made
+      → IsTrue entry.tells → (made : List Event) × IsStoreOf (disk_now b) state made × StandsForEvents (disk_now entry).now made
   opened end end_is closed told =
       let had = replays.replayed told in
-      let rest = closed (told_a told) (map event_form had.0) had.1.walked in (
+      let rest = closed (told_a told) (map event_encoding had.0) had.1.walked in (
         had.0,
-        record { rests = record { journal = subst (λ (n : ℕ). IsAtRest (disk_now b) (map event_form had.0) n) (sym end_is) rest; playable = had.1.playable }; state_is = had.1.state_is },
-        record { forms = from_mounted (disk_now entry).now (disk_now b).now (map event_form had.0) (keeps_file told) (stands (disk_now b).now (map event_form had.0) end rest.ends); playable = had.1.playable },
+        record { rests = record { journal = subst (λ (n : ℕ). IsAtRest (disk_now b) (map event_encoding had.0) n) (sym end_is) rest; playable = had.1.playable }; state_is = had.1.state_is },
+        record { forms = from_mounted (disk_now entry).now (disk_now b).now (map event_encoding had.0) (keeps_file told) (stands (disk_now b).now (map event_encoding had.0) end rest.ends); playable = had.1.playable },
       )
 
   -- the reading of the records stops
@@ -119,7 +119,7 @@ module _ (entry a b : Told) (walk : WalkState) (state : State) (replays : Replay
       → IsTrue entry.tells → IsDamaged (disk_now entry).now at × StandsForNoEvents (disk_now entry).now
   stuck_is_damage at at_is stuck none told =
       let had = replays.replayed told in
-      let nothing : StandsForNoEvents (disk_now entry).now = λ events stood. none (told_a told) (map event_form events) (replays.same told (map event_form events) stood.forms) in
+      let nothing : StandsForNoEvents (disk_now entry).now = λ events stood. none (told_a told) (map event_encoding events) (replays.same told (map event_encoding events) stood.forms) in
       elim (replays.file told) [
         | inl same ↦ (
           record {
@@ -127,7 +127,7 @@ module _ (entry a b : Told) (walk : WalkState) (state : State) (replays : Replay
             found = inr (record {
               events = had.0;
               playable = had.1.playable;
-              reads = subst (λ (l : List ℕ). ReadsTo l (map event_form had.0) at) same.1 (subst (λ (n : ℕ). ReadsTo (disk_now a).now (map event_form had.0) n) (sym at_is) had.1.walked.reads);
+              reads = subst (λ (l : List ℕ). ReadsTo l (map event_encoding had.0) at) same.1 (subst (λ (n : ℕ). ReadsTo (disk_now a).now (map event_encoding had.0) n) (sym at_is) had.1.walked.reads);
               low = subst (λ (n : ℕ). n < 2 ^ 40) (sym at_is) replays.low;
               stuck = inl (subst (λ (l : List ℕ). IsStuck l at) same.1 (stuck (told_a told)));
             });
@@ -140,7 +140,7 @@ module _ (entry a b : Told) (walk : WalkState) (state : State) (replays : Replay
   no_fresh : (forms : List (List ℕ)) (bytes : List ℕ) (place : ℕ) → ReadsTo new_file (forms ++ bytes ∷ []) place → ⊥
   no_fresh forms bytes place reads = omega (
     arith,
-    ap length reads.front,
+    ap length reads.prefix,
     length-take place new_file,
     length-new_file,
     length-append header (records (forms ++ bytes ∷ [])),
@@ -153,38 +153,38 @@ module _ (entry a b : Told) (walk : WalkState) (state : State) (replays : Replay
   )
 
   -- the bytes of a record are no event that can be made there
-  pub event_is_damage : (next : WalkState) (bytes : List ℕ) (at : ℕ) → at ≡ walk.next → next.next ≡ walk.next + 5 + length bytes → ((event : Event) → IsTrue (playable state event) → bytes ≡ event_form event → ⊥)
+  pub event_is_damage : (next : WalkState) (bytes : List ℕ) (at : ℕ) → at ≡ walk.next → next.next ≡ walk.next + 5 + length bytes → ((event : Event) → IsTrue (playable state event) → bytes ≡ event_encoding event → ⊥)
       → (IsTrue a.tells → (forms : List (List ℕ)) → IsWalked (disk_now a) forms walk.next → IsWalked (disk_now b) (forms ++ bytes ∷ []) next.next)
       → IsTrue entry.tells → IsDamaged (disk_now entry).now at × StandsForNoEvents (disk_now entry).now
   event_is_damage next bytes at at_is next_is none walked told =
       let had = replays.replayed told in
-      let on = walked (told_a told) (map event_form had.0) had.1.walked in
-      let no_such : (event : Event) → IsTrue (playable (played play empty had.0) event) → bytes ≡ event_form event → ⊥ = subst (λ (s : State). (event : Event) → IsTrue (playable s event) → bytes ≡ event_form event → ⊥) had.1.state_is none in
+      let on = walked (told_a told) (map event_encoding had.0) had.1.walked in
+      let no_such : (event : Event) → IsTrue (playable (played play empty had.0) event) → bytes ≡ event_encoding event → ⊥ = subst (λ (s : State). (event : Event) → IsTrue (playable s event) → bytes ≡ event_encoding event → ⊥) had.1.state_is none in
       elim (keeps_file told) [
         | inl same ↦
-            let reads : ReadsTo (disk_now entry).now (map event_form had.0 ++ bytes ∷ []) next.next = subst (λ (l : List ℕ). ReadsTo l (map event_form had.0 ++ bytes ∷ []) next.next) same.1 on.reads in (
+            let reads : ReadsTo (disk_now entry).now (map event_encoding had.0 ++ bytes ∷ []) next.next = subst (λ (l : List ℕ). ReadsTo l (map event_encoding had.0 ++ bytes ∷ []) next.next) same.1 on.reads in (
               record {
                 long = same.0;
                 found = inr (record {
                   events = had.0;
                   playable = had.1.playable;
-                  reads = subst (λ (l : List ℕ). ReadsTo l (map event_form had.0) at) (sym (ap (λ d. d.now) (same_disk told)) ∙ same.1) (subst (λ (n : ℕ). ReadsTo (disk_now a).now (map event_form had.0) n) (sym at_is) had.1.walked.reads);
+                  reads = subst (λ (l : List ℕ). ReadsTo l (map event_encoding had.0) at) (sym (ap (λ d. d.now) (same_disk told)) ∙ same.1) (subst (λ (n : ℕ). ReadsTo (disk_now a).now (map event_encoding had.0) n) (sym at_is) had.1.walked.reads);
                   low = subst (λ (n : ℕ). n < 2 ^ 40) (sym at_is) replays.low;
                   stuck = inr (record {
                     bytes = bytes;
-                    reads = subst (λ (n : ℕ). ReadsTo (disk_now entry).now (map event_form had.0 ++ bytes ∷ []) n) (next_is ∙ ap (λ (n : ℕ). n + 5 + length bytes) (sym at_is)) reads;
-                    no_event = λ events could is. none_has had.0 events bytes [] had.1.playable no_such could (is ∙ sym (append-nil (map event_form had.0 ++ bytes ∷ [])));
+                    reads = subst (λ (n : ℕ). ReadsTo (disk_now entry).now (map event_encoding had.0 ++ bytes ∷ []) n) (next_is ∙ ap (λ (n : ℕ). n + 5 + length bytes) (sym at_is)) reads;
+                    no_event = λ events could is. none_has had.0 events bytes [] had.1.playable no_such could (is ∙ sym (append-nil (map event_encoding had.0 ++ bytes ∷ [])));
                   });
                 });
               },
               (λ events stood. elim stood.forms [
                 | inl few ↦ absurd (omega (arith, few.0, same.0))
                 | inr many ↦
-                    let more = reads_first (disk_now entry).now (map event_form had.0 ++ bytes ∷ []) (map event_form events) next.next many.1.0 reads many.1.1 in
+                    let more = reads_first (disk_now entry).now (map event_encoding had.0 ++ bytes ∷ []) (map event_encoding events) next.next many.1.0 reads many.1.1 in
                     none_has had.0 events bytes more.0 had.1.playable no_such stood.playable more.1
               ]),
             )
-        | inr fresh ↦ absurd (no_fresh (map event_form had.0) bytes next.next (subst (λ (l : List ℕ). ReadsTo l (map event_form had.0 ++ bytes ∷ []) next.next) fresh.1 on.reads))
+        | inr fresh ↦ absurd (no_fresh (map event_encoding had.0) bytes next.next (subst (λ (l : List ℕ). ReadsTo l (map event_encoding had.0 ++ bytes ∷ []) next.next) fresh.1 on.reads))
       ]
 
 -- a store that is mounted, before its first record
@@ -212,7 +212,7 @@ damage_of DiskFault P Q R gives p q = tt
 damage_of Memory P Q R gives p q = tt
 
 pub none_stands : (file : List ℕ) → StandsForNone file → StandsForNoEvents file
-none_stands file none events stood = none (map event_form events) stood.forms
+none_stands file none events stood = none (map event_encoding events) stood.forms
 
 -- a file that is too short to hold a record stands for no events at all, which is a list of them
 pub is_long : (file : List ℕ) → StandsForNoEvents file → 17 < length file

@@ -1,20 +1,20 @@
 -- What the calls of a session do.
 use Rattle.std.specs.Prelude.{◌≡◌, ◌⊎◌, ℕ, List, ◌++◌, Bool, true, false, IsTrue, length, map, Option, Some, None, Result, Ok, Err}
-use Rattle.host_port.specs.Host.{Disk, StopLeaves}
+use Rattle.host_port.specs.Host.{Disk, CrashLeaves}
 use Rattle.page_pool.specs.Frames.{Frames}
 use Rattle.page_pool.specs.Paged.{PagedState}
-use Rattle.commit_journal.specs.Journal.{Fits, Holds, IsWalked}
+use Rattle.commit_journal.specs.Journal.{RecordFits, HoldsRecord, IsWalked}
 use Rattle.commit_journal.specs.declared.fault.JournalFault.{JournalFault}
 use Rattle.commit_journal.specs.declared.fault.JournalFault.TheVariants as journals
 use Rattle.command_runs.specs.Runs.{Answer, listed, played}
 use Rattle.op_form.specs.declared.event.Event.{Event}
-use Rattle.op_form.specs.Events.{event_form}
+use Rattle.op_form.specs.Events.{event_encoding}
 use Rattle.plain_repository.specs.State.{State, empty}
 use Rattle.plain_repository.specs.Answers as plain
 use Rattle.plain_repository.specs.Answers.{is_refusal}
 use Rattle.plain_repository.specs.Events.{play, playable, are_playable}
 use Rattle.plain_repository.specs.Repository.{decide_line, answer_of}
-use Rattle.plain_repository.specs.Store.{Stands, Rests}
+use Rattle.plain_repository.specs.Store.{StandsForEvents, Rests}
 use Rattle.script_lang.specs.Reply.{printed}
 use Rattle.emf_session.specs.declared.answered.Answered.{Answered}
 use Rattle.emf_session.specs.declared.answered.Answered.TheVariants.{Accepted, Refused}
@@ -33,7 +33,7 @@ pub record IsStoreOf (disk : Disk) (state : State) (made : List Event) : Type 0 
 
 -- an event or none is on its way to the store
 abbrev pub IsEntering : List Event → Option Event → Disk → Type 0
-IsEntering first event disk = StopLeaves (λ x. Stands x first ⊎ Stands x (first ++ listed event)) disk
+IsEntering first event disk = CrashLeaves (λ x. StandsForEvents x first ⊎ StandsForEvents x (first ++ listed event)) disk
 
 -- how a command is answered, by whether its reply is a refusal
 abbrev pub answered_as : Bool → Answered
@@ -48,16 +48,16 @@ IfMade (Err DiskFault) P = Unit {0}
 IfMade (Err Memory) P = Unit {0}
 IfMade (Err (Damaged at)) P = Unit {0}
 
--- a record is ready: that of this form, in frames that are out of the pool
+-- a record is ready: that of this encoding, in frames that are out of the pool
 pub record IsReadyIn (pool : Frames) (form : List ℕ) (ready : Option PagedState) : Type 0 where
   pub prepared : PagedState
   pub is : ready ≡ Some prepared
-  pub holds : Holds pool prepared form
+  pub holds : HoldsRecord pool prepared form
 
 -- the record that is ready is that of an event that can be made, and fits; none is ready where there is no event
 abbrev pub IsRecordOf : Frames → State → Option Event → Option PagedState → Type 0
 IsRecordOf pool state None ready = ready ≡ None
-IsRecordOf pool state (Some event) ready = IsReadyIn pool (event_form event) ready × IsTrue (playable state event) × Fits state.end (length (event_form event))
+IsRecordOf pool state (Some event) ready = IsReadyIn pool (event_encoding event) ready × IsTrue (playable state event) × RecordFits state.end (length (event_encoding event))
 
 -- how many frames the record takes that is ready
 abbrev pub frames_held : Option PagedState → ℕ
@@ -73,7 +73,7 @@ pub record IsPlan (pool : Frames) (state : State) (decision : plain.Decision) (p
 -- a store while it is read: its records up to a place are those of events, each one that a command could make, and the
 -- state is theirs
 pub record IsReplayed (disk : Disk) (state : State) (place : ℕ) (made : List Event) : Type 0 where
-  pub walked : IsWalked disk (map event_form made) place
+  pub walked : IsWalked disk (map event_encoding made) place
   pub playable : IsTrue (are_playable empty made)
   pub state_is : state ≡ played play empty made
 

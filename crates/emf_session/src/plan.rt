@@ -3,12 +3,12 @@ ghost use Rattle.std.specs.Prelude.{◌≡◌, ◌⊎◌, ◌++◌, ◌^◌, ◌
 ghost use Rattle.page_pool.specs.Frames.{out_of};
 ghost use Rattle.host_port.specs.Host.{disk_now, said_now, Rose, GoesOn, Throughout, KeepsDisk, KeepsSaid, KeepsInput, AddsPart};
 ghost use Rattle.command_runs.specs.Runs.{listed, after};
-ghost use Rattle.command_runs.specs.Stops.{IsStepping};
+ghost use Rattle.command_runs.specs.Crashes.{IsStepping};
 ghost use Rattle.op_form.specs.declared.event.Event.{Event};
 ghost use Rattle.plain_repository.specs.State.{State};
 ghost use Rattle.plain_repository.specs.Events.{play};
 ghost use Rattle.plain_repository.specs.Repository.{decide_line};
-ghost use Rattle.plain_repository.specs.Store.{Stands};
+ghost use Rattle.plain_repository.specs.Store.{StandsForEvents};
 ghost use Rattle.repo_core.specs.Decisions.{IsShortBlock};
 ghost use Rattle.emf_session.specs.Session.{answer_to, answered_as, IsStoreOf, IsEntering, IfMade, IsPlan, IsRecordOf, frames_held};
 ghost use Rattle.emf_session.specs.declared.answered.SessionFault.TheVariants.{DiskFault};
@@ -198,7 +198,7 @@ pub(crate) fn answer<H: Host>(
     ensures broken { IsErrOf result SessionFault.DiskFault → journal.new.broken ≡ true }
     ensures part { Throughout (H.told host.old) (H.told host.new) (λ _ said. AddsPart (said_now (H.told host.old)) (answer_to repo.old line.now block.now).reply said) }
     ensures moments { (made : List Event) → IsStoreOf (disk_now (H.told host.old)) repo.old made
-        → Throughout (H.told host.old) (H.told host.new) (IsStepping Stands made (answer_to repo.old line.now block.now).event (said_now (H.told host.old))) }
+        → Throughout (H.told host.old) (H.told host.new) (IsStepping StandsForEvents made (answer_to repo.old line.now block.now).event (said_now (H.told host.old))) }
     ensures course { GoesOn (H.told host.old) (H.told host.new) }
     ensures input { KeepsInput (H.told host.old) (H.told host.new) }
     ensures disk_cause { IsErrOf result SessionFault.DiskFault → Rose (H.told host.old).disk_faults (H.told host.new).disk_faults }

@@ -1,11 +1,11 @@
 //! One command after another: decided, written, made, and answered.
 ghost use Rattle.std.specs.Prelude.{◌≡◌, ◌≢◌, ◌⊎◌, ◌+◌, ◌-◌, ◌^◌, ◌<◌, ◌++◌, ℕ, List, length, IsTrue, IfOk, OnOk, IfErr, IsErrOf, IsSome, None, true, false};
-ghost use Rattle.host_port.specs.Host.{disk_now, said_now, Rose, GoesOn, Throughout, KeepsDisk, KeepsSaid, KeepsInput, AddsPart, StopLeaves};
+ghost use Rattle.host_port.specs.Host.{disk_now, said_now, Rose, GoesOn, Throughout, KeepsDisk, KeepsSaid, KeepsInput, AddsPart, CrashLeaves};
 ghost use Rattle.command_runs.specs.Runs.{listed, after};
-ghost use Rattle.command_runs.specs.Stops.{IsStepping};
+ghost use Rattle.command_runs.specs.Crashes.{IsStepping};
 ghost use Rattle.op_form.specs.declared.event.Event.{Event};
 ghost use Rattle.plain_repository.specs.Events.{play};
-ghost use Rattle.plain_repository.specs.Store.{Stands, IsDamaged, StandsForNoEvents};
+ghost use Rattle.plain_repository.specs.Store.{StandsForEvents, IsDamaged, StandsForNoEvents};
 ghost use Rattle.commit_journal.specs.Journal.{StandsForSame};
 ghost use Rattle.repo_core.specs.Counting.{AreCounts, element_count};
 ghost use Rattle.repo_core.specs.Decisions.{IsShortBlock};
@@ -45,8 +45,8 @@ impl Session {
     /// Opens the store: its records are read, and their events played.
     pub fn mount<H: Host>(alloc: Global, host: &mut H) -> Result<Session, SessionFault>
         ensures whole { IfOk result (λ s. s.broken ≡ false) }
-        ensures opened { IfOk result (λ s. IsTrue (H.told host.old).tells → ((made : List Event) × IsStoreOf (disk_now (H.told host.new)) s.state made × Stands (disk_now (H.told host.old)).now made)) }
-        ensures moments { Throughout (H.told host.old) (H.told host.new) (λ disk _. (disk ≡ disk_now (H.told host.old)) ⊎ StopLeaves (StandsForSame (disk_now (H.told host.old)).now) disk) }
+        ensures opened { IfOk result (λ s. IsTrue (H.told host.old).tells → ((made : List Event) × IsStoreOf (disk_now (H.told host.new)) s.state made × StandsForEvents (disk_now (H.told host.old)).now made)) }
+        ensures moments { Throughout (H.told host.old) (H.told host.new) (λ disk _. (disk ≡ disk_now (H.told host.old)) ⊎ CrashLeaves (StandsForSame (disk_now (H.told host.old)).now) disk) }
         ensures damaged { IfErr result (λ e. AtDamage e (λ at. IsTrue (H.told host.old).tells → IsDamaged (disk_now (H.told host.old)).now at × StandsForNoEvents (disk_now (H.told host.old)).now)) }
         // A file that is long enough to hold a record reads as it was at each moment, whatever the answer.
         ensures long { 17 < length (disk_now (H.told host.old)).now → Throughout (H.told host.old) (H.told host.new) (λ disk _. disk.now ≡ (disk_now (H.told host.old)).now) }
@@ -146,7 +146,7 @@ impl Session {
         // At each moment a prefix of the reply is printed, and none of it before a crash leaves the event.
         ensures part { Throughout (H.told host.old) (H.told host.new) (λ _ said. AddsPart (said_now (H.told host.old)) (answer_to self.old.state line.now block.now).reply said) }
         ensures moments { (made : List Event) → IsStoreOf (disk_now (H.told host.old)) self.old.state made
-            → Throughout (H.told host.old) (H.told host.new) (IsStepping Stands made (answer_to self.old.state line.now block.now).event (said_now (H.told host.old))) }
+            → Throughout (H.told host.old) (H.told host.new) (IsStepping StandsForEvents made (answer_to self.old.state line.now block.now).event (said_now (H.told host.old))) }
         ensures course { GoesOn (H.told host.old) (H.told host.new) }
         ensures input { KeepsInput (H.told host.old) (H.told host.new) }
         ensures disk_cause { IsErrOf result SessionFault.DiskFault → Rose (H.told host.old).disk_faults (H.told host.new).disk_faults }

@@ -8,7 +8,7 @@ use Rattle.command_runs.proofs.RunLaws.{events-more}
 use Rattle.command_runs.proofs.Going.{Going}
 use Rattle.op_form.specs.declared.event.Event.{Event}
 use Rattle.plain_repository.specs.State.{State}
-use Rattle.plain_repository.specs.Store.{Stands}
+use Rattle.plain_repository.specs.Store.{StandsForEvents}
 use Rattle.emf_session.specs.Session.{IsStoreOf}
 use Rattle.emf_session.proofs.Entering.{holds_stands}
 use Rattle.emf_top.specs.Headline.{IsUnanswered, IsHalted}
@@ -16,7 +16,7 @@ use Rattle.emf_top.specs.Tasks.{Task}
 
 -- no more is printed and kept
 pub halted : (entry b : Told) (made : List Event) (task : Task) (left : List (Answer Event)) (state : State)
-    → Going Stands entry b made task.answers left (λ events. IsStoreOf (disk_now b) state events) → IsHalted task made entry b
+    → Going StandsForEvents entry b made task.answers left (λ events. IsStoreOf (disk_now b) state events) → IsHalted task made entry b
 halted entry b made task left state going = record {
   done = going.done;
   left = left;
@@ -25,16 +25,16 @@ halted entry b made task left state going = record {
   stands = holds_stands (disk_now b) state (made ++ events going.done) going.rest;
 }
 
--- the event of an answer is kept behind those of the answers before it
+-- the event of an answer is kept after those of the answers before it
 pub kept_too : (d : Told) (made : List Event) (done : List (Answer Event)) (answer : Answer Event)
-    → Stands (disk_now d).now ((made ++ events done) ++ listed answer.event) → Stands (disk_now d).now (made ++ events (done ++ answer ∷ []))
-kept_too d made done answer stood = subst (λ (l : List Event). Stands (disk_now d).now l)
+    → StandsForEvents (disk_now d).now ((made ++ events done) ++ listed answer.event) → StandsForEvents (disk_now d).now (made ++ events (done ++ answer ∷ []))
+kept_too d made done answer stood = subst (λ (l : List Event). StandsForEvents (disk_now d).now l)
     (append_assoc made (events done) (listed answer.event) ∙ ap (λ (l : List Event). made ++ l) (sym (events-more done answer))) stood
 
 -- an answer's event was being written, and is kept or not
 pub unanswered : (entry b d : Told) (made : List Event) (task : Task) (done : List (Answer Event)) (answer : Answer Event) (next : List (Answer Event))
     → task.answers ≡ (done ++ answer ∷ []) ++ next → said_now b ≡ said_now entry ++ replies done → GoesOn b d → KeepsSaid b d → IsTrue b.tells → IsSome answer.event
-    → Stands (disk_now d).now (made ++ events done) ⊎ Stands (disk_now d).now ((made ++ events done) ++ listed answer.event) → IsUnanswered task made entry d
+    → StandsForEvents (disk_now d).now (made ++ events done) ⊎ StandsForEvents (disk_now d).now ((made ++ events done) ++ listed answer.event) → IsUnanswered task made entry d
 unanswered entry b d made task done answer next whole said on quiet told_b event stood = record {
   done = done;
   answer = answer;

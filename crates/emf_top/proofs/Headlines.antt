@@ -5,13 +5,13 @@ use Rattle.std.proofs.lemmas.List.{append-nil}
 use Rattle.host_port.specs.Host.{Told, MayLeave, GoesOn, Throughout, KeepsSaid, KeepsInput, AddsPart, Rose, disk_now, said_now}
 use Rattle.host_port.proofs.Course.{at_last, carry_on, told_next, adds_none, said_kept_now, still_disk, keeps_input_on}
 use Rattle.command_runs.specs.Runs.{played, replies, events, answered}
-use Rattle.command_runs.specs.Stops.{IsRunning, IsOpenedRunning}
+use Rattle.command_runs.specs.Crashes.{IsRunning, IsOpenedRunning}
 use Rattle.command_runs.proofs.Going.{among}
 use Rattle.op_form.specs.declared.event.Event.{Event}
-use Rattle.op_form.specs.Events.{event_form}
+use Rattle.op_form.specs.Events.{event_encoding}
 use Rattle.plain_repository.specs.State.{State, empty}
 use Rattle.plain_repository.specs.Events.{play}
-use Rattle.plain_repository.specs.Store.{Stands, StandsForNoEvents, IsDamaged}
+use Rattle.plain_repository.specs.Store.{StandsForEvents, StandsForNoEvents, IsDamaged}
 use Rattle.plain_repository.proofs.Stores.{same_events}
 use Rattle.emf_session.specs.declared.answered.SessionFault.{SessionFault}
 use Rattle.emf_session.specs.declared.answered.SessionFault.TheVariants as session
@@ -68,21 +68,21 @@ none_answered task first entry a e = record {
   left = task.answers;
   whole = refl;
   said = e.said ∙ sym (append-nil (said_now entry));
-  stands = subst (λ (l : List Event). Stands (disk_now a).now l) (sym (append-nil first)) e.stands;
+  stands = subst (λ (l : List Event). StandsForEvents (disk_now a).now l) (sym (append-nil first)) e.stands;
 }
 
 -- the opening
-module _ (entry a : Told) (course : GoesOn entry a) (said : KeepsSaid entry a) (mounting : Throughout entry a (λ disk said. IsMounting (disk_now entry) disk)) (first : List Event) (stood : Stands (disk_now entry).now first) (task : Task) where
+module _ (entry a : Told) (course : GoesOn entry a) (said : KeepsSaid entry a) (mounting : Throughout entry a (λ disk said. IsMounting (disk_now entry) disk)) (first : List Event) (stood : StandsForEvents (disk_now entry).now first) (task : Task) where
   pub opening_part : Throughout entry a (λ disk said. AddsPart (said_now entry) (replies task.answers) said)
   opening_part = adds_none entry a (replies task.answers) said
 
-  pub opening_moments : Throughout entry a (IsOpenedRunning (disk_now entry) Stands first (events task.answers) (answered task.answers) (said_now entry))
+  pub opening_moments : Throughout entry a (IsOpenedRunning (disk_now entry) StandsForEvents first (events task.answers) (answered task.answers) (said_now entry))
   opening_moments told t low high =
       let none : length (a.said t) - length (said_now entry) ≤ 0 = omega (arith, ap length (said told t low high)) in
       ⊎_elim
       (λ before. inl (before, said told t low high))
-      (λ same. inr (λ x left. among Stands first task.answers [] task.answers x (length (a.said t) - length (said_now entry)) refl none
-      (subst (λ (l : List Event). Stands x l) (sym (append-nil first)) (record { forms = same x left (map event_form first) stood.forms; playable = stood.playable }))))
+      (λ same. inr (λ x left. among StandsForEvents first task.answers [] task.answers x (length (a.said t) - length (said_now entry)) refl none
+      (subst (λ (l : List Event). StandsForEvents x l) (sym (append-nil first)) (record { forms = same x left (map event_encoding first) stood.forms; playable = stood.playable }))))
       (mounting told t low high)
 
   -- before the first line
@@ -91,15 +91,15 @@ module _ (entry a : Told) (course : GoesOn entry a) (said : KeepsSaid entry a) (
     said = said_kept_now entry a course said told;
     input = input;
     stands = ⊎_elim
-        (λ before. subst (λ d. Stands d.now first) (sym before) stood)
-        (λ same. record { forms = same (disk_now a).now left (map event_form first) stood.forms; playable = stood.playable })
+        (λ before. subst (λ d. StandsForEvents d.now first) (sym before) stood)
+        (λ same. record { forms = same (disk_now a).now left (map event_encoding first) stood.forms; playable = stood.playable })
         (at_last entry a (λ disk said. IsMounting (disk_now entry) disk) course mounting told);
   }
 
 -- the opening, and then what the task asks for, which goes by the state of the store and the input
-module _ (entry a : Told) (course : GoesOn entry a) (said : KeepsSaid entry a) (mounting : Throughout entry a (λ disk said. IsMounting (disk_now entry) disk)) (first : List Event) (stood : Stands (disk_now entry).now first)
+module _ (entry a : Told) (course : GoesOn entry a) (said : KeepsSaid entry a) (mounting : Throughout entry a (λ disk said. IsMounting (disk_now entry) disk)) (first : List Event) (stood : StandsForEvents (disk_now entry).now first)
     (b : Told) (input : KeepsInput entry a) (on : GoesOn a b) (now : State) (asked : State → List ℕ → Task)
-    (opened : IsTrue entry.tells → (made : List Event) × IsStoreOf (disk_now a) now made × Stands (disk_now entry).now made) where
+    (opened : IsTrue entry.tells → (made : List Event) × IsStoreOf (disk_now a) now made × StandsForEvents (disk_now entry).now made) where
   holds_first : IsTrue entry.tells → IsStoreOf (disk_now a) now first
   holds_first told =
       let had = opened told in
@@ -124,23 +124,23 @@ module _ (entry a : Told) (course : GoesOn entry a) (said : KeepsSaid entry a) (
       (subst (λ (t : Task). Throughout a b (λ disk said. AddsPart (said_now a) (replies t.answers) said)) (task_is told) (part first (holds_first told)))) told
 
   pub whole_moments : ((made : List Event) → IsStoreOf (disk_now a) now made
-      → Throughout a b (IsRunning Stands made (events (asked now a.left).answers) (answered (asked now a.left).answers) (said_now a)))
-      → Throughout entry b (IsOpenedRunning (disk_now entry) Stands first (events (asked (played play empty first) entry.left).answers) (answered (asked (played play empty first) entry.left).answers) (said_now entry))
+      → Throughout a b (IsRunning StandsForEvents made (events (asked now a.left).answers) (answered (asked now a.left).answers) (said_now a)))
+      → Throughout entry b (IsOpenedRunning (disk_now entry) StandsForEvents first (events (asked (played play empty first) entry.left).answers) (answered (asked (played play empty first) entry.left).answers) (said_now entry))
   whole_moments moments told = carry_on entry a b
-      (IsOpenedRunning (disk_now entry) Stands first (events (asked (played play empty first) entry.left).answers) (answered (asked (played play empty first) entry.left).answers) (said_now entry)) course on
+      (IsOpenedRunning (disk_now entry) StandsForEvents first (events (asked (played play empty first) entry.left).answers) (answered (asked (played play empty first) entry.left).answers) (said_now entry)) course on
       (opening_moments entry a course said mounting first stood (asked (played play empty first) entry.left))
       (λ told_a t low high. inr (
-      subst (λ (l : List ℕ). Throughout a b (IsRunning Stands first (events (asked (played play empty first) entry.left).answers) (answered (asked (played play empty first) entry.left).answers) l)) (said_is told)
-      (subst (λ (t : Task). Throughout a b (IsRunning Stands first (events t.answers) (answered t.answers) (said_now a))) (task_is told) (moments first (holds_first told))) told_a t low high)) told
+      subst (λ (l : List ℕ). Throughout a b (IsRunning StandsForEvents first (events (asked (played play empty first) entry.left).answers) (answered (asked (played play empty first) entry.left).answers) l)) (said_is told)
+      (subst (λ (t : Task). Throughout a b (IsRunning StandsForEvents first (events t.answers) (answered t.answers) (said_now a))) (task_is told) (moments first (holds_first told))) told_a t low high)) told
 
 -- what stands in the file at the end of a run
-pub stopped : (entry b : Told) (first : List Event) (task : Task) → GoesOn entry b → Throughout entry b (IsOpenedRunning (disk_now entry) Stands first (events task.answers) (answered task.answers) (said_now entry))
-    → Stands (disk_now entry).now first → MayLeave (disk_now b) (disk_now b).now → IsTrue entry.tells → IsKept task first entry b
+pub stopped : (entry b : Told) (first : List Event) (task : Task) → GoesOn entry b → Throughout entry b (IsOpenedRunning (disk_now entry) StandsForEvents first (events task.answers) (answered task.answers) (said_now entry))
+    → StandsForEvents (disk_now entry).now first → MayLeave (disk_now b) (disk_now b).now → IsTrue entry.tells → IsKept task first entry b
 stopped entry b first task course moments stood left told = ⊎_elim
-    (λ before. among Stands first task.answers [] task.answers (disk_now b).now (length (said_now b) - length (said_now entry)) refl (omega (arith, ap length before.1))
-    (subst (λ (l : List Event). Stands (disk_now b).now l) (sym (append-nil first)) (subst (λ d. Stands d.now first) (sym before.0) stood)))
+    (λ before. among StandsForEvents first task.answers [] task.answers (disk_now b).now (length (said_now b) - length (said_now entry)) refl (omega (arith, ap length before.1))
+    (subst (λ (l : List Event). StandsForEvents (disk_now b).now l) (sym (append-nil first)) (subst (λ d. StandsForEvents d.now first) (sym before.0) stood)))
     (λ running. running (disk_now b).now left)
-    (at_last entry b (IsOpenedRunning (disk_now entry) Stands first (events task.answers) (answered task.answers) (said_now entry)) course moments told)
+    (at_last entry b (IsOpenedRunning (disk_now entry) StandsForEvents first (events task.answers) (answered task.answers) (said_now entry)) course moments told)
 
 -- where nothing rose, the run comes to what its task comes to
 pub complete : (task : Task) (first : List Event) (entry b : Told) (status : Status) → Ends task first entry b status → NothingRose entry b
@@ -159,7 +159,7 @@ complete task first entry b Memory e none read write disk = inr refl
 -- a store that was not opened
 module _ (entry a : Told) (fault : SessionFault) (never : fault ≡ session.SayFault → ⊥)
     (damage : AtDamage fault (λ at. IsTrue entry.tells → IsDamaged (disk_now entry).now at × StandsForNoEvents (disk_now entry).now)) where
-  pub unopened_ends : (task : Task) (first : List Event) → IsTrue entry.tells → Stands (disk_now entry).now first → IsUnopened first entry a → Ends task first entry a (session_status fault)
+  pub unopened_ends : (task : Task) (first : List Event) → IsTrue entry.tells → StandsForEvents (disk_now entry).now first → IsUnopened first entry a → Ends task first entry a (session_status fault)
   unopened_ends task first told stood ended = go fault never damage
     where
       go : (f : SessionFault) → (f ≡ session.SayFault → ⊥) → AtDamage f (λ at. IsTrue entry.tells → IsDamaged (disk_now entry).now at × StandsForNoEvents (disk_now entry).now) → Ends task first entry a (session_status f)

@@ -12,7 +12,7 @@ use Rattle.emf_top.proofs.Graphic.{is_graphic, joins, graphic_number}
 use Rattle.plain_repository.specs.Lines.{is_skipped}
 use Rattle.emf_top.specs.Items.{IsAnswered}
 use Rattle.emf_top.specs.declared.generator.TheConstants.{LIBRARY}
-use Rattle.emf_top.specs.Generator.{plain, opening, workspace_in, pages_in, create_text, title_text, pages_text, edits, exchange, round, rounds, generated}
+use Rattle.emf_top.specs.Generator.{without_block, opening, workspace_in, pages_in, create_text, title_text, pages_text, edits, exchange, round, rounds, generated}
 
 -- a line that begins with a letter, and is short
 pub record IsPlain (line : List ℕ) : Type 0 where
@@ -125,7 +125,7 @@ rounds_plain seed (suc n) fits = All-append IsPlain (rounds seed n) (round seed 
 library_short : length LIBRARY.now < 2 ^ 32 - 1
 library_short = ltb-true (length LIBRARY.now) (2 ^ 32 - 1) refl
 
-answered_line : (line : List ℕ) → IsPlain line → IsAnswered (plain line)
+answered_line : (line : List ℕ) → IsPlain line → IsAnswered (without_block line)
 unfolding is_skipped
 answered_line line p =
     let first = p.letter in
@@ -133,8 +133,8 @@ answered_line line p =
     let other : (p.first == 35) ≡ false = grind (arith, nat_tests, first) in
     ((omega arith, tt), rw p.line_is other)
 
-more : (line : List ℕ) (items : List Item) → IsPlain line → All IsAnswered items → All IsAnswered (plain line ∷ items)
-more line items p all = All-cons IsAnswered (plain line) items (answered_line line p) all
+more : (line : List ℕ) (items : List Item) → IsPlain line → All IsAnswered items → All IsAnswered (without_block line ∷ items)
+more line items p all = All-cons IsAnswered (without_block line) items (answered_line line p) all
 
 start_answered : IsAnswered (record { line = codes "init"; block = Some LIBRARY.now })
 unfolding is_skipped
@@ -147,14 +147,14 @@ opening_answered =
     let three = letters_plain 99 (codes "ommit 1 start") (omega arith) (omega arith) refl (omega arith) refl in
     let four = letters_plain 117 (codes "pdate 2") (omega arith) (omega arith) refl (omega arith) refl in
     All-cons IsAnswered (record { line = codes "init"; block = Some LIBRARY.now })
-    (plain (codes "checkout trunk") ∷ plain (codes "checkout trunk") ∷ plain (codes "create 1 Library / lib") ∷ plain (codes "commit 1 start") ∷ plain (codes "update 2") ∷ []) start_answered
-    (more (codes "checkout trunk") (plain (codes "checkout trunk") ∷ plain (codes "create 1 Library / lib") ∷ plain (codes "commit 1 start") ∷ plain (codes "update 2") ∷ []) one
-    (more (codes "checkout trunk") (plain (codes "create 1 Library / lib") ∷ plain (codes "commit 1 start") ∷ plain (codes "update 2") ∷ []) one
-    (more (codes "create 1 Library / lib") (plain (codes "commit 1 start") ∷ plain (codes "update 2") ∷ []) two
-    (more (codes "commit 1 start") (plain (codes "update 2") ∷ []) three
+    (without_block (codes "checkout trunk") ∷ without_block (codes "checkout trunk") ∷ without_block (codes "create 1 Library / lib") ∷ without_block (codes "commit 1 start") ∷ without_block (codes "update 2") ∷ []) start_answered
+    (more (codes "checkout trunk") (without_block (codes "checkout trunk") ∷ without_block (codes "create 1 Library / lib") ∷ without_block (codes "commit 1 start") ∷ without_block (codes "update 2") ∷ []) one
+    (more (codes "checkout trunk") (without_block (codes "create 1 Library / lib") ∷ without_block (codes "commit 1 start") ∷ without_block (codes "update 2") ∷ []) one
+    (more (codes "create 1 Library / lib") (without_block (codes "commit 1 start") ∷ without_block (codes "update 2") ∷ []) two
+    (more (codes "commit 1 start") (without_block (codes "update 2") ∷ []) three
     (more (codes "update 2") [] four (All-nil IsAnswered))))))
 
 -- each item of the script gets a reply
 pub all_answered : (seed count : ℕ) → count < 2 ^ 64 → All IsAnswered (generated seed count)
-all_answered seed count fits = All-append IsAnswered opening (map plain (rounds seed count)) opening_answered
-    (All-map IsAnswered plain (rounds seed count) (λ k d low. answered_line _ (rounds_plain seed count fits k d low)))
+all_answered seed count fits = All-append IsAnswered opening (map without_block (rounds seed count)) opening_answered
+    (All-map IsAnswered without_block (rounds seed count) (λ k d low. answered_line _ (rounds_plain seed count fits k d low)))

@@ -8,7 +8,7 @@ use Rattle.host_port.specs.Host.{MayLeave, Told, GoesOn, Throughout, KeepsDisk, 
 use Rattle.host_port.specs.Cut.{Item}
 use Rattle.host_port.proofs.Course.{at_last, course_on, course_still, still_input, keeps_input_on, adds_none, told_next, kept_now, said_kept_now}
 use Rattle.command_runs.specs.Runs.{Answer, listed, after, answers, replies, events, played, answered}
-use Rattle.command_runs.specs.Stops.{IsRunning}
+use Rattle.command_runs.specs.Crashes.{IsRunning}
 use Rattle.command_runs.proofs.RunLaws.{played-append}
 use Rattle.command_runs.proofs.Going.{Going, Steps, quietly, begins, one_more, stepped_part, stepped_moments}
 use Rattle.op_form.specs.declared.event.Event.{Event}
@@ -16,7 +16,7 @@ use Rattle.plain_repository.specs.Lines.{is_skipped}
 use Rattle.plain_repository.specs.State.{State}
 use Rattle.plain_repository.specs.Events.{play}
 use Rattle.plain_repository.specs.Repository.{decide}
-use Rattle.plain_repository.specs.Store.{Stands}
+use Rattle.plain_repository.specs.Store.{StandsForEvents}
 use Rattle.emf_session.specs.declared.answered.SessionFault.{SessionFault}
 use Rattle.emf_session.specs.declared.answered.SessionFault.TheVariants as session
 use Rattle.emf_session.specs.Session.{IsStoreOf, IsEntering}
@@ -45,7 +45,7 @@ pub record Filling (entry now : Told) (s0 : State) (items : List Item) (at refus
   pub refusals : refused + refusals_in (given state (drop at items)) ≡ refusals_in (given s0 items)
   pub leads : played play state (events (given state (drop at items))) ≡ played play s0 (events (given s0 items))
   pub going : IsTrue entry.tells → (made : List Event) → IsStoreOf (disk_now entry) s0 made
-      → Going Stands entry now made (filling s0 items).answers (ahead s0 items state (drop at items)) (λ events. IsStoreOf (disk_now now) state events)
+      → Going StandsForEvents entry now made (filling s0 items).answers (ahead s0 items state (drop at items)) (λ events. IsStoreOf (disk_now now) state events)
 
 pub fills_start : (entry : Told) (s0 : State) (items : List Item) (broken : Bool) → broken ≡ false → (IsTrue entry.tells → (made : List Event) × IsStoreOf (disk_now entry) s0 made)
     → Filling entry entry s0 items 0 0 s0 broken
@@ -57,7 +57,7 @@ fills_start entry s0 items broken unbroken holds = record {
   few = omega arith;
   refusals = omega arith;
   leads = refl;
-  going = λ told made rest. begins Stands entry made (filling s0 items).answers (λ events. IsStoreOf (disk_now entry) s0 events) (λ still. rest_leaves (disk_now entry) s0 made still) rest;
+  going = λ told made rest. begins StandsForEvents entry made (filling s0 items).answers (λ events. IsStoreOf (disk_now entry) s0 events) (λ still. rest_leaves (disk_now entry) s0 made still) rest;
 }
 
 -- the item at a place gets a reply
@@ -92,7 +92,7 @@ module _ (entry b : Told) (s0 : State) (items : List Item) (at refused : ℕ) (s
   left_is : ahead s0 items state (drop at items) ≡ silenced answer ∷ ahead s0 items (after play state answer.event) (drop (at + 1) items)
   left_is = ap (λ (l : List (Answer Event)). l ++ printing (outcome s0 (given s0 items)) ∷ []) given_is
 
-  steps : Steps Stands b d (silenced answer) (λ events. IsStoreOf (disk_now b) state events)
+  steps : Steps StandsForEvents b d (silenced answer) (λ events. IsStoreOf (disk_now b) state events)
   steps = record {
     course = on;
     part = adds_none b d [] said;
@@ -100,16 +100,16 @@ module _ (entry b : Told) (s0 : State) (items : List Item) (at refused : ℕ) (s
   }
 
   pub fill_part : (made : List Event) → IsStoreOf (disk_now entry) s0 made → Throughout entry d (λ disk said. AddsPart (said_now entry) (replies (filling s0 items).answers) said)
-  fill_part made holds told = stepped_part Stands entry made (filling s0 items).answers b d (ahead s0 items state (drop at items)) (λ events. IsStoreOf (disk_now b) state events) (fills.going told made holds) fills.course
+  fill_part made holds told = stepped_part StandsForEvents entry made (filling s0 items).answers b d (ahead s0 items state (drop at items)) (λ events. IsStoreOf (disk_now b) state events) (fills.going told made holds) fills.course
       (silenced answer) (ahead s0 items (after play state answer.event) (drop (at + 1) items)) left_is steps told
 
-  pub fill_moments : (made : List Event) → IsStoreOf (disk_now entry) s0 made → Throughout entry d (IsRunning Stands made (events (filling s0 items).answers) (answered (filling s0 items).answers) (said_now entry))
-  fill_moments made holds told = stepped_moments Stands entry made (filling s0 items).answers b d (ahead s0 items state (drop at items)) (λ events. IsStoreOf (disk_now b) state events) (fills.going told made holds) fills.course
+  pub fill_moments : (made : List Event) → IsStoreOf (disk_now entry) s0 made → Throughout entry d (IsRunning StandsForEvents made (events (filling s0 items).answers) (answered (filling s0 items).answers) (said_now entry))
+  fill_moments made holds told = stepped_moments StandsForEvents entry made (filling s0 items).answers b d (ahead s0 items state (drop at items)) (λ events. IsStoreOf (disk_now b) state events) (fills.going told made holds) fills.course
       (silenced answer) (ahead s0 items (after play state answer.event) (drop (at + 1) items)) left_is steps told
 
   going_here : IsTrue entry.tells → (made : List Event) → IsStoreOf (disk_now entry) s0 made
-      → Going Stands entry b made (filling s0 items).answers (silenced answer ∷ ahead s0 items (after play state answer.event) (drop (at + 1) items)) (λ events. IsStoreOf (disk_now b) state events)
-  going_here told made holds = subst (λ (l : List (Answer Event)). Going Stands entry b made (filling s0 items).answers l (λ events. IsStoreOf (disk_now b) state events)) left_is (fills.going told made holds)
+      → Going StandsForEvents entry b made (filling s0 items).answers (silenced answer ∷ ahead s0 items (after play state answer.event) (drop (at + 1) items)) (λ events. IsStoreOf (disk_now b) state events)
+  going_here told made holds = subst (λ (l : List (Answer Event)). Going StandsForEvents entry b made (filling s0 items).answers l (λ events. IsStoreOf (disk_now b) state events)) left_is (fills.going told made holds)
 
   -- its event was being written
   fault_on_disk : IsSome answer.event → MayLeave (disk_now d) (disk_now d).now → IsTrue entry.tells → (made : List Event) → IsStoreOf (disk_now entry) s0 made → IsUnanswered (filling s0 items) made entry d
@@ -125,7 +125,7 @@ module _ (entry b : Told) (s0 : State) (items : List Item) (at refused : ℕ) (s
   fault_of_memory disk told made holds =
       let told_b = told_next entry b fills.course told in
       halted entry d made (filling s0 items) (ahead s0 items state (drop at items)) state
-      (quietly Stands entry made (filling s0 items).answers b d (ahead s0 items state (drop at items)) (λ events. IsStoreOf (disk_now b) state events) (fills.going told made holds) fills.course on disk said
+      (quietly StandsForEvents entry made (filling s0 items).answers b d (ahead s0 items state (drop at items)) (λ events. IsStoreOf (disk_now b) state events) (fills.going told made holds) fills.course on disk said
       (λ events rest. rest_leaves (disk_now b) state events rest) told (λ events. IsStoreOf (disk_now d) state events)
       (λ events rest. subst (λ x. IsStoreOf x state events) (sym (kept_now b d on disk told_b)) rest))
 
@@ -140,11 +140,11 @@ module _ (entry b : Told) (s0 : State) (items : List Item) (at refused : ℕ) (s
   -- it was answered
   module _ (now : State) (now_is : now ≡ after play state answer.event) (added : IsTrue b.tells → (made : List Event) → IsStoreOf (disk_now b) state made → IsStoreOf (disk_now d) now (made ++ listed answer.event)) where
     going_on : IsTrue entry.tells → (made : List Event) → IsStoreOf (disk_now entry) s0 made
-        → Going Stands entry d made (filling s0 items).answers (ahead s0 items now (drop (at + 1) items)) (λ events. IsStoreOf (disk_now d) now events)
+        → Going StandsForEvents entry d made (filling s0 items).answers (ahead s0 items now (drop (at + 1) items)) (λ events. IsStoreOf (disk_now d) now events)
     going_on told made holds =
         let told_b = told_next entry b fills.course told in
-        subst (λ (s : State). Going Stands entry d made (filling s0 items).answers (ahead s0 items s (drop (at + 1) items)) (λ events. IsStoreOf (disk_now d) s events)) (sym now_is)
-        (one_more Stands entry made (filling s0 items).answers b d (ahead s0 items state (drop at items)) (λ events. IsStoreOf (disk_now b) state events) (fills.going told made holds) fills.course
+        subst (λ (s : State). Going StandsForEvents entry d made (filling s0 items).answers (ahead s0 items s (drop (at + 1) items)) (λ events. IsStoreOf (disk_now d) s events)) (sym now_is)
+        (one_more StandsForEvents entry made (filling s0 items).answers b d (ahead s0 items state (drop at items)) (λ events. IsStoreOf (disk_now b) state events) (fills.going told made holds) fills.course
         (silenced answer) (ahead s0 items (after play state answer.event) (drop (at + 1) items)) left_is steps (λ events. IsStoreOf (disk_now d) (after play state answer.event) events)
         (said_kept_now b d on said told_b ∙ sym (append-nil (said_now b)))
         (λ made rest. subst (λ (s : State). IsStoreOf (disk_now d) s (made ++ listed answer.event)) now_is (added told_b made rest)))
@@ -226,6 +226,6 @@ module _ (entry b : Told) (s0 : State) (items : List Item) (at refused : ℕ) (s
       ∙ ap (λ (s : State). outcome_line (others_in (given s0 items)) (refusals_in (given s0 items)) s) state_is
 
   pub at_outcome : IsTrue entry.tells → (made : List Event) → IsStoreOf (disk_now entry) s0 made
-      → Going Stands entry b made (filling s0 items).answers (printing (outcome s0 (given s0 items)) ∷ []) (λ events. IsStoreOf (disk_now b) state events)
+      → Going StandsForEvents entry b made (filling s0 items).answers (printing (outcome s0 (given s0 items)) ∷ []) (λ events. IsStoreOf (disk_now b) state events)
   at_outcome told made holds =
-      subst (λ (l : List Item). Going Stands entry b made (filling s0 items).answers (ahead s0 items state l) (λ events. IsStoreOf (disk_now b) state events)) none_left (fills.going told made holds)
+      subst (λ (l : List Item). Going StandsForEvents entry b made (filling s0 items).answers (ahead s0 items state l) (λ events. IsStoreOf (disk_now b) state events)) none_left (fills.going told made holds)

@@ -3,7 +3,7 @@ use Rattle.std.proofs.Common.{◌≡◌, ℕ, suc, ◌+◌, ◌<◌, List, [], �
 use Rattle.std.proofs.Math.Seq.{drop-cons}
 use Rattle.std.proofs.lemmas.List.{map-append, append-nil, drop_all}
 use Rattle.host_port.specs.Cut.{Item}
-use Rattle.emf_top.specs.Generator.{plain, opening, workspace_in, pages_in, create_text, title_text, pages_text, edits, round, rounds, block_bytes, script_bytes}
+use Rattle.emf_top.specs.Generator.{without_block, opening, workspace_in, pages_in, create_text, title_text, pages_text, edits, round, rounds, block_bytes, script_bytes}
 
 pub three_more : (l0 l1 l2 l3 : List Item) (a b c : Item) → l1 ≡ l0 ++ a ∷ [] → l2 ≡ l1 ++ b ∷ [] → l3 ≡ l2 ++ c ∷ [] → l3 ≡ l0 ++ a ∷ b ∷ c ∷ []
 three_more l0 l1 l2 l3 a b c e1 e2 e3 = rw (e3, e2, e1) (simp append_assoc)
@@ -14,21 +14,21 @@ four_more l0 l1 l2 l3 l4 a b c d e1 e2 e3 e4 = rw (e4, e3, e2, e1) (simp append_
 -- the three lines of a round
 pub edits_more : (l0 l1 l2 l3 : List Item) (create title number : List ℕ) (seed k ws pages : ℕ) → ws ≡ workspace_in seed k → pages ≡ pages_in seed k
     → create ≡ create_text ws k → title ≡ title_text ws k → number ≡ pages_text ws k pages
-    → l1 ≡ l0 ++ plain create ∷ [] → l2 ≡ l1 ++ plain title ∷ [] → l3 ≡ l2 ++ plain number ∷ [] → l3 ≡ l0 ++ map plain (edits seed k)
+    → l1 ≡ l0 ++ without_block create ∷ [] → l2 ≡ l1 ++ without_block title ∷ [] → l3 ≡ l2 ++ without_block number ∷ [] → l3 ≡ l0 ++ map without_block (edits seed k)
 edits_more l0 l1 l2 l3 create title number seed k ws pages ws_is pages_is first second third e1 e2 e3 =
-    three_more l0 l1 l2 l3 (plain create) (plain title) (plain number) e1 e2 e3
-    ∙ ap (λ (l : List ℕ). l0 ++ plain l ∷ plain title ∷ plain number ∷ []) first
-    ∙ ap (λ (l : List ℕ). l0 ++ plain (create_text ws k) ∷ plain l ∷ plain number ∷ []) second
-    ∙ ap (λ (l : List ℕ). l0 ++ plain (create_text ws k) ∷ plain (title_text ws k) ∷ plain l ∷ []) third
-    ∙ ap (λ (n : ℕ). l0 ++ plain (create_text ws k) ∷ plain (title_text ws k) ∷ plain (pages_text ws k n) ∷ []) pages_is
-    ∙ ap (λ (n : ℕ). l0 ++ plain (create_text n k) ∷ plain (title_text n k) ∷ plain (pages_text n k (pages_in seed k)) ∷ []) ws_is
+    three_more l0 l1 l2 l3 (without_block create) (without_block title) (without_block number) e1 e2 e3
+    ∙ ap (λ (l : List ℕ). l0 ++ without_block l ∷ without_block title ∷ without_block number ∷ []) first
+    ∙ ap (λ (l : List ℕ). l0 ++ without_block (create_text ws k) ∷ without_block l ∷ without_block number ∷ []) second
+    ∙ ap (λ (l : List ℕ). l0 ++ without_block (create_text ws k) ∷ without_block (title_text ws k) ∷ without_block l ∷ []) third
+    ∙ ap (λ (n : ℕ). l0 ++ without_block (create_text ws k) ∷ without_block (title_text ws k) ∷ without_block (pages_text ws k n) ∷ []) pages_is
+    ∙ ap (λ (n : ℕ). l0 ++ without_block (create_text n k) ∷ without_block (title_text n k) ∷ without_block (pages_text n k (pages_in seed k)) ∷ []) ws_is
 
 -- one round more
-pub round_more : (l0 l1 : List Item) (seed k : ℕ) → l0 ≡ opening ++ map plain (rounds seed k) → l1 ≡ l0 ++ map plain (round seed (k + 1)) → l1 ≡ opening ++ map plain (rounds seed (k + 1))
+pub round_more : (l0 l1 : List Item) (seed k : ℕ) → l0 ≡ opening ++ map without_block (rounds seed k) → l1 ≡ l0 ++ map without_block (round seed (k + 1)) → l1 ≡ opening ++ map without_block (rounds seed (k + 1))
 round_more l0 l1 seed k e0 e1 =
-    e1 ∙ ap (λ (l : List Item). l ++ map plain (round seed (k + 1))) e0 ∙ append_assoc opening (map plain (rounds seed k)) (map plain (round seed (k + 1)))
-    ∙ ap (λ (l : List Item). opening ++ l) (sym (map-append plain (rounds seed k) (round seed (k + 1))))
-    ∙ ap (λ (n : ℕ). opening ++ map plain (rounds seed k ++ round seed n)) (add-one k) ∙ ap (λ (n : ℕ). opening ++ map plain (rounds seed n)) (sym (add-one k))
+    e1 ∙ ap (λ (l : List Item). l ++ map without_block (round seed (k + 1))) e0 ∙ append_assoc opening (map without_block (rounds seed k)) (map without_block (round seed (k + 1)))
+    ∙ ap (λ (l : List Item). opening ++ l) (sym (map-append without_block (rounds seed k) (round seed (k + 1))))
+    ∙ ap (λ (n : ℕ). opening ++ map without_block (rounds seed k ++ round seed n)) (add-one k) ∙ ap (λ (n : ℕ). opening ++ map without_block (rounds seed n)) (sym (add-one k))
 
 -- one item more
 pub bytes_more : (bytes next : List ℕ) (items : List Item) (item : Item) (i : ℕ) → i < length items → item ≡ get_or items i item

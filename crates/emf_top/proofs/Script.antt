@@ -18,7 +18,7 @@ use Rattle.host_port.proofs.ScriptHeads.{script_block}
 use Rattle.plain_repository.specs.Lines.{takes_block}
 use Rattle.emf_top.specs.Tasks.{script}
 use Rattle.emf_top.specs.declared.generator.TheConstants.{LIBRARY}
-use Rattle.emf_top.specs.Generator.{plain, edits, exchange, round, rounds, generated, script_bytes}
+use Rattle.emf_top.specs.Generator.{without_block, edits, exchange, round, rounds, generated, script_bytes}
 use Rattle.emf_top.proofs.Digits.{both}
 use Rattle.emf_top.proofs.Graphic.{is_graphic, graphic_at, ascii}
 use Rattle.emf_top.proofs.Plain.{IsPlain, letters_plain, rounds_plain}
@@ -65,12 +65,12 @@ line_read place l r all short within =
 -- a line that takes no block
 plain_item : (takes : List ℕ → Bool) (place : ℕ) (l r : List ℕ) → list_all is_graphic l ≡ true → length l ≤ LINE_LIMIT → place + length l < INPUT_LIMIT → takes l ≡ false
     → script_from takes place ((l ++ 10 ∷ []) ++ r) ≡ with_item l None (script_from takes (place + length l + 1) r)
-plain_item takes place l r all short within plain =
+plain_item takes place l r all short within without_block =
     let cut = cut_line l r all in
     let size : length (l ++ 10 ∷ []) ≡ length l + 1 = length-append l (10 ∷ []) in
     let total = length-append (l ++ 10 ∷ []) r in
     let behind = ap length cut.after in
-    script_line takes place (place + length l + 1) ((l ++ 10 ∷ []) ++ r) l (line_read place l r all short within) plain (omega arith)
+    script_line takes place (place + length l + 1) ((l ++ 10 ∷ []) ++ r) l (line_read place l r all short within) without_block (omega arith)
     ∙ ap (λ (u : List ℕ). with_item l None (script_from takes (place + length l + 1) u)) cut.after
 
 -- lines, each with its line feed
@@ -155,12 +155,12 @@ whole_line l p = subst (λ (x : List ℕ). list_all is_graphic x ≡ true) (sym 
 
 -- lines that take no block
 plain_lines : (takes : List ℕ → Bool) → ((l : List ℕ) → IsPlain l → takes l ≡ false) → (lines : List (List ℕ)) (place : ℕ) → All IsPlain lines → place + 202 * length lines < INPUT_LIMIT
-    → script_from takes place (script_bytes (map plain lines)) ≡ record { items = map plain lines; fault = None }
+    → script_from takes place (script_bytes (map without_block lines)) ≡ record { items = map without_block lines; fault = None }
 plain_lines takes none [] place all near = cut_nothing takes place (omega arith)
 plain_lines takes none (l ∷ ls) place all near =
     let p : IsPlain l = all 0 l (omega arith) in
     let long : length l ≤ 201 = omega (arith, ap length p.line_is, p.short) in
-    plain_item takes place l (script_bytes (map plain ls)) (whole_line l p) (omega arith) (omega arith) (none l p)
+    plain_item takes place l (script_bytes (map without_block ls)) (whole_line l p) (omega arith) (omega arith) (none l p)
     ∙ ap (λ (s : Script). with_item l None s) (plain_lines takes none ls (place + length l + 1) (λ k d low. all (suc k) d (omega arith)) (omega arith))
 
 library_is : joined (take 19 (slice_split is_lf LIBRARY.now)) ≡ LIBRARY.now
@@ -183,7 +183,7 @@ size_of_rounds : (seed n : ℕ) → length (rounds seed n) ≤ 7 * n
 size_of_rounds seed zero = omega arith
 size_of_rounds seed (suc n) = let so_far = size_of_rounds seed n in omega (arith, length-append (rounds seed n) (round seed (suc n)), size_of_round seed (suc n))
 
--- the lines behind the metamodel
+-- the lines after the metamodel
 abbrev behind_it : ℕ → ℕ → List (List ℕ)
 behind_it seed count = codes "checkout trunk" ∷ codes "checkout trunk" ∷ codes "create 1 Library / lib" ∷ codes "commit 1 start" ∷ codes "update 2" ∷ rounds seed count
 
@@ -205,11 +205,11 @@ script_is : (takes : List ℕ → Bool) → takes (codes "init") ≡ true → ((
 script_is takes blocked none seed count most =
     let size : length (joined (take 19 (slice_split is_lf LIBRARY.now))) ≤ 10000 = omega (arith, ap length library_is, library_few) in
     let many = size_of_rounds seed count in
-    ap (λ (t : List ℕ). script_from takes 0 ((codes "init" ++ 10 ∷ []) ++ ((t ++ 46 ∷ 10 ∷ []) ++ script_bytes (map plain (behind_it seed count))))) (sym library_is)
-    ∙ block_item takes 0 (codes "init") (take 19 (slice_split is_lf LIBRARY.now)) (script_bytes (map plain (behind_it seed count))) refl (omega arith) blocked library_shown (omega arith) (omega arith)
+    ap (λ (t : List ℕ). script_from takes 0 ((codes "init" ++ 10 ∷ []) ++ ((t ++ 46 ∷ 10 ∷ []) ++ script_bytes (map without_block (behind_it seed count))))) (sym library_is)
+    ∙ block_item takes 0 (codes "init") (take 19 (slice_split is_lf LIBRARY.now)) (script_bytes (map without_block (behind_it seed count))) refl (omega arith) blocked library_shown (omega arith) (omega arith)
     ∙ ap (λ (s : Script). with_item (codes "init") (Some (joined (take 19 (slice_split is_lf LIBRARY.now)))) s)
     (plain_lines takes none (behind_it seed count) (0 + length (codes "init") + 1 + length (joined (take 19 (slice_split is_lf LIBRARY.now))) + 2) (all_behind seed count (omega arith)) (omega arith))
-    ∙ ap (λ (t : List ℕ). with_item (codes "init") (Some t) (record { items = map plain (behind_it seed count); fault = None })) library_is
+    ∙ ap (λ (t : List ℕ). with_item (codes "init") (Some t) (record { items = map without_block (behind_it seed count); fault = None })) library_is
 
 head_none : (n first : ℕ) (rest word : List ℕ) → nat_eq first 105 ≡ false → pointwise nat_eq (take n (first ∷ rest)) (105 ∷ word) ≡ false
 head_none zero first rest word is = refl

@@ -8,7 +8,7 @@ use Rattle.host_port.specs.declared.lines.LineFault.{LineFault}
 use Rattle.host_port.specs.declared.lines.LineFault.TheVariants as faults
 use Rattle.host_port.proofs.Course.{at_last, course_on, course_still, still_disk, still_said, still_input, adds_none, told_next, kept_now}
 use Rattle.command_runs.specs.Runs.{Answer, listed, after, answers, replies, events, refuses, answered}
-use Rattle.command_runs.specs.Stops.{IsRunning, IsStepping}
+use Rattle.command_runs.specs.Crashes.{IsRunning, IsStepping}
 use Rattle.command_runs.proofs.RunLaws.{or_assoc, or_false}
 use Rattle.command_runs.proofs.Going.{Going, Steps, quietly, begins, one_more, stepped_part, stepped_moments, answers_more}
 use Rattle.op_form.specs.declared.event.Event.{Event}
@@ -16,7 +16,7 @@ use Rattle.plain_repository.specs.Lines.{takes_block, is_skipped}
 use Rattle.plain_repository.specs.State.{State}
 use Rattle.plain_repository.specs.Events.{play}
 use Rattle.plain_repository.specs.Repository.{decide}
-use Rattle.plain_repository.specs.Store.{Stands}
+use Rattle.plain_repository.specs.Store.{StandsForEvents}
 use Rattle.emf_session.specs.declared.answered.SessionFault.{SessionFault}
 use Rattle.emf_session.specs.declared.answered.SessionFault.TheVariants as session
 use Rattle.emf_session.specs.Session.{answer_to, IsStoreOf, IfMade}
@@ -29,7 +29,7 @@ use Rattle.emf_top.proofs.Halting.{halted, kept_too, unanswered}
 
 -- a run between two commands, where the store rests
 pub record Between (entry now : Told) (made : List Event) (task : Task) (left : Script) (state : State) (refused : Bool) : Type 0 where
-  pub going : Going Stands entry now made task.answers (answers decide play state left.items) (λ events. IsStoreOf (disk_now now) state events)
+  pub going : Going StandsForEvents entry now made task.answers (answers decide play state left.items) (λ events. IsStoreOf (disk_now now) state events)
   pub end : task.end ≡ end_of left.fault (refused || refuses (answers decide play state left.items))
 
 -- where the loop stands: the reader's place and its bytes at hand, the repository's state, and whether the session is broken
@@ -48,7 +48,7 @@ serving_starts entry s0 failed place pending broken fresh unbroken holds = recor
   course = course_still entry;
   holds = holds;
   going = λ told made rest. record {
-    going = begins Stands entry made (answers decide play s0 (script_from takes_block place (pending ++ entry.left)).items) (λ events. IsStoreOf (disk_now entry) s0 events)
+    going = begins StandsForEvents entry made (answers decide play s0 (script_from takes_block place (pending ++ entry.left)).items) (λ events. IsStoreOf (disk_now entry) s0 events)
         (λ holds_made. rest_leaves (disk_now entry) s0 made holds_made) rest;
     end = refl;
   };
@@ -59,7 +59,7 @@ module _ (entry a b : Told) (made : List Event) (task : Task) (left : Script) (s
     (course : GoesOn entry a) (on : GoesOn a b) (disk : KeepsDisk a b) (said : KeepsSaid a b) (told : IsTrue entry.tells) where
   pub looked : (next : Script) → left ≡ next → Between entry b made task next state refused
   looked next is = subst (λ (s : Script). Between entry b made task s state refused) is (record {
-    going = quietly Stands entry made task.answers a b (answers decide play state left.items) (λ events. IsStoreOf (disk_now a) state events) between.going course on disk said
+    going = quietly StandsForEvents entry made task.answers a b (answers decide play state left.items) (λ events. IsStoreOf (disk_now a) state events) between.going course on disk said
         (λ events holds. rest_leaves (disk_now a) state events holds) told (λ events. IsStoreOf (disk_now b) state events)
         (λ events holds. subst (λ d. IsStoreOf d state events) (sym (kept_now a b on disk (told_next entry a course told))) holds);
     end = between.end;
@@ -73,7 +73,7 @@ module _ (entry b : Told) (made : List Event) (task : Task) (state : State) (ref
   pub served : IsServed task made entry b
   served = record {
     said = between.going.said ∙ ap (λ (l : List (Answer Event)). said_now entry ++ replies l) (sym all_done);
-    stands = subst (λ (l : List (Answer Event)). Stands (disk_now b).now (made ++ events l)) (sym all_done) (holds_stands (disk_now b) state (made ++ events between.going.done) between.going.rest);
+    stands = subst (λ (l : List (Answer Event)). StandsForEvents (disk_now b).now (made ++ events l)) (sym all_done) (holds_stands (disk_now b) state (made ++ events between.going.done) between.going.rest);
   }
 
   pub end_is : task.end ≡ end_of fault refused
@@ -107,36 +107,36 @@ module _ (entry a b : Told) (made : List Event) (task : Task) (left : Script) (s
   pub looked_part : Throughout entry b (λ disk said. AddsPart (said_now entry) (replies task.answers) said)
   looked_part = (looked entry a b made task left state refused between course on disk said told left refl).going.part
 
-  pub looked_moments : Throughout entry b (IsRunning Stands made (events task.answers) (answered task.answers) (said_now entry))
+  pub looked_moments : Throughout entry b (IsRunning StandsForEvents made (events task.answers) (answered task.answers) (said_now entry))
   looked_moments = (looked entry a b made task left state refused between course on disk said told left refl).going.moments
 
 -- an item was answered
 module _ (entry b d : Told) (made : List Event) (task : Task) (next : Script) (item : Item) (state : State) (refused : Bool) (answer : Answer Event) (answer_is : decide state item ≡ answer)
     (between : Between entry b made task (with_item item.line item.block next) state refused) (course : GoesOn entry b) (on : GoesOn b d)
     (part : Throughout b d (λ disk said. AddsPart (said_now b) answer.reply said))
-    (moments : (made : List Event) → IsStoreOf (disk_now b) state made → Throughout b d (IsStepping Stands made answer.event (said_now b))) where
+    (moments : (made : List Event) → IsStoreOf (disk_now b) state made → Throughout b d (IsStepping StandsForEvents made answer.event (said_now b))) where
   left_is : answers decide play state (item ∷ next.items) ≡ answer ∷ answers decide play (after play state answer.event) next.items
   left_is = ap (λ (a : Answer Event). a ∷ answers decide play (after play state a.event) next.items) answer_is
 
-  steps : Steps Stands b d answer (λ events. IsStoreOf (disk_now b) state events)
+  steps : Steps StandsForEvents b d answer (λ events. IsStoreOf (disk_now b) state events)
   steps = record { course = on; part = part; moments = moments }
 
   pub answered_part : Throughout entry d (λ disk said. AddsPart (said_now entry) (replies task.answers) said)
-  answered_part = stepped_part Stands entry made task.answers b d (answers decide play state (item ∷ next.items)) (λ events. IsStoreOf (disk_now b) state events) between.going course answer
+  answered_part = stepped_part StandsForEvents entry made task.answers b d (answers decide play state (item ∷ next.items)) (λ events. IsStoreOf (disk_now b) state events) between.going course answer
       (answers decide play (after play state answer.event) next.items) left_is steps
 
-  pub answered_moments : Throughout entry d (IsRunning Stands made (events task.answers) (answered task.answers) (said_now entry))
-  answered_moments = stepped_moments Stands entry made task.answers b d (answers decide play state (item ∷ next.items)) (λ events. IsStoreOf (disk_now b) state events) between.going course answer
+  pub answered_moments : Throughout entry d (IsRunning StandsForEvents made (events task.answers) (answered task.answers) (said_now entry))
+  answered_moments = stepped_moments StandsForEvents entry made task.answers b d (answers decide play state (item ∷ next.items)) (λ events. IsStoreOf (disk_now b) state events) between.going course answer
       (answers decide play (after play state answer.event) next.items) left_is steps
 
   whole_more : task.answers ≡ (between.going.done ++ answer ∷ []) ++ answers decide play (after play state answer.event) next.items
-  whole_more = answers_more Stands entry made task.answers b d (answers decide play state (item ∷ next.items)) (λ events. IsStoreOf (disk_now b) state events) between.going course answer
+  whole_more = answers_more StandsForEvents entry made task.answers b d (answers decide play state (item ∷ next.items)) (λ events. IsStoreOf (disk_now b) state events) between.going course answer
       (answers decide play (after play state answer.event) next.items) left_is steps
 
   -- it was being written, and is kept or not
   pub unanswered_here : IsTrue b.tells → KeepsSaid b d × IsSome answer.event → MayLeave (disk_now d) (disk_now d).now → IsUnanswered task made entry d
   unanswered_here told_b quiet left =
-      let stood = at_last b d (IsStepping Stands (made ++ events between.going.done) answer.event (said_now b)) on (moments (made ++ events between.going.done) between.going.rest) told_b (disk_now d).now left in
+      let stood = at_last b d (IsStepping StandsForEvents (made ++ events between.going.done) answer.event (said_now b)) on (moments (made ++ events between.going.done) between.going.rest) told_b (disk_now d).now left in
       unanswered entry b d made task between.going.done answer (answers decide play (after play state answer.event) next.items) whole_more between.going.said on quiet.0 told_b quiet.1
       (⊎_elim (λ (before, same). inl before) (λ both. inr both) stood)
 
@@ -155,7 +155,7 @@ module _ (entry b d : Told) (made : List Event) (task : Task) (next : Script) (i
     -- the reply was printed
     pub answered_one : now ≡ after play state answer.event → said_now d ≡ said_now b ++ answer.reply → Between entry d made task next now (refused || answer.refused)
     answered_one now_is said = subst (λ (s : State). Between entry d made task next s (refused || answer.refused)) (sym now_is) (record {
-      going = one_more Stands entry made task.answers b d (answers decide play state (item ∷ next.items)) (λ events. IsStoreOf (disk_now b) state events) between.going course answer
+      going = one_more StandsForEvents entry made task.answers b d (answers decide play state (item ∷ next.items)) (λ events. IsStoreOf (disk_now b) state events) between.going course answer
           (answers decide play (after play state answer.event) next.items) left_is steps (λ events. IsStoreOf (disk_now d) (after play state answer.event) events) said
           (λ made holds. subst (λ (s : State). IsStoreOf (disk_now d) s (made ++ listed answer.event)) now_is (added made holds));
       end = between.end ∙ ap (λ (l : List (Answer Event)). end_of next.fault (refused || refuses l)) left_is
@@ -204,11 +204,11 @@ module _ (entry a b : Told) (s0 : State) (whole : Script) (failed : Bool) (place
   open_for told = holds_b (subst IsTrue course_b.tells told)
 
   module _ (d : Told) (answer : Answer Event) (answer_is : decide state item ≡ answer) (step_on : GoesOn b d) (part : Throughout b d (λ disk said. AddsPart (said_now b) answer.reply said))
-      (moments : (made : List Event) → IsStoreOf (disk_now b) state made → Throughout b d (IsStepping Stands made answer.event (said_now b))) where
+      (moments : (made : List Event) → IsStoreOf (disk_now b) state made → Throughout b d (IsStepping StandsForEvents made answer.event (said_now b))) where
     pub item_part : (made : List Event) → IsStoreOf (disk_now entry) s0 made → Throughout entry d (λ disk said. AddsPart (said_now entry) (replies (serving s0 whole).answers) said)
     item_part made holds told = answered_part entry b d made (serving s0 whole) (script_from takes_block place_b (pending_b ++ b.left)) item state refused answer answer_is (item_between told made holds) course_b step_on part moments told
 
-    pub item_moments : (made : List Event) → IsStoreOf (disk_now entry) s0 made → Throughout entry d (IsRunning Stands made (events (serving s0 whole).answers) (answered (serving s0 whole).answers) (said_now entry))
+    pub item_moments : (made : List Event) → IsStoreOf (disk_now entry) s0 made → Throughout entry d (IsRunning StandsForEvents made (events (serving s0 whole).answers) (answered (serving s0 whole).answers) (said_now entry))
     item_moments made holds told = answered_moments entry b d made (serving s0 whole) (script_from takes_block place_b (pending_b ++ b.left)) item state refused answer answer_is (item_between told made holds) course_b step_on part moments told
 
     pub step_fault_ends : (fault : SessionFault) (now : State)

@@ -3,12 +3,12 @@ use Rattle.std.proofs.Common.{◌≡◌, ◌∙◌, ℕ, List, [], ◌++◌, ap}
 use Rattle.host_port.specs.Host.{Told, Throughout, AddsPart, disk_now, said_now}
 use Rattle.host_port.specs.Cut.{script_from}
 use Rattle.command_runs.specs.Runs.{replies, events, answered}
-use Rattle.command_runs.specs.Stops.{IsRunning}
+use Rattle.command_runs.specs.Crashes.{IsRunning}
 use Rattle.command_runs.proofs.Going.{Going, begins}
 use Rattle.op_form.specs.declared.event.Event.{Event}
 use Rattle.plain_repository.specs.Lines.{takes_block}
 use Rattle.plain_repository.specs.State.{State}
-use Rattle.plain_repository.specs.Store.{Stands}
+use Rattle.plain_repository.specs.Store.{StandsForEvents}
 use Rattle.emf_session.specs.Session.{IsStoreOf}
 use Rattle.emf_session.proofs.Entering.{rest_leaves}
 use Rattle.emf_top.specs.Headline.{IsHalted}
@@ -20,8 +20,8 @@ pub from_start : (s : State) (input : List ℕ) (place : ℕ) (pending : List �
 from_start s input place pending place_is pending_is = ap (λ (n : ℕ). serving s (script_from takes_block n (pending ++ input))) place_is ∙ ap (λ (l : List ℕ). serving s (script_from takes_block 0 (l ++ input))) pending_is
 
 module _ (a : Told) (state : State) (task : Task) (made : List Event) (holds : IsStoreOf (disk_now a) state made) where
-  pub at_start : Going Stands a a made task.answers task.answers (λ events. IsStoreOf (disk_now a) state events)
-  at_start = begins Stands a made task.answers (λ events. IsStoreOf (disk_now a) state events) (λ rest. rest_leaves (disk_now a) state made rest) holds
+  pub at_start : Going StandsForEvents a a made task.answers task.answers (λ events. IsStoreOf (disk_now a) state events)
+  at_start = begins StandsForEvents a made task.answers (λ events. IsStoreOf (disk_now a) state events) (λ rest. rest_leaves (disk_now a) state made rest) holds
 
   pub halted_at_start : IsHalted task made a a
   halted_at_start = halted a a made task task.answers state at_start
@@ -29,5 +29,5 @@ module _ (a : Told) (state : State) (task : Task) (made : List Event) (holds : I
   pub part_at_start : Throughout a a (λ disk said. AddsPart (said_now a) (replies task.answers) said)
   part_at_start = at_start.part
 
-  pub moments_at_start : Throughout a a (IsRunning Stands made (events task.answers) (answered task.answers) (said_now a))
+  pub moments_at_start : Throughout a a (IsRunning StandsForEvents made (events task.answers) (answered task.answers) (said_now a))
   moments_at_start = at_start.moments

@@ -5,14 +5,14 @@ use Rattle.host_port.specs.Cut.{Item}
 use Rattle.emf_top.specs.declared.generator.TheConstants.{LIBRARY}
 
 -- a line that takes no block
-abbrev pub plain : List ℕ → Item
-plain line = record { line = line; block = None }
+abbrev pub without_block : List ℕ → Item
+without_block line = record { line = line; block = None }
 
 -- the lines before the first round: a metamodel, two workspaces, and an element that the second has from the first
 abbrev pub opening : List Item
 opening = record { line = codes "init"; block = Some LIBRARY.now }
-    ∷ plain (codes "checkout trunk") ∷ plain (codes "checkout trunk") ∷ plain (codes "create 1 Library / lib")
-    ∷ plain (codes "commit 1 start") ∷ plain (codes "update 2") ∷ []
+    ∷ without_block (codes "checkout trunk") ∷ without_block (codes "checkout trunk") ∷ without_block (codes "create 1 Library / lib")
+    ∷ without_block (codes "commit 1 start") ∷ without_block (codes "update 2") ∷ []
 
 -- the workspace of a round, 1 or 2
 abbrev pub workspace_in : ℕ → ℕ → ℕ
@@ -55,7 +55,7 @@ rounds seed (suc n) = rounds seed n ++ round seed (suc n)
 
 -- the items of the script
 abbrev pub generated : ℕ → ℕ → List Item
-generated seed count = opening ++ map plain (rounds seed count)
+generated seed count = opening ++ map without_block (rounds seed count)
 
 -- the bytes of a block: its text, and a line that is just `.`
 abbrev pub block_bytes : Option (List ℕ) → List ℕ

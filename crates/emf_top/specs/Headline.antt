@@ -2,9 +2,9 @@
 use Rattle.std.specs.Prelude.{◌≡◌, ◌⊎◌, ℕ, ◌-◌, List, [], ◌∷◌, ◌++◌, false, length, IsSome, IsTrue}
 use Rattle.host_port.specs.Host.{Told, disk_now, said_now, Rose, Throughout, KeepsInput, KeepsSaid, AddsPart}
 use Rattle.command_runs.specs.Runs.{Answer, replies, events, answered}
-use Rattle.command_runs.specs.Stops.{IsAmong}
+use Rattle.command_runs.specs.Crashes.{IsAmong}
 use Rattle.op_form.specs.declared.event.Event.{Event}
-use Rattle.plain_repository.specs.Store.{Stands, StandsForNoEvents, IsDamaged}
+use Rattle.plain_repository.specs.Store.{StandsForEvents, StandsForNoEvents, IsDamaged}
 use Rattle.emf_session.specs.declared.answered.SessionFault.{SessionFault}
 use Rattle.emf_session.specs.declared.answered.SessionFault.TheVariants as session
 use Rattle.emf_top.specs.Tasks.{Task}
@@ -14,7 +14,7 @@ use Rattle.emf_top.specs.declared.top.Status.TheVariants.{Accepted, Refused, Bad
 -- all of the replies were printed, and the file stands for all of the events
 pub record IsServed (task : Task) (first : List Event) (before now : Told) : Type 0 where
   pub said : said_now now ≡ said_now before ++ replies task.answers
-  pub stands : Stands (disk_now now).now (first ++ events task.answers)
+  pub stands : StandsForEvents (disk_now now).now (first ++ events task.answers)
 
 -- the answer whose reply was not printed whole is kept, and so is each before it, whose replies were
 pub record IsUnsaid (task : Task) (first : List Event) (before now : Told) : Type 0 where
@@ -23,13 +23,13 @@ pub record IsUnsaid (task : Task) (first : List Event) (before now : Told) : Typ
   pub left : List (Answer Event)
   pub whole : task.answers ≡ (done ++ answer ∷ []) ++ left
   pub said : AddsPart (said_now before ++ replies done) answer.reply (said_now now)
-  pub stands : Stands (disk_now now).now (first ++ events (done ++ answer ∷ []))
+  pub stands : StandsForEvents (disk_now now).now (first ++ events (done ++ answer ∷ []))
 
 -- nothing was printed and no input taken, and the file stands for the first events alone
 pub record IsUnopened (first : List Event) (before now : Told) : Type 0 where
   pub said : said_now now ≡ said_now before
   pub input : KeepsInput before now
-  pub stands : Stands (disk_now now).now first
+  pub stands : StandsForEvents (disk_now now).now first
 
 -- An answer that makes an event was on its way: nothing of its reply was printed, and its event is kept whole or not at
 -- all. Each answer before it is kept, and its reply was printed.
@@ -40,7 +40,7 @@ pub record IsUnanswered (task : Task) (first : List Event) (before now : Told) :
   pub whole : task.answers ≡ (done ++ answer ∷ []) ++ left
   pub event : IsSome answer.event
   pub said : said_now now ≡ said_now before ++ replies done
-  pub stands : Stands (disk_now now).now (first ++ events done) ⊎ Stands (disk_now now).now (first ++ events (done ++ answer ∷ []))
+  pub stands : StandsForEvents (disk_now now).now (first ++ events done) ⊎ StandsForEvents (disk_now now).now (first ++ events (done ++ answer ∷ []))
 
 -- the first answers are given and their events kept, and of the others nothing is printed and nothing kept
 pub record IsHalted (task : Task) (first : List Event) (before now : Told) : Type 0 where
@@ -48,11 +48,11 @@ pub record IsHalted (task : Task) (first : List Event) (before now : Told) : Typ
   pub left : List (Answer Event)
   pub whole : task.answers ≡ done ++ left
   pub said : said_now now ≡ said_now before ++ replies done
-  pub stands : Stands (disk_now now).now (first ++ events done)
+  pub stands : StandsForEvents (disk_now now).now (first ++ events done)
 
 -- the file stands for the first events and some of those of the task, none in part, with all whose reply was begun
 abbrev pub IsKept : Task → List Event → Told → Told → Type 0
-IsKept task first before now = IsAmong Stands first (events task.answers) (answered task.answers (length (said_now now) - length (said_now before))) (disk_now now).now
+IsKept task first before now = IsAmong StandsForEvents first (events task.answers) (answered task.answers (length (said_now now) - length (said_now before))) (disk_now now).now
 
 -- A run ends so, where the file stood for the first events. A disk fault comes while the store is opened, or while an
 -- answer's event is on its way.
@@ -100,7 +100,7 @@ pub record NothingRose (before now : Told) : Type 0 where
 abbrev pub KeepsFile : Told → Told → Type 0
 KeepsFile before now = Throughout before now (λ disk said. disk.now ≡ (disk_now before).now)
 
--- a host that tells has a file that is damaged at a place and stands for no list of events; at each moment the file reads as
+-- a host that reports has a file that is damaged at a place and stands for no list of events; at each moment the file reads as
 -- it was; nothing is printed, and no input taken
 pub record IsFoundDamaged (before now : Told) (at : ℕ) : Type 0 where
   pub place : IsTrue before.tells → IsDamaged (disk_now before).now at

@@ -14,7 +14,7 @@ IsShortItem item = (length item.line < 2 ^ 32 - 1) × IsShortBlock item.block
 abbrev pub IsAnswered : Item → Type 0
 IsAnswered item = IsShortItem item × (is_skipped item.line ≡ false)
 
--- the script's next item, with what is left of the script behind it; or its end; or its fault
+-- the script's next item, with what is left of the script after it; or its end; or its fault
 abbrev pub GotItem : Result (Option Item) LineFault → Script → Script → Type 0
 GotItem (Ok (Some item)) whole rest = whole ≡ with_item item.line item.block rest
 GotItem (Ok None) whole rest = whole ≡ ends_by None

@@ -23,6 +23,6 @@ AskFor words (Generate seed count) = (numbers : List ℕ) × (words ≡ codes "-
 abbrev pub AreBad : List (List ℕ) → Type 0
 AreBad words = (request : Request) → AskFor words request → ⊥
 
--- digits, at least one, and no zero in front of others
+-- digits, at least one, and no zero before others
 abbrev pub is_numeral : List ℕ → Bool
 is_numeral word = nat_lt 0 (length word) && ((length word == 1) || not (slice_index word 0 == 48)) && list_all is_ascii_digit word

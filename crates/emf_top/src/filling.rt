@@ -2,9 +2,9 @@
 ghost use Rattle.std.specs.Prelude.{◌≡◌, ◌≢◌, ◌+◌, ◌<◌, ◌≤◌, ◌^◌, ℕ, List, Bool, All, IfOk, IsTrue, false, if◌then◌else◌, string_bytes};
 ghost use Rattle.host_port.specs.Host.{disk_now, said_now, Rose, GoesOn, Throughout, AddsPart};
 ghost use Rattle.command_runs.specs.Runs.{replies, events, answered};
-ghost use Rattle.command_runs.specs.Stops.{IsRunning};
+ghost use Rattle.command_runs.specs.Crashes.{IsRunning};
 ghost use Rattle.op_form.specs.declared.event.Event.{Event};
-ghost use Rattle.plain_repository.specs.Store.{Stands};
+ghost use Rattle.plain_repository.specs.Store.{StandsForEvents};
 ghost use Rattle.emf_session.specs.Session.{IsStoreOf, answered_as};
 ghost use Rattle.emf_top.specs.Headline.{Ends, KeepsUnread};
 ghost use Rattle.emf_top.specs.Items.{IsAnswered};
@@ -64,7 +64,7 @@ pub(crate) fn fill<H: Host>(
     ensures part { (made : List Event) → IsStoreOf (disk_now (H.told host.old)) session.old.state made
         → Throughout (H.told host.old) (H.told host.new) (λ _ said. AddsPart (said_now (H.told host.old)) (replies (filling session.old.state items.now).answers) said) }
     ensures moments { (made : List Event) → IsStoreOf (disk_now (H.told host.old)) session.old.state made
-        → Throughout (H.told host.old) (H.told host.new) (IsRunning Stands made (events (filling session.old.state items.now).answers)
+        → Throughout (H.told host.old) (H.told host.new) (IsRunning StandsForEvents made (events (filling session.old.state items.now).answers)
         (answered (filling session.old.state items.now).answers) (said_now (H.told host.old))) }
     ensures unread { KeepsUnread (filling session.old.state items.now) (H.told host.old) (H.told host.new) }
     ensures words { result ≢ Status.BadWords }

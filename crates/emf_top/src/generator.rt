@@ -1,7 +1,7 @@
 //! The script that is generated: a library whose books two workspaces make in turn.
 ghost use Rattle.std.specs.Prelude.{◌≡◌, ◌++◌, ◌∷◌, [], ◌<◌, ◌≤◌, IfOk, OnOk, None, map, string_bytes};
 ghost use Rattle.std.specs.Fmt.{decimal};
-ghost use Rattle.emf_top.specs.Generator.{plain, opening, workspace_in, pages_in, create_text, title_text, pages_text, edits, exchange, round, generated, block_bytes, script_bytes};
+ghost use Rattle.emf_top.specs.Generator.{without_block, opening, workspace_in, pages_in, create_text, title_text, pages_text, edits, exchange, round, generated, block_bytes, script_bytes};
 ghost use Rattle.emf_top.specs.Tasks.{script};
 
 use crate::item::Item;
@@ -34,7 +34,7 @@ const LIBRARY: &str =
 
 /// A line that takes no block, as an item at the end.
 fn push(alloc: Global, items: &mut List<Item>, line: &str) -> Result<(), AllocError>
-    ensures { OnOk result (items.new ≡ items.old ++ plain line.now ∷ []) }
+    ensures { OnOk result (items.new ≡ items.old ++ without_block line.now ∷ []) }
 {
     items.push(Item::new(Text::new(alloc, line)?, None))
 }
@@ -70,7 +70,7 @@ fn pages_in(seed: u64, k: u32) -> u64
 
 /// A line that takes no block, as an item at the end.
 fn push_line(alloc: Global, items: &mut List<Item>, line: String) -> Result<(), AllocError>
-    ensures { OnOk result (items.new ≡ items.old ++ plain (string_bytes line) ∷ []) }
+    ensures { OnOk result (items.new ≡ items.old ++ without_block (string_bytes line) ∷ []) }
 {
     push(alloc, items, line.as_str())
 }
@@ -107,7 +107,7 @@ fn pages_line(alloc: Global, ws: u64, k: u32, pages: u64) -> Result<String, Allo
 
 /// The lines that each round has.
 fn push_edits(alloc: Global, items: &mut List<Item>, seed: u64, k: u32) -> Result<(), AllocError>
-    ensures { OnOk result (items.new ≡ items.old ++ map plain (edits seed k)) }
+    ensures { OnOk result (items.new ≡ items.old ++ map without_block (edits seed k)) }
 {
     let ws = workspace_in(seed, k);
     let pages = pages_in(seed, k);
@@ -127,7 +127,7 @@ fn push_numbered(
     word: &str,
     k: u32,
 ) -> Result<(), AllocError>
-    ensures { OnOk result (items.new ≡ items.old ++ plain (word.now ++ decimal k) ∷ []) }
+    ensures { OnOk result (items.new ≡ items.old ++ without_block (word.now ++ decimal k) ∷ []) }
 {
     let mut line = String::new(alloc);
     push_count(alloc, &mut line, word, k as u64)?;
@@ -136,7 +136,7 @@ fn push_numbered(
 
 /// The lines that each fourth round has besides.
 fn push_exchange(alloc: Global, items: &mut List<Item>, k: u32) -> Result<(), AllocError>
-    ensures { OnOk result (items.new ≡ items.old ++ map plain (exchange k)) }
+    ensures { OnOk result (items.new ≡ items.old ++ map without_block (exchange k)) }
 {
     push(alloc, items, "update 1")?;
     push_numbered(alloc, items, "commit 1 round ", k)?;
@@ -147,7 +147,7 @@ fn push_exchange(alloc: Global, items: &mut List<Item>, k: u32) -> Result<(), Al
 
 /// The lines of a round.
 fn push_round(alloc: Global, items: &mut List<Item>, seed: u64, k: u32) -> Result<(), AllocError>
-    ensures { OnOk result (items.new ≡ items.old ++ map plain (round seed k)) }
+    ensures { OnOk result (items.new ≡ items.old ++ map without_block (round seed k)) }
 {
     push_edits(alloc, items, seed, k)?;
     if k % 4 == 0 {

@@ -3,12 +3,12 @@ ghost use Rattle.std.specs.Prelude.{◌≡◌, ◌≢◌, ◌⊎◌, ◌+◌, �
 ghost use Rattle.host_port.specs.Host.{disk_now, said_now, Rose, GoesOn, Throughout, AddsPart, KeepsSaid, KeepsInput};
 ghost use Rattle.host_port.specs.Cut.{script_from};
 ghost use Rattle.command_runs.specs.Runs.{played, replies, events, answered};
-ghost use Rattle.command_runs.specs.Stops.{IsRunning, IsOpenedRunning};
+ghost use Rattle.command_runs.specs.Crashes.{IsRunning, IsOpenedRunning};
 ghost use Rattle.op_form.specs.declared.event.Event.{Event};
 ghost use Rattle.plain_repository.specs.Lines.{takes_block};
 ghost use Rattle.plain_repository.specs.State.{empty};
 ghost use Rattle.plain_repository.specs.Events.{play};
-ghost use Rattle.plain_repository.specs.Store.{Stands, StandsForNoEvents};
+ghost use Rattle.plain_repository.specs.Store.{StandsForEvents, StandsForNoEvents};
 ghost use Rattle.emf_session.specs.Session.{IsStoreOf, answered_as};
 ghost use Rattle.emf_top.specs.Headline.{code_of, Ends, session_status, NothingRose, IsKept, KeepsFile, KeepsUnread, IsFoundDamaged};
 ghost use Rattle.emf_top.specs.Tasks.{serving, task_of, input_status};
@@ -36,7 +36,7 @@ pub enum Status {
     BadWords,
     /// The host failed to hand over input.
     ReadFault,
-    /// The host failed to say a reply.
+    /// The host failed to print a reply.
     WriteFault,
     /// A disk call of the host failed.
     DiskFault,
@@ -98,31 +98,31 @@ pub fn run<H: Host>(alloc: Global, words: &[String], host: &mut H) -> Status
     // What is printed and kept, where the file stands for a list of events: with Accepted, Refused and Input all of the
     // task's replies, and all of its events; with WriteFault the event whose reply failed; with the other statuses the first
     // replies and their events, and at a disk fault the one event more or not.
-    ensures ends { IsTrue (H.told host.old).tells → (request : Request) (first : List Event) → Stands (disk_now (H.told host.old)).now first → AskFor (map string_bytes words.now) request
+    ensures ends { IsTrue (H.told host.old).tells → (request : Request) (first : List Event) → StandsForEvents (disk_now (H.told host.old)).now first → AskFor (map string_bytes words.now) request
         → Ends (task_of request (played play empty first) (H.told host.old).left) first (H.told host.old) (H.told host.new) result }
     // At each moment a prefix of the replies is printed.
-    ensures part { (request : Request) (first : List Event) → Stands (disk_now (H.told host.old)).now first → AskFor (map string_bytes words.now) request
+    ensures part { (request : Request) (first : List Event) → StandsForEvents (disk_now (H.told host.old)).now first → AskFor (map string_bytes words.now) request
         → Throughout (H.told host.old) (H.told host.new) (λ _ said. AddsPart (said_now (H.told host.old)) (replies (task_of request (played play empty first) (H.told host.old).left).answers) said) }
     // At each moment whatever a crash leaves stands for the first events and some of the new ones, none in part, with all
     // whose reply is begun; until the first sync has succeeded the disk is that of the entry, and nothing is printed.
-    ensures moments { (request : Request) (first : List Event) → Stands (disk_now (H.told host.old)).now first → AskFor (map string_bytes words.now) request
-        → Throughout (H.told host.old) (H.told host.new) (IsOpenedRunning (disk_now (H.told host.old)) Stands first (events (task_of request (played play empty first) (H.told host.old).left).answers)
+    ensures moments { (request : Request) (first : List Event) → StandsForEvents (disk_now (H.told host.old)).now first → AskFor (map string_bytes words.now) request
+        → Throughout (H.told host.old) (H.told host.new) (IsOpenedRunning (disk_now (H.told host.old)) StandsForEvents first (events (task_of request (played play empty first) (H.told host.old).left).answers)
         (answered (task_of request (played play empty first) (H.told host.old).left).answers) (said_now (H.told host.old))) }
     // However it ends, the file stands for the first events and some of the new ones, none in part, with all whose reply is
     // begun: the command that was being written at a disk fault is kept whole or not at all.
-    ensures stopped { IsTrue (H.told host.old).tells → (request : Request) (first : List Event) → Stands (disk_now (H.told host.old)).now first → AskFor (map string_bytes words.now) request
+    ensures stopped { IsTrue (H.told host.old).tells → (request : Request) (first : List Event) → StandsForEvents (disk_now (H.told host.old)).now first → AskFor (map string_bytes words.now) request
         → IsKept (task_of request (played play empty first) (H.told host.old).left) first (H.told host.old) (H.told host.new) }
     // Where no count rises, it ends as the task does, or memory ran out.
-    ensures complete { IsTrue (H.told host.old).tells → (request : Request) (first : List Event) → Stands (disk_now (H.told host.old)).now first → AskFor (map string_bytes words.now) request
+    ensures complete { IsTrue (H.told host.old).tells → (request : Request) (first : List Event) → StandsForEvents (disk_now (H.told host.old)).now first → AskFor (map string_bytes words.now) request
         → NothingRose (H.told host.old) (H.told host.new) → (result ≡ (task_of request (played play empty first) (H.told host.old).left).end) ⊎ (result ≡ Status.Memory) }
     // With `--check` and `--generate` the input stays unread.
-    ensures unread { (request : Request) (first : List Event) → Stands (disk_now (H.told host.old)).now first → AskFor (map string_bytes words.now) request → KeepsUnread (task_of request (played play empty first) (H.told host.old).left) (H.told host.old) (H.told host.new) }
+    ensures unread { (request : Request) (first : List Event) → StandsForEvents (disk_now (H.told host.old)).now first → AskFor (map string_bytes words.now) request → KeepsUnread (task_of request (played play empty first) (H.told host.old).left) (H.told host.old) (H.told host.new) }
     ensures words { result ≡ Status.BadWords ↔ AreBad (map string_bytes words.now) }
     ensures untouched { result ≡ Status.BadWords → H.told host.new ≡ H.told host.old }
     ensures read { result ≡ Status.ReadFault → Rose (H.told host.old).take_faults (H.told host.new).take_faults }
     ensures write { result ≡ Status.WriteFault → Rose (H.told host.old).say_faults (H.told host.new).say_faults }
     ensures disk { result ≡ Status.DiskFault → Rose (H.told host.old).disk_faults (H.told host.new).disk_faults }
-    // Damaged comes where the file stands for no list of events, with the exact place. Such a file reads as it was at each
+    // Damaged comes where the file stands for no list of events, with the exact offset. Such a file reads as it was at each
     // moment, nothing is printed and no input taken, whatever the status.
     ensures damaged { (at : ℕ) → result ≡ Status.Damaged at → IsFoundDamaged (H.told host.old) (H.told host.new) at }
     ensures kept { StandsForNoEvents (disk_now (H.told host.old)).now → KeepsFile (H.told host.old) (H.told host.new) }
@@ -140,12 +140,12 @@ pub fn run<H: Host>(alloc: Global, words: &[String], host: &mut H) -> Status
 
 /// The run that does what is asked for.
 fn run_request<H: Host>(alloc: Global, request: Request, host: &mut H) -> Status
-    ensures ends { IsTrue (H.told host.old).tells → (first : List Event) → Stands (disk_now (H.told host.old)).now first
+    ensures ends { IsTrue (H.told host.old).tells → (first : List Event) → StandsForEvents (disk_now (H.told host.old)).now first
         → Ends (task_of request (played play empty first) (H.told host.old).left) first (H.told host.old) (H.told host.new) result }
-    ensures part { (first : List Event) → Stands (disk_now (H.told host.old)).now first
+    ensures part { (first : List Event) → StandsForEvents (disk_now (H.told host.old)).now first
         → Throughout (H.told host.old) (H.told host.new) (λ _ said. AddsPart (said_now (H.told host.old)) (replies (task_of request (played play empty first) (H.told host.old).left).answers) said) }
-    ensures moments { (first : List Event) → Stands (disk_now (H.told host.old)).now first
-        → Throughout (H.told host.old) (H.told host.new) (IsOpenedRunning (disk_now (H.told host.old)) Stands first (events (task_of request (played play empty first) (H.told host.old).left).answers)
+    ensures moments { (first : List Event) → StandsForEvents (disk_now (H.told host.old)).now first
+        → Throughout (H.told host.old) (H.told host.new) (IsOpenedRunning (disk_now (H.told host.old)) StandsForEvents first (events (task_of request (played play empty first) (H.told host.old).left).answers)
         (answered (task_of request (played play empty first) (H.told host.old).left).answers) (said_now (H.told host.old))) }
     ensures unread { (first : List Event) → KeepsUnread (task_of request (played play empty first) (H.told host.old).left) (H.told host.old) (H.told host.new) }
     ensures words { result ≢ Status.BadWords }
@@ -176,7 +176,7 @@ fn fulfil<H: Host>(alloc: Global, request: Request, host: &mut H, session: &mut 
     ensures part { (made : List Event) → IsStoreOf (disk_now (H.told host.old)) session.old.state made
         → Throughout (H.told host.old) (H.told host.new) (λ _ said. AddsPart (said_now (H.told host.old)) (replies (task_of request session.old.state (H.told host.old).left).answers) said) }
     ensures moments { (made : List Event) → IsStoreOf (disk_now (H.told host.old)) session.old.state made
-        → Throughout (H.told host.old) (H.told host.new) (IsRunning Stands made (events (task_of request session.old.state (H.told host.old).left).answers)
+        → Throughout (H.told host.old) (H.told host.new) (IsRunning StandsForEvents made (events (task_of request session.old.state (H.told host.old).left).answers)
         (answered (task_of request session.old.state (H.told host.old).left).answers) (said_now (H.told host.old))) }
     ensures unread { KeepsUnread (task_of request session.old.state (H.told host.old).left) (H.told host.old) (H.told host.new) }
     ensures words { result ≢ Status.BadWords }
@@ -220,7 +220,7 @@ fn serve<H: Host>(alloc: Global, host: &mut H, session: &mut Session, lines: &mu
     ensures part { (made : List Event) → IsStoreOf (disk_now (H.told host.old)) session.old.state made
         → Throughout (H.told host.old) (H.told host.new) (λ _ said. AddsPart (said_now (H.told host.old)) (replies (serving session.old.state (script_from takes_block lines.old.place (lines.old.pending ++ (H.told host.old).left))).answers) said) }
     ensures moments { (made : List Event) → IsStoreOf (disk_now (H.told host.old)) session.old.state made
-        → Throughout (H.told host.old) (H.told host.new) (IsRunning Stands made (events (serving session.old.state (script_from takes_block lines.old.place (lines.old.pending ++ (H.told host.old).left))).answers)
+        → Throughout (H.told host.old) (H.told host.new) (IsRunning StandsForEvents made (events (serving session.old.state (script_from takes_block lines.old.place (lines.old.pending ++ (H.told host.old).left))).answers)
         (answered (serving session.old.state (script_from takes_block lines.old.place (lines.old.pending ++ (H.told host.old).left))).answers) (said_now (H.told host.old))) }
     ensures words { result ≢ Status.BadWords }
     ensures read { result ≡ Status.ReadFault → Rose (H.told host.old).take_faults (H.told host.new).take_faults }

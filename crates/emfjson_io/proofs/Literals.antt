@@ -5,7 +5,7 @@ use Rattle.std.specs.List.{list_any}
 use Rattle.std.specs.Option.{option_map_or}
 use Rattle.std.specs.Str.{bytes_eq}
 use Rattle.std.proofs.lemmas.Slice.Eq.{bytes_eq-Decides}
-use Rattle.ecore_meta.specs.Document.{Rows, classifier_name}
+use Rattle.ecore_meta.specs.Document.{ClassifierRows, classifier_name}
 use Rattle.ecore_meta.specs.Faults.{dup_name, literal, literals_in, repeats_within}
 use Rattle.ecore_meta.specs.Names.{Name, has_repeat, number_of}
 use Rattle.ecore_meta.specs.Values.{literal_in, or_else, text_in}
@@ -76,7 +76,7 @@ texts_of (l ∷ ls) = ap (λ xs. l.literal ∷ xs) (texts_of ls)
 texts_at : List (List EnumLiteral) → ℕ → List Name
 texts_at literals e = map (λ l. l.text) (option_map_or (λ ls. ls) (slice_get literals e) [])
 
-rows_apart : (rows : Rows) → list_any repeats_within rows ≡ false → (e : ℕ) → has_repeat (texts_at (literals_in rows) e) ≡ false
+rows_apart : (rows : ClassifierRows) → list_any repeats_within rows ≡ false → (e : ℕ) → has_repeat (texts_at (literals_in rows) e) ≡ false
 unfolding texts_at
 rows_apart [] h e = refl
 rows_apart (Class c ∷ rows) h e = rows_apart rows (neither (repeats_within (Class c)) (list_any repeats_within rows) h).1 e

@@ -55,7 +55,7 @@ data_of meta s (Literal n) = string (literal_word meta s n)
 abbrev pub value_text : Meta → Scalar → Value → List ℕ
 value_text meta s v = compact_text (data_of meta s v)
 
--- an answer is the value that the text is, or Bad where it is none; want of memory says nothing of the text
+-- an answer is the value that the text is, or Bad where it is none; out of memory says nothing of the text
 abbrev pub GivesValue : Result Value ValueFault → Option Value → Type 0
 GivesValue (Ok v) found = found ≡ Some v
 GivesValue (Err e) found = IsBad found e

@@ -14,7 +14,7 @@ use Rattle.ecore_meta.specs.declared.meta.Kind.{Kind}
 use Rattle.ecore_meta.specs.declared.meta.Kind.TheVariants.{Attr, AttrMany, Bounded, Free, Contains, Container, Skip}
 use Rattle.ecore_meta.specs.declared.meta.Value.{Value}
 use Rattle.model_state.specs.Ident.{is_id}
-use Rattle.model_state.specs.Keys.{Name}
+use Rattle.model_state.specs.Keys.{IdBytes}
 use Rattle.model_state.specs.Typing.{is_default, kind_of, upper_of}
 use Rattle.emfjson_io.specs.Values.{value_in}
 use Rattle.emfjson_model.specs.declared.classes.Key.{Key}
@@ -39,7 +39,7 @@ use Rattle.emfjson_model.specs.Walk.{element_rows, feature_part, held_rows, item
 use Rattle.emfjson_model.proofs.Walking.{ids_append}
 
 -- ---- ids
-abbrev among : Option Name → Ids → Bool
+abbrev among : Option IdBytes → Ids → Bool
 among None ids = false
 among (Some id) ids = list_any (option_eq text_eq (Some id)) ids
 
@@ -50,25 +50,25 @@ repeats (x ∷ xs) = among x xs || repeats xs
 neither : (a b : Bool) → a ≡ false → b ≡ false → a || b ≡ false
 neither a b p q = ap (λ c. c || b) p ∙ q
 
-any_last : (p : Option Name → Bool) (xs : Ids) (y : Option Name) → list_any p xs ≡ false → p y ≡ false → list_any p (xs ++ y ∷ []) ≡ false
+any_last : (p : Option IdBytes → Bool) (xs : Ids) (y : Option IdBytes) → list_any p xs ≡ false → p y ≡ false → list_any p (xs ++ y ∷ []) ≡ false
 any_last p [] y h g = neither (p y) false g refl
 any_last p (x ∷ xs) y h g = neither (p x) (list_any p (xs ++ y ∷ [])) (or_first (p x) (list_any p xs) h) (any_last p xs y (or_second (p x) (list_any p xs) h) g)
 
 -- equal ids are found from either side
-turned : (x y : Name) → text_eq x y ≡ false → text_eq y x ≡ false
+turned : (x y : IdBytes) → text_eq x y ≡ false → text_eq y x ≡ false
 turned x y h = not_so (text_eq y x) (λ e. true_false (text_eq x y) (subst (λ z. text_eq z y ≡ true) (text_equality.exact y x e) (text_equality.own y)) h)
 
-among_last : (x y : Option Name) (xs : Ids) → among x xs ≡ false → among y (x ∷ []) ≡ false → among x (xs ++ y ∷ []) ≡ false
+among_last : (x y : Option IdBytes) (xs : Ids) → among x xs ≡ false → among y (x ∷ []) ≡ false → among x (xs ++ y ∷ []) ≡ false
 among_last None y xs h g = refl
 among_last (Some a) None xs h g = any_last (option_eq text_eq (Some a)) xs None h refl
 among_last (Some a) (Some b) xs h g = any_last (option_eq text_eq (Some a)) xs (Some b) h (turned b a (or_first (text_eq b a) false g))
 
-among_tail : (y x : Option Name) (xs : Ids) → among y (x ∷ xs) ≡ false → (among y (x ∷ []) ≡ false) × (among y xs ≡ false)
+among_tail : (y x : Option IdBytes) (xs : Ids) → among y (x ∷ xs) ≡ false → (among y (x ∷ []) ≡ false) × (among y xs ≡ false)
 among_tail None x xs h = (refl, refl)
 among_tail (Some b) x xs h = (neither (option_eq text_eq (Some b) x) false (or_first (option_eq text_eq (Some b) x) (list_any (option_eq text_eq (Some b)) xs) h) refl, or_second (option_eq text_eq (Some b) x) (list_any (option_eq text_eq (Some b)) xs) h)
 
 -- one id more, which is not there yet
-one_more : (xs : Ids) (y : Option Name) → repeats xs ≡ false → among y xs ≡ false → repeats (xs ++ y ∷ []) ≡ false
+one_more : (xs : Ids) (y : Option IdBytes) → repeats xs ≡ false → among y xs ≡ false → repeats (xs ++ y ∷ []) ≡ false
 one_more [] None h g = refl
 one_more [] (Some b) h g = refl
 one_more (x ∷ xs) y h g =
@@ -92,7 +92,7 @@ not_true : (b : Bool) → not b ≡ true → b ≡ false
 not_true true h = cc
 not_true false h = refl
 
-id_new : (ids : Ids) (o : Option Data) (id : Option Name) → id_of ids o ≡ Ok id → among id ids ≡ false
+id_new : (ids : Ids) (o : Option Data) (id : Option IdBytes) → id_of ids o ≡ Ok id → among id ids ≡ false
 id_new ids None id h = let same : None ≡ id = cc in ap (λ i. among i ids) (sym same)
 id_new ids (Some (string s)) id h =
     let new : list_any (option_eq text_eq (Some s)) ids ≡ false = not_true _ (unless_true (not (list_any (option_eq text_eq (Some s)) ids)) DupId (unless (is_id s) BadId (Ok (Some s))) id h) in
@@ -132,7 +132,7 @@ many_bare f true r t more h = bare_is no_part more refl (of_ok no_part more h)
 many_bare f false (Err e) t more h = cc
 many_bare f false (Ok vs) t more h = bare_is (values_part f vs) more (values_bare f vs) (of_ok (values_part f vs) more (unless_ok (t vs) Bound (Ok (values_part f vs)) more h))
 
-links_bare : (f : ℕ) (b : Bool) (es : List (Option Name)) → Bare (cond b no_part (record no_part { links = record { feature = f; entries = es } ∷ [] }))
+links_bare : (f : ℕ) (b : Bool) (es : List (Option IdBytes)) → Bare (cond b no_part (record no_part { links = record { feature = f; entries = es } ∷ [] }))
 links_bare f true es = refl
 links_bare f false es = refl
 
@@ -160,9 +160,9 @@ module _ (meta : Meta) where
   key_gives (Of f) d held more h = kind_gives f (kind_of meta f) d held more h
 
   -- ---- the walk
-  -- an object whose keys keep ids apart
+  -- an object whose keys have no id twice
   object_apart : (ids : Ids) (parent : Option DocParent) (default : Option ℕ) (ms : Members) (inside : ℕ → Ids → Read Part)
-      → ((c : ℕ) (id : Option Name) (part : Part) → repeats (ids ++ id ∷ []) ≡ false → inside c (ids ++ id ∷ []) ≡ Ok part → repeats ((ids ++ id ∷ []) ++ ids_of part.rows) ≡ false)
+      → ((c : ℕ) (id : Option IdBytes) (part : Part) → repeats (ids ++ id ∷ []) ≡ false → inside c (ids ++ id ∷ []) ≡ Ok part → repeats ((ids ++ id ∷ []) ++ ids_of part.rows) ≡ false)
       → (more : List Draft) → repeats ids ≡ false → object_rows meta ids parent default ms inside ≡ Ok more → repeats (ids ++ ids_of more) ≡ false
   object_apart ids parent default ms inside keeps more apart h =
       let class = then_ok (class_of meta default (get_member (codes "eClass") ms)) (λ c. «then» (id_of ids (get_member (codes "_id") ms)) (λ id. own_rows parent id c (inside c (ids ++ id ∷ [])))) more h in
@@ -264,7 +264,7 @@ module _ (meta : Meta) where
       row_ok x y h = cc
 
 -- ---- of rows
-given_ids : (o : Option Name) (rows : List DocRow) → is_given o rows ≡ among o (map (λ (r : DocRow). r.id) rows)
+given_ids : (o : Option IdBytes) (rows : List DocRow) → is_given o rows ≡ among o (map (λ (r : DocRow). r.id) rows)
 given_ids None rows = refl
 given_ids (Some id) rows = any_ids rows
   where

@@ -11,7 +11,7 @@ use Rattle.finite_maps.proofs.EqualLaws.{IsEquality, and_both, and_first, and_se
 use Rattle.ecore_meta.specs.Meta.{Meta, feature_named, name_at}
 use Rattle.ecore_meta.specs.declared.meta.Kind.{Kind}
 use Rattle.ecore_meta.specs.declared.meta.Kind.TheVariants.{Contains}
-use Rattle.model_state.specs.Keys.{Name}
+use Rattle.ecore_meta.specs.Names.{Name}
 use Rattle.model_state.specs.Typing.{child_upper, contains_kind, kind_of, upper_of}
 use Rattle.emfjson_model.specs.declared.doc.DocParent.{DocParent}
 use Rattle.emfjson_model.specs.declared.draft.Draft.{Draft}
@@ -107,7 +107,7 @@ module _ (meta : Meta) where
   other_row : (p : Option DocParent) (q : DocParent) (n : ℕ) → parent_before n p ≡ true → n ≤ q.row → p ≡ Some q → ⊥
   other_row p q n before le is = let less = before_less n p q before is in absurd (omega (arith, less, le))
 
-  -- rows behind others
+  -- rows after others
   rows_more : (n : ℕ) (p : Option DocParent) (t : Option ℕ) (k l : ℕ) (xs ys : List Draft) → parent_before n p ≡ true → Rows meta n p t k xs → Rows meta (n + length xs) p t l ys → Rows meta n p t (k + l) (xs ++ ys)
   rows_more n p t k l xs ys before h g = record {
     tops = λ q is. count_append q xs ys ∙ ap₂ (λ a b. a + b) (h.tops q is) (g.tops q is);

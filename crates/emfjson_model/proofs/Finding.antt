@@ -1,4 +1,4 @@
--- What tells the elements by their ids and by their places, one element after another.
+-- What finds the elements by their ids and by their places, one element after another.
 use Rattle.std.proofs.Common.{◌≡◌, ℕ, zero, suc, ◌+◌, ◌<◌, ◌≤◌, Bool, true, false, cond, List, [], ◌∷◌, ◌++◌, length, take, get_or, refl, sym, ap, ◌∙◌, ◌&&◌, ◌||◌, arith, nat_eq, append-nil}
 use Rattle.std.specs.Prelude.{Option, None, Some, is_some, unwrap_or, slice_get, slice_set}
 use Rattle.std.specs.List.{list_any}
@@ -8,7 +8,7 @@ use Rattle.std.specs.Cmp.{tied_then, unsigned_tied}
 use Rattle.std.proofs.lemmas.List.{length-take-le, take_more}
 use Rattle.finite_maps.specs.Equal.{option_eq, text_eq}
 use Rattle.finite_maps.proofs.EqualLaws.{text_equality, apart}
-use Rattle.model_state.specs.Keys.{Name}
+use Rattle.model_state.specs.Keys.{IdBytes}
 use Rattle.emfjson_model.specs.declared.doc.DocParent.{DocParent}
 use Rattle.emfjson_model.specs.declared.draft.Draft.{Draft}
 use Rattle.emfjson_model.specs.Finder.{first_of, numbers_at, place_cmp}
@@ -50,12 +50,12 @@ first_more [] true n = refl
 first_more [] false n = refl
 first_more (x ∷ xs) b n = refl
 
-pub named_more : (rows : List Draft) (n : ℕ) (r : Draft) (t : Name) → n < length rows → r ≡ get_or rows n r → named (take (n + 1) rows) t ≡ first_of (named (take n rows) t) (cond (has_id t r) (Some n) None)
+pub named_more : (rows : List Draft) (n : ℕ) (r : Draft) (t : IdBytes) → n < length rows → r ≡ get_or rows n r → named (take (n + 1) rows) t ≡ first_of (named (take n rows) t) (cond (has_id t r) (Some n) None)
 named_more rows n r t less is =
     ap (λ ns. slice_get ns 0) (numbers_more (has_id t) rows n r less is)
     ∙ first_more (numbers_where (has_id t) 0 (take n rows)) (has_id t r) n
 
-pub named_last : (rows : List Draft) (r : Draft) (t : Name) → named (rows ++ r ∷ []) t ≡ first_of (named rows t) (cond (has_id t r) (Some (length rows)) None)
+pub named_last : (rows : List Draft) (r : Draft) (t : IdBytes) → named (rows ++ r ∷ []) t ≡ first_of (named rows t) (cond (has_id t r) (Some (length rows)) None)
 named_last rows r t =
     ap (λ ns. slice_get ns 0) (numbers_last (has_id t) 0 rows r (length rows) (none (length rows)))
     ∙ first_more (numbers_where (has_id t) 0 rows) (has_id t r) (length rows)
@@ -64,7 +64,7 @@ named_last rows r t =
     none n = omega arith
 
 -- a row that keeps its id is found as before
-pub named_set : (rows : List Draft) (own : ℕ) (r s : Draft) (t : Name) → r ≡ get_or rows own r → s.id ≡ r.id → named (slice_set rows own s) t ≡ named rows t
+pub named_set : (rows : List Draft) (own : ℕ) (r s : Draft) (t : IdBytes) → r ≡ get_or rows own r → s.id ≡ r.id → named (slice_set rows own s) t ≡ named rows t
 named_set rows own r s t at same = ap (λ ns. slice_get ns 0) (go 0 rows own at)
   where
     go : (n : ℕ) (rows : List Draft) (own : ℕ) → r ≡ get_or rows own r → numbers_where (has_id t) n (slice_set rows own s) ≡ numbers_where (has_id t) n rows
@@ -72,7 +72,7 @@ named_set rows own r s t at same = ap (λ ns. slice_get ns 0) (go 0 rows own at)
     go n (x ∷ xs) zero at = ap (λ b. cond b (n ∷ numbers_where (has_id t) (suc n) xs) (numbers_where (has_id t) (suc n) xs)) (ap (λ o. option_eq text_eq o (Some t)) same ∙ ap (has_id t) at)
     go n (x ∷ xs) (suc k) at = ap (λ ns. cond (has_id t x) (n ∷ ns) ns) (go (suc n) xs k at)
 
-turned : (o : Option Name) (t : Name) → option_eq text_eq o (Some t) ≡ option_eq text_eq (Some t) o
+turned : (o : Option IdBytes) (t : IdBytes) → option_eq text_eq o (Some t) ≡ option_eq text_eq (Some t) o
 turned None t = refl
 turned (Some u) t = by (text_eq u t) refl
   where
@@ -81,7 +81,7 @@ turned (Some u) t = by (text_eq u t) refl
     by false h = h ∙ sym (apart text_eq text_equality u t h)
 
 -- an id that finds a row is one that a row has
-pub named_had : (rows : List Draft) (t : Name) → is_some (named rows t) ≡ list_any (option_eq text_eq (Some t)) (ids_of rows)
+pub named_had : (rows : List Draft) (t : IdBytes) → is_some (named rows t) ≡ list_any (option_eq text_eq (Some t)) (ids_of rows)
 named_had rows t = from 0 rows
   where
     step : (b : Bool) (n : ℕ) (ns : List ℕ) (any : Bool) → is_some (slice_get ns 0) ≡ any → is_some (slice_get (cond b (n ∷ ns) ns) 0) ≡ b || any
@@ -99,7 +99,7 @@ or_none None = refl
 or_none (Some n) = refl
 
 -- an id that is new has the number of its row
-pub name_added : (f : Name → Option ℕ) (o : Option Name) (id x t : Name) (n : ℕ) → o ≡ Some id → x ≡ id → f id ≡ None → cond (text_eq x t) (Some n) (f t) ≡ first_of (f t) (cond (option_eq text_eq o (Some t)) (Some n) None)
+pub name_added : (f : IdBytes → Option ℕ) (o : Option IdBytes) (id x t : IdBytes) (n : ℕ) → o ≡ Some id → x ≡ id → f id ≡ None → cond (text_eq x t) (Some n) (f t) ≡ first_of (f t) (cond (option_eq text_eq o (Some t)) (Some n) None)
 name_added f o id x t n is same none =
     ap (λ y. cond (text_eq y t) (Some n) (f t)) same
     ∙ by (text_eq id t) refl
@@ -110,7 +110,7 @@ name_added f o id x t n is same none =
     by false h = or_none (f t)
 
 -- an id that is not new keeps its number
-pub name_kept : (f : Name → Option ℕ) (o : Option Name) (id t : Name) (n : ℕ) → o ≡ Some id → is_some (f id) ≡ true → f t ≡ first_of (f t) (cond (option_eq text_eq o (Some t)) (Some n) None)
+pub name_kept : (f : IdBytes → Option ℕ) (o : Option IdBytes) (id t : IdBytes) (n : ℕ) → o ≡ Some id → is_some (f id) ≡ true → f t ≡ first_of (f t) (cond (option_eq text_eq o (Some t)) (Some n) None)
 name_kept f o id t n is had =
     by (text_eq id t) refl
     ∙ ap (λ y. first_of (f t) (cond (option_eq text_eq y (Some t)) (Some n) None)) (sym is)

@@ -16,12 +16,12 @@ use Rattle.emfjson_model.specs.declared.doc.DocRefs.{DocRefs}
 use Rattle.emfjson_model.specs.declared.doc.DocRow.{DocRow}
 use Rattle.emfjson_model.specs.declared.draft.Draft.{Draft}
 use Rattle.emfjson_model.specs.Document.{doc_of, of_json, resolved}
-use Rattle.emfjson_model.specs.Fits.{AttrFits, DocumentsFit, Fits, Follows, RefsFit, RowFits, StandsFit, are_apart, standing}
+use Rattle.emfjson_model.specs.Fits.{AttrFits, DocumentsFit, DocumentFits, Follows, RefsFit, RowFits, StandsFit, numbers_differ, standing}
 use Rattle.emfjson_model.specs.Merged.{rows_by}
 use Rattle.emfjson_model.specs.References.{given_by, parent_eq}
 use Rattle.emfjson_model.specs.Walk.{walked}
 use Rattle.emfjson_model.proofs.Apart.{ids_apart, rows_keep, then_ok}
-use Rattle.emfjson_model.proofs.Behind.{parents_first}
+use Rattle.emfjson_model.proofs.ParentsFirst.{parents_first}
 use Rattle.emfjson_model.proofs.Bounds as bounds
 use Rattle.emfjson_model.proofs.Every.{every_at}
 use Rattle.emfjson_model.proofs.Growing.{walked_grows}
@@ -81,7 +81,7 @@ module _ (meta : Meta) (sound : Sound meta) (drafts : List Draft) (given : List 
         record {
           concrete = ap (is_concrete meta) class_is ∙ placed.0.concrete;
           stands = subst (λ (x : DocRow). StandsFit meta rows x.class x.parent) m.same (stands_in placed.1);
-          attrs_apart = subst (λ (x : DocRow). are_apart (map (λ (a : DocAttr). a.feature) x.attrs) ≡ true) m.same (by_apart draft.attrs [] fs refl);
+          attrs_apart = subst (λ (x : DocRow). numbers_differ (map (λ (a : DocAttr). a.feature) x.attrs) ≡ true) m.same (by_apart draft.attrs [] fs refl);
           attrs_in_order = subst (λ (x : DocRow). Follows (map (λ (a : DocAttr). a.feature) x.attrs) (features_of meta x.class)) m.same (by_in_order draft.attrs fs);
           attrs = λ i a at. every_at (AttrFits meta w.class) w.attrs i a attrs at;
           refs_apart = refs_apart meta sound drafts given rows gives makes n w m;
@@ -90,7 +90,7 @@ module _ (meta : Meta) (sound : Sound meta) (drafts : List Draft) (given : List 
         }
 
 -- ---- the document
-fits_of : (meta : Meta) → Sound meta → (text : List ℕ) (rows : List DocRow) → doc_of meta text ≡ Ok rows → (o : Option Data) → ((d : Data) → o ≡ Some d → Trim d) → of_json meta o ≡ Ok rows → Fits meta rows
+fits_of : (meta : Meta) → Sound meta → (text : List ℕ) (rows : List DocRow) → doc_of meta text ≡ Ok rows → (o : Option Data) → ((d : Data) → o ≡ Some d → Trim d) → of_json meta o ≡ Ok rows → DocumentFits meta rows
 fits_of meta sound text rows read None trim h = cc
 fits_of meta sound text rows read (Some d) trim h =
     let drafts = then_ok (walked meta d) (resolved meta) rows h in
@@ -99,7 +99,7 @@ fits_of meta sound text rows read (Some d) trim h =
     let within = walked_grows meta (bounds.Rows meta) (bounds.Keys meta) (bounds.kept meta) d drafts.0 (trim d refl) drafts.1 in
     record {
       each = λ n w at. row_fits meta sound drafts.0 given.0 rows given.1 given.2 stands.0 stands.1 n w (made meta sound drafts.0 given.0 rows given.1 given.2 n w at);
-      behind = parents_first meta text rows read;
+      parents = parents_first meta text rows read;
       ids_apart = ids_apart meta text rows read;
       bound = bound_fits meta sound drafts.0 given.0 rows given.1 given.2 within.0 within.1;
       mirrored = λ n r f b e g here there other. mirrored meta sound drafts.0 given.0 rows given.1 given.2 n r f b e g here there other;

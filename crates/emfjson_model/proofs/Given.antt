@@ -7,13 +7,13 @@ use Rattle.finite_maps.proofs.Cases.{true_false}
 use Rattle.finite_maps.proofs.EqualLaws.{and_both, and_first, and_second, nat_equality}
 use Rattle.ecore_meta.specs.Meta.{Meta, features_of}
 use Rattle.ecore_meta.specs.declared.meta.Class.{Class}
-use Rattle.model_state.specs.Keys.{Name}
+use Rattle.ecore_meta.specs.Names.{Name}
 use Rattle.model_state.specs.Typing.{has_feature, is_plain, kind_of, plain_to}
 use Rattle.emfjson_model.specs.declared.doc.DocRefs.{DocRefs}
 use Rattle.emfjson_model.specs.declared.draft.Draft.{Draft}
 use Rattle.emfjson_model.specs.declared.draft.Links.{Links}
 use Rattle.emfjson_model.specs.declared.fault.ModelFault.TheVariants.{BadRef, WrongType}
-use Rattle.emfjson_model.specs.Fits.{Follows, are_apart}
+use Rattle.emfjson_model.specs.Fits.{Follows, numbers_differ}
 use Rattle.emfjson_model.specs.Merged.{targets_at}
 use Rattle.emfjson_model.specs.Reads.{Read, collected, unless}
 use Rattle.emfjson_model.specs.References.{class_at, entries_at, given_by, located, new_target, plain_features, plain_more, refs_at, refs_of, target_of, targets_of}
@@ -39,15 +39,15 @@ module _ (meta : Meta) where
   abbrev new : List ℕ → ℕ → Bool
   new plain f = is_plain (kind_of meta f) && not (has plain f)
 
-  more_apart : (plain : List ℕ) (f : ℕ) (b : Bool) → new plain f ≡ b → are_apart plain ≡ true → are_apart (cond b (plain ++ f ∷ []) plain) ≡ true
+  more_apart : (plain : List ℕ) (f : ℕ) (b : Bool) → new plain f ≡ b → numbers_differ plain ≡ true → numbers_differ (cond b (plain ++ f ∷ []) plain) ≡ true
   more_apart plain f true is h = apart_last plain f h (not_not (has plain f) (and_second (is_plain (kind_of meta f)) (not (has plain f)) is))
   more_apart plain f false is h = h
 
-  features_apart : (plain fs : List ℕ) → are_apart plain ≡ true → are_apart (plain_features meta plain fs) ≡ true
+  features_apart : (plain fs : List ℕ) → numbers_differ plain ≡ true → numbers_differ (plain_features meta plain fs) ≡ true
   features_apart plain [] h = h
   features_apart plain (f ∷ fs) h = features_apart (plain_more meta plain f) fs (more_apart plain f (new plain f) refl h)
 
-  pub plain_apart : (c : ℕ) → are_apart (plain_of meta c) ≡ true
+  pub plain_apart : (c : ℕ) → numbers_differ (plain_of meta c) ≡ true
   plain_apart c = features_apart [] (features_of meta c) refl
 
   more_is : (plain : List ℕ) (f : ℕ) (b : Bool) → (some : List ℕ) × OneOrNone f some × (cond b (plain ++ f ∷ []) plain ≡ plain ++ some)
@@ -109,7 +109,7 @@ module _ (meta : Meta) where
 -- ---- targets
 -- each once, and of rows of the reference's type
 pub record TargetsFit (meta : Meta) (rows : List Draft) (f : ℕ) (ts : List ℕ) : Type 0 where
-  pub apart : are_apart ts ≡ true
+  pub apart : numbers_differ ts ≡ true
   pub typed : (b : ℕ) → has ts b ≡ true → (d : Draft) × (slice_get rows b ≡ Some d) × (plain_to meta (kind_of meta f) d.class ≡ true)
 
 -- the list of a feature of an element

@@ -14,7 +14,8 @@ use Rattle.ecore_meta.specs.declared.meta.Class.{Class}
 use Rattle.ecore_meta.specs.declared.meta.Feature.{Feature}
 use Rattle.ecore_meta.specs.declared.meta.Kind.{Kind}
 use Rattle.ecore_meta.specs.declared.meta.Kind.TheVariants.{Attr, AttrMany, Bounded, Free, Contains, Container, Skip}
-use Rattle.model_state.specs.Keys.{Name}
+use Rattle.ecore_meta.specs.Names.{Name}
+use Rattle.model_state.specs.Keys.{IdBytes}
 use Rattle.model_state.specs.Typing.{is_concrete, kind_of, upper_of}
 use Rattle.emfjson_model.specs.declared.classes.Key.{Key}
 use Rattle.emfjson_model.specs.declared.classes.Key.TheVariants.{Own, Of, Unknown}
@@ -31,7 +32,7 @@ use Rattle.emfjson_model.specs.Parts.{Part, no_part, joined, Ids, ids_of}
 use Rattle.emfjson_model.specs.Reads.{Read, «then», unless}
 use Rattle.emfjson_model.specs.Walk.{element_rows, feature_key, feature_part, held_rows, items_rows, key_named, key_part, members_rows, object_rows, own_rows, rows_part, walked}
 use Rattle.emfjson_model.proofs.Apart.{then_ok, unless_ok, unless_true, of_ok}
-use Rattle.emfjson_model.proofs.Behind.{rows_ok, still_before}
+use Rattle.emfjson_model.proofs.ParentsFirst.{rows_ok, still_before}
 use Rattle.emfjson_model.proofs.Keys.{Above, Trim, TrimItems, TrimMembers}
 use Rattle.emfjson_model.proofs.ValuesFit.{Plain, many_fits, plain_is, plain_none, single_fits}
 
@@ -77,7 +78,7 @@ links_fit meta c f single d one h = plain_is meta c (links_part f single d) one 
 pub count_ids : (ids : Ids) (rows : List Draft) → length (ids ++ ids_of rows) ≡ length ids + length rows
 count_ids ids rows = length-append ids (ids_of rows) ∙ ap (λ n. length ids + n) (length-map rows (λ (r : Draft). r.id))
 
-last_ids : (ids : Ids) (id : Option Name) → length (ids ++ id ∷ []) ≡ suc (length ids)
+last_ids : (ids : Ids) (id : Option IdBytes) → length (ids ++ id ∷ []) ≡ suc (length ids)
 last_ids [] id = refl
 last_ids (x ∷ ids) id = ap (λ n. suc n) (last_ids ids id)
 
@@ -108,7 +109,7 @@ pub record Kept (meta : Meta) (Rows : ℕ → Option DocParent → Option ℕ �
   pub holds : (c own : ℕ) (last : Option Name) (k : Name) (part : Part) (f target : ℕ) (opposite : Option ℕ) (count : ℕ) (rows : List Draft) → Above last k → Keys c own last part
       → feature_named meta c k ≡ Some f → kind_of meta f ≡ Contains target opposite → is_within count (upper_of meta f) ≡ true
       → Rows (suc own + length part.rows) (Some (record { row = own; feature = f })) (Some target) count rows → Keys c own (Some k) (joined part (rows_part rows))
-  pub own : (n : ℕ) (p : Option DocParent) (t : Option ℕ) (id : Option Name) (c : ℕ) (last : Option Name) (part : Part) → parent_before n p ≡ true → is_concrete meta c ≡ true → may_stand meta t c ≡ true → Keys c n last part
+  pub own : (n : ℕ) (p : Option DocParent) (t : Option ℕ) (id : Option IdBytes) (c : ℕ) (last : Option Name) (part : Part) → parent_before n p ≡ true → is_concrete meta c ≡ true → may_stand meta t c ≡ true → Keys c n last part
       → Rows n p t 1 (record { id = id; class = c; parent = p; attrs = part.attrs; links = part.links } ∷ part.rows)
 
 module _ (meta : Meta) (Rows : ℕ → Option DocParent → Option ℕ → ℕ → List Draft → Type 0) (Keys : ℕ → ℕ → Option Name → Part → Type 0) (kept : Kept meta Rows Keys) where
@@ -120,7 +121,7 @@ module _ (meta : Meta) (Rows : ℕ → Option DocParent → Option ℕ → ℕ �
   abbrev Under : ℕ → DocParent → ℕ → List Draft → Type 0
   Under n parent target rows = (count : ℕ) × (is_within count (upper_of meta parent.feature) ≡ true) × Rows n (Some parent) (Some target) count rows
 
-  object_grows : (ids : Ids) (parent : Option DocParent) (default : Option ℕ) (ms : Members) (inside : ℕ → Ids → Read Part) → ((c : ℕ) (id : Option Name) (part : Part) → inside c (ids ++ id ∷ []) ≡ Ok part → Told c (length ids) part)
+  object_grows : (ids : Ids) (parent : Option DocParent) (default : Option ℕ) (ms : Members) (inside : ℕ → Ids → Read Part) → ((c : ℕ) (id : Option IdBytes) (part : Part) → inside c (ids ++ id ∷ []) ≡ Ok part → Told c (length ids) part)
       → (more : List Draft) → parent_before (length ids) parent ≡ true → object_rows meta ids parent default ms inside ≡ Ok more → Rows (length ids) parent default 1 more
   object_grows ids parent default ms inside tells more before h =
       let class = then_ok (class_of meta default (get_member (codes "eClass") ms)) (λ c. «then» (id_of ids (get_member (codes "_id") ms)) (λ id. own_rows parent id c (inside c (ids ++ id ∷ [])))) more h in

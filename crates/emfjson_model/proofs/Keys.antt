@@ -8,7 +8,7 @@ use Rattle.json.specs.Json as json
 use Rattle.json.specs.Lex.{tokens}
 use Rattle.serde_json.specs.Data.{Data, null, boolean, number, string, array, object, Items, no_items, item, Members, no_members, member, put}
 use Rattle.serde_json.specs.Read.{max_depth, number_of, of_items, of_json, of_members, read}
-use Rattle.model_state.specs.Keys.{Name}
+use Rattle.ecore_meta.specs.Names.{Name}
 
 -- a key that is above the last one
 abbrev pub Above : Option Name → Name → Type 0

@@ -4,7 +4,7 @@ pub mod Digits
 pub mod Features
 pub mod Walking
 pub mod Apart
-pub mod Behind
+pub mod ParentsFirst
 pub mod Keys
 pub mod Every
 pub mod ValuesFit

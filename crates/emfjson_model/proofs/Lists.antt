@@ -1,7 +1,7 @@
 -- The next of a list, and what a list says at a place.
 use Rattle.std.proofs.Common.{◌≡◌, ℕ, zero, suc, ◌+◌, ◌<◌, ◌≤◌, List, [], ◌∷◌, ◌++◌, length, drop, get_or, slice_set, add-one, drop-cons, refl, sym, ap, ap₂, subst, ◌∙◌, arith}
 
--- what is left of a list is its item at the place, and what is left behind it
+-- what is left of a list is its item at the place, and what is left after it
 next : {X : Type 0} (xs : List X) (i : ℕ) (x : X) → i < length xs → x ≡ get_or xs i x → drop i xs ≡ x ∷ drop (i + 1) xs
 next xs i x less is = rw (add-one, drop-cons xs i x less) (ap (λ y. y ∷ drop (suc i) xs) (sym is))
 

@@ -3,8 +3,8 @@ use Rattle.std.proofs.Common.{◌≡◌, ℕ, zero, suc, ◌+◌, Bool, true, fa
 use Rattle.std.specs.Prelude.{Option, None, Some, option_and_then, slice_get}
 use Rattle.std.specs.List.{slice_split}
 use Rattle.ecore_meta.specs.Meta.{Meta, feature_named}
-use Rattle.ecore_json.specs.References.{behind}
-use Rattle.model_state.specs.Keys.{Name}
+use Rattle.ecore_json.specs.References.{after_prefix}
+use Rattle.ecore_meta.specs.Names.{Name}
 use Rattle.model_state.specs.Typing.{contains_kind, kind_of, upper_of}
 use Rattle.emfjson_model.specs.declared.doc.DocParent.{DocParent}
 use Rattle.emfjson_model.specs.declared.draft.Draft.{Draft}
@@ -68,7 +68,7 @@ module _ (meta : Meta) (rows : List Draft) where
 
   step_row : (step : Name) (p m : ℕ) → step_from meta rows step p ≡ Some m → IsRow rows m
   step_row step p m h =
-      let t = and_then_some (λ t. child_named meta rows p (slice_split (λ b. b == 46) t)) (behind (codes "@") step) m h in
+      let t = and_then_some (λ t. child_named meta rows p (slice_split (λ b. b == 46) t)) (after_prefix (codes "@") step) m h in
       named_row p (slice_split (λ b. b == 46) t.0) m t.2
 
   along_row : (steps : List Name) (here : Option ℕ) (m : ℕ) → ((n : ℕ) → here ≡ Some n → IsRow rows n) → along meta rows steps here ≡ Some m → IsRow rows m
@@ -90,4 +90,4 @@ module _ (meta : Meta) (rows : List Draft) where
   by_path t (Some path) m h = parts_row (slice_split (λ b. b == 47) path) m h
 
   pub located_row : (t : Name) (m : ℕ) → located meta rows t ≡ Some m → IsRow rows m
-  located_row t m h = by_path (bare t (behind (codes "#") t)) (behind (codes "/") (bare t (behind (codes "#") t))) m h
+  located_row t m h = by_path (bare t (after_prefix (codes "#") t)) (after_prefix (codes "/") (bare t (after_prefix (codes "#") t))) m h

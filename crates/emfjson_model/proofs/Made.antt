@@ -11,7 +11,7 @@ use Rattle.model_state.specs.Typing.{has_feature, is_plain, kind_of, links, oppo
 use Rattle.emfjson_model.specs.declared.doc.DocRefs.{DocRefs}
 use Rattle.emfjson_model.specs.declared.doc.DocRow.{DocRow}
 use Rattle.emfjson_model.specs.declared.draft.Draft.{Draft}
-use Rattle.emfjson_model.specs.Fits.{Follows, RefsFit, TargetFits, are_apart}
+use Rattle.emfjson_model.specs.Fits.{Follows, RefsFit, TargetFits, numbers_differ}
 use Rattle.emfjson_model.specs.Merged.{given_at, merged, merged_all, naming, next_row, others, row_of, rows_by, targets_at}
 use Rattle.emfjson_model.specs.Reads.{Read}
 use Rattle.emfjson_model.specs.References.{given_by}
@@ -117,8 +117,8 @@ module _ (meta : Meta) (sound : Sound meta) (drafts : List Draft) (given : List 
     pub features_of_row : features w.refs ≡ plain_of meta c
     features_of_row = features_same meta given n 0 m.lists w.refs m.merged ∙ lists_are
 
-    pub refs_apart : are_apart (features w.refs) ≡ true
-    refs_apart = ap are_apart features_of_row ∙ plain_apart meta c
+    pub refs_apart : numbers_differ (features w.refs) ≡ true
+    refs_apart = ap numbers_differ features_of_row ∙ plain_apart meta c
 
     pub refs_in_order : Follows (features w.refs) (features_of meta c)
     refs_in_order = subst (λ fs. Follows fs (features_of meta c)) (sym features_of_row) (plain_in_order meta c)
@@ -149,7 +149,7 @@ module _ (meta : Meta) (sound : Sound meta) (drafts : List Draft) (given : List 
         record {
           held = subst (λ x. has_feature meta c x ≡ true) own plain.1;
           plain = subst (λ x. is_plain (kind_of meta x) ≡ true) own plain.0;
-          apart = ap are_apart from.2.targets ∙ others_apart o n ts given by.2.1.apart;
+          apart = ap numbers_differ from.2.targets ∙ others_apart o n ts given by.2.1.apart;
           bound = from.2.within;
           typed = λ b h.
               subst (λ x. TargetFits meta rows c x b) own

@@ -9,7 +9,7 @@ use Rattle.model_state.specs.Typing.{row_upper}
 use Rattle.emfjson_model.specs.declared.doc.DocRefs.{DocRefs}
 use Rattle.emfjson_model.specs.declared.fault.ModelFault.TheVariants.{Bound}
 use Rattle.finite_maps.specs.Maps.{is_within}
-use Rattle.emfjson_model.specs.Fits.{are_apart}
+use Rattle.emfjson_model.specs.Fits.{numbers_differ}
 use Rattle.emfjson_model.specs.Merged.{merged, merged_all, merged_at, merged_within, naming, others, targets_at}
 use Rattle.emfjson_model.specs.Reads.{Read}
 use Rattle.emfjson_model.proofs.Apart.{then_ok, unless_ok, unless_true}
@@ -79,25 +79,25 @@ module _ (g a : ℕ) (ts : List ℕ) where
       by_test true e = or_right (nat_eq b n) (has (naming g a ts (suc n) given) b) e
       by_test false e = e
 
-  naming_apart : (n : ℕ) (given : List (List DocRefs)) → are_apart (naming g a ts n given) ≡ true
+  naming_apart : (n : ℕ) (given : List (List DocRefs)) → numbers_differ (naming g a ts n given) ≡ true
   naming_apart n [] = refl
   naming_apart n (refs ∷ given) = by_test (names n refs) (naming_apart (suc n) given)
     where
       not_later : (n j : ℕ) → n ≡ suc n + j → ⊥
       not_later n j e = omega (arith, e)
 
-      by_test : (t : Bool) → are_apart (naming g a ts (suc n) given) ≡ true → are_apart (cond t (n ∷ naming g a ts (suc n) given) (naming g a ts (suc n) given)) ≡ true
+      by_test : (t : Bool) → numbers_differ (naming g a ts (suc n) given) ≡ true → numbers_differ (cond t (n ∷ naming g a ts (suc n) given) (naming g a ts (suc n) given)) ≡ true
       by_test true e =
-          and_both (not (has (naming g a ts (suc n) given) n)) (are_apart (naming g a ts (suc n) given))
+          and_both (not (has (naming g a ts (suc n) given) n)) (numbers_differ (naming g a ts (suc n) given))
           (not_is (has (naming g a ts (suc n) given) n) (not_so (has (naming g a ts (suc n) given) n) (λ k. let at = named_in (suc n) given n k in not_later n at.place at.number))) e
       by_test false e = e
 
-  pub named_apart : (given : List (List DocRefs)) → are_apart ts ≡ true → are_apart (ts ++ naming g a ts 0 given) ≡ true
+  pub named_apart : (given : List (List DocRefs)) → numbers_differ ts ≡ true → numbers_differ (ts ++ naming g a ts 0 given) ≡ true
   named_apart given h =
       apart_append ts (naming g a ts 0 given) h (naming_apart 0 given)
       (λ n e. not_so (has (naming g a ts 0 given) n) (λ k. let at = named_in 0 given n k in true_false (has ts n) e at.new))
 
-pub others_apart : (o : Option ℕ) (a : ℕ) (ts : List ℕ) (given : List (List DocRefs)) → are_apart ts ≡ true → are_apart (ts ++ others o a ts given) ≡ true
+pub others_apart : (o : Option ℕ) (a : ℕ) (ts : List ℕ) (given : List (List DocRefs)) → numbers_differ ts ≡ true → numbers_differ (ts ++ others o a ts given) ≡ true
 others_apart None a ts given h = apart_append ts [] h refl (λ n e. refl)
 others_apart (Some g) a ts given h = named_apart g a ts given h
 

@@ -6,7 +6,7 @@ use Rattle.std.proofs.lemmas.List.Folds.{list_any-append}
 use Rattle.std.proofs.lemmas.Bool.{or_left, or_right}
 use Rattle.finite_maps.proofs.Cases.{not_so, true_false}
 use Rattle.finite_maps.proofs.EqualLaws.{and_both, and_first, and_second, nat_equality}
-use Rattle.emfjson_model.specs.Fits.{are_apart}
+use Rattle.emfjson_model.specs.Fits.{numbers_differ}
 
 abbrev pub has : List ℕ → ℕ → Bool
 has xs n = list_any (nat_eq n) xs
@@ -58,14 +58,14 @@ has_one x n h = elim (or_split (nat_eq n x) false h) [ inl e ↦ nat_equality.ex
 abbrev pub Disjoint : List ℕ → List ℕ → Type 0
 Disjoint xs ys = (n : ℕ) → has xs n ≡ true → has ys n ≡ false
 
-pub apart_append : (xs ys : List ℕ) → are_apart xs ≡ true → are_apart ys ≡ true → Disjoint xs ys → are_apart (xs ++ ys) ≡ true
+pub apart_append : (xs ys : List ℕ) → numbers_differ xs ≡ true → numbers_differ ys ≡ true → Disjoint xs ys → numbers_differ (xs ++ ys) ≡ true
 apart_append [] ys h g other = g
 apart_append (x ∷ xs) ys h g other =
-    and_both (not (has (xs ++ ys) x)) (are_apart (xs ++ ys))
-    (not_is (has (xs ++ ys) x) (has_append xs ys x ∙ neither (has xs x) (has ys x) (not_not (has xs x) (and_first (not (has xs x)) (are_apart xs) h)) (other x (or_left (nat_eq x x) (has xs x) (nat_equality.own x)))))
-    (apart_append xs ys (and_second (not (has xs x)) (are_apart xs) h) g (λ n e. other n (or_right (nat_eq n x) (has xs n) e)))
+    and_both (not (has (xs ++ ys) x)) (numbers_differ (xs ++ ys))
+    (not_is (has (xs ++ ys) x) (has_append xs ys x ∙ neither (has xs x) (has ys x) (not_not (has xs x) (and_first (not (has xs x)) (numbers_differ xs) h)) (other x (or_left (nat_eq x x) (has xs x) (nat_equality.own x)))))
+    (apart_append xs ys (and_second (not (has xs x)) (numbers_differ xs) h) g (λ n e. other n (or_right (nat_eq n x) (has xs n) e)))
 
-pub apart_last : (xs : List ℕ) (n : ℕ) → are_apart xs ≡ true → has xs n ≡ false → are_apart (xs ++ n ∷ []) ≡ true
+pub apart_last : (xs : List ℕ) (n : ℕ) → numbers_differ xs ≡ true → has xs n ≡ false → numbers_differ (xs ++ n ∷ []) ≡ true
 apart_last xs n h g = apart_append xs (n ∷ []) h refl (λ m e. not_so (has (n ∷ []) m) (λ k. true_false (has xs n) (subst (λ x. has xs x ≡ true) (has_one n m k) e) g))
 
 -- numbers of items, and a test of them

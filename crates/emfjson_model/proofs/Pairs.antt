@@ -19,7 +19,7 @@ module _ {A B : Type 0} (R : ℕ → A → B → Type 0) where
   long [] b = refl
   long (x ∷ bs) b = ap (λ n. suc n) (long bs b)
 
-  -- what was collected stands behind what was there
+  -- what was collected stands after what was there
   collected_pairs : (give : List B → A → Read B) → ((bs : List B) (a : A) (b : B) → give bs a ≡ Ok b → R (length bs) a b) → (bs : List B) (xs : List A) (cs : List B) → collected give bs xs ≡ Ok cs
       → (ds : List B) × (cs ≡ bs ++ ds) × Paired R (length bs) xs ds
   collected_pairs give gives bs [] cs h = ([], sym (list_ok bs cs h) ∙ sym (append-nil bs), tt)

@@ -4,7 +4,7 @@ use Rattle.std.specs.List.{AllByRecursion}
 use Rattle.std.proofs.lemmas.List.{map-append}
 use Rattle.finite_maps.proofs.EqualLaws.{nat_equality}
 use Rattle.emfjson_model.specs.declared.doc.DocAttr.{DocAttr}
-use Rattle.emfjson_model.specs.Fits.{Follows, are_apart}
+use Rattle.emfjson_model.specs.Fits.{Follows, numbers_differ}
 use Rattle.emfjson_model.specs.Merged.{attr_at, attrs_by, attrs_more, is_set}
 use Rattle.emfjson_model.proofs.Every.{every_append}
 use Rattle.emfjson_model.proofs.InOrder.{Longer, OneOrNone, no_longer, one_first}
@@ -31,21 +31,21 @@ module _ (P : DocAttr → Type 0) where
   by_keeps attrs all [] h so = so
   by_keeps attrs all (f ∷ fs) h so = by_keeps attrs (attrs_more attrs all f) fs h (more_keeps attrs all f (is_set f all) h so)
 
-at_is : (f : ℕ) (attrs all : List DocAttr) → has (numbers all) f ≡ false → are_apart (numbers all) ≡ true → are_apart (numbers (all ++ attr_at f attrs)) ≡ true
-at_is f [] all new h = ap (λ (xs : List DocAttr). are_apart (numbers xs)) (append-nil all) ∙ h
+at_is : (f : ℕ) (attrs all : List DocAttr) → has (numbers all) f ≡ false → numbers_differ (numbers all) ≡ true → numbers_differ (numbers (all ++ attr_at f attrs)) ≡ true
+at_is f [] all new h = ap (λ (xs : List DocAttr). numbers_differ (numbers xs)) (append-nil all) ∙ h
 at_is f (a ∷ attrs) all new h = by_test (nat_eq f a.feature) refl (at_is f attrs all new h)
   where
-    by_test : (b : Bool) → nat_eq f a.feature ≡ b → are_apart (numbers (all ++ attr_at f attrs)) ≡ true → are_apart (numbers (all ++ cond b (a ∷ []) (attr_at f attrs))) ≡ true
+    by_test : (b : Bool) → nat_eq f a.feature ≡ b → numbers_differ (numbers (all ++ attr_at f attrs)) ≡ true → numbers_differ (numbers (all ++ cond b (a ∷ []) (attr_at f attrs))) ≡ true
     by_test true is later =
-        ap are_apart (map-append (λ (a : DocAttr). a.feature) all (a ∷ []))
+        ap numbers_differ (map-append (λ (a : DocAttr). a.feature) all (a ∷ []))
         ∙ apart_last (numbers all) a.feature h (ap (has (numbers all)) (sym (nat_equality.exact f a.feature is)) ∙ new)
     by_test false is later = later
 
-more_apart : (attrs all : List DocAttr) (f : ℕ) (b : Bool) → is_set f all ≡ b → are_apart (numbers all) ≡ true → are_apart (numbers (cond b all (all ++ attr_at f attrs))) ≡ true
+more_apart : (attrs all : List DocAttr) (f : ℕ) (b : Bool) → is_set f all ≡ b → numbers_differ (numbers all) ≡ true → numbers_differ (numbers (cond b all (all ++ attr_at f attrs))) ≡ true
 more_apart attrs all f true is h = h
 more_apart attrs all f false is h = at_is f attrs all (sym (any_map (λ (a : DocAttr). a.feature) all f) ∙ is) h
 
-pub by_apart : (attrs all : List DocAttr) (fs : List ℕ) → are_apart (numbers all) ≡ true → are_apart (numbers (attrs_by attrs all fs)) ≡ true
+pub by_apart : (attrs all : List DocAttr) (fs : List ℕ) → numbers_differ (numbers all) ≡ true → numbers_differ (numbers (attrs_by attrs all fs)) ≡ true
 by_apart attrs all [] h = h
 by_apart attrs all (f ∷ fs) h = by_apart attrs (attrs_more attrs all f) fs (more_apart attrs all f (is_set f all) refl h)
 

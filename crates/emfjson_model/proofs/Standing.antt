@@ -5,7 +5,7 @@ use Rattle.std.specs.List.{AllByRecursion}
 use Rattle.ecore_meta.specs.Meta.{Meta}
 use Rattle.ecore_meta.specs.declared.meta.Kind.{Kind}
 use Rattle.ecore_meta.specs.declared.meta.Kind.TheVariants.{Contains}
-use Rattle.model_state.specs.Keys.{Name}
+use Rattle.ecore_meta.specs.Names.{Name}
 use Rattle.model_state.specs.Typing.{contains_to, has_feature, is_concrete, kind_of}
 use Rattle.emfjson_model.specs.declared.doc.DocParent.{DocParent}
 use Rattle.emfjson_model.specs.declared.draft.Draft.{Draft}
@@ -100,7 +100,7 @@ module _ (meta : Meta) where
   placed_by : (n l : ℕ) (xs ys : List Draft) (P Q : Draft → Type 0) → ((m c : ℕ) → IsAt n xs m c → IsAt l ys m c) → ((r : Draft) → P r → Q r ⊎ Inside meta l ys r) → (r : Draft) → Placed meta n xs P r → Placed meta l ys Q r
   placed_by n l xs ys P Q f g r h = (h.0, elim h.1 [ inl top ↦ g r top | inr inside ↦ inr (inside_by n l xs ys f r inside) ])
 
-  -- rows behind others
+  -- rows after others
   all_append : (n : ℕ) (P Q R : Draft → Type 0) (xs ys : List Draft) → ((r : Draft) → P r → R r) → ((r : Draft) → Q r → R r) → AllByRecursion (Placed meta n xs P) xs → AllByRecursion (Placed meta (n + length xs) ys Q) ys
       → AllByRecursion (Placed meta n (xs ++ ys) R) (xs ++ ys)
   all_append n P Q R xs ys f g h k =

@@ -7,7 +7,8 @@ use Rattle.serde_json.specs.View.{items_view}
 use Rattle.serde_json.specs.declared.value.Value.{Value}
 use Rattle.ecore_json.specs.Rows.{list_of}
 use Rattle.ecore_meta.specs.Meta.{Meta}
-use Rattle.model_state.specs.Keys.{Name}
+use Rattle.ecore_meta.specs.Names.{Name}
+use Rattle.model_state.specs.Keys.{IdBytes}
 use Rattle.model_state.specs.Typing.{upper_of}
 use Rattle.emfjson_model.specs.declared.doc.DocAttr.{DocAttr}
 use Rattle.emfjson_model.specs.declared.doc.DocParent.{DocParent}
@@ -15,7 +16,7 @@ use Rattle.emfjson_model.specs.declared.draft.Draft.{Draft}
 use Rattle.emfjson_model.specs.declared.draft.Links.{Links}
 use Rattle.emfjson_model.specs.declared.fault.ModelFault.{ModelFault}
 use Rattle.emfjson_model.specs.declared.fault.ModelFault.TheVariants.{Bound, WrongType}
-use Rattle.emfjson_model.specs.Answers.{IsFault, Walks, Holds}
+use Rattle.emfjson_model.specs.Answers.{IsFault, Walks, AppendsPart}
 use Rattle.finite_maps.specs.Maps.{is_within}
 use Rattle.emfjson_model.specs.Classes.{class_of, id_of}
 use Rattle.ecore_meta.specs.Typing.{is_one}
@@ -25,8 +26,8 @@ use Rattle.emfjson_model.specs.Walk.{element_rows, items_rows, members_rows, hel
 use Rattle.emfjson_model.proofs.Reading.{fault_then, fault_is}
 
 pub holds_is : {T : Type 0} (attrs attrs' : List DocAttr) (links links' : List Links) (rows rows' : List Draft) (result : Result T ModelFault) (r s : Read Part)
-    → Holds attrs attrs' links links' rows rows' result r → r ≡ s → Holds attrs attrs' links links' rows rows' result s
-holds_is attrs attrs' links links' rows rows' result r s h p = subst (Holds attrs attrs' links links' rows rows' result) p h
+    → AppendsPart attrs attrs' links links' rows rows' result r → r ≡ s → AppendsPart attrs attrs' links links' rows rows' result s
+holds_is attrs attrs' links links' rows rows' result r s h p = subst (AppendsPart attrs attrs' links links' rows rows' result) p h
 
 fault_here : {A : Type 0} (default : Option ℕ) (r : Read A) → r ≡ Err (not_object default) → IsFault (not_object default) r
 fault_here None r h = h
@@ -51,17 +52,17 @@ module _ (meta : Meta) (ids : Ids) (parent : Option DocParent) (default : Option
       → IsFault e (element_rows meta ids parent default d)
   unfolding element_rows
   id_fault d ms o q c e is at class at' h =
-      let g : Option Name → Read (List Draft) = λ id. own_rows parent id c (members_rows meta c (length ids) (ids ++ id ∷ []) no_part ms) in
+      let g : Option IdBytes → Read (List Draft) = λ id. own_rows parent id c (members_rows meta c (length ids) (ids ++ id ∷ []) no_part ms) in
       let f : ℕ → Read (List Draft) = λ c. «then» (id_of ids (get (codes "_id") (object ms))) (λ id. own_rows parent id c (members_rows meta c (length ids) (ids ++ id ∷ []) no_part ms)) in
       let known : class_of meta default (get (codes "eClass") (object ms)) ≡ Ok c = ap (class_of meta default) (sym (at ∙ ap (get (codes "eClass")) is)) ∙ class in
       fault_is e _ _ (fault_then e (id_of ids q) g h)
       (ap (λ q. «then» (id_of ids q) g) (at' ∙ ap (get (codes "_id")) is) ∙ sym (ap (element_rows meta ids parent default) is ∙ ap (λ r. «then» r f) known))
 
-  pub object_is : (d : Data) (ms : Members) (o q : Option Data) (c : ℕ) (id : Option Name) → d ≡ object ms → o ≡ get (codes "eClass") d → class_of meta default o ≡ Ok c → q ≡ get (codes "_id") d → id_of ids q ≡ Ok id
+  pub object_is : (d : Data) (ms : Members) (o q : Option Data) (c : ℕ) (id : Option IdBytes) → d ≡ object ms → o ≡ get (codes "eClass") d → class_of meta default o ≡ Ok c → q ≡ get (codes "_id") d → id_of ids q ≡ Ok id
       → own_rows parent id c (members_rows meta c (length ids) (ids ++ id ∷ []) no_part ms) ≡ element_rows meta ids parent default d
   unfolding element_rows
   object_is d ms o q c id is at class at' read =
-      let g : Option Name → Read (List Draft) = λ id. own_rows parent id c (members_rows meta c (length ids) (ids ++ id ∷ []) no_part ms) in
+      let g : Option IdBytes → Read (List Draft) = λ id. own_rows parent id c (members_rows meta c (length ids) (ids ++ id ∷ []) no_part ms) in
       let f : ℕ → Read (List Draft) = λ c. «then» (id_of ids (get (codes "_id") (object ms))) (λ id. own_rows parent id c (members_rows meta c (length ids) (ids ++ id ∷ []) no_part ms)) in
       let known : class_of meta default (get (codes "eClass") (object ms)) ≡ Ok c = ap (class_of meta default) (sym (at ∙ ap (get (codes "eClass")) is)) ∙ class in
       let named : id_of ids (get (codes "_id") (object ms)) ≡ Ok id = ap (id_of ids) (sym (at' ∙ ap (get (codes "_id")) is)) ∙ read in
@@ -169,7 +170,7 @@ module _ (meta : Meta) (c own : ℕ) (first : List Draft) where
   at_key ids k d = key_part meta (key_named meta c k) d (λ f target. held_rows meta ids (record { row = own; feature = f }) target d)
 
   pub members_step : {T : Type 0} (now after : List Draft) (attrs attrs' : List DocAttr) (links links' : List Links) (x : T) (all : Members) (k : Name) (d : Data) (ms : Members) → PartSoFar now attrs links all (member k d ms)
-      → Holds {T = T} attrs attrs' links links' now after (Ok x) (key_part meta (key_named meta c k) d (λ f target. held_rows meta (ids_of now) (record { row = own; feature = f }) target d)) → PartSoFar after attrs' links' all ms
+      → AppendsPart {T = T} attrs attrs' links links' now after (Ok x) (key_part meta (key_named meta c k) d (λ f target. held_rows meta (ids_of now) (record { row = own; feature = f }) target d)) → PartSoFar after attrs' links' all ms
   unfolding members_rows
   members_step now after attrs attrs' links links' x all k d ms so holds =
       let ids : ids_of now ≡ ids_of first ++ ids_of so.0.rows = ap ids_of so.1 ∙ ids_append first so.0.rows in (

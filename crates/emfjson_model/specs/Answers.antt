@@ -1,4 +1,4 @@
--- What calls that read answer: what is due, or want of memory.
+-- What calls that read answer: what is due, or out of memory.
 use Rattle.std.specs.Prelude.{◌≡◌, List, ◌++◌, Result, Ok, Err}
 use Rattle.std.specs.Global.{Vec}
 use Rattle.emfjson_model.specs.declared.doc.Doc.{Doc}
@@ -12,7 +12,7 @@ use Rattle.emfjson_model.specs.declared.fault.ModelFault.TheVariants.{NotJson, N
 use Rattle.emfjson_model.specs.Parts.{Part}
 use Rattle.emfjson_model.specs.Reads.{Read}
 
--- the fault that reading names; want of memory says nothing of what is read
+-- the fault that reading names; out of memory says nothing of what is read
 abbrev pub IsFault : {A : Type 0} → ModelFault → Read A → Type 0
 IsFault Memory read = Unit {0}
 IsFault NotJson read = read ≡ Err NotJson
@@ -31,17 +31,17 @@ abbrev pub Gives : {A : Type 0} → Result A ModelFault → Read A → Type 0
 Gives (Ok x) read = read ≡ Ok x
 Gives (Err e) read = IsFault e read
 
--- the rows that reading gives stand behind the old ones
+-- the rows that reading gives stand after the old ones
 abbrev pub Walks : {T : Type 0} → List Draft → List Draft → Result T ModelFault → Read (List Draft) → Type 0
 Walks old new (Ok x) read = (more : List Draft) × (read ≡ Ok more) × (new ≡ old ++ more)
 Walks old new (Err e) read = IsFault e read
 
--- what a key gives stands behind the old attributes, references and rows
-abbrev pub Holds : {T : Type 0} → List DocAttr → List DocAttr → List Links → List Links → List Draft → List Draft → Result T ModelFault → Read Part → Type 0
-Holds attrs attrs' links links' rows rows' (Ok x) read = (more : Part) × (read ≡ Ok more) × (attrs' ≡ attrs ++ more.attrs) × (links' ≡ links ++ more.links) × (rows' ≡ rows ++ more.rows)
-Holds attrs attrs' links links' rows rows' (Err e) read = IsFault e read
+-- what a key gives stands after the old attributes, references and rows
+abbrev pub AppendsPart : {T : Type 0} → List DocAttr → List DocAttr → List Links → List Links → List Draft → List Draft → Result T ModelFault → Read Part → Type 0
+AppendsPart attrs attrs' links links' rows rows' (Ok x) read = (more : Part) × (read ≡ Ok more) × (attrs' ≡ attrs ++ more.attrs) × (links' ≡ links ++ more.links) × (rows' ≡ rows ++ more.rows)
+AppendsPart attrs attrs' links links' rows rows' (Err e) read = IsFault e read
 
--- all that the keys of an object give, with the rows behind the old ones
+-- all that the keys of an object give, with the rows after the old ones
 abbrev pub GivesPart : List Draft → List Draft → Result Held ModelFault → Read Part → Type 0
 GivesPart rows rows' (Ok held) read = (more : Part) × (read ≡ Ok more) × (held.attrs ≡ more.attrs) × (held.links ≡ more.links) × (rows' ≡ rows ++ more.rows)
 GivesPart rows rows' (Err e) read = IsFault e read

@@ -40,7 +40,7 @@ set_part f false v = attr_part f (v ∷ [])
 abbrev pub single_part : Meta → ℕ → Scalar → Data → Read Part
 single_part meta f s d = cond (is_null d) (Ok no_part) («then» (found BadValue (value_in meta s d)) (λ v. Ok (set_part f (is_default (kind_of meta f) v) v)))
 
--- the next value of a list behind those before it, among which it is not where each is held once
+-- the next value of a list after those before it, among which it is not where each is held once
 abbrev pub new_value : Bool → List Value → Option Value → Read Value
 new_value unique vs None = Err BadValue
 new_value unique vs (Some v) = unless (not (unique && list_any (value_eq v) vs)) BadValue (Ok v)

@@ -4,24 +4,25 @@ use Rattle.std.specs.List.{list_any}
 use Rattle.serde_json.specs.Data.{Data, null, boolean, number, string, array, object}
 use Rattle.finite_maps.specs.Equal.{option_eq, text_eq}
 use Rattle.ecore_meta.specs.Meta.{Meta, class_named, is_a}
-use Rattle.ecore_json.specs.References.{behind, or_else}
+use Rattle.ecore_json.specs.References.{after_prefix, or_else}
 use Rattle.model_state.specs.Ident.{is_id}
-use Rattle.model_state.specs.Keys.{Name}
+use Rattle.ecore_meta.specs.Names.{Name}
+use Rattle.model_state.specs.Keys.{IdBytes}
 use Rattle.model_state.specs.Typing.{is_concrete}
 use Rattle.emfjson_model.specs.declared.fault.ModelFault.TheVariants.{NoClass, Abstract, WrongType, DupId, BadId}
 use Rattle.emfjson_model.specs.Parts.{Ids}
 use Rattle.emfjson_model.specs.Reads.{Read, «then», unless, found}
 
--- the class named behind the prefix
-abbrev pub class_behind : Meta → Name → Name → Option ℕ
-class_behind meta prefix t = option_and_then (class_named meta) (behind prefix t)
+-- the class named after the prefix
+abbrev pub class_after : Meta → Name → Name → Option ℕ
+class_after meta prefix t = option_and_then (class_named meta) (after_prefix prefix t)
 
--- the class that `//Name`, `#//Name` or `#//Name` behind the package's URI names
+-- the class that `//Name`, `#//Name` or `#//Name` after the package's URI names
 abbrev pub class_spelt : Meta → Name → Option ℕ
 class_spelt meta t =
-    or_else (class_behind meta (codes "//") t)
-    (or_else (class_behind meta (codes "#//") t)
-    (option_and_then (class_behind meta (codes "#//")) (behind meta.uri t)))
+    or_else (class_after meta (codes "//") t)
+    (or_else (class_after meta (codes "#//") t)
+    (option_and_then (class_after meta (codes "#//")) (after_prefix meta.uri t)))
 
 -- the class that an object names; without `eClass` it is the default, which a root has not
 abbrev pub class_said : Meta → Option ℕ → Option Data → Read ℕ
@@ -44,7 +45,7 @@ class_of meta default said =
     «then» (class_said meta default said) (λ c. unless (is_concrete meta c) Abstract (unless (may_stand meta default c) WrongType (Ok c)))
 
 -- the id that an object has, which no object before has
-abbrev pub id_of : Ids → Option Data → Read (Option Name)
+abbrev pub id_of : Ids → Option Data → Read (Option IdBytes)
 id_of ids None = Ok None
 id_of ids (Some (string s)) = unless (not (list_any (option_eq text_eq (Some s)) ids)) DupId (unless (is_id s) BadId (Ok (Some s)))
 id_of ids (Some null) = Err BadId

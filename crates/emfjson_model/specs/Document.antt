@@ -1,4 +1,4 @@
--- The elements that a text says, or its first fault.
+-- The elements that a text describes, or its first fault.
 use Rattle.std.specs.Prelude.{ℕ, List, Option, None, Some, Err}
 use Rattle.serde_json.specs.Data.{Data}
 use Rattle.serde_json.specs.Read.{read}
@@ -16,12 +16,12 @@ use Rattle.emfjson_model.specs.Merged.{rows_by}
 abbrev pub resolved : Meta → List Draft → Read (List DocRow)
 resolved meta drafts = «then» (given_by meta drafts) (λ given. rows_by meta given drafts)
 
--- the elements that a document says, or its first fault; None is a text that is no JSON
+-- the elements that a document describes, or its first fault; None is a text that is no JSON
 abbrev pub of_json : Meta → Option Data → Read (List DocRow)
 of_json meta None = Err NotJson
 of_json meta (Some d) = «then» (walked meta d) (resolved meta)
 
--- the elements that a text says, or its first fault
+-- the elements that a text describes, or its first fault
 unfoldable pub doc_of : Meta → List ℕ → Read (List DocRow)
 doc_of meta text = of_json meta (read text)
 

@@ -1,9 +1,9 @@
--- What tells the elements of a document by their ids and by their places.
+-- What finds the elements of a document by their ids and by their places.
 use Rattle.std.specs.Prelude.{String, ◌≡◌, ℕ, List, [], Option, None, Some, unwrap_or}
 use Rattle.std.specs.declared.cmp.Ordering.{Ordering}
 use Rattle.std.specs.Ordering.{nat_cmp, ordering_then}
 use Rattle.std.specs.BTreeMap.{BTreeMap, get, get_by_text}
-use Rattle.model_state.specs.Keys.{Name}
+use Rattle.model_state.specs.Keys.{IdBytes}
 use Rattle.emfjson_model.specs.declared.doc.DocParent.{DocParent}
 use Rattle.emfjson_model.specs.declared.draft.Draft.{Draft}
 use Rattle.emfjson_model.specs.References.{named, numbers_where, stands_in}
@@ -23,7 +23,7 @@ numbers_at children p = unwrap_or (get place_cmp children (p.row, p.feature)) []
 
 -- the map has the number of the row of each id
 abbrev pub NamesOf : {Y : Type 0} → List Draft → BTreeMap (String Y) ℕ → Type 0
-NamesOf rows names = (t : Name) → get_by_text names t ≡ named rows t
+NamesOf rows names = (t : IdBytes) → get_by_text names t ≡ named rows t
 
 -- the map has the numbers of the rows in each place
 abbrev pub ChildrenOf : List Draft → BTreeMap (ℕ × ℕ) (List ℕ) → Type 0

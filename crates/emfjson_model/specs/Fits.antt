@@ -12,14 +12,14 @@ use Rattle.emfjson_model.specs.declared.doc.DocParent.{DocParent}
 use Rattle.emfjson_model.specs.declared.doc.DocRefs.{DocRefs}
 use Rattle.emfjson_model.specs.declared.doc.DocRow.{DocRow}
 use Rattle.emfjson_model.specs.Document.{doc_of}
-use Rattle.emfjson_model.specs.Laws.{are_behind, ids_repeat}
+use Rattle.emfjson_model.specs.Laws.{parents_before, ids_repeat}
 use Rattle.emfjson_model.specs.Merged.{targets_at}
 use Rattle.emfjson_model.specs.References.{parent_eq}
 
 -- no number comes twice
-abbrev pub are_apart : List ℕ → Bool
-are_apart [] = true
-are_apart (n ∷ ns) = not (list_any (nat_eq n) ns) && are_apart ns
+abbrev pub numbers_differ : List ℕ → Bool
+numbers_differ [] = true
+numbers_differ (n ∷ ns) = not (list_any (nat_eq n) ns) && numbers_differ ns
 
 -- the one list has some of the other's numbers, in its order
 abbrev pub Follows : List ℕ → List ℕ → Type 0
@@ -43,7 +43,7 @@ TargetFits meta rows c f b = (d : DocRow) × (slice_get rows b ≡ Some d) × (l
 pub record RefsFit (meta : Meta) (rows : List DocRow) (c : ℕ) (q : DocRefs) : Type 0 where
   pub held : has_feature meta c q.feature ≡ true
   pub plain : is_plain (kind_of meta q.feature) ≡ true
-  pub apart : are_apart q.targets ≡ true
+  pub apart : numbers_differ q.targets ≡ true
   pub bound : is_within (length q.targets) (row_upper meta q.feature) ≡ true
   pub typed : (b : ℕ) → list_any (nat_eq b) q.targets ≡ true → TargetFits meta rows c q.feature b
 
@@ -51,10 +51,10 @@ pub record RefsFit (meta : Meta) (rows : List DocRow) (c : ℕ) (q : DocRefs) : 
 pub record RowFits (meta : Meta) (rows : List DocRow) (r : DocRow) : Type 0 where
   pub concrete : is_concrete meta r.class ≡ true
   pub stands : StandsFit meta rows r.class r.parent
-  pub attrs_apart : are_apart (map (λ (a : DocAttr). a.feature) r.attrs) ≡ true
+  pub attrs_apart : numbers_differ (map (λ (a : DocAttr). a.feature) r.attrs) ≡ true
   pub attrs_in_order : Follows (map (λ (a : DocAttr). a.feature) r.attrs) (features_of meta r.class)
   pub attrs : (k : ℕ) (a : DocAttr) → slice_get r.attrs k ≡ Some a → AttrFits meta r.class a
-  pub refs_apart : are_apart (map (λ (q : DocRefs). q.feature) r.refs) ≡ true
+  pub refs_apart : numbers_differ (map (λ (q : DocRefs). q.feature) r.refs) ≡ true
   pub refs_in_order : Follows (map (λ (q : DocRefs). q.feature) r.refs) (features_of meta r.class)
   pub refs : (k : ℕ) (q : DocRefs) → slice_get r.refs k ≡ Some q → RefsFit meta rows r.class q
 
@@ -62,14 +62,14 @@ pub record RowFits (meta : Meta) (rows : List DocRow) (r : DocRow) : Type 0 wher
 abbrev pub standing : Option DocParent → List DocRow → ℕ
 standing parent rows = count_by (λ (r : DocRow). option_eq parent_eq r.parent parent) rows
 
--- each row fits, behind its parent; no id comes twice; no containment is above its bound; each link to a reference with an opposite is one of both lists
-pub record Fits (meta : Meta) (rows : List DocRow) : Type 0 where
+-- each row fits, after its parent; no id comes twice; no containment is above its bound; each link to a reference with an opposite is one of both lists
+pub record DocumentFits (meta : Meta) (rows : List DocRow) : Type 0 where
   pub each : (n : ℕ) (r : DocRow) → slice_get rows n ≡ Some r → RowFits meta rows r
-  pub behind : are_behind 0 rows ≡ true
+  pub parents : parents_before 0 rows ≡ true
   pub ids_apart : ids_repeat rows ≡ false
   pub bound : (p : DocParent) → is_within (standing (Some p) rows) (child_upper meta p.feature) ≡ true
   pub mirrored : (n : ℕ) (r : DocRow) (f : ℕ) (b : ℕ) (d : DocRow) (g : ℕ) → slice_get rows n ≡ Some r → slice_get rows b ≡ Some d → opposite_of meta f ≡ Some g → list_any (nat_eq b) (targets_at f r.refs) ≡ list_any (nat_eq n) (targets_at g d.refs)
 
 -- the elements of each document that is read fit
 abbrev pub DocumentsFit : Type 0
-DocumentsFit = (meta : Meta) → Sound meta → (text : List ℕ) (rows : List DocRow) → doc_of meta text ≡ Ok rows → Fits meta rows
+DocumentsFit = (meta : Meta) → Sound meta → (text : List ℕ) (rows : List DocRow) → doc_of meta text ≡ Ok rows → DocumentFits meta rows

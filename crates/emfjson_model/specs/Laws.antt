@@ -3,17 +3,17 @@ use Rattle.std.specs.Prelude.{◌≡◌, ℕ, suc, Bool, true, false, ◌&&◌, 
 use Rattle.std.specs.List.{list_any}
 use Rattle.finite_maps.specs.Equal.{option_eq, text_eq}
 use Rattle.ecore_meta.specs.Meta.{Meta}
-use Rattle.model_state.specs.Keys.{Name}
+use Rattle.model_state.specs.Keys.{IdBytes}
 use Rattle.emfjson_model.specs.declared.doc.DocParent.{DocParent}
 use Rattle.emfjson_model.specs.declared.doc.DocRow.{DocRow}
 use Rattle.emfjson_model.specs.Document.{doc_of}
 
 -- the row has that id
-abbrev pub gives_id : Name → DocRow → Bool
+abbrev pub gives_id : IdBytes → DocRow → Bool
 gives_id e r = option_eq text_eq (Some e) r.id
 
 -- one of the rows has the id, where there is one
-abbrev pub is_given : Option Name → List DocRow → Bool
+abbrev pub is_given : Option IdBytes → List DocRow → Bool
 is_given None rows = false
 is_given (Some id) rows = list_any (gives_id id) rows
 
@@ -32,10 +32,10 @@ parent_before n None = true
 parent_before n (Some p) = nat_lt p.row n
 
 -- so it does for the rows from the n-th on
-abbrev pub are_behind : ℕ → List DocRow → Bool
-are_behind n [] = true
-are_behind n (r ∷ rows) = parent_before n r.parent && are_behind (suc n) rows
+abbrev pub parents_before : ℕ → List DocRow → Bool
+parents_before n [] = true
+parents_before n (r ∷ rows) = parent_before n r.parent && parents_before (suc n) rows
 
--- each element of a document that is read stands behind the one that contains it
+-- each element of a document that is read stands after the one that contains it
 abbrev pub ParentsComeFirst : Type 0
-ParentsComeFirst = (meta : Meta) (text : List ℕ) (rows : List DocRow) → doc_of meta text ≡ Ok rows → are_behind 0 rows ≡ true
+ParentsComeFirst = (meta : Meta) (text : List ℕ) (rows : List DocRow) → doc_of meta text ≡ Ok rows → parents_before 0 rows ≡ true

@@ -2,7 +2,7 @@
 use Rattle.std.specs.Prelude.{ℕ, Bool, ◌&&◌, cond, List, [], ◌∷◌, Option, None, is_some, map, codes, option_and_then}
 use Rattle.serde_json.specs.Data.{Data}
 use Rattle.serde_json.specs.Find.{get, as_array, as_str}
-use Rattle.model_state.specs.Keys.{Name}
+use Rattle.ecore_meta.specs.Names.{Name}
 use Rattle.emfjson_model.specs.Attributes.{is_null, elements}
 use Rattle.emfjson_model.specs.Parts.{Part, no_part}
 

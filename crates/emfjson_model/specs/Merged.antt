@@ -56,7 +56,7 @@ is_set f all = list_any (λ (a : DocAttr). nat_eq f a.feature) all
 abbrev pub attrs_more : List DocAttr → List DocAttr → ℕ → List DocAttr
 attrs_more attrs all f = cond (is_set f all) all (all ++ attr_at f attrs)
 
--- the attributes by number, each once, behind those that are there
+-- the attributes by number, each once, after those that are there
 abbrev pub attrs_by : List DocAttr → List DocAttr → List ℕ → List DocAttr
 attrs_by attrs all [] = all
 attrs_by attrs all (f ∷ fs) = attrs_by attrs (attrs_more attrs all f) fs
@@ -69,7 +69,7 @@ row_of meta r refs = record { id = r.id; class = r.class; parent = r.parent; att
 abbrev pub given_at : List (List DocRefs) → ℕ → List DocRefs
 given_at given n = option_map_or (λ refs. refs) (slice_get given n) []
 
--- the next row with its lists, behind those before it
+-- the next row with its lists, after those before it
 abbrev pub next_row : Meta → List (List DocRefs) → List DocRow → Draft → Read DocRow
 next_row meta given rows r = «then» (merged_all meta given (length rows) (given_at given (length rows))) (λ refs. Ok (row_of meta r refs))
 

@@ -21,7 +21,7 @@ abbrev pub found : {A : Type 0} → ModelFault → Option A → Read A
 found e None = Err e
 found e (Some a) = Ok a
 
--- each item in turn gives a value, behind those before it, or the first fault
+-- each item in turn gives a value, after those before it, or the first fault
 abbrev pub collected : {A B : Type 0} → (List B → A → Read B) → List B → List A → Read (List B)
 collected give bs [] = Ok bs
 collected give bs (a ∷ rest) = «then» (give bs a) (λ b. collected give (bs ++ b ∷ []) rest)

@@ -6,8 +6,9 @@ use Rattle.std.specs.Char.{is_ascii_digit}
 use Rattle.std.specs.Str.Parse.{digits_value}
 use Rattle.finite_maps.specs.Equal.{option_eq, text_eq}
 use Rattle.ecore_meta.specs.Meta.{Meta, feature_named, features_of}
-use Rattle.ecore_json.specs.References.{behind}
-use Rattle.model_state.specs.Keys.{Name}
+use Rattle.ecore_json.specs.References.{after_prefix}
+use Rattle.ecore_meta.specs.Names.{Name}
+use Rattle.model_state.specs.Keys.{IdBytes}
 use Rattle.model_state.specs.Typing.{contains_kind, is_plain, kind_of, plain_to, upper_of}
 use Rattle.emfjson_model.specs.declared.doc.DocParent.{DocParent}
 use Rattle.emfjson_model.specs.declared.doc.DocRefs.{DocRefs}
@@ -27,7 +28,7 @@ abbrev pub stands_in : Option DocParent → Draft → Bool
 stands_in place r = option_eq parent_eq r.parent place
 
 -- the element has that id
-abbrev pub has_id : Name → Draft → Bool
+abbrev pub has_id : IdBytes → Draft → Bool
 has_id t r = option_eq text_eq r.id (Some t)
 
 -- the numbers of the rows that pass the test, in order, where the first row has the number n
@@ -40,7 +41,7 @@ abbrev pub child_at : List Draft → Option DocParent → ℕ → Option ℕ
 child_at rows place k = slice_get (numbers_where (stands_in place) 0 rows) k
 
 -- the element of that id
-abbrev pub named : List Draft → Name → Option ℕ
+abbrev pub named : List Draft → IdBytes → Option ℕ
 named rows t = slice_get (numbers_where (has_id t) 0 rows) 0
 
 -- ---- paths
@@ -48,7 +49,7 @@ named rows t = slice_get (numbers_where (has_id t) 0 rows) 0
 abbrev pub number_of : Name → Option ℕ
 number_of t = cond (nat_lt 0 (length t) && (list_all is_ascii_digit t && nat_lt (digits_value 10 t) (2 ^ 32))) (Some (digits_value 10 t)) None
 
--- the index behind a feature's name: a single containment has none, and holds the one child
+-- the index after a feature's name: a single containment has none, and holds the one child
 abbrev pub index_of : Bool → Option Name → Option ℕ
 index_of true None = Some 0
 index_of true (Some t) = None
@@ -65,7 +66,7 @@ child_by meta rows p (Some f) index =
 abbrev pub class_at : List Draft → ℕ → ℕ
 class_at rows n = option_map_or (λ r. r.class) (slice_get rows n) 0
 
--- the child that the parts of a step name: a feature, and behind the dot an index
+-- the child that the parts of a step name: a feature, and after the dot an index
 abbrev pub child_named : Meta → List Draft → ℕ → List Name → Option ℕ
 child_named meta rows p [] = None
 child_named meta rows p (name ∷ []) = child_by meta rows p (feature_named meta (class_at rows p) name) None
@@ -74,7 +75,7 @@ child_named meta rows p (name ∷ index ∷ part ∷ parts) = None
 
 -- one step of a path: `@feature`, or `@feature.index`
 abbrev pub step_from : Meta → List Draft → Name → ℕ → Option ℕ
-step_from meta rows step p = option_and_then (λ t. child_named meta rows p (slice_split (λ b. b == 46) t)) (behind (codes "@") step)
+step_from meta rows step p = option_and_then (λ t. child_named meta rows p (slice_split (λ b. b == 46) t)) (after_prefix (codes "@") step)
 
 -- the element at the end of these steps
 abbrev pub along : Meta → List Draft → List Name → Option ℕ → Option ℕ
@@ -92,7 +93,7 @@ along_parts meta rows [] = None
 along_parts meta rows (root ∷ steps) = along meta rows steps (root_at rows root)
 
 -- ---- references
--- a reference without the number sign in front
+-- a reference without the number sign that it begins with
 abbrev pub bare : Name → Option Name → Name
 bare t None = t
 bare t (Some rest) = rest
@@ -104,11 +105,11 @@ located_by meta rows t (Some path) = along_parts meta rows (slice_split (λ b. b
 
 -- the element of a reference without the number sign
 abbrev pub located_bare : Meta → List Draft → Name → Option ℕ
-located_bare meta rows t = located_by meta rows t (behind (codes "/") t)
+located_bare meta rows t = located_by meta rows t (after_prefix (codes "/") t)
 
 -- the element that a reference finds
 abbrev pub located : Meta → List Draft → Name → Option ℕ
-located meta rows t = located_bare meta rows (bare t (behind (codes "#") t))
+located meta rows t = located_bare meta rows (bare t (after_prefix (codes "#") t))
 
 -- ---- lists of references
 -- an element that the list has not yet, of the feature's type
@@ -116,7 +117,7 @@ abbrev pub new_target : Meta → List Draft → ℕ → List ℕ → Option ℕ 
 new_target meta rows f ts None = Err BadRef
 new_target meta rows f ts (Some n) = unless (not (list_any (nat_eq n) ts)) BadRef (unless (plain_to meta (kind_of meta f) (class_at rows n)) WrongType (Ok n))
 
--- the target of an entry, behind those before it
+-- the target of an entry, after those before it
 abbrev pub target_of : Meta → List Draft → ℕ → List ℕ → Option Name → Read ℕ
 target_of meta rows f ts entry = new_target meta rows f ts (option_and_then (located meta rows) entry)
 
@@ -137,7 +138,7 @@ refs_at meta rows links before f = «then» (targets_of meta rows f (entries_at 
 abbrev pub plain_more : Meta → List ℕ → ℕ → List ℕ
 plain_more meta plain f = cond (is_plain (kind_of meta f) && not (list_any (nat_eq f) plain)) (plain ++ f ∷ []) plain
 
--- those of the features that are plain references, each once, behind those that are there
+-- those of the features that are plain references, each once, after those that are there
 abbrev pub plain_features : Meta → List ℕ → List ℕ → List ℕ
 plain_features meta plain [] = plain
 plain_features meta plain (f ∷ fs) = plain_features meta (plain_more meta plain f) fs

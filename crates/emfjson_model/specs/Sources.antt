@@ -11,7 +11,7 @@ use Rattle.emfjson_model.specs.Merged.{naming}
 abbrev pub ends_with : ℕ → List ℕ → Bool
 ends_with n xs = option_map_or (λ x. nat_eq n x) (slice_get xs (length xs - 1)) false
 
--- the list with the number behind it, unless it is the last
+-- the list with the number after it, unless it is the last
 abbrev pub push_once : ℕ → List ℕ → List ℕ
 push_once n xs = cond (ends_with n xs) xs (xs ++ n ∷ [])
 

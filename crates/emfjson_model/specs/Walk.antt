@@ -7,7 +7,8 @@ use Rattle.serde_json.specs.Find.{get_member}
 use Rattle.ecore_meta.specs.Meta.{Meta, feature_named}
 use Rattle.ecore_meta.specs.declared.meta.Kind.{Kind}
 use Rattle.ecore_meta.specs.declared.meta.Kind.TheVariants.{Attr, AttrMany, Bounded, Free, Contains, Container, Skip}
-use Rattle.model_state.specs.Keys.{Name}
+use Rattle.ecore_meta.specs.Names.{Name}
+use Rattle.model_state.specs.Keys.{IdBytes}
 use Rattle.model_state.specs.Typing.{kind_of, upper_of}
 use Rattle.ecore_json.specs.Rows.{list_of}
 use Rattle.emfjson_model.specs.declared.doc.DocParent.{DocParent}
@@ -54,7 +55,7 @@ key_part meta Own d held = Ok no_part
 key_part meta (Of f) d held = feature_part meta f (kind_of meta f) d held
 
 -- an object's own row before those inside it
-abbrev pub own_rows : Option DocParent → Option Name → ℕ → Read Part → Read (List Draft)
+abbrev pub own_rows : Option DocParent → Option IdBytes → ℕ → Read Part → Read (List Draft)
 own_rows parent id c inside = «then» inside (λ part. Ok (record { id = id; class = c; parent = parent; attrs = part.attrs; links = part.links } ∷ part.rows))
 
 -- the rows of an object: its own, and those inside
@@ -69,7 +70,7 @@ not_object None = NoClass
 not_object (Some c) = WrongType
 
 unfoldable mutual
-  -- the rows of an element and of those inside it, behind the rows with these ids; the default is the class that is due there
+  -- the rows of an element and of those inside it, after the rows with these ids; the default is the class that is due there
   pub element_rows : Meta → Ids → Option DocParent → Option ℕ → Data → Read (List Draft)
   element_rows meta ids parent default (object ms) = object_rows meta ids parent default ms (λ c below. members_rows meta c (length ids) below no_part ms)
   element_rows meta ids parent default null = Err (not_object default)
@@ -78,13 +79,13 @@ unfoldable mutual
   element_rows meta ids parent default (string s) = Err (not_object default)
   element_rows meta ids parent default (array ds) = Err (not_object default)
 
-  -- the rows of a list of elements, behind those that it gave so far
+  -- the rows of a list of elements, after those that it gave so far
   pub items_rows : Meta → Ids → Option DocParent → Option ℕ → List Draft → Items → Read (List Draft)
   items_rows meta ids parent default rows no_items = Ok rows
   items_rows meta ids parent default rows (item d ds) =
       «then» (element_rows meta (ids ++ ids_of rows) parent default d) (λ more. items_rows meta ids parent default (rows ++ more) ds)
 
-  -- what the keys of an object of the class give, whose row has the number own, behind what they gave so far
+  -- what the keys of an object of the class give, whose row has the number own, after what they gave so far
   pub members_rows : Meta → ℕ → ℕ → Ids → Part → Members → Read Part
   members_rows meta c own ids part no_members = Ok part
   members_rows meta c own ids part (member k d ms) =

@@ -6,7 +6,7 @@ ghost use Rattle.serde_json.specs.View.{view};
 ghost use Rattle.model_state.specs.Typing.{value_eq};
 ghost use Rattle.emfjson_io.specs.Values.{value_in};
 ghost use Rattle.emfjson_model.specs.declared.fault.ModelFault.TheVariants.{BadValue};
-ghost use Rattle.emfjson_model.specs.Answers.{Gives, Holds};
+ghost use Rattle.emfjson_model.specs.Answers.{Gives, AppendsPart};
 ghost use Rattle.finite_maps.specs.Maps.{is_within};
 ghost use Rattle.emfjson_model.specs.Attributes.{elements, many_part, may_hold, next_value, single_part, values_in};
 ghost use Rattle.emfjson_model.specs.Reads.{found};
@@ -67,7 +67,7 @@ fn is_among(values: &[Value], value: &Value) -> bool
     values.iter().any(|other| is_same_value(value, other))
 }
 
-/// The next value of a list behind those before it.
+/// The next value of a list after those before it.
 fn next_value(
     alloc: Global,
     meta: &Metamodel,
@@ -118,7 +118,7 @@ pub(crate) fn single_part(
     scalar: &Scalar,
     json: &Json,
 ) -> Result<(), ModelFault>
-    ensures { Holds held.old.attrs held.new.attrs held.old.links held.new.links [] [] result (single_part meta.now feature scalar.now (view json.now)) }
+    ensures { AppendsPart held.old.attrs held.new.attrs held.old.links held.new.links [] [] result (single_part meta.now feature scalar.now (view json.now)) }
 {
     if json.is_null() {
         return Ok(());
@@ -142,7 +142,7 @@ pub(crate) fn many_part(
     unique: bool,
     json: &Json,
 ) -> Result<(), ModelFault>
-    ensures { Holds held.old.attrs held.new.attrs held.old.links held.new.links [] [] result (many_part meta.now feature scalar.now unique (view json.now)) }
+    ensures { AppendsPart held.old.attrs held.new.attrs held.old.links held.new.links [] [] result (many_part meta.now feature scalar.now unique (view json.now)) }
 {
     if json.is_null() {
         return Ok(());

@@ -2,8 +2,8 @@
 ghost use Rattle.std.specs.Prelude.{◌≡◌, option_copied, option_map};
 ghost use Rattle.serde_json.specs.View.{view};
 ghost use Rattle.ecore_meta.specs.Meta.{feature_named};
-ghost use Rattle.ecore_json.specs.References.{behind};
-ghost use Rattle.emfjson_model.specs.Classes.{class_behind, class_of, class_said, class_spelt, may_stand};
+ghost use Rattle.ecore_json.specs.References.{after_prefix};
+ghost use Rattle.emfjson_model.specs.Classes.{class_after, class_of, class_said, class_spelt, may_stand};
 ghost use Rattle.emfjson_model.specs.Walk.{key_named};
 ghost use Rattle.emfjson_model.specs.Answers.{Gives};
 
@@ -23,35 +23,35 @@ pub(crate) enum Key {
     Unknown,
 }
 
-/// What stands behind the prefix of a text.
-pub(crate) fn behind<'a>(prefix: &str, text: &'a str) -> Option<&'a str>
-    ensures { option_copied result ≡ behind prefix.now text.now }
+/// What stands after the prefix of a text.
+pub(crate) fn after_prefix<'a>(prefix: &str, text: &'a str) -> Option<&'a str>
+    ensures { option_copied result ≡ after_prefix prefix.now text.now }
 {
     text.strip_prefix(prefix)
 }
 
-fn class_behind(meta: &Metamodel, prefix: &str, text: &str) -> Option<u32>
-    ensures { result ≡ class_behind meta.now prefix.now text.now }
+fn class_after(meta: &Metamodel, prefix: &str, text: &str) -> Option<u32>
+    ensures { result ≡ class_after meta.now prefix.now text.now }
 {
-    match behind(prefix, text) {
+    match after_prefix(prefix, text) {
         None => None,
         Some(name) => meta.class_named(name),
     }
 }
 
-/// The class that a text names: `//Name`, `#//Name`, or the latter behind the package's URI.
+/// The class that a text names: `//Name`, `#//Name`, or the latter after the package's URI.
 fn class_spelt(meta: &Metamodel, text: &str) -> Option<u32>
     ensures { result ≡ class_spelt meta.now text.now }
 {
-    if let Some(class) = class_behind(meta, "//", text) {
+    if let Some(class) = class_after(meta, "//", text) {
         return Some(class);
     }
-    if let Some(class) = class_behind(meta, "#//", text) {
+    if let Some(class) = class_after(meta, "#//", text) {
         return Some(class);
     }
-    match behind(meta.uri(), text) {
+    match after_prefix(meta.uri(), text) {
         None => None,
-        Some(rest) => class_behind(meta, "#//", rest),
+        Some(rest) => class_after(meta, "#//", rest),
     }
 }
 

@@ -1,8 +1,8 @@
-//! The document that a model text says: a row for each element, with its place, attributes and references by number.
+//! The document that a model text describes: a row for each element, with its place, attributes and references by number.
 use ecore_meta::{List, Value};
 use model_state::Id;
 
-/// The elements that a model text says, each behind the one that contains it.
+/// The elements that a model text describes, each after the one that contains it.
 #[derive(Debug, Drop)]
 pub struct Doc {
     pub rows: List<DocRow>,

@@ -11,7 +11,7 @@ use std::alloc::{AllocError, Global};
 use std::collections::BTreeMap;
 use std::marker::Model;
 
-/// The elements that a walk has found so far, which are soon told by their ids.
+/// The elements that a walk has found so far, which are soon found by their ids.
 #[derive(Drop)]
 pub(crate) struct Drafts {
     rows: Vec<Draft>,
@@ -55,7 +55,7 @@ impl Drafts {
         self.names.contains_key(id)
     }
 
-    /// One more element, behind the others.
+    /// One more element, after the others.
     pub fn push(&mut self, alloc: Global, row: Draft) -> Result<(), AllocError>
         ensures { OnOk result (self.new ≡ self.old ++ row ∷ []) }
     {

@@ -2,7 +2,7 @@
 ghost use Rattle.std.specs.Prelude.{◌≡◌, ◌++◌, ◌∷◌, [], IfOk, OnErr, OnOk, Some, None, cond, false};
 ghost use Rattle.std.specs.BTreeMap.{get_by_text};
 ghost use Rattle.finite_maps.specs.Equal.{option_eq, text_eq};
-ghost use Rattle.model_state.specs.Keys.{Name};
+ghost use Rattle.model_state.specs.Keys.{IdBytes};
 ghost use Rattle.emfjson_model.specs.declared.doc.DocParent.{DocParent};
 ghost use Rattle.emfjson_model.specs.Finder.{ChildrenOf, NamesOf, first_of, numbers_at};
 ghost use Rattle.emfjson_model.specs.References.{child_at, class_at, named, numbers_where, parent_eq, stands_in};
@@ -37,7 +37,7 @@ impl<'a> Model for Finder<'a> {
 }
 
 impl<'a> Finder<'a> {
-    /// Makes the maps that the elements are found by, from all of them. The error is want of memory.
+    /// Makes the maps that the elements are found by, from all of them. The error is out of memory.
     pub fn new(alloc: Global, rows: &'a [Draft]) -> Result<Finder<'a>, AllocError>
         ensures { IfOk result (λ finder. finder ≡ rows.now) }
     {
@@ -97,15 +97,15 @@ pub(crate) fn child_at(rows: &Finder, place: Option<DocParent>, index: u32) -> O
     }
 }
 
-/// The number of a row comes to its id, unless a row before has it.
+/// The number of a row is added for its id, unless a row before has it.
 pub(crate) fn add_name(
     alloc: Global,
     names: &mut BTreeMap<String, usize>,
     n: usize,
     id: &Option<Id>,
 ) -> Result<(), AllocError>
-    ensures found { OnOk result ((t : Name) → get_by_text names.new t ≡ first_of (get_by_text names.old t) (cond (option_eq text_eq id.now (Some t)) (Some n) None)) }
-    ensures kept { OnErr result ((t : Name) → get_by_text names.new t ≡ get_by_text names.old t) }
+    ensures found { OnOk result ((t : IdBytes) → get_by_text names.new t ≡ first_of (get_by_text names.old t) (cond (option_eq text_eq id.now (Some t)) (Some n) None)) }
+    ensures kept { OnErr result ((t : IdBytes) → get_by_text names.new t ≡ get_by_text names.old t) }
 {
     match id {
         None => {}
@@ -145,7 +145,7 @@ pub(crate) fn take_numbers(
     }
 }
 
-/// The number of a row comes to the others in its place, if that is not the root.
+/// The number of a row is added to the others in its place, if that is not the root.
 fn add_child(
     alloc: Global,
     children: &mut BTreeMap<(usize, u32), List<usize>>,
@@ -179,7 +179,7 @@ fn children_of(
     Ok(children)
 }
 
-/// The number of a row comes to the others at the root, if it stands there.
+/// The number of a row is added to the others at the root, if it stands there.
 fn add_root(roots: &mut List<usize>, n: usize, parent: Option<DocParent>) -> Result<(), AllocError>
     ensures { OnOk result (roots.new ≡ roots.old ++ cond (option_eq parent_eq parent None) (n ∷ []) []) }
 {

@@ -1,4 +1,4 @@
-//! Models in emfjson: a text is read as the elements that it says, or refused with its first fault.
+//! Models in emfjson: a text is read as the elements that it describes, or refused with its first fault.
 #![tactic(auto)]
 
 mod attributes;

@@ -1,7 +1,7 @@
 //! The reading of a plain reference's value: the text at each `$ref`, not looked up yet.
 ghost use Rattle.std.specs.Prelude.{◌≡◌, IfOk, [], map, Ok};
 ghost use Rattle.serde_json.specs.View.{view};
-ghost use Rattle.emfjson_model.specs.Answers.{Holds};
+ghost use Rattle.emfjson_model.specs.Answers.{AppendsPart};
 ghost use Rattle.emfjson_model.specs.Links.{entries_of, entry_of, links_part};
 
 use crate::attributes::elements;
@@ -53,7 +53,7 @@ pub(crate) fn links_part(
     single: bool,
     value: &Value,
 ) -> Result<(), ModelFault>
-    ensures { Holds held.old.attrs held.new.attrs held.old.links held.new.links [] [] result (Ok (links_part feature single (view value.now))) }
+    ensures { AppendsPart held.old.attrs held.new.attrs held.old.links held.new.links [] [] result (Ok (links_part feature single (view value.now))) }
 {
     if value.is_null() {
         return Ok(());

@@ -202,7 +202,7 @@ fn row_of(
     })
 }
 
-/// The next row with its lists, behind those before it.
+/// The next row with its lists, after those before it.
 fn next_row(
     alloc: Global,
     meta: &Metamodel,

@@ -5,7 +5,7 @@ ghost use Rattle.std.specs.Char.{is_ascii_digit};
 ghost use Rattle.model_state.specs.Typing.{contains_kind, kind_of};
 ghost use Rattle.emfjson_model.specs.References.{along, along_parts, child_by, child_named, index_of, located, located_bare, number_of, root_at, step_from};
 
-use crate::classes::behind;
+use crate::classes::after_prefix;
 use crate::doc::DocParent;
 use crate::finder::{Finder, child_at};
 use ecore_meta::{Kind, Metamodel};
@@ -31,7 +31,7 @@ fn number_of(text: &str) -> Option<u32>
     }
 }
 
-/// The index behind the name of a containment: one that holds a single child has none.
+/// The index after the name of a containment: one that holds a single child has none.
 fn index_of(single: bool, text: Option<&str>) -> Option<u32>
     ensures { result ≡ index_of single (option_map (λ t. t.now) text.entry) }
 {
@@ -76,7 +76,7 @@ fn child_by(
     }
 }
 
-/// The child of a row that a containment's name, and an index behind it, name.
+/// The child of a row that a containment's name, and an index after it, name.
 fn child_named(meta: &Metamodel, rows: &Finder, row: usize, parts: &[&str]) -> Option<usize>
     ensures { result ≡ child_named meta.now rows.now row (map (λ t. t.now) parts.now) }
 {
@@ -117,7 +117,7 @@ fn step_from(
 ) -> Result<Option<usize>, AllocError>
     ensures { IfOk result (λ n. n ≡ step_from meta.now rows.now step.now row) }
 {
-    match behind("@", step) {
+    match after_prefix("@", step) {
         None => Ok(None),
         Some(text) => {
             let parts = dotted(alloc, text)?;
@@ -170,7 +170,7 @@ fn along(
     Ok(here)
 }
 
-/// The row that a path leads to, behind the slash in front.
+/// The row that a path leads to, which is read after its first slash.
 fn along_path(
     alloc: Global,
     meta: &Metamodel,
@@ -205,13 +205,13 @@ fn located_bare(
 ) -> Result<Option<usize>, AllocError>
     ensures { IfOk result (λ n. n ≡ located_bare meta.now rows.now text.now) }
 {
-    match behind("/", text) {
+    match after_prefix("/", text) {
         None => Ok(rows.named(text)),
         Some(path) => along_path(alloc, meta, rows, path),
     }
 }
 
-/// The row that a reference finds: an id of the document, or a path; a number sign in front is not read.
+/// The row that a reference finds: an id of the document, or a path; a number sign before it is not read.
 pub(crate) fn located(
     alloc: Global,
     meta: &Metamodel,
@@ -220,7 +220,7 @@ pub(crate) fn located(
 ) -> Result<Option<usize>, AllocError>
     ensures { IfOk result (λ n. n ≡ located meta.now rows.now text.now) }
 {
-    match behind("#", text) {
+    match after_prefix("#", text) {
         None => located_bare(alloc, meta, rows, text),
         Some(rest) => located_bare(alloc, meta, rows, rest),
     }

@@ -20,7 +20,7 @@ fn resolved(alloc: Global, meta: &Metamodel, drafts: &[Draft]) -> Result<List<Do
     rows_by(alloc, meta, given.as_slice(), drafts)
 }
 
-/// The elements that a text in emfjson says, by a metamodel.
+/// The elements that a text in emfjson describes, by a metamodel.
 ///
 /// # Errors
 ///

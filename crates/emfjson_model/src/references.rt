@@ -75,7 +75,7 @@ fn found(
     }
 }
 
-/// The target of an entry behind those before it.
+/// The target of an entry after those before it.
 fn target_of(
     alloc: Global,
     meta: &Metamodel,

@@ -14,7 +14,7 @@ use std::alloc::{AllocError, Global};
 use std::collections::BTreeMap;
 use std::marker::Model;
 
-/// What each element gives of its plain references; it is soon told which elements name one by a feature.
+/// What each element gives of its plain references; it is soon found which elements name one by a feature.
 #[derive(Drop)]
 pub(crate) struct Sources<'a> {
     given: &'a [List<DocRefs>],
@@ -34,7 +34,7 @@ impl<'a> Model for Sources<'a> {
 }
 
 impl<'a> Sources<'a> {
-    /// Makes the map of the elements that name others, from what each gives. The error is want of memory.
+    /// Makes the map of the elements that name others, from what each gives. The error is out of memory.
     pub fn new(alloc: Global, given: &'a [List<DocRefs>]) -> Result<Sources<'a>, AllocError>
         ensures { IfOk result (λ sources. sources ≡ given.now) }
     {
@@ -84,7 +84,7 @@ fn ends_with(numbers: &[usize], n: usize) -> bool
     }
 }
 
-/// The number comes to the list, unless it is the last already.
+/// The number is added to the list, unless it is the last already.
 fn push_once(numbers: &mut List<usize>, n: usize) -> Result<(), AllocError>
     ensures { OnOk result (numbers.new ≡ push_once n numbers.old) }
 {

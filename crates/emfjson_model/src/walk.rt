@@ -1,7 +1,7 @@
 //! The walk over the JSON tree that makes a draft of each element, a container before what it contains.
 ghost use Rattle.std.specs.Prelude.{◌≡◌, ◌∷◌, [], ◌++◌, ◌<◌, List, None, length};
 ghost use Rattle.serde_json.specs.View.{view, items_view, members_view};
-ghost use Rattle.emfjson_model.specs.Answers.{GivesDrafts, GivesPart, Holds, Walks};
+ghost use Rattle.emfjson_model.specs.Answers.{GivesDrafts, GivesPart, AppendsPart, Walks};
 ghost use Rattle.emfjson_model.specs.Parts.{ids_of, no_part};
 ghost use Rattle.emfjson_model.specs.Walk.{element_rows, feature_part, held_rows, items_rows, key_named, key_part, members_rows, not_object, own_rows, walked};
 ghost use Rattle.emfjson_model.specs.declared.draft.Draft.{Draft};
@@ -126,7 +126,7 @@ fn part_of(
     key: Key,
     value: &Value,
 ) -> Result<(), ModelFault>
-    ensures { Holds held.old.attrs held.new.attrs held.old.links held.new.links rows.old rows.new result (key_part meta.now key (view value.now) (λ f target. held_rows meta.now (ids_of rows.old) (record { row = own; feature = f }) target (view value.now))) }
+    ensures { AppendsPart held.old.attrs held.new.attrs held.old.links held.new.links rows.old rows.new result (key_part meta.now key (view value.now) (λ f target. held_rows meta.now (ids_of rows.old) (record { row = own; feature = f }) target (view value.now))) }
 {
     match key {
         Key::Unknown => Err(ModelFault::NoFeature),
@@ -150,7 +150,7 @@ fn feature_part(
     kind: &Kind,
     value: &Value,
 ) -> Result<(), ModelFault>
-    ensures { Holds held.old.attrs held.new.attrs held.old.links held.new.links rows.old rows.new result (feature_part meta.now f kind.now (view value.now) (λ f target. held_rows meta.now (ids_of rows.old) (record { row = own; feature = f }) target (view value.now))) }
+    ensures { AppendsPart held.old.attrs held.new.attrs held.old.links held.new.links rows.old rows.new result (feature_part meta.now f kind.now (view value.now) (λ f target. held_rows meta.now (ids_of rows.old) (record { row = own; feature = f }) target (view value.now))) }
 {
     match kind {
         Kind::Attr { scalar, .. } => single_part(alloc, meta, held, f, scalar, value),

@@ -14,7 +14,7 @@ use Rattle.finite_maps.proofs.MapLaws.{IsKeyOrder}
 use Rattle.model_state.specs.declared.entry.Entry.{Entry}
 use Rattle.model_state.specs.declared.step.Place.{Place}
 use Rattle.model_state.specs.declared.step.Place.TheVariants.{Root, Inside}
-use Rattle.model_state.specs.Keys.{Name}
+use Rattle.model_state.specs.Keys.{IdBytes}
 use Rattle.model_state.specs.Listing.{children, entry_cmp, rank_at}
 use Rattle.model_state.specs.State.{State, place_eq}
 use Rattle.model_state.proofs.Orders.{id_order}
@@ -86,10 +86,10 @@ same_place Root (Inside b g) h = cc
 same_place (Inside a f) Root h = cc
 same_place (Inside a f) (Inside b g) h = λ i. Inside (text_equality.exact a b (and_first _ _ h) i) (nat_equality.exact f g (and_second _ _ h) i)
 
-pub each_child : (m : State) (p : Place) → AllByRecursion (λ (c : Name). get m.place c ≡ Some p) (child_ids m p)
+pub each_child : (m : State) (p : Place) → AllByRecursion (λ (c : IdBytes). get m.place c ≡ Some p) (child_ids m p)
 each_child m p =
-    all_map (λ (c : Name). get m.place c ≡ Some p) (λ (e : Entry). e.id) (children m.place m.prank p)
+    all_map (λ (c : IdBytes). get m.place c ≡ Some p) (λ (e : Entry). e.id) (children m.place m.prank p)
     (all_in_order entry_cmp (λ (e : Entry). get m.place e.id ≡ Some p) _
-    (all_map (λ (e : Entry). get m.place e.id ≡ Some p) (λ (e : Name × Place). record { rank = rank_at m.prank e.0; id = e.0 }) (picked (λ e. place_eq p e.1) m.place)
-    (all_filter (λ (e : Name × Place). get m.place e.0 ≡ Some p) (λ (e : Name × Place). get m.place e.0 ≡ Some e.1) (λ e. place_eq p e.1)
+    (all_map (λ (e : Entry). get m.place e.id ≡ Some p) (λ (e : IdBytes × Place). record { rank = rank_at m.prank e.0; id = e.0 }) (picked (λ e. place_eq p e.1) m.place)
+    (all_filter (λ (e : IdBytes × Place). get m.place e.0 ≡ Some p) (λ (e : IdBytes × Place). get m.place e.0 ≡ Some e.1) (λ e. place_eq p e.1)
     (λ e is h. h ∙ ap (λ q. Some q) (sym (same_place p e.1 is))) (entries m.place) (all_entries id_order m.place))))

@@ -9,7 +9,7 @@ use Rattle.serde_json.specs.View.{items_of}
 use Rattle.serde_json.specs.Written.{compact_text, items_text, members_text, comma_if}
 use Rattle.ecore_meta.specs.Meta.{Meta}
 use Rattle.model_state.specs.declared.entry.Entry.{Entry}
-use Rattle.model_state.specs.Keys.{Name}
+use Rattle.model_state.specs.Keys.{IdBytes}
 use Rattle.model_state.specs.State.{State}
 use Rattle.emfjson_text.specs.declared.frame.Frame.TheVariants.{Array as ArrayFrame}
 use Rattle.emfjson_text.specs.declared.key.Key.{Key}
@@ -25,7 +25,7 @@ cc_some : {A : Type 0} (x y : A) → Some x ≡ Some y → x ≡ y
 cc_some x y h = cc
 
 -- a list that is not written as one object is an array
-pub not_one : (f : Name → Data) (single : Bool) (es : List Entry) → None ≡ only single es → one_or_list single (map f (entry_ids es)) ≡ array (items_of (map f (entry_ids es)))
+pub not_one : (f : IdBytes → Data) (single : Bool) (es : List Entry) → None ≡ only single es → one_or_list single (map f (entry_ids es)) ≡ array (items_of (map f (entry_ids es)))
 not_one f single [] is = refl
 not_one f false (x ∷ []) is = refl
 not_one f true (x ∷ []) is = cc
@@ -103,20 +103,20 @@ nothing_of : (o : Option Data) → text_if o ≡ None → o ≡ None
 nothing_of None h = refl
 nothing_of (Some d) h = cc
 
-nothing_shown : (below : Name → Data) (p : Part) → is_absent p ≡ true → shown below p ≡ None
+nothing_shown : (below : IdBytes → Data) (p : Part) → is_absent p ≡ true → shown below p ≡ None
 nothing_shown below Absent h = refl
 nothing_shown below (Leaf t) h = cc
 nothing_shown below (Elements single []) h = refl
 nothing_shown below (Elements single (x ∷ xs)) h = absurd (not_zero (length xs) h)
 
-something_shown : (below : Name → Data) (p : Part) → is_absent p ≡ false → shown below p ≡ Some (unwrap_or (shown below p) [])
+something_shown : (below : IdBytes → Data) (p : Part) → is_absent p ≡ false → shown below p ≡ Some (unwrap_or (shown below p) [])
 something_shown below Absent h = cc
 something_shown below (Leaf t) h = refl
 something_shown below (Elements single []) h = cc
 something_shown below (Elements single (x ∷ xs)) h = refl
 
 module _ (meta : Meta) (m : State) where
-  pub opened : IsNested meta m → (e : Name) (c : ℕ) (keys : List Key) → keys ≡ keys_of meta c → Some c ≡ get m.kind e
+  pub opened : IsNested meta m → (e : IdBytes) (c : ℕ) (keys : List Key) → keys ≡ keys_of meta c → Some c ≡ get m.kind e
       → compact_text (whole meta m e) ≡ 123 ∷ members_text false (members_from meta m e c keys 0)
   unfolding members_from
   opened nested e c keys are is =
@@ -132,7 +132,7 @@ module _ (meta : Meta) (m : State) where
   pub items_ended : (entries : List Entry) (next : ℕ) → None ≡ slice_get entries next → frame_text meta m (ArrayFrame entries next) ≡ 93 ∷ []
   items_ended entries next is = ap (λ xs. items_text (nat_lt 0 next) (items_of (map (whole meta m) (entry_ids xs)))) (past_end entries next is)
 
-  module _ (e : Name) (c : ℕ) (keys : List Key) where
+  module _ (e : IdBytes) (c : ℕ) (keys : List Key) where
     pub key_found : (at : ℕ) (k : Key) → Some k ≡ slice_get keys at
         → members_from meta m e c keys at ≡ with_member (key_name meta k) (part meta m (whole meta m) e c k) (members_from meta m e c keys (at + 1))
     unfolding members_from

@@ -10,7 +10,7 @@ use Rattle.ecore_meta.specs.Meta.{Meta}
 use Rattle.model_state.specs.declared.step.Place.{Place}
 use Rattle.model_state.specs.declared.step.Place.TheVariants.{Root, Inside}
 use Rattle.model_state.specs.Good.{GoodPlaces, IsChain, PlaceOk}
-use Rattle.model_state.specs.Keys.{Name, id_cmp}
+use Rattle.model_state.specs.Keys.{IdBytes, id_cmp}
 use Rattle.model_state.specs.State.{State}
 use Rattle.model_state.proofs.Orders.{id_order}
 use Rattle.emfjson_text.specs.Laws.{IsNested, TextIsWhole}
@@ -19,13 +19,13 @@ use Rattle.emfjson_text.proofs.Children.{all_weaker, each_child}
 use Rattle.emfjson_text.proofs.Objects.{same_object}
 
 -- each differs from those after it
-abbrev Apart : List Name → Type 0
+abbrev Apart : List IdBytes → Type 0
 Apart [] = Unit {0}
 Apart (x ∷ xs) = AllByRecursion (λ y. y ≡ x → ⊥) xs × Apart xs
 
--- ---- names that are apart and live are no more than the entries
+-- ---- names that differ and are live are no more than the entries
 
-unequal_keys : (x y : Name) → (y ≡ x → ⊥) → eq_by_cmp id_cmp y x ≡ false
+unequal_keys : (x y : IdBytes) → (y ≡ x → ⊥) → eq_by_cmp id_cmp y x ≡ false
 unequal_keys x y h =
     elim (eq_by_cmp id_cmp y x) as (λ b. eq_by_cmp id_cmp y x ≡ b → b ≡ false) [
       | true ↦ λ e. absurd (h (same_key id_order y x e))
@@ -44,15 +44,15 @@ positive : (n : ℕ) → (n ≡ 0 → ⊥) → 0 < n
 positive zero h = absurd (h refl)
 positive (suc n) h = omega arith
 
-some_there : (kind : FinMap id_cmp ℕ) (x : Name) → is_some (get kind x) ≡ true → 0 < len kind
+some_there : (kind : FinMap id_cmp ℕ) (x : IdBytes) → is_some (get kind x) ≡ true → 0 < len kind
 some_there kind x h = positive (len kind) (λ e. none_some (get kind x) (ap (λ (k : FinMap id_cmp ℕ). get k x) (empty_of_len kind e) ∙ get-empty id_cmp x) h)
 
-still_live : (kind : FinMap id_cmp ℕ) (x : Name) (xs : List Name) → AllByRecursion (λ y. y ≡ x → ⊥) xs → AllByRecursion (λ y. is_some (get kind y) ≡ true) xs → AllByRecursion (λ y. is_some (get (remove kind x) y) ≡ true) xs
+still_live : (kind : FinMap id_cmp ℕ) (x : IdBytes) (xs : List IdBytes) → AllByRecursion (λ y. y ≡ x → ⊥) xs → AllByRecursion (λ y. is_some (get kind y) ≡ true) xs → AllByRecursion (λ y. is_some (get (remove kind x) y) ≡ true) xs
 still_live kind x [] apart live = tt
 still_live kind x (y ∷ ys) apart live =
     (ap is_some (get-set_other id_order kind x None y (unequal_keys x y apart.0)) ∙ live.0, still_live kind x ys apart.1 live.1)
 
-live_len : (xs : List Name) (kind : FinMap id_cmp ℕ) → Apart xs → AllByRecursion (λ x. is_some (get kind x) ≡ true) xs → length xs ≤ len kind
+live_len : (xs : List IdBytes) (kind : FinMap id_cmp ℕ) → Apart xs → AllByRecursion (λ x. is_some (get kind x) ≡ true) xs → length xs ≤ len kind
 live_len [] kind apart live = omega arith
 live_len (x ∷ xs) kind apart live =
     one_gone (is_some (get kind x)) (len (remove kind x)) (len kind) (length xs) live.0 (len-remove id_order.total kind x) (some_there kind x live.0)
@@ -60,7 +60,7 @@ live_len (x ∷ xs) kind apart live =
 
 -- ---- a chain of containers has no element twice
 module _ (place : FinMap id_cmp Place) where
-  one_chain : (o : Option Place) (xs ys : List Name) → IsChain place o xs → IsChain place o ys → length xs ≡ length ys
+  one_chain : (o : Option Place) (xs ys : List IdBytes) → IsChain place o xs → IsChain place o ys → length xs ≡ length ys
   one_chain None xs ys g h = absurd g
   one_chain (Some Root) [] [] g h = refl
   one_chain (Some Root) [] (y ∷ ys) g h = absurd h
@@ -70,14 +70,14 @@ module _ (place : FinMap id_cmp Place) where
   one_chain (Some (Inside a f)) (x ∷ xs) (y ∷ ys) g h =
       ap suc (one_chain (get place x) xs ys g.1 (subst (λ z. IsChain place (get place z) ys) (h.0 ∙ sym g.0) h.1))
 
-  not_above : (e : Name) (ys : List Name) → IsChain place (get place e) ys → (o : Option Place) (xs : List Name) → IsChain place o xs → length xs ≤ length ys → AllByRecursion (λ x. x ≡ e → ⊥) xs
+  not_above : (e : IdBytes) (ys : List IdBytes) → IsChain place (get place e) ys → (o : Option Place) (xs : List IdBytes) → IsChain place o xs → length xs ≤ length ys → AllByRecursion (λ x. x ≡ e → ⊥) xs
   not_above e ys of_e o [] c less = tt
   not_above e ys of_e None (x ∷ xs) c less = absurd c
   not_above e ys of_e (Some Root) (x ∷ xs) c less = absurd c
   not_above e ys of_e (Some (Inside a f)) (x ∷ xs) c less =
       ((λ h. let l = one_chain (get place e) xs ys (subst (λ z. IsChain place (get place z) xs) h c.1) of_e in omega arith), not_above e ys of_e (get place x) xs c.1 (omega arith))
 
-  chain_apart : (o : Option Place) (xs : List Name) → IsChain place o xs → Apart xs
+  chain_apart : (o : Option Place) (xs : List IdBytes) → IsChain place o xs → Apart xs
   chain_apart o [] c = tt
   chain_apart None (x ∷ xs) c = absurd c
   chain_apart (Some Root) (x ∷ xs) c = absurd c
@@ -90,7 +90,7 @@ module _ (meta : Meta) (kind : FinMap id_cmp ℕ) where
   placed_live None (Some q) r p ok at = absurd ok
   placed_live (Some c) q r p ok at = refl
 
-  chained_live : (c : Option ℕ) (q : Option Place) (r : Option ℕ) (place : FinMap id_cmp Place) (xs : List Name) → PlaceOk meta kind c q r → IsChain place q xs → is_some c ≡ true
+  chained_live : (c : Option ℕ) (q : Option Place) (r : Option ℕ) (place : FinMap id_cmp Place) (xs : List IdBytes) → PlaceOk meta kind c q r → IsChain place q xs → is_some c ≡ true
   chained_live c None r place xs ok chain = absurd chain
   chained_live None (Some q) r place xs ok chain = absurd ok
   chained_live (Some c) (Some q) r place xs ok chain = refl
@@ -101,28 +101,28 @@ module _ (meta : Meta) (kind : FinMap id_cmp ℕ) where
   not_placed (Some c) (Some p) r ok is = cc
 
 module _ (meta : Meta) (m : State) (good : GoodPlaces meta m.kind m.place m.prank) where
-  live_chain : (o : Option Place) (xs : List Name) → IsChain m.place o xs → AllByRecursion (λ x. is_some (get m.kind x) ≡ true) xs
+  live_chain : (o : Option Place) (xs : List IdBytes) → IsChain m.place o xs → AllByRecursion (λ x. is_some (get m.kind x) ≡ true) xs
   live_chain o [] c = tt
   live_chain None (x ∷ xs) c = absurd c
   live_chain (Some Root) (x ∷ xs) c = absurd c
   live_chain (Some (Inside a f)) (x ∷ xs) c = (chained_live meta m.kind (get m.kind x) (get m.place x) (get m.prank x) m.place xs (good.stands x) c.1, live_chain (get m.place x) xs c.1)
 
   -- the containers of an element are fewer than the elements
-  above_less : (e : Name) (p : Place) (xs : List Name) → get m.place e ≡ Some p → IsChain m.place (Some p) xs → length xs < len m.kind
+  above_less : (e : IdBytes) (p : Place) (xs : List IdBytes) → get m.place e ≡ Some p → IsChain m.place (Some p) xs → length xs < len m.kind
   above_less e p xs at chain =
       let own : IsChain m.place (get m.place e) xs = subst (λ o. IsChain m.place o xs) (sym at) chain in
       let l = live_len (e ∷ xs) m.kind (not_above m.place e xs own (get m.place e) xs own (omega arith), chain_apart m.place (get m.place e) xs own)
       (placed_live meta m.kind (get m.kind e) (get m.place e) (get m.prank e) p (good.stands e) at, live_chain (get m.place e) xs own) in
       omega arith
 
-  deep_enough : (n : ℕ) (e : Name) (p : Place) (xs : List Name) → get m.place e ≡ Some p → IsChain m.place (Some p) xs → len m.kind ≤ length xs + n → element meta m (suc n) e ≡ element meta m n e
+  deep_enough : (n : ℕ) (e : IdBytes) (p : Place) (xs : List IdBytes) → get m.place e ≡ Some p → IsChain m.place (Some p) xs → len m.kind ≤ length xs + n → element meta m (suc n) e ≡ element meta m n e
   unfolding element
   deep_enough zero e p xs at chain enough = let l = above_less e p xs at chain in absurd (omega arith)
   deep_enough (suc n) e p xs at chain enough =
       same_object meta m (element meta m (suc n)) (element meta m n) e (get m.kind e) (λ f.
       all_weaker _ _ (λ c inside. deep_enough n c (Inside e f) (e ∷ xs) inside (refl, subst (λ o. IsChain m.place o xs) (sym at) chain) (omega arith)) (child_ids m (Inside e f)) (each_child m (Inside e f)))
 
-  not_live : (n : ℕ) (e : Name) → get m.kind e ≡ None → element meta m n e ≡ object no_members
+  not_live : (n : ℕ) (e : IdBytes) → get m.kind e ≡ None → element meta m n e ≡ object no_members
   unfolding element
   not_live zero e is = refl
   not_live (suc n) e is = ap (object_of meta m (element meta m n) e) is

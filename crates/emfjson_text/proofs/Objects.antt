@@ -8,7 +8,8 @@ use Rattle.ecore_meta.specs.Typing.{kind_of}
 use Rattle.ecore_meta.specs.declared.meta.Kind.{Kind}
 use Rattle.ecore_meta.specs.declared.meta.Kind.TheVariants.{Attr, AttrMany, Bounded, Free, Contains, Container, Skip}
 use Rattle.model_state.specs.declared.step.Place.TheVariants.{Inside}
-use Rattle.model_state.specs.Keys.{Name}
+use Rattle.ecore_meta.specs.Names.{Name}
+use Rattle.model_state.specs.Keys.{IdBytes}
 use Rattle.model_state.specs.State.{State}
 use Rattle.emfjson_text.specs.declared.key.Key.{Key}
 use Rattle.emfjson_text.specs.declared.key.Key.TheVariants.{Ident, Class, Feature}
@@ -19,11 +20,11 @@ pub same_members : (name : Key → Name) (f g : Key → Option Data) → ((k : K
 same_members name f g h [] = refl
 same_members name f g h (k ∷ ks) = λ i. with_member (name k) (h k i) (same_members name f g h ks i)
 
-same_mapped : (f g : Name → Data) (xs : List Name) → AllByRecursion (λ x. f x ≡ g x) xs → map f xs ≡ map g xs
+same_mapped : (f g : IdBytes → Data) (xs : List IdBytes) → AllByRecursion (λ x. f x ≡ g x) xs → map f xs ≡ map g xs
 same_mapped f g [] h = refl
 same_mapped f g (x ∷ xs) h = λ i. h.0 i ∷ same_mapped f g xs h.1 i
 
-module _ (meta : Meta) (m : State) (f g : Name → Data) (e : Name) (same : (n : ℕ) → map f (child_ids m (Inside e n)) ≡ map g (child_ids m (Inside e n))) where
+module _ (meta : Meta) (m : State) (f g : IdBytes → Data) (e : IdBytes) (same : (n : ℕ) → map f (child_ids m (Inside e n)) ≡ map g (child_ids m (Inside e n))) where
   same_content : (n : ℕ) (k : Kind) → content meta m f e n k ≡ content meta m g e n k
   same_content n (Attr scalar default) = refl
   same_content n (AttrMany scalar unique) = refl
@@ -42,5 +43,5 @@ module _ (meta : Meta) (m : State) (f g : Name → Data) (e : Name) (same : (n :
   object_alike None = refl
   object_alike (Some c) = ap object (same_members (key_name meta) (part meta m f e c) (part meta m g e c) (same_part c) (keys_of meta c))
 
-pub same_object : (meta : Meta) (m : State) (f g : Name → Data) (e : Name) (o : Option ℕ) → ((n : ℕ) → AllByRecursion (λ x. f x ≡ g x) (child_ids m (Inside e n))) → object_of meta m f e o ≡ object_of meta m g e o
+pub same_object : (meta : Meta) (m : State) (f g : IdBytes → Data) (e : IdBytes) (o : Option ℕ) → ((n : ℕ) → AllByRecursion (λ x. f x ≡ g x) (child_ids m (Inside e n))) → object_of meta m f e o ≡ object_of meta m g e o
 same_object meta m f g e o h = object_alike meta m f g e (λ n. same_mapped f g (child_ids m (Inside e n)) (h n)) o

@@ -9,7 +9,7 @@ use Rattle.ecore_meta.specs.Meta.{Meta}
 use Rattle.ecore_meta.specs.declared.meta.Scalar.{Scalar}
 use Rattle.ecore_meta.specs.declared.meta.Value.{Value}
 use Rattle.model_state.specs.declared.entry.Entry.{Entry}
-use Rattle.model_state.specs.Keys.{Name}
+use Rattle.model_state.specs.Keys.{IdBytes}
 use Rattle.model_state.specs.State.{State}
 use Rattle.emfjson_io.specs.Values.{data_of}
 use Rattle.emfjson_text.specs.declared.frame.Frame.{Frame}
@@ -28,7 +28,7 @@ abbrev pub text_if : Option Data → Option (List ℕ)
 text_if o = option_map compact_text o
 
 -- the text of a part, None where nothing stands there
-abbrev pub shown : (Name → Data) → Part → Option (List ℕ)
+abbrev pub shown : (IdBytes → Data) → Part → Option (List ℕ)
 shown below Absent = None
 shown below (Leaf t) = Some t
 shown below (Elements single entries) = text_if (listed single (map below (entry_ids entries)))
@@ -43,7 +43,7 @@ is_absent (Elements single entries) = nat_eq (length entries) 0
 abbrev pub part_text : Meta → State → Part → List ℕ
 part_text meta m p = unwrap_or (shown (whole meta m) p) []
 
--- a key with its colon, behind a comma where it is not the first
+-- a key with its colon, after a comma where it is not the first
 abbrev pub key_text : Bool → List ℕ → List ℕ
 key_text later k = comma_if later ++ (quoted k ++ 58 ∷ [])
 
@@ -62,11 +62,11 @@ abbrev pub references_text : Bool → List Entry → List ℕ
 references_text later es = items_text later (items_of (map reference (entry_ids es)))
 
 -- the members from a key on
-unfoldable pub members_from : Meta → State → Name → ℕ → List Key → ℕ → Members
+unfoldable pub members_from : Meta → State → IdBytes → ℕ → List Key → ℕ → Members
 members_from meta m e c keys next = members (key_name meta) (part meta m (whole meta m) e c) (drop next keys)
 
--- the first key from next on under which something stands, with what stands there and the place behind it
-abbrev pub Finds : Meta → State → Name → ℕ → List Key → ℕ → Option Found → Type 0
+-- the first key from next on under which something stands, with what stands there and the place after it
+abbrev pub Finds : Meta → State → IdBytes → ℕ → List Key → ℕ → Option Found → Type 0
 Finds meta m e c keys next None = members_from meta m e c keys next ≡ no_members
 Finds meta m e c keys next (Some found) =
     (members_from meta m e c keys next ≡ with_member (key_name meta found.key) (part meta m (whole meta m) e c found.key) (members_from meta m e c keys found.after))

@@ -14,7 +14,7 @@ key_name meta Ident = codes "_id"
 key_name meta Class = codes "eClass"
 key_name meta (Feature f) = name_at meta.features f
 
--- what tells keys of one name apart
+-- what distinguishes keys of one name
 abbrev pub key_number : Key → ℕ
 key_number Ident = 0
 key_number Class = 1

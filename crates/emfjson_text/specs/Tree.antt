@@ -14,7 +14,7 @@ use Rattle.ecore_meta.specs.declared.meta.Value.{Value}
 use Rattle.model_state.specs.declared.entry.Entry.{Entry}
 use Rattle.model_state.specs.declared.step.Place.{Place}
 use Rattle.model_state.specs.declared.step.Place.TheVariants.{Root, Inside}
-use Rattle.model_state.specs.Keys.{Name}
+use Rattle.model_state.specs.Keys.{IdBytes}
 use Rattle.model_state.specs.Listing.{children, targets, values_at}
 use Rattle.model_state.specs.State.{State}
 use Rattle.emfjson_io.specs.Values.{data_of}
@@ -25,15 +25,15 @@ use Rattle.emfjson_text.specs.Keys.{key_name, keys_of}
 -- ---- the lists of a state, without their ranks
 
 -- the ids of entries
-abbrev pub entry_ids : List Entry → List Name
+abbrev pub entry_ids : List Entry → List IdBytes
 entry_ids es = map (λ (e : Entry). e.id) es
 
 -- the targets of a reference, in order
-abbrev pub target_ids : State → Name → ℕ → List Name
+abbrev pub target_ids : State → IdBytes → ℕ → List IdBytes
 target_ids m a f = entry_ids (targets m.row a f)
 
 -- the elements of a place, in order
-abbrev pub child_ids : State → Place → List Name
+abbrev pub child_ids : State → Place → List IdBytes
 child_ids m p = entry_ids (children m.place m.prank p)
 
 -- ---- an element's object
@@ -55,15 +55,15 @@ first_value meta scalar [] = None
 first_value meta scalar (v ∷ vs) = Some (data_of meta scalar v)
 
 -- a reference to an element, by its id
-abbrev pub reference : Name → Data
+abbrev pub reference : IdBytes → Data
 reference b = object (member (codes "$ref") (string b) no_members)
 
 -- a reference or containment has one value rather than a list where its upper bound is 1
 abbrev pub is_single : Meta → ℕ → Bool
 is_single meta f = is_one (upper_of meta f)
 
--- what stands under a feature; below gives the objects of the elements inside. The element around is told by the nesting alone
-abbrev pub content : Meta → State → (Name → Data) → Name → ℕ → Kind → Option Data
+-- what stands under a feature; below gives the objects of the elements inside. The container is shown by the nesting alone
+abbrev pub content : Meta → State → (IdBytes → Data) → IdBytes → ℕ → Kind → Option Data
 content meta m below e f (Attr scalar default) = first_value meta scalar (values_at m e f)
 content meta m below e f (AttrMany scalar unique) = listed false (map (data_of meta scalar) (values_at m e f))
 content meta m below e f (Bounded target opposite) = listed (is_single meta f) (map reference (target_ids m e f))
@@ -77,7 +77,7 @@ abbrev pub class_text : Meta → ℕ → List ℕ
 class_text meta c = meta.uri ++ codes "#//" ++ option_map_or (λ class. class.name) (slice_get meta.classes c) []
 
 -- what stands under a key
-abbrev pub part : Meta → State → (Name → Data) → Name → ℕ → Key → Option Data
+abbrev pub part : Meta → State → (IdBytes → Data) → IdBytes → ℕ → Key → Option Data
 part meta m below e c Ident = Some (string e)
 part meta m below e c Class = Some (string (class_text meta c))
 part meta m below e c (Feature f) = content meta m below e f (kind_of meta f)
@@ -93,17 +93,17 @@ members name part [] = no_members
 members name part (k ∷ ks) = with_member (name k) (part k) (members name part ks)
 
 -- an element's object, by its class
-abbrev pub object_of : Meta → State → (Name → Data) → Name → Option ℕ → Data
+abbrev pub object_of : Meta → State → (IdBytes → Data) → IdBytes → Option ℕ → Data
 object_of meta m below e None = object no_members
 object_of meta m below e (Some c) = object (members (key_name meta) (part meta m below e c) (keys_of meta c))
 
 -- an element's object, with so many levels of objects
-unfoldable pub element : Meta → State → ℕ → Name → Data
+unfoldable pub element : Meta → State → ℕ → IdBytes → Data
 element meta m zero e = object no_members
 element meta m (suc n) e = object_of meta m (element meta m n) e (get m.kind e)
 
 -- there are no more levels than elements
-unfoldable pub whole : Meta → State → Name → Data
+unfoldable pub whole : Meta → State → IdBytes → Data
 whole meta m e = element meta m (len m.kind) e
 
 -- ---- the document

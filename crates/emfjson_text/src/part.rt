@@ -29,7 +29,7 @@ pub(crate) enum Part {
 pub(crate) struct Found {
     pub key: Key,
     pub part: Part,
-    /// The place behind it among the keys.
+    /// The place after it among the keys.
     pub after: usize,
 }
 

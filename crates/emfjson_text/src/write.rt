@@ -37,7 +37,7 @@ impl Writer {
         }
     }
 
-    /// Writes a key, with a comma in front where a member stands before.
+    /// Writes a key, after a comma where a member stands before.
     fn write_key(&mut self, later: bool, name: &str) -> Result<(), AllocError>
         ensures out { OnOk result (string_bytes self.new.out ≡ string_bytes self.old.out ++ key_text later name.now) }
         ensures begun { OnOk result (self.new.begun.items ≡ self.old.begun.items) }
@@ -199,7 +199,7 @@ impl Writer {
 /// objects. An object has its keys in the order of their bytes: `_id`, `eClass` as `nsURI#//Name`, and each feature under
 /// which something stands: an attribute that is set, a list of values, a reference as `{"$ref":"id"}` and a containment
 /// as the objects inside. References and containments are arrays, unless their upper bound is 1. A literal is its text.
-/// The element around is not written.
+/// The container is not written.
 ///
 /// The text is written by a stack of its own, however deep the elements stand in one another.
 pub fn write_model<L: Look>(alloc: Global, look: &L, meta: &Metamodel) -> Result<Text, AllocError>

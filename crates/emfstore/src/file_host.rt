@@ -14,7 +14,7 @@ const FOLDER: &str = ".";
 #[derive(Drop)]
 struct Store {
     file: File,
-    /// The file's length in bytes, where it is known: as the system told it once, and then by what was written since.
+    /// The file's length in bytes, where it is known: as the system reported it once, and then by what was written since.
     len: Option<u64>,
 }
 
@@ -84,7 +84,7 @@ impl Store {
 
 /// The file `emfstore.journal` in the working folder, and the standard streams. The first call that needs the file opens it,
 /// makes it where it is missing, and takes its lock for as long as the host lives. A call fails where the file can't be opened,
-/// or another program has the lock. It tells nothing.
+/// or another program has the lock. It reports nothing.
 #[derive(Drop)]
 pub struct FileHost<'a, R: Files<File = File> + Input + Print> {
     rt: &'a R,

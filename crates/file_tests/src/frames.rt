@@ -52,7 +52,7 @@ fn opened<H: Host>(alloc: Global, host: &mut H) -> Result<Journal, JournalFault>
     Err(JournalFault::Damaged { at: walk.place() })
 }
 
-// In how many frames a form's record lies that is made ready, and how many are out once it is given up.
+// In how many frames a byte string's record lies that is made ready, and how many are out once it is given up.
 fn given_up(alloc: Global, size: usize) -> Result<(u32, u32), JournalFault>
     requires { size ≤ 16777211 }
 {
@@ -67,7 +67,7 @@ fn given_up(alloc: Global, size: usize) -> Result<(u32, u32), JournalFault>
 }
 
 #[test]
-fn a_form_takes_its_bytes_and_five_in_frames(rt: HostRuntime) -> Result<(), Fail> {
+fn a_byte_string_takes_its_bytes_and_five_in_frames(rt: HostRuntime) -> Result<(), Fail> {
     assert_eq!(rt; given_up(rt.alloc(), 0)?, (1, 0));
     assert_eq!(rt; given_up(rt.alloc(), 4_091)?, (1, 0));
     assert_eq!(rt; given_up(rt.alloc(), 4_092)?, (2, 0));
@@ -75,7 +75,7 @@ fn a_form_takes_its_bytes_and_five_in_frames(rt: HostRuntime) -> Result<(), Fail
     Ok(())
 }
 
-// Appends a form's record to a store that has none, and tells in how many frames it lay.
+// Appends a byte string's record to a store that has none, and gives in how many frames it lay.
 fn appended<H: Host>(
     alloc: Global,
     host: &mut H,
@@ -98,7 +98,7 @@ fn appended<H: Host>(
     }
 }
 
-// In how many frames a form's record lay, or the fault where the host's call of a number fails. Then no frame is out, and a
+// In how many frames a byte string's record lay, or the fault where the host's call of a number fails. Then no frame is out, and a
 // record that was added is the file's only one.
 fn told(
     rt: &impl Abort,
@@ -124,7 +124,7 @@ fn told(
     Ok(told)
 }
 
-// Six calls open a store without records; behind a record's frames come a sync, the gate and a sync.
+// Six calls open a store without records; after a record's frames come a sync, the gate and a sync.
 fn is_written_by_frames(
     rt: &impl Abort,
     alloc: Global,

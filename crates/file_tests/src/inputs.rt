@@ -47,7 +47,7 @@ fn told(alloc: Global, host: &mut MemoryHost) -> Result<String, Fail> {
     Ok(told)
 }
 
-// A case a line: an input, and what is told of it.
+// A case a line: an input, and what is reported of it.
 const SCRIPTS: &str = r" => End
 \n => |End
 a\nb => a|b|End
@@ -84,7 +84,7 @@ init\na\n\xc3\r\n. => init|NotText { at: 7 }
 a\ninit\n{}\n\xe2\x82\n.\n => a|init|NotText { at: 10 }
 init\na\n.\n\xff => init|a\n|NotText { at: 9 }";
 
-// An input in pieces of each size is told as its case says.
+// An input in pieces of each size is reported as its case says.
 fn is_told(rt: &impl Abort, alloc: Global, case: &str) -> Result<(), Fail> {
     let (input, wanted) = case.split_once(" => ").ok_or("a case without an answer")?;
     let input = bytes_of(alloc, input)?;
@@ -105,7 +105,7 @@ fn every_cutting_gives_the_same_lines_and_blocks(rt: HostRuntime) -> Result<(), 
     Ok(())
 }
 
-// What is told where the second call for input fails.
+// What is reported where the second call for input fails.
 fn told_of_one_piece(alloc: Global, input: &[u8], piece: u32) -> Result<String, Fail>
     requires { 1 ≤ piece }
 {
@@ -126,7 +126,7 @@ fn a_failed_call_ends_a_line_and_a_block(rt: HostRuntime) -> Result<(), Fail> {
     Ok(())
 }
 
-// A case a line: the first line, how many bytes stand after it and with which end, and what is told of the line or block that they are.
+// A case a line: the first line, how many bytes stand after it and with which end, and what is reported of the line or block that they are.
 const LONG: &str = r"a\n|1048576|\n => Line
 a\n|1048576| => Line
 a\n|1048575|\r\n => Line
@@ -148,7 +148,7 @@ init\n|8388607|\n => UnendedBlock { at: 8388613 }
 init\n|8388607|\xff\n. => BlockTooLong { at: 8388613 }
 init\n|8388606|\xff\n. => NotText { at: 8388611 }";
 
-// What is told of the line or block after the first line.
+// What is reported of the line or block after the first line.
 fn second(alloc: Global, host: &mut MemoryHost) -> Result<String, Fail> {
     let mut lines = Lines::new(alloc)?;
     lines.next_line(host)?;
@@ -168,7 +168,7 @@ fn long(alloc: Global, spelled: &str) -> Result<Vec<u8>, Fail> {
     Ok(input)
 }
 
-// A long input is told as its case says.
+// A long input is reported as its case says.
 fn is_judged(rt: &impl Abort, alloc: Global, case: &str) -> Result<(), Fail> {
     let (spelled, wanted) = case.split_once(" => ").ok_or("a case without an answer")?;
     let mut host = over(alloc, long(alloc, spelled)?, 65_536);

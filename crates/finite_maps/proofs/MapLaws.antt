@@ -67,7 +67,7 @@ module _ {K X : Type 0} {R : K → K → Ordering} (o : IsKeyOrder R) where
       (get-set_same (set m k v) k w ∙ sym (get-set_same m k w))
       (λ apart. get-set_other (set m k v) k w q apart ∙ get-set_other m k v q apart ∙ sym (get-set_other m k w q apart)))
 
-  -- writes of two keys may change places
+  -- writes of two keys commute
   pub set_swap : (m : FinMap R X) (k l : K) (v w : Option X) → eq_by_cmp R l k ≡ false → set (set m k v) l w ≡ set (set m l w) k v
   set_swap m k l v w apart = same _ _ (λ q.
       get-set (set m k v) l w q ∙ ap (cond (eq_by_cmp R q l) w) (get-set m k v q)

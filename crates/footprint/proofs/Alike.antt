@@ -9,13 +9,13 @@ use Rattle.model_state.specs.declared.step.Place.TheVariants.{Root, Inside}
 use Rattle.model_state.specs.declared.step.Step.{Step}
 use Rattle.model_state.specs.declared.step.Step.TheVariants.{Link, Unlink, RerankRow, New, Gone, Move}
 use Rattle.model_state.specs.Typing.{opposite_of}
-use Rattle.model_state.specs.Keys.{Name}
+use Rattle.model_state.specs.Keys.{IdBytes}
 use Rattle.model_state.specs.State.{State, written}
 use Rattle.model_state.specs.Good.{Good, Sound}
 use Rattle.model_state.specs.Steps.{writes, apply, fold}
 use Rattle.model_state.specs.declared.operation.Operation.{Operation}
 use Rattle.model_state.specs.Packages.{steps_of}
-use Rattle.model_laws.specs.Cells.{Cell, OfKind, OfRow, OfWhole, About, cell_eq, has, side, mirror_side, place_list, is_bounded, is_finite, Agree, AgreeAt, step_writes, step_reads, kinds_read, kinds_written, needs, touches, needs_all, touches_all, writes_all, reads_all}
+use Rattle.model_laws.specs.Cells.{Cell, OfKind, OfRow, OfWhole, About, cell_eq, has, side, mirror_side, place_list, is_bounded, is_finite, Agree, AgreeAt, step_writes, step_reads, kinds_read, kinds_written, needs, may_change, needs_all, may_change_all, writes_all, reads_all}
 use Rattle.model_laws.proofs.Exchange.{has_append, has_first, has_second, not_first, not_second, IsReal, real_apart, agree_written, agree_everywhere, run_leaves}
 use Rattle.model_laws.proofs.Apart.{in_either, writes_kind, out, turned}
 use Rattle.model_laws.proofs.StepNeeds.{goes_by_needs}
@@ -26,18 +26,18 @@ use Rattle.footprint.specs.Laws.{StepLeavesOthers, OperationLeavesOthers, States
 use Rattle.footprint.proofs.Pairs.{keep_apart}
 
 -- ---- a step leaves the cells that it does not write
-untouched : (meta : Meta) (s : Step) (c : Cell) → has (map About (kinds_read s ++ kinds_written s)) c ≡ false → has (step_writes meta s) c ≡ false → has (touches meta s) c ≡ false
+untouched : (meta : Meta) (s : Step) (c : Cell) → has (map About (kinds_read s ++ kinds_written s)) c ≡ false → has (step_writes meta s) c ≡ false → has (may_change meta s) c ≡ false
 untouched meta s c about out = has_append (step_writes meta s) (map About (kinds_read s ++ kinds_written s)) c ∙ ap (λ b. b || has (map About (kinds_read s ++ kinds_written s)) c) out ∙ about
 
 pub step_leaves_others : StepLeavesOthers
 step_leaves_others meta m good s can (About e) is out = absurd is
 step_leaves_others meta m good s can c is out = leaves_others meta m good s can c (untouched meta s c (real_apart c (kinds_read s ++ kinds_written s) tt) out)
 
-all_untouched : (meta : Meta) (ss : List Step) (c : Cell) → IsReal c → has (writes_all meta ss) c ≡ false → has (touches_all meta ss) c ≡ false
+all_untouched : (meta : Meta) (ss : List Step) (c : Cell) → IsReal c → has (writes_all meta ss) c ≡ false → has (may_change_all meta ss) c ≡ false
 all_untouched meta [] c real out = refl
 all_untouched meta (s ∷ ss) c real out =
-    has_append (touches meta s) (touches_all meta ss) c
-    ∙ ap (λ b. b || has (touches_all meta ss) c) (untouched meta s c (real_apart c (kinds_read s ++ kinds_written s) real) (not_first (step_writes meta s) (writes_all meta ss) c out))
+    has_append (may_change meta s) (may_change_all meta ss) c
+    ∙ ap (λ b. b || has (may_change_all meta ss) c) (untouched meta s c (real_apart c (kinds_read s ++ kinds_written s) real) (not_first (step_writes meta s) (writes_all meta ss) c out))
     ∙ all_untouched meta ss c real (not_second (step_writes meta s) (writes_all meta ss) c out)
 
 run_leaves_others : (meta : Meta) → Sound meta → (m n : State) → Good meta m → (ss : List Step) → fold meta m ss ≡ Some n → (c : Cell) → IsReal c → has (writes_all meta ss) c ≡ false → Agree meta m n c
@@ -89,18 +89,18 @@ step_goes_by_cells meta m n good goodn o same front back s is =
     (goes.0, goes.1, λ can. record { written = λ c h. on c (same.written c h); read = λ c h. on c (same.read c h); about = λ e h. on (About e) (same.about e h) })
 
 -- ---- an operation leaves what is the same for another
--- a class that is written is that of an element that comes or goes
-kind_side : (meta : Meta) (a : Name) (f : ℕ) (b : Name) (e : Name) → cell_eq (OfKind e) (side meta a f b) ≡ false
+-- a class that is written is that of an element that is created or deleted
+kind_side : (meta : Meta) (a : IdBytes) (f : ℕ) (b : IdBytes) (e : IdBytes) → cell_eq (OfKind e) (side meta a f b) ≡ false
 kind_side meta a f b e = elim (is_bounded meta f) as (λ t. cell_eq (OfKind e) (elim t as (λ _. Cell) [ true ↦ OfWhole a f | false ↦ OfRow a f b ]) ≡ false) [ true ↦ refl | false ↦ refl ]
 
-kind_mirror : (meta : Meta) (o : Option ℕ) (a b : Name) (e : Name) → has (mirror_side meta o a b) (OfKind e) ≡ false
+kind_mirror : (meta : Meta) (o : Option ℕ) (a b : IdBytes) (e : IdBytes) → has (mirror_side meta o a b) (OfKind e) ≡ false
 kind_mirror meta None a b e = refl
 kind_mirror meta (Some g) a b e = ap (λ t. t || false) (kind_side meta b g a e)
 
-kind_rows : (meta : Meta) (a : Name) (f : ℕ) (b : Name) (e : Name) → has (side meta a f b ∷ mirror_side meta (opposite_of meta f) a b) (OfKind e) ≡ false
+kind_rows : (meta : Meta) (a : IdBytes) (f : ℕ) (b : IdBytes) (e : IdBytes) → has (side meta a f b ∷ mirror_side meta (opposite_of meta f) a b) (OfKind e) ≡ false
 kind_rows meta a f b e = ap (λ t. t || has (mirror_side meta (opposite_of meta f) a b) (OfKind e)) (kind_side meta a f b e) ∙ kind_mirror meta (opposite_of meta f) a b e
 
-kind_list : (meta : Meta) (place : Place) (e : Name) → has (place_list meta place) (OfKind e) ≡ false
+kind_list : (meta : Meta) (place : Place) (e : IdBytes) → has (place_list meta place) (OfKind e) ≡ false
 kind_list meta Root e = refl
 kind_list meta (Inside a f) e = elim (is_finite meta f) as (λ t. has (elim t as (λ _. List Cell) [ true ↦ OfWhole a f ∷ [] | false ↦ [] ]) (OfKind e) ≡ false) [ true ↦ refl | false ↦ refl ]
 
@@ -108,7 +108,7 @@ first_one : (t u : Bool) → t || u ≡ true → u ≡ false → t || false ≡ 
 first_one true u h k = refl
 first_one false u h k = absurd (true_false u h k)
 
-kind_about : (meta : Meta) (s : Step) (e : Name) → has (step_writes meta s) (OfKind e) ≡ true → has (map About (kinds_written s)) (About e) ≡ true
+kind_about : (meta : Meta) (s : Step) (e : IdBytes) → has (step_writes meta s) (OfKind e) ≡ true → has (map About (kinds_written s)) (About e) ≡ true
 kind_about meta (New x class place rank) e h = first_one (text_eq e x) (has (place_list meta place) (OfKind e)) h (kind_list meta place e)
 kind_about meta (Gone x class place rank) e h = first_one (text_eq e x) (has (place_list meta place) (OfKind e)) h (kind_list meta place e)
 kind_about meta (Link a f ra b rb) e h = absurd (true_false _ h (kind_rows meta a f b e))
@@ -117,7 +117,7 @@ kind_about meta (RerankRow a f b old new) e h = absurd (true_false _ h (ap (λ t
 kind_about meta (Move x from from_rank to to_rank above_from above_to) e h = absurd (true_false _ h (has_append (place_list meta from) (place_list meta to) (OfKind e) ∙ ap (λ t. t || has (place_list meta to) (OfKind e)) (kind_list meta from e) ∙ kind_list meta to e))
 kind_about meta s e h = cc
 
-about_needed : (meta : Meta) (ss : List Step) (e : Name) → has (writes_all meta ss) (OfKind e) ≡ true → has (needs_all meta ss) (About e) ≡ true
+about_needed : (meta : Meta) (ss : List Step) (e : IdBytes) → has (writes_all meta ss) (OfKind e) ≡ true → has (needs_all meta ss) (About e) ≡ true
 about_needed meta [] e h = cc
 about_needed meta (s ∷ ss) e h = in_either (step_writes meta s) (writes_all meta ss) (OfKind e) h
     (λ here. has_first (needs meta s) (needs_all meta ss) (About e) (has_second (step_reads s) (map About (kinds_written s) ++ step_writes meta s) (About e) (has_first (map About (kinds_written s)) (step_writes meta s) (About e) (kind_about meta s e here))))

@@ -7,7 +7,7 @@ use Rattle.model_state.specs.declared.operation.Operation.{Operation}
 use Rattle.model_laws.specs.Cells.{Cell, cell_eq, has}
 use Rattle.footprint.specs.declared.cell.Cell.{Cell as Held}
 use Rattle.footprint.specs.declared.cell.Print.{Print}
-use Rattle.footprint.specs.Interference.{op_writes, op_reads, meets, clash, interferes}
+use Rattle.footprint.specs.Interference.{op_writes, op_reads, meets, cells_interfere, interferes}
 use Rattle.footprint.proofs.Pairs.{meets_turned}
 use Rattle.footprint.specs.Prints.{seen, cells, holds, hold_one}
 
@@ -31,8 +31,8 @@ held_meets (h ∷ list) other = λ i. held_has other (seen h) i || held_meets li
 pub held_turned : (list other : List Held) → hold_one other list ≡ meets (cells list) (cells other)
 held_turned list other = held_meets other list ∙ meets_turned (cells other) (cells list)
 
--- the prints of two operations tell whether they interfere
+-- the prints of two operations show whether they interfere
 pub prints_tell : (meta : Meta) (o p : Operation) (a b : Print) → cells a.writes ≡ op_writes meta o → cells a.reads ≡ op_reads o → cells b.writes ≡ op_writes meta p → cells b.reads ≡ op_reads p
-    → clash (cells a.writes) (cells a.reads) (cells b.writes) (cells b.reads) ≡ interferes meta o p
+    → cells_interfere (cells a.writes) (cells a.reads) (cells b.writes) (cells b.reads) ≡ interferes meta o p
 unfolding interferes
-prints_tell meta o p a b aw ar bw br = λ i. clash (aw i) (ar i) (bw i) (br i)
+prints_tell meta o p a b aw ar bw br = λ i. cells_interfere (aw i) (ar i) (bw i) (br i)

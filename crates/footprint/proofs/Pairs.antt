@@ -6,7 +6,7 @@ use Rattle.finite_maps.specs.Equal.{text_eq}
 use Rattle.finite_maps.proofs.EqualLaws.{and_first, and_second, and_both, nat_equality, text_equality}
 use Rattle.ecore_meta.specs.Meta.{Meta}
 use Rattle.model_state.specs.declared.step.Step.{Step}
-use Rattle.model_laws.specs.Cells.{Cell, OfKind, OfPlace, OfRank, OfAttr, OfRow, OfWhole, About, cell_eq, has, step_writes, step_reads, writes_all, reads_all, KeepApart}
+use Rattle.model_laws.specs.Cells.{Cell, OfKind, OfPlace, OfRank, OfAttr, OfRow, OfWhole, About, cell_eq, has, step_writes, step_reads, writes_all, reads_all, AreDisjoint}
 use Rattle.finite_maps.proofs.Cases.{not_so, true_false, or_first, or_second}
 use Rattle.model_laws.proofs.Apart.{turned}
 use Rattle.model_laws.proofs.Exchange.{has_append, or_cases}
@@ -95,7 +95,7 @@ neither : (xs ys : List Cell) (c : Cell) → has xs c ≡ false → has ys c ≡
 neither xs ys c p q = has_append xs ys c ∙ or_neither (has xs c) (has ys c) p q
 
 -- ---- interference
-pub keep_apart : (meta : Meta) (o p : Operation) → interferes meta o p ≡ false → KeepApart meta (steps_of o) (steps_of p)
+pub keep_apart : (meta : Meta) (o p : Operation) → interferes meta o p ≡ false → AreDisjoint meta (steps_of o) (steps_of p)
 unfolding interferes
 keep_apart meta o p h =
     let written = or_first (meets (op_writes meta o) (op_writes meta p)) _ h in
@@ -106,7 +106,7 @@ keep_apart meta o p h =
       second_read = apart_of (op_writes meta o) (op_reads p) (or_first (meets (op_writes meta o) (op_reads p)) (meets (op_writes meta p) (op_reads o)) rest);
     }
 
-pub interferes_not : (meta : Meta) (o p : Operation) → KeepApart meta (steps_of o) (steps_of p) → interferes meta o p ≡ false
+pub interferes_not : (meta : Meta) (o p : Operation) → AreDisjoint meta (steps_of o) (steps_of p) → interferes meta o p ≡ false
 unfolding interferes
 interferes_not meta o p k =
     or_neither (meets (op_writes meta o) (op_writes meta p)) (meets (op_writes meta o) (op_reads p) || meets (op_writes meta p) (op_reads o))
@@ -161,11 +161,11 @@ reads_append (s ∷ ss) ts = ap (λ xs. step_reads s ++ xs) (reads_append ss ts)
     joined [] ys zs = refl
     joined (x ∷ xs) ys zs = ap (λ l. x ∷ l) (joined xs ys zs)
 
-apart_none : (meta : Meta) (qs : List Step) → KeepApart meta [] qs
+apart_none : (meta : Meta) (qs : List Step) → AreDisjoint meta [] qs
 apart_none meta qs = record { written = λ c h. absurd (true_false false h refl); first_read = λ c h. refl; second_read = λ c h. absurd (true_false false h refl) }
 
--- what keeps apart from two runs keeps apart from both in turn
-apart_more : (meta : Meta) (ss ts qs : List Step) → KeepApart meta ss qs → KeepApart meta ts qs → KeepApart meta (ss ++ ts) qs
+-- what is disjoint from two runs is disjoint from both in turn
+apart_more : (meta : Meta) (ss ts qs : List Step) → AreDisjoint meta ss qs → AreDisjoint meta ts qs → AreDisjoint meta (ss ++ ts) qs
 apart_more meta ss ts qs k l = record {
   written = λ c h. either c h (k.written c) (l.written c);
   first_read = λ c h. ap (λ xs. has xs c) (reads_append ss ts) ∙ neither (reads_all ss) (reads_all ts) c (k.first_read c h) (l.first_read c h);
@@ -175,13 +175,13 @@ apart_more meta ss ts qs k l = record {
     either : (c : Cell) {G : Type 0} → has (writes_all meta (ss ++ ts)) c ≡ true → (has (writes_all meta ss) c ≡ true → G) → (has (writes_all meta ts) c ≡ true → G) → G
     either c h = or_cases (has (writes_all meta ss) c) (has (writes_all meta ts) c) (sym (has_append (writes_all meta ss) (writes_all meta ts) c) ∙ (ap (λ xs. has xs c) (sym (writes_append meta ss ts)) ∙ h))
 
-free_apart : (meta : Meta) (o : Operation) (ps : List Operation) → Free meta o ps → KeepApart meta (steps_all ps) (steps_of o)
+free_apart : (meta : Meta) (o : Operation) (ps : List Operation) → Free meta o ps → AreDisjoint meta (steps_all ps) (steps_of o)
 free_apart meta o [] free = apart_none meta (steps_of o)
 free_apart meta o (p ∷ ps) free = apart_more meta (steps_of p) (steps_all ps) (steps_of o)
     (turned meta (steps_of o) (steps_of p) (keep_apart meta o p free.0))
     (free_apart meta o ps free.1)
 
-pub packages_apart : (meta : Meta) (os ps : List Operation) → NoPair meta os ps → KeepApart meta (steps_all os) (steps_all ps)
+pub packages_apart : (meta : Meta) (os ps : List Operation) → NoPair meta os ps → AreDisjoint meta (steps_all os) (steps_all ps)
 packages_apart meta [] ps none = apart_none meta (steps_all ps)
 packages_apart meta (o ∷ os) ps none = apart_more meta (steps_of o) (steps_all os) (steps_all ps)
     (turned meta (steps_all ps) (steps_of o) (free_apart meta o ps none.0))

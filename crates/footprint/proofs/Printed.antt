@@ -5,7 +5,7 @@ use Rattle.ecore_meta.specs.Meta.{Meta}
 use Rattle.model_state.specs.declared.operation.Operation.{Operation}
 use Rattle.model_laws.specs.Cells.{Cell}
 use Rattle.footprint.specs.declared.cell.Print.{Print}
-use Rattle.footprint.specs.Interference.{op_writes, op_reads, clash, interferes}
+use Rattle.footprint.specs.Interference.{op_writes, op_reads, cells_interfere, interferes}
 use Rattle.footprint.specs.Prints.{cells, shown, printed}
 use Rattle.footprint.proofs.Held.{prints_tell}
 
@@ -45,10 +45,10 @@ print_at meta (r ∷ prints) (q ∷ ops) zero p o h low is at =
 print_at meta (r ∷ prints) (q ∷ ops) (suc i) p o h low is at =
     print_at meta prints ops i p o (rest_same (cells r.writes, cells r.reads) (op_writes meta q, op_reads q) (shown prints) (printed meta ops) h) (omega (arith, low)) is at
 
--- the prints at two places tell whether the operations there interfere
+-- the prints at two places show whether the operations there interfere
 pub places_tell : (meta : Meta) (prints : List Print) (ops : List Operation) (i j : ℕ) (p q : Print) (a b : Operation) → shown prints ≡ printed meta ops → i < length ops → j < length ops
     → p ≡ get_or prints i p → q ≡ get_or prints j q → a ≡ get_or ops i a → b ≡ get_or ops j b
-    → clash (cells p.writes) (cells p.reads) (cells q.writes) (cells q.reads) ≡ interferes meta a b
+    → cells_interfere (cells p.writes) (cells p.reads) (cells q.writes) (cells q.reads) ≡ interferes meta a b
 places_tell meta prints ops i j p q a b h low high p_is q_is a_is b_is =
     let x = print_at meta prints ops i p a h low p_is a_is in
     let y = print_at meta prints ops j q b h high q_is b_is in
@@ -82,15 +82,15 @@ pub prints_begin : (meta : Meta) (ops : List Operation) (first made : List Print
 unfolding shown
 prints_begin meta ops first made h is = is ∙ ap (λ l. shown l ++ printed meta ops) h
 
--- the prints of two lists, one behind the other
+-- the prints of two lists, one after the other
 pub both_printed : (meta : Meta) (ts ms : List Operation) (first made : List Print) → shown first ≡ printed meta ts → shown made ≡ shown first ++ printed meta ms → shown made ≡ printed meta (ts ++ ms)
 unfolding printed
 both_printed meta ts ms first made h is = is ∙ ap (λ l. l ++ printed meta ms) h ∙ sym (map-append (λ o. (op_writes meta o, op_reads o)) ts ms)
 
--- the prints of an operation of one list and of one of another tell whether they interfere
+-- the prints of an operation of one list and of one of another show whether they interfere
 pub pair_tells : (meta : Meta) (left right : List Print) (ts ms : List Operation) (i k : ℕ) (p q : Print) (a b : Operation) → shown left ≡ printed meta ts → shown right ≡ printed meta ms → i < length ts → k < length ms
     → p ≡ get_or left i p → q ≡ get_or right k q → a ≡ get_or ts i a → b ≡ get_or ms k b
-    → clash (cells p.writes) (cells p.reads) (cells q.writes) (cells q.reads) ≡ interferes meta a b
+    → cells_interfere (cells p.writes) (cells p.reads) (cells q.writes) (cells q.reads) ≡ interferes meta a b
 pair_tells meta left right ts ms i k p q a b h g low high p_is q_is a_is b_is =
     let x = print_at meta left ts i p a h low p_is a_is in
     let y = print_at meta right ms k q b g high q_is b_is in

@@ -117,7 +117,7 @@ answer_tells ord order (Err k) bound part up =
 tied_at : (list : List Held) (c : Held) (i : ℕ) → is_eq (option_cmp held_cmp (slice_get list i) (Some c)) ≡ passes_at (λ h. cell_eq (seen c) (seen h)) list i
 tied_at list c i = elim (slice_get list i) as (λ o. is_eq (option_cmp held_cmp o (Some c)) ≡ option_map_or (λ h. cell_eq (seen c) (seen h)) o false) [ None ↦ refl | Some h ↦ sym (ties c h) ]
 
--- a search by the order of the cells tells whether one is held
+-- a search by the order of the cells finds whether one is held
 pub search_tells : (list : List Held) (order : List ℕ) (c : Held) (r : Result ℕ ℕ) → 0 < length order → IsOrder list order → IsSearchInRange r (length order) → IsBinarySearchResult (λ i. option_cmp held_cmp (slice_get list i) (Some c)) order r → is_ok r ≡ holds list (seen c)
 search_tells list order c r some is bound answer =
     answer_tells (λ i. option_cmp held_cmp (slice_get list i) (Some c)) order r bound answer (searchable_from_sorted (options_total held_total) (slice_get list) order (Some c) (is some).0)

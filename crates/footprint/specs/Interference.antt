@@ -19,12 +19,12 @@ abbrev pub meets : List Cell → List Cell → Bool
 meets xs ys = list_any (has ys) xs
 
 -- of what two operations write and read: a cell that one writes is written or read by the other
-abbrev pub clash : List Cell → List Cell → List Cell → List Cell → Bool
-clash writes reads other_writes other_reads = meets writes other_writes || (meets writes other_reads || meets other_writes reads)
+abbrev pub cells_interfere : List Cell → List Cell → List Cell → List Cell → Bool
+cells_interfere writes reads other_writes other_reads = meets writes other_writes || (meets writes other_reads || meets other_writes reads)
 
 -- a cell that one of the operations writes is written or read by the other
 unfoldable pub interferes : Meta → Operation → Operation → Bool
-interferes meta o p = clash (op_writes meta o) (op_reads o) (op_writes meta p) (op_reads p)
+interferes meta o p = cells_interfere (op_writes meta o) (op_reads o) (op_writes meta p) (op_reads p)
 
 -- no operation of the list interferes with o
 abbrev pub Free : Meta → Operation → List Operation → Type 0

@@ -7,8 +7,8 @@ use Rattle.model_state.specs.Steps.{Can, fault, writes, apply}
 use Rattle.model_state.specs.Good.{Good, Sound}
 use Rattle.model_state.specs.declared.operation.Operation.{Operation}
 use Rattle.model_state.specs.Packages.{steps_of, fold_package}
-use Rattle.model_laws.specs.Cells.{Cell, has, Agree, step_writes, KeepApart}
-use Rattle.footprint.specs.Interference.{op_writes, op_reads, clash, interferes, NoPair}
+use Rattle.model_laws.specs.Cells.{Cell, has, Agree, step_writes, AreDisjoint}
+use Rattle.footprint.specs.Interference.{op_writes, op_reads, cells_interfere, interferes, NoPair}
 use Rattle.footprint.specs.Same.{IsCell, Same}
 
 -- a step that can be taken leaves each cell that it does not write
@@ -36,13 +36,13 @@ OthersLeaveSame = (meta : Meta) → Sound meta → (m n : State) → Good meta m
 abbrev pub InterferenceIsSymmetric : Type 0
 InterferenceIsSymmetric = (meta : Meta) (o p : Operation) → interferes meta o p ≡ interferes meta p o
 
--- the operations interfere where the cells that they write and read clash
+-- the operations interfere where the cells that they write and read do
 abbrev pub InterferenceIsOfCells : Type 0
-InterferenceIsOfCells = (meta : Meta) (o p : Operation) → interferes meta o p ≡ clash (op_writes meta o) (op_reads o) (op_writes meta p) (op_reads p)
+InterferenceIsOfCells = (meta : Meta) (o p : Operation) → interferes meta o p ≡ cells_interfere (op_writes meta o) (op_reads o) (op_writes meta p) (op_reads p)
 
 -- two operations do not interfere exactly where no cell that one writes is written or read by the other
 abbrev pub InterferenceIsExact : Type 0
-InterferenceIsExact = (meta : Meta) (o p : Operation) → (interferes meta o p ≡ false → KeepApart meta (steps_of o) (steps_of p)) × (KeepApart meta (steps_of o) (steps_of p) → interferes meta o p ≡ false)
+InterferenceIsExact = (meta : Meta) (o p : Operation) → (interferes meta o p ≡ false → AreDisjoint meta (steps_of o) (steps_of p)) × (AreDisjoint meta (steps_of o) (steps_of p) → interferes meta o p ≡ false)
 
 -- one of the operations writes the cell, and the other writes or reads it
 abbrev pub MeetAt : Meta → Operation → Operation → Cell → Type 0
@@ -52,11 +52,11 @@ MeetAt meta o p c = ((has (op_writes meta o) c ≡ true) × (has (op_writes meta
 abbrev pub InterferenceHasACell : Type 0
 InterferenceHasACell = (meta : Meta) (o p : Operation) → interferes meta o p ≡ true → (c : Cell) × MeetAt meta o p c
 
--- two operations that do not interfere may change places
+-- two operations that do not interfere commute
 abbrev pub OperationsExchange : Type 0
 OperationsExchange = (meta : Meta) → Sound meta → (o p : Operation) (m k : State) → Good meta m → interferes meta o p ≡ false → fold_package meta m (o ∷ p ∷ []) ≡ Some k → fold_package meta m (p ∷ o ∷ []) ≡ Some k
 
--- packages without an interfering pair may change places
+-- packages without an interfering pair commute
 abbrev pub PackagesExchange : Type 0
 PackagesExchange = (meta : Meta) → Sound meta → (p q : List Operation) (m k : State) → Good meta m → NoPair meta p q → fold_package meta m (p ++ q) ≡ Some k → fold_package meta m (q ++ p) ≡ Some k
 

@@ -1,7 +1,7 @@
 -- What it means that two states are the same for an operation.
 use Rattle.std.specs.Prelude.{◌≡◌, true}
 use Rattle.ecore_meta.specs.Meta.{Meta}
-use Rattle.model_state.specs.Keys.{Name}
+use Rattle.model_state.specs.Keys.{IdBytes}
 use Rattle.model_state.specs.State.{State}
 use Rattle.model_state.specs.declared.operation.Operation.{Operation}
 use Rattle.model_laws.specs.Cells.{Cell, OfKind, About, has, Agree, AgreeAt}
@@ -16,4 +16,4 @@ IsCell c = Unit {0}
 pub record Same (meta : Meta) (m n : State) (o : Operation) : Type 0 where
   pub written : AgreeAt meta m n (op_writes meta o)
   pub read : AgreeAt meta m n (op_reads o)
-  pub about : (e : Name) → has (op_writes meta o) (OfKind e) ≡ true → Agree meta m n (About e)
+  pub about : (e : IdBytes) → has (op_writes meta o) (OfKind e) ≡ true → Agree meta m n (About e)

@@ -21,7 +21,7 @@ fn steps_of(op: &Operation) -> &[Step]
 }
 
 /// Takes the steps, which can be taken.
-fn take<M: Change>(model: &mut M, meta: &Metamodel, steps: &[Step]) -> Result<(), AllocError>
+fn take_steps<M: Change>(model: &mut M, meta: &Metamodel, steps: &[Step]) -> Result<(), AllocError>
     requires sound { Sound meta.now }
     requires good { Good meta.now (M.state model.old) }
     ensures done { OnOk result (fold meta.now (M.state model.old) steps.now ≡ Some (M.state model.new)) }
@@ -49,7 +49,7 @@ pub fn exchange<M: Change>(
     ensures swapped { OnOk result (fold_package meta.now (M.state model.old) (second.now ∷ first.now ∷ []) ≡ Some (M.state model.new)) }
     ensures good { Good meta.now (M.state model.new) }
 {
-    take(model, meta, steps_of(second))?;
-    take(model, meta, steps_of(first))?;
+    take_steps(model, meta, steps_of(second))?;
+    take_steps(model, meta, steps_of(first))?;
     Ok(())
 }

@@ -28,7 +28,7 @@ pub fn law_of_interference()
     ensures cell { InterferenceHasACell }
 {}
 
-/// Two operations that don't interfere may change places, and so may packages without an interfering pair; where two such packages can
+/// Two operations that don't interfere commute, and so do packages without an interfering pair; where two such packages can
 /// both be applied to a model, each can be applied after the other, with one result.
 pub fn law_of_exchange()
     ensures operations { OperationsExchange }

@@ -1,4 +1,4 @@
-//! The cells that operations write and read, and which operations interfere: two that don't may change places.
+//! The cells that operations write and read, and which operations interfere: two that don't interfere commute.
 #![tactic(auto)]
 
 mod bucket;

@@ -1,6 +1,6 @@
-//! Whether the cells of two operations clash.
+//! Whether two operations interfere, by their cells.
 ghost use Rattle.std.specs.Prelude.{◌≡◌};
-ghost use Rattle.footprint.specs.Interference.{meets, clash};
+ghost use Rattle.footprint.specs.Interference.{meets, cells_interfere};
 ghost use Rattle.footprint.specs.Order.{IsOrder};
 ghost use Rattle.footprint.specs.Prints.{cells, hold_one};
 
@@ -32,7 +32,7 @@ fn meets(list: &List<Cell>, order: &[usize], other: &List<Cell>, other_order: &[
 /// Whether a cell that one of the two operations writes is written or read by the other. It goes over the cells of the one that has
 /// fewer, and takes a number of steps for each that grows as the logarithm of how many the other has.
 pub fn interferes(a: &Print, b: &Print) -> bool
-    ensures { result ≡ clash (cells a.now.writes) (cells a.now.reads) (cells b.now.writes) (cells b.now.reads) }
+    ensures { result ≡ cells_interfere (cells a.now.writes) (cells a.now.reads) (cells b.now.writes) (cells b.now.reads) }
 {
     meets(&a.writes, &a.write_order, &b.writes, &b.write_order)
         || meets(&a.writes, &a.write_order, &b.reads, &b.read_order)

@@ -1,4 +1,4 @@
-//! The cells of steps and operations, put behind those that stand in a list.
+//! The cells of steps and operations, put after those that stand in a list.
 ghost use Rattle.std.specs.Prelude.{◌≡◌, ◌++◌, ◌∷◌, [], IfOk, OnOk, map};
 ghost use Rattle.model_state.specs.Packages.{steps_of};
 ghost use Rattle.model_state.specs.Typing.{opposite_of};
@@ -275,7 +275,7 @@ pub fn print_of(alloc: Global, op: &Operation, meta: &Metamodel) -> Result<Print
     }
 }
 
-/// Puts the cells of each of the operations behind those that stand, in the order of the operations.
+/// Puts the cells of each of the operations after those that stand, in the order of the operations.
 pub fn put_prints(
     alloc: Global,
     prints: &mut Vec<Print>,

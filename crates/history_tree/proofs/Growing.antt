@@ -13,7 +13,7 @@ parents_more : (n : ℕ) (vs : List Version) (v : Version) (m : ℕ) → m ≡ n
 parents_more n [] v m is all before = let same : m ≡ n = omega (arith, is) in (subst (λ k. ComesBefore v.parent k) same before, tt)
 parents_more n (w ∷ vs) v m is all before = (all.0, parents_more (suc n) vs v m (omega (arith, is)) all.1 before)
 
--- one version more, on a branch that is there and behind its head
+-- one version more, on a branch that is there and after its head
 pub whole_more : (h : History) (v : Version) → IsWhole h → v.branch < length h.branches → v.parent ≡ Some (head h v.branch) → All (λ u. u < length h.versions) v.merged → IsWhole (with_version h v)
 whole_more h v whole on parent merged =
     let longer : length (h.versions ++ v ∷ []) ≡ length h.versions + 1 = length-append h.versions (v ∷ []) in

@@ -11,7 +11,7 @@ use Rattle.model_state.specs.declared.operation.Operation.{Operation}
 use Rattle.history_tree.specs.declared.version.Version.{Version}
 use Rattle.history_tree.specs.declared.version.Branch.{Branch}
 use Rattle.history_tree.specs.declared.version.Tag.{Tag}
-use Rattle.history_tree.specs.History.{History, first_version, first_history, with_version, with_branch, with_tag, path, path_at, path_behind, paths_from, last_on, head}
+use Rattle.history_tree.specs.History.{History, first_version, first_history, with_version, with_branch, with_tag, path, path_at, path_before, paths_from, last_on, head}
 use Rattle.history_tree.specs.States.{package_at, operations_of, operations_to}
 use Rattle.history_tree.specs.Whole.{IsWhole, ComesBefore}
 use Rattle.history_tree.specs.Laws.{path_of_parent}
@@ -33,15 +33,15 @@ below_at n [] k all = tt
 below_at n (p ∷ ps) zero all = all.0
 below_at n (p ∷ ps) (suc k) all = below_at n ps k all.1
 
-below_behind : (n : ℕ) (paths : List (List ℕ)) (parent : Option ℕ) → AllByRecursion (AreBelow n) paths → AreBelow n (path_behind paths parent)
+below_behind : (n : ℕ) (paths : List (List ℕ)) (parent : Option ℕ) → AllByRecursion (AreBelow n) paths → AreBelow n (path_before paths parent)
 below_behind n paths None all = tt
 below_behind n paths (Some p) all = below_at n paths p all
 
 all_below : (n : ℕ) (paths : List (List ℕ)) (vs : List Version) → AllByRecursion (AreBelow n) paths → length paths + length vs ≤ n → AllByRecursion (AreBelow n) (paths_from paths vs)
 all_below n paths [] all fits = all
 all_below n paths (v ∷ vs) all fits =
-    let p : List ℕ = path_behind paths v.parent ++ length paths ∷ [] in
-    let next : AreBelow n p = all_both (λ u. u < n) (path_behind paths v.parent) (length paths ∷ []) (below_behind n paths v.parent all) (omega (arith, fits), tt) in
+    let p : List ℕ = path_before paths v.parent ++ length paths ∷ [] in
+    let next : AreBelow n p = all_both (λ u. u < n) (path_before paths v.parent) (length paths ∷ []) (below_behind n paths v.parent all) (omega (arith, fits), tt) in
     all_below n (paths ++ p ∷ []) vs (all_both (AreBelow n) paths (p ∷ []) all (next, tt)) (omega (arith, fits, length-append paths (p ∷ [])))
 
 pub path_below : (h : History) (v : ℕ) → AreBelow (length h.versions) (path h v)
@@ -68,7 +68,7 @@ pub operations_kept : (h : History) (x : Version) (k : ℕ) → k < length h.ver
 operations_kept h x k within =
     ap (λ us. operations_of (h.versions ++ x ∷ []) us) (path_kept h x k within) ∙ operations_same h.versions x (path h k) (path_below h k)
 
--- and its own come behind those up to its parent
+-- and its own come after those up to its parent
 pub operations_more : (h : History) (x : Version) (p : ℕ) → x.parent ≡ Some p → p < length h.versions → operations_to (with_version h x) (length h.versions) ≡ operations_to h p ++ x.«package»
 operations_more h x p parent within =
     let n : ℕ = length h.versions in

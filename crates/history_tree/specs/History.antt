@@ -39,15 +39,15 @@ with_tag h name version = record h { tags = h.tags ++ record { name = name; vers
 abbrev pub path_at : List (List ℕ) → ℕ → List ℕ
 path_at paths v = unwrap_or (slice_get paths v) []
 
--- the path that a version's own number stands behind: its parent's, or none
-abbrev pub path_behind : List (List ℕ) → Option ℕ → List ℕ
-path_behind paths None = []
-path_behind paths (Some parent) = path_at paths parent
+-- the path that comes before a version's own number: its parent's, or none
+abbrev pub path_before : List (List ℕ) → Option ℕ → List ℕ
+path_before paths None = []
+path_before paths (Some parent) = path_at paths parent
 
--- the paths of further versions behind those that are known: each is its parent's, and then the version itself
+-- the paths of further versions after those that are known: each is its parent's, and then the version itself
 abbrev pub paths_from : List (List ℕ) → List Version → List (List ℕ)
 paths_from paths [] = paths
-paths_from paths (version ∷ versions) = paths_from (paths ++ (path_behind paths version.parent ++ length paths ∷ []) ∷ []) versions
+paths_from paths (version ∷ versions) = paths_from (paths ++ (path_before paths version.parent ++ length paths ∷ []) ∷ []) versions
 
 -- the versions from the first to that one, each the parent of the next
 abbrev pub path : History → ℕ → List ℕ

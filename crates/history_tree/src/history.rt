@@ -62,7 +62,7 @@ impl History {
         })
     }
 
-    /// Each number that stands in a history names something. This call does nothing: its contract tells a holder of any history so.
+    /// Each number that stands in a history names something. This call does nothing: its contract says so of any history.
     pub fn whole(&self)
         ensures { IsWhole self.now.history }
     {

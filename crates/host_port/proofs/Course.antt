@@ -5,7 +5,7 @@ use Rattle.std.proofs.lemmas.Bool.{cases_lt}
 use Rattle.std.proofs.lemmas.List.{append-nil}
 use Rattle.host_port.specs.Host.{Told, Disk, GoesOn, Throughout, KeepsDisk, KeepsSaid, KeepsInput, AddsPart, RaisesTakesAlone, RaisesSaysAlone, RaisesDiskAlone, Rose, disk_now, said_now}
 
--- a host that tells goes on telling
+-- a host that reports goes on reporting
 pub told_next : (a b : Told) → GoesOn a b → IsTrue a.tells → IsTrue b.tells
 told_next a b ab told = subst IsTrue (sym ab.tells) told
 
@@ -65,7 +65,7 @@ still_said a told t low high = let same : t ≡ a.clock = omega (arith, low, hig
 pub still_input : (a : Told) → KeepsInput a a
 still_input a = record { taken = refl; left = refl }
 
--- calls that keep the disk, or what was said, leave it as it was
+-- calls that keep the disk, or what was printed, leave it as it was
 pub kept_now : (a b : Told) → GoesOn a b → KeepsDisk a b → IsTrue a.tells → disk_now b ≡ disk_now a
 kept_now a b course keeps told = keeps told b.clock course.clock (omega arith)
 
@@ -83,7 +83,7 @@ keeps_said_on a b c ab bc first second = carry_on a b c (λ disk said. said ≡ 
 pub keeps_input_on : (a b c : Told) → KeepsInput a b → KeepsInput b c → KeepsInput a c
 keeps_input_on a b c first second = record { taken = second.taken ∙ first.taken; left = second.left ∙ first.left }
 
--- calls that say nothing add the first none of any bytes
+-- calls that print nothing add the first none of any bytes
 pub adds_none : (a b : Told) (bytes : List ℕ) → KeepsSaid a b → Throughout a b (λ disk said. AddsPart (said_now a) bytes said)
 adds_none a b bytes keeps told t low high = (0, keeps told t low high ∙ sym (append-nil (said_now a)))
 

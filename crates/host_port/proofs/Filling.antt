@@ -1,4 +1,4 @@
--- The file after a stop, call by call.
+-- The file after a crash, call by call.
 use Rattle.std.proofs.Common.{◌≡◌, ◌⊎◌, inl, inr, zero, suc, ℕ, ◌+◌, ◌-◌, ◌<◌, ◌≤◌, max, List, [], ◌∷◌, ◌++◌, length, take, drop, get_or, refl, sym, ◌∙◌, ap, subst, arith, length-append}
 use Rattle.std.specs.Prelude.{Contains, Vec, replicate}
 use Rattle.std.proofs.lemmas.List.{append-nil, take_all, drop_all, length-take, length-replicate, get_or-replicate, get_or_append_left, get_or-append_right}
@@ -13,7 +13,7 @@ use Rattle.host_port.specs.declared.calls.Call.TheVariants.{Write}
 use Rattle.std.specs.declared.alloc.Global.{Global}
 use Rattle.host_port.proofs.Replaying.{after-push, overwritten_kept, length-overwritten}
 
--- a write past the end stands right behind it
+-- a write past the end stands right after it
 pub overwritten_past : (old : List ℕ) (at : ℕ) (bytes : List ℕ) → length old ≤ at → overwritten old at bytes ≡ old ++ bytes
 overwritten_past old at bytes past =
     ap (λ (l : List ℕ). (l ++ bytes) ++ drop (at + length bytes) old) (take_all at old past)
@@ -119,7 +119,7 @@ filled_written disk fill x at bytes filled = record {
     apart s i same inside (inl before) = absurd (omega (arith, before, inside.0, ap (λ (z : Span). z.from) same))
     apart s i same inside (inr behind) = absurd (omega (arith, behind, inside.1, ap (λ (z : Span). z.to) same))
 
--- such a file is one that a stop may leave
+-- such a file is one that a crash may leave
 pub filled_left : (disk : Disk) (fill : ℕ) (x : List ℕ) → IsFilled disk fill x → MayLeave disk x
 filled_left disk fill x filled = record {
   no_shorter = omega (arith, filled.longest, no_nearer (length disk.stable) disk.loose);
@@ -131,7 +131,7 @@ filled_left disk fill x filled = record {
     no_nearer n [] = omega arith
     no_nearer n (s ∷ spans) = omega (arith, no_nearer n spans)
 
--- one call further, for a write and for what comes behind a list of calls
+-- one call further, for a write and for what comes after a list of calls
 pub follows_write : (disk : Disk) (fill : ℕ) (now image : List ℕ) (at : ℕ) (v : Vec ℕ Global) (call : Call) (count : ℕ) (read bytes new_now new_image : List ℕ)
     → call ≡ Write at v → count ≡ length bytes → read ≡ now → bytes ≡ v.items
     → new_now ≡ overwritten read at bytes → new_image ≡ smeared image at count fill

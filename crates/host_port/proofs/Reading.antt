@@ -9,7 +9,7 @@ module _ (file : List ℕ) (at n : ℕ) where
   long : length (padded file (at + n)) ≡ length file + (at + n - length file)
   long = length-append file (replicate (at + n - length file) 0) ∙ ap (λ (k : ℕ). length file + k) (length-replicate (at + n - length file) 0)
 
-  -- a place in the file, and one behind it
+  -- a place in the file, and one after it
   padded_in : (i : ℕ) → at + i < length file → get_or (padded file (at + n)) (at + i) 0 ≡ get_or file (at + i) 0
   padded_in i low = get_or_append_left file (replicate (at + n - length file) 0) 0 (at + i) low
 

@@ -9,7 +9,7 @@ use Rattle.host_port.specs.declared.lines.LineFault.TheVariants as faults
 use Rattle.host_port.specs.declared.lines.unread.Stop.{Stop}
 use Rattle.host_port.specs.declared.lines.unread.Stop.TheVariants.{Feed, Close, Far}
 use Rattle.host_port.specs.declared.lines.TheConstants.{BLOCK_LIMIT, INPUT_LIMIT}
-use Rattle.host_port.specs.Cut.{is_lf, raw_line, is_ended, Script, cut_block, script_from, ends_by, after_block, ends_block, block_line, behind_line, line_bytes, is_dot, without_cr}
+use Rattle.host_port.specs.Cut.{is_lf, raw_line, is_ended, Script, cut_block, script_from, ends_by, after_block, ends_block, block_line, past_line, line_bytes, is_dot, without_cr}
 use Rattle.host_port.specs.Reads.{BlockLine, BlockFault, FarFault, EndsScript, GotBlockLine, is_feed}
 use Rattle.host_port.proofs.ScriptCuts.{first_at, raw_is, ended_is, after_is, position_long, length-raw_line}
 use Rattle.host_port.proofs.ScriptItems.{block_goes, block_ends, ended_splits, unended_splits, cut_block_ended, cut_block_last, split_cons}
@@ -63,24 +63,24 @@ far_no_end : (place len : ℕ) (ended : Bool) (raw : List ℕ) → len ≤ lengt
 far_no_end place len ended raw long (inl h) = rw (long_is_no_dot ended raw (omega arith)) refl
 far_no_end place len ended raw long (inr h) = let far : nat_lt (place + length raw) INPUT_LIMIT ≡ false = grind arith in rw far (and_false (is_dot (line_bytes ended raw)))
 
-behind_raw : (place : ℕ) (ended : Bool) (raw : List ℕ) → place + length raw ≤ behind_line place ended raw
+behind_raw : (place : ℕ) (ended : Bool) (raw : List ℕ) → place + length raw ≤ past_line place ended raw
 behind_raw place true raw = omega arith
 behind_raw place false raw = omega arith
 
 far_line : (start place len : ℕ) (ended : Bool) (text : Result (List ℕ) LineFault) (raw : List ℕ) (e : LineFault) → start ≤ place → len ≤ length raw → place + len ≤ 2 ^ 40
     → (BLOCK_LIMIT < place + len - start) ⊎ (place + len ≡ 2 ^ 40) → FarFault start e → block_line start place ended text raw ≡ Err e
 far_line start place len ended text raw e h long within d (inl f) =
-    let l : nat_lt BLOCK_LIMIT (behind_line place ended raw - start) ≡ true = lt-ltb _ _ (over d) in
+    let l : nat_lt BLOCK_LIMIT (past_line place ended raw - start) ≡ true = lt-ltb _ _ (over d) in
     let n : nat_lt (start + BLOCK_LIMIT) INPUT_LIMIT ≡ true = lt-ltb _ _ f.1 in
     rw (l, n) (ap (λ (x : LineFault). Err x) (sym f.0))
   where
-    over : (BLOCK_LIMIT < place + len - start) ⊎ (place + len ≡ 2 ^ 40) → BLOCK_LIMIT < behind_line place ended raw - start
+    over : (BLOCK_LIMIT < place + len - start) ⊎ (place + len ≡ 2 ^ 40) → BLOCK_LIMIT < past_line place ended raw - start
     over (inl x) = omega (arith, behind_raw place ended raw)
     over (inr x) = omega (arith, f.1, behind_raw place ended raw)
 far_line start place len ended text raw e h long within d (inr f) =
     let n : nat_lt (start + BLOCK_LIMIT) INPUT_LIMIT ≡ false = le-ltb _ _ f.1 in
     let i : nat_le INPUT_LIMIT (place + length raw) ≡ true = le-leb _ _ (over d) in
-    rw (n, and_false (nat_lt BLOCK_LIMIT (behind_line place ended raw - start)), i) (ap (λ (x : LineFault). Err x) (sym f.0))
+    rw (n, and_false (nat_lt BLOCK_LIMIT (past_line place ended raw - start)), i) (ap (λ (x : LineFault). Err x) (sym f.0))
   where
     over : (BLOCK_LIMIT < place + len - start) ⊎ (place + len ≡ 2 ^ 40) → INPUT_LIMIT ≤ place + length raw
     over (inl x) = omega (arith, f.1)

@@ -26,7 +26,7 @@ pub input_too_long : (place : ℕ) (raw : List ℕ) (ended : Bool) → INPUT_LIM
 unfolding line_of
 input_too_long place raw ended long within = grind (arith, common_steps)
 
--- from clear bytes in front to the fault of the line
+-- from clear bytes at the beginning to the fault of the line
 pub line_fault : (place len : ℕ) (pending left : List ℕ) (e : LineFault) → len ≤ length pending → ((k : ℕ) → k < len → get_or pending k 0 ≡ 10 → ⊥)
     → place + length pending ≤ 2 ^ 40
     → ((LINE_LIMIT < len) × (e ≡ LineTooLong (place + LINE_LIMIT))) ⊎ ((len ≤ LINE_LIMIT) × (2 ^ 40 ≤ place + len) × (e ≡ InputTooLong INPUT_LIMIT))

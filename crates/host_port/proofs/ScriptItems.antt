@@ -26,7 +26,7 @@ pub split_cons : (xs : List ℕ) → IsCons (slice_split is_lf xs)
 split_cons [] = is_cons [] [] refl
 split_cons (x ∷ xs) = cons_if (is_lf x) ([] ∷ slice_split is_lf xs) (onto_first x (slice_split is_lf xs)) (is_cons [] (slice_split is_lf xs) refl) (cons_onto x (slice_split is_lf xs))
 
--- behind the line feed of raw the script goes on
+-- after the line feed of raw the script goes on
 pub cut_ended : (takes : List ℕ → Bool) (place : ℕ) (raw : List ℕ) (parts : List (List ℕ)) → IsCons parts
     → cut takes place (raw ∷ parts) ≡ after_line takes (line_of place raw true)
     (λ line. cut_block takes line (place + length raw + 1) (place + length raw + 1) (Ok []) parts)
@@ -132,7 +132,7 @@ cut_block_ended takes line start place text raw parts (is_cons a rest e) =
     (if ends_block place true raw then after_block line text (cut takes (place + length raw + 1) ps)
     else in_block_by (block_line start place true text raw) (λ more. cut_block takes line start (place + length raw + 1) more ps))) (sym e) refl
 
--- a block goes on behind a line of it
+-- a block goes on after a line of it
 pub block_goes : (takes : List ℕ → Bool) (line : List ℕ) (start place place' : ℕ) (text more : Result (List ℕ) LineFault) (unread : List ℕ) → is_ended unread ≡ true
     → ends_block place true (raw_line unread) ≡ false → block_line start place true text (raw_line unread) ≡ Ok more
     → place' + length (after_first is_lf unread) ≡ place + length unread

@@ -61,7 +61,7 @@ pub record Script : Type 0 where
   pub items : List Item
   pub fault : Option LineFault
 
--- the script with one more item in front
+-- the script with one more item before the others
 abbrev pub with_item : List ℕ → Option (List ℕ) → Script → Script
 with_item line block script = record { items = record { line = line; block = block } ∷ script.items; fault = script.fault }
 
@@ -85,15 +85,15 @@ abbrev pub text_with : ℕ → Result (List ℕ) LineFault → List ℕ → Resu
 text_with place (Err e) line = Err e
 text_with place (Ok text) line = line_added text (text_at place line)
 
--- the place behind a line, and behind its line feed where one follows
-abbrev pub behind_line : ℕ → Bool → List ℕ → ℕ
-behind_line place ended raw = place + (if ended then length raw + 1 else length raw)
+-- the place after a line, and after its line feed where one follows
+abbrev pub past_line : ℕ → Bool → List ℕ → ℕ
+past_line place ended raw = place + (if ended then length raw + 1 else length raw)
 
 -- A line of a block that began at start, where it isn't `.`: a fault of its length, or the text with it. What stands
 -- before it is the text, or the fault of it. The block's line feeds count.
 abbrev pub block_line : ℕ → ℕ → Bool → Result (List ℕ) LineFault → List ℕ → Result (Result (List ℕ) LineFault) LineFault
 block_line start place ended text raw =
-    if nat_lt BLOCK_LIMIT (behind_line place ended raw - start) && nat_lt (start + BLOCK_LIMIT) INPUT_LIMIT then Err (BlockTooLong (start + BLOCK_LIMIT))
+    if nat_lt BLOCK_LIMIT (past_line place ended raw - start) && nat_lt (start + BLOCK_LIMIT) INPUT_LIMIT then Err (BlockTooLong (start + BLOCK_LIMIT))
     else if nat_le INPUT_LIMIT (place + length raw) then Err (InputTooLong INPUT_LIMIT)
     else Ok (text_with place text (line_bytes ended raw))
 
@@ -112,7 +112,7 @@ abbrev pub after_block : List ℕ → Result (List ℕ) LineFault → Script →
 after_block line (Err e) rest = ends_by (Some e)
 after_block line (Ok text) rest = with_item line (Some text) rest
 
--- the script behind a line of a block, unless that is a fault
+-- the script after a line of a block, unless that is a fault
 abbrev pub in_block_by : Result (Result (List ℕ) LineFault) LineFault → (Result (List ℕ) LineFault → Script) → Script
 in_block_by (Err e) rest = ends_by (Some e)
 in_block_by (Ok text) rest = rest text

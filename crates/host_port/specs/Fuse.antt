@@ -1,4 +1,4 @@
--- What a host with a fuse tells, and which of its calls fail.
+-- What a host with a fuse reports, and which of its calls fail.
 use Rattle.std.specs.Prelude.{◌≡◌, ◌⊎◌, ℕ, ◌+◌, ◌-◌, ◌<◌}
 use Rattle.host_port.specs.declared.memory.MemoryHost.{MemoryHost}
 use Rattle.host_port.specs.declared.fuse.FuseHost.{FuseHost}
@@ -13,7 +13,7 @@ inner_of host = host.inner
 abbrev pub calls_left : FuseHost → ℕ
 calls_left host = host.calls
 
--- all that the inner host tells, with the faults of the calls that were not passed on
+-- all that the inner host reports, with the faults of the calls that were not passed on
 abbrev pub fuse_told : FuseHost → Told
 fuse_told host = record (told_of host.inner) {
   take_faults = host.inner.take_faults + host.take_faults;

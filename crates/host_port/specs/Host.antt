@@ -1,4 +1,4 @@
--- What a host tells of its store, its console and its input, and what each call does to that.
+-- What a host reports of its store, its console and its input, and what each call does to that.
 use Rattle.std.specs.Prelude.{◌≡◌, ◌⊎◌, ℕ, ◌+◌, ◌-◌, ◌^◌, ◌<◌, ◌≤◌, min, max, Bool, IsTrue, List, [], ◌∷◌, ◌++◌, length, take, drop, slice_index, All}
 
 -- the places from one on, up to before another
@@ -21,17 +21,17 @@ abbrev pub furthest : ℕ → List Span → ℕ
 furthest n [] = n
 furthest n (span ∷ spans) = max span.to (furthest n spans)
 
--- a stop may leave these bytes
+-- a crash may leave these bytes
 pub record MayLeave (disk : Disk) (x : List ℕ) : Type 0 where
   pub no_shorter : length disk.stable ≤ length x
   pub no_longer : length x ≤ furthest (length disk.stable) disk.loose
   pub kept : (i : ℕ) → i < length disk.stable → All (λ span. IsOutside span i) disk.loose → slice_index x i ≡ slice_index disk.stable i
 
--- whatever a stop may leave has P
-abbrev pub StopLeaves : (List ℕ → Type 0) → Disk → Type 0
-StopLeaves P disk = (x : List ℕ) → MayLeave disk x → P x
+-- whatever a crash may leave has P
+abbrev pub CrashLeaves : (List ℕ → Type 0) → Disk → Type 0
+CrashLeaves P disk = (x : List ℕ) → MayLeave disk x → P x
 
--- all that a host tells; the disk and what was said are told of each moment up to the clock
+-- all that a host reports; the disk and what was printed are reported of each moment up to the clock
 pub record Told : Type 0 where
   pub tells : Bool
   pub clock : ℕ
@@ -47,7 +47,7 @@ pub record Told : Type 0 where
 abbrev pub disk_now : Told → Disk
 disk_now host = host.disk host.clock
 
--- all that was said by now
+-- all that was printed by now
 abbrev pub said_now : Told → List ℕ
 said_now host = host.said host.clock
 
@@ -55,12 +55,12 @@ said_now host = host.said host.clock
 abbrev pub Rose : ℕ → ℕ → Type 0
 Rose before now = min (before + 1) (2 ^ 64 - 1) ≤ now
 
--- what was told of one moment stays
+-- what was reported of one moment stays
 pub record SameAt (old new : Told) (t : ℕ) : Type 0 where
   pub disk : new.disk t ≡ old.disk t
   pub said : new.said t ≡ old.said t
 
--- Every call: the clock and the counts never fall, and what was told of the moments before stays.
+-- Every call: the clock and the counts never fall, and what was reported of the moments before stays.
 pub record GoesOn (old new : Told) : Type 0 where
   pub tells : new.tells ≡ old.tells
   pub clock : old.clock ≤ new.clock
@@ -69,7 +69,7 @@ pub record GoesOn (old new : Told) : Type 0 where
   pub disk_faults : old.disk_faults ≤ new.disk_faults
   pub past : IsTrue old.tells → (t : ℕ) → t < old.clock → SameAt old new t
 
--- At each moment of a call from old to new, what is told of the disk and of the bytes said has P.
+-- At each moment of a call from old to new, what is reported of the disk and of the bytes printed has P.
 abbrev pub Throughout : Told → Told → (Disk → List ℕ → Type 0) → Type 0
 Throughout old new P = IsTrue old.tells → (t : ℕ) → old.clock ≤ t → t ≤ new.clock → P (new.disk t) (new.said t)
 
@@ -77,7 +77,7 @@ Throughout old new P = IsTrue old.tells → (t : ℕ) → old.clock ≤ t → t 
 abbrev pub KeepsDisk : Told → Told → Type 0
 KeepsDisk old new = Throughout old new (λ disk said. disk ≡ disk_now old)
 
--- what was said stays at every moment
+-- what was printed stays at every moment
 abbrev pub KeepsSaid : Told → Told → Type 0
 KeepsSaid old new = Throughout old new (λ disk said. said ≡ said_now old)
 
@@ -86,13 +86,13 @@ pub record KeepsInput (old new : Told) : Type 0 where
   pub taken : new.taken ≡ old.taken
   pub left : new.left ≡ old.left
 
--- these bytes went from the front of the input left to the input taken
+-- the input taken has these bytes more, with which the input left began
 pub record Moves (old new : Told) (bytes : List ℕ) : Type 0 where
   pub taken : new.taken ≡ old.taken ++ bytes
   pub left : old.left ≡ bytes ++ new.left
   pub end : length bytes ≡ 0 → old.left ≡ []
 
--- some of these bytes, from the first on, are said after what was said before
+-- some of these bytes, from the first on, are printed after what was printed before
 abbrev pub AddsPart : List ℕ → List ℕ → List ℕ → Type 0
 AddsPart old bytes said = (n : ℕ) × (said ≡ old ++ take n bytes)
 

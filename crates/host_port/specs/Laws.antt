@@ -1,4 +1,4 @@
--- What a host in memory always tells.
+-- What a host in memory always reports.
 use Rattle.std.specs.Prelude.{◌≡◌, ℕ, ◌+◌, ◌-◌, ◌<◌, ◌≤◌, max, List, [], ◌∷◌, ◌++◌, length, take, drop, get_or, All, IsTrue, false, refl}
 use Rattle.std.proofs.Common.{inl, inr, ◌∙◌, ap, subst, arith, length-append}
 use Rattle.std.proofs.lemmas.List.{length-take, length-drop, get_or_append_left, get_or-append_right, get_or-take, get_or-drop}
@@ -42,7 +42,7 @@ last_of P spans span all = subst P (get_or_append_right_zero spans span) (all (l
     get_or_append_right_zero [] span = refl
     get_or_append_right_zero (s ∷ spans) span = get_or_append_right_zero spans span
 
--- a call keeps this: what a read gives is what a stop may leave
+-- a call keeps this: what a read gives is what a crash may leave
 step : (disk : Disk) (call : Call) → MayLeave disk disk.now → MayLeave (after_call disk call) (after_call disk call).now
 step disk Quiet left = left
 step disk (Say bytes) left = left
@@ -60,10 +60,10 @@ left_after : (disk : Disk) (calls : List Call) → MayLeave disk disk.now → Ma
 left_after disk [] left = left
 left_after disk (call ∷ calls) left = left_after (after_call disk call) calls (step disk call left)
 
--- what a read gives is what a stop may leave
+-- what a read gives is what a crash may leave
 pub left_now : (first : List ℕ) (calls : List Call) (t : ℕ) → MayLeave (disk_after first calls t) (disk_after first calls t).now
 left_now first calls t = left_after (at_start first) (take t calls) (record { no_shorter = omega arith; no_longer = omega arith; kept = λ i below all. refl })
 
--- a host that doesn't tell owes nothing
+-- a host that doesn't report owes nothing
 pub untold : (disk : Disk) → IsTrue false → MayLeave disk disk.now
 untold disk told = cc

@@ -31,7 +31,7 @@ GotLine (Ok Line) text read = read ≡ Ok (Some text)
 GotLine (Ok End) text read = read ≡ Ok None
 GotLine (Err fault) text read = IsFault fault read
 
--- the reader has gone behind the next line feed, or to the end
+-- the reader has gone after the next line feed, or to the end
 pub record PastLine (unread_old unread_new : List ℕ) (place_old place_new : ℕ) : Type 0 where
   pub unread : unread_new ≡ after_first is_lf unread_old
   pub place : place_new + length unread_new ≡ place_old + length unread_old

@@ -4,7 +4,7 @@ use Rattle.host_port.specs.declared.talk.TalkHost.{TalkHost}
 use Rattle.host_port.specs.Host.{Told}
 use Rattle.host_port.specs.Talk.{Talk, pieces_in, nothing_told}
 
--- what the host tells: its faults alone
+-- what the host reports: its faults alone
 abbrev pub talk_told : TalkHost → Told
 talk_told host = nothing_told host.take_faults host.say_faults host.disk_faults
 
@@ -12,7 +12,7 @@ talk_told host = nothing_told host.take_faults host.say_faults host.disk_faults
 abbrev pub talk_of : TalkHost → Talk
 talk_of host = record { part = drop host.taken host.piece.items; later = pieces_in host.pieces; heard = host.heard }
 
--- all that was said
+-- all that was printed
 abbrev pub words_of : TalkHost → List ℕ
 words_of host = host.said.items
 

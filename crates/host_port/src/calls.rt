@@ -124,7 +124,7 @@ pub(crate) fn shown_bytes<'a>(written: &'a Option<Vec<u8>>, first: &'a Vec<u8>) 
     }
 }
 
-// The bytes with others over them from a place on, or behind them where they end before it.
+// The bytes with others over them from a place on, or after them where they end before it.
 pub(crate) fn overwrite(
     alloc: Global,
     file: &[u8],
@@ -157,7 +157,7 @@ pub(crate) fn hand_over(left: &[u8], most: usize, into: &mut [u8]) -> usize
     count
 }
 
-// Adds to what was said, and notes the call.
+// Adds to what was printed, and notes the call.
 pub(crate) fn try_say(
     alloc: Global,
     said: &mut Vec<u8>,

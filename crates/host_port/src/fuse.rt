@@ -5,7 +5,7 @@ ghost use Rattle.host_port.specs.Host.{Rose};
 use crate::calls::raise;
 use crate::{Failed, Host, MemoryHost};
 
-/// A host that passes a number of calls on to a host in memory and fails each later one, as a machine that was stopped.
+/// A host that passes a number of calls on to a host in memory and fails each later one, as a machine that crashed.
 #[derive(Drop)]
 pub struct FuseHost {
     inner: MemoryHost,

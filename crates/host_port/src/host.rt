@@ -1,4 +1,4 @@
-//! One object holds the store and the console, so that one clock orders what is written and what is said.
+//! One object holds the store and the console, so that one clock orders what is written and what is printed.
 ghost use Rattle.std.specs.Prelude.{◌≡◌, ◌⊎◌, ◌++◌, ℕ, ◌+◌, ◌^◌, ◌<◌, ◌≤◌, length, take, drop, IsTrue, IfOk, OnOk, OnErr};
 ghost use Rattle.host_port.specs.Host.{Told, MayLeave, disk_now, said_now, Rose, GoesOn, Throughout, KeepsDisk, KeepsSaid, KeepsInput, Moves, AddsPart, RaisesTakesAlone, RaisesSaysAlone, RaisesDiskAlone, WrittenPart, written, synced};
 
@@ -12,10 +12,10 @@ pub struct Failed;
 /// The outside of the program: an input, a console and one file. A call that fails has raised the count of faults of
 /// its kind: that of `take`, that of `say`, or that of the four calls on the file.
 pub trait Host {
-    /// All that it tells: what the file may be found to hold at each moment, what was said by then, and the input.
+    /// All that it reports: what the file may be found to hold at each moment, what was printed by then, and the input.
     ghost told: { Self → Told };
 
-    /// Puts bytes of the input into the front of `into`, and answers how many; 0 is the input's end.
+    /// Puts bytes of the input at the beginning of `into`, and answers how many; 0 is the input's end.
     fn take(&mut self, into: &mut [u8]) -> Result<usize, Failed>
         requires { 0 < length into.old }
         ensures course { GoesOn (told self.old) (told self.new) }
@@ -26,7 +26,7 @@ pub trait Host {
         ensures alone { RaisesTakesAlone (told self.old) (told self.new) }
         ensures cause { OnErr result (Rose (told self.old).take_faults (told self.new).take_faults) };
 
-    /// Says all the bytes, or fails.
+    /// Prints all the bytes, or fails.
     fn say(&mut self, bytes: &[u8]) -> Result<(), Failed>
         ensures course { GoesOn (told self.old) (told self.new) }
         ensures disk { KeepsDisk (told self.old) (told self.new) }
@@ -46,7 +46,7 @@ pub trait Host {
         ensures alone { RaisesDiskAlone (told self.old) (told self.new) }
         ensures cause { OnErr result (Rose (told self.old).disk_faults (told self.new).disk_faults) };
 
-    /// Fills `into` with the file's bytes from the place `at` on.
+    /// Fills `into` with the file's bytes from the offset `at` on.
     fn read_at(&mut self, at: u64, into: &mut [u8]) -> Result<(), Failed>
         requires { IsTrue (told self.old).tells → at + length into.old ≤ length (disk_now (told self.old)).now }
         ensures course { GoesOn (told self.old) (told self.new) }
@@ -57,7 +57,7 @@ pub trait Host {
         ensures alone { RaisesDiskAlone (told self.old) (told self.new) }
         ensures cause { OnErr result (Rose (told self.old).disk_faults (told self.new).disk_faults) };
 
-    /// Writes the bytes from the place `at` on, over what is there and past the end. Until a sync succeeds, a stop may
+    /// Writes the bytes from the offset `at` on, over what is there and past the end. Until a sync succeeds, a crash may
     /// leave any bytes in the range.
     fn write_at(&mut self, at: u64, bytes: &[u8]) -> Result<(), Failed>
         requires place { IsTrue (told self.old).tells → at ≤ length (disk_now (told self.old)).now }
@@ -71,7 +71,7 @@ pub trait Host {
         ensures alone { RaisesDiskAlone (told self.old) (told self.new) }
         ensures cause { OnErr result (Rose (told self.old).disk_faults (told self.new).disk_faults) };
 
-    /// After it succeeds, a stop leaves what a read gives.
+    /// After it succeeds, a crash leaves what a read gives.
     fn sync(&mut self) -> Result<(), Failed>
         ensures course { GoesOn (told self.old) (told self.new) }
         ensures said { KeepsSaid (told self.old) (told self.new) }
@@ -83,6 +83,6 @@ pub trait Host {
         ensures alone { RaisesDiskAlone (told self.old) (told self.new) }
         ensures cause { OnErr result (Rose (told self.old).disk_faults (told self.new).disk_faults) };
 
-    /// What a read gives is what a stop may leave.
+    /// What a read gives is what a crash may leave.
     ghost now_is_left: { (host : Self) (t : ℕ) → IsTrue (told host).tells → t ≤ (told host).clock → MayLeave ((told host).disk t) ((told host).disk t).now };
 }

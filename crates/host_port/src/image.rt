@@ -1,4 +1,4 @@
-//! The file after a stop, from the list of calls.
+//! The file after a crash, from the list of calls.
 ghost use Rattle.std.specs.Prelude.{◌≡◌, ◌-◌, ◌++◌, length, replicate, IfOk, OnOk};
 ghost use Rattle.host_port.specs.Host.{Disk, MayLeave};
 ghost use Rattle.host_port.specs.Image.{IsFilled, IsShownAs};
@@ -36,7 +36,7 @@ fn smear(
     overwrite(alloc, &long, at, &vec![in alloc; fill; count]?)
 }
 
-// Takes one call further what a read gives and what a stop leaves.
+// Takes one call further what a read gives and what a crash leaves.
 fn follow(
     alloc: Global,
     call: &Call,
@@ -61,7 +61,7 @@ fn follow(
     }
 }
 
-// The file of the greatest length that a stop may leave after these calls, with one byte wherever it may hold any.
+// The file of the greatest length that a crash may leave after these calls, with one byte wherever it may hold any.
 pub(crate) fn image_after(
     alloc: Global,
     first: &Vec<u8>,

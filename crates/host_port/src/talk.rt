@@ -1,4 +1,4 @@
-//! A host whose input depends on what was said.
+//! A host whose input depends on what was printed.
 ghost use Rattle.std.specs.Prelude.{◌≡◌, ◌⊎◌, ◌+◌, ◌-◌, ◌^◌, ◌<◌, ◌≤◌, ◌++◌, [], true, false, length, take, drop, map, min, IsTrue, IfOk, OnOk, OnErr};
 ghost use Rattle.host_port.specs.Host.{Rose, overwritten};
 ghost use Rattle.host_port.specs.Talk.{turn, taken_on, pieces_in, padded};
@@ -9,8 +9,8 @@ use crate::{Failed, Host};
 use std::alloc::{AllocError, Global};
 use std::vec::IntoIter;
 
-/// A host for tests of a talk: it hands its input over piece by piece, the next one only once something was said since
-/// the last `take`. It tells nothing.
+/// A host for tests of a dialogue: it hands its input over piece by piece, the next one only once something was printed since
+/// the last `take`. It reports nothing.
 #[derive(Drop)]
 pub struct TalkHost {
     alloc: Global,
@@ -48,7 +48,7 @@ fn turn_over(pieces: &mut IntoIter<Vec<u8>>, piece: &mut Vec<u8>, taken: &mut us
     }
 }
 
-// Reads what the file has from a place on, and zeros behind its end.
+// Reads what the file has from a place on, and zeros after its end.
 fn read_over(file: &[u8], at: u64, into: &mut [u8])
     ensures { into.new ≡ take (length into.old) (drop at (padded file.now (at + length into.old))) }
 {
@@ -69,7 +69,7 @@ fn write_over(alloc: Global, file: &Vec<u8>, at: u64, bytes: &[u8]) -> Result<Ve
 impl TalkHost {
     ghost use Rattle.host_port.specs.TalkHost.{talk_of, words_of, file_of};
 
-    /// A host with these pieces of input and this file. The first piece is handed over before anything was said.
+    /// A host with these pieces of input and this file. The first piece is handed over before anything was printed.
     pub fn new(alloc: Global, pieces: Vec<Vec<u8>>, file: Vec<u8>) -> TalkHost
         ensures talk { talk_of result ≡ record { part = []; later = map (λ v. v.items) pieces.items; heard = true } }
         ensures words { words_of result ≡ [] }
@@ -89,7 +89,7 @@ impl TalkHost {
         }
     }
 
-    /// The bytes said so far.
+    /// The bytes printed so far.
     pub fn said(&self) -> &[u8]
         ensures said { result.now ≡ words_of self.now }
     {

@@ -1,7 +1,7 @@
 //! A package of many steps, and what its bytes are read as.
 ghost use Rattle.std.specs.Prelude.{◌≡◌, ◌-◌, ◌+◌, ◌*◌, ◌<◌, ◌^◌, IfOk, length};
 ghost use Rattle.std.specs.Str.{IsUtf8};
-ghost use Rattle.op_form.specs.Packages.{package_form};
+ghost use Rattle.op_form.specs.Packages.{package_encoding};
 ghost use Rattle.op_form.specs.Laws.{IsStep, IsOperation, IsPackage};
 ghost use Rattle.model_state.specs.Packages.{steps_of};
 ghost use Rattle.measure.specs.Steps.{step_count};
@@ -9,7 +9,7 @@ ghost use Rattle.measure.specs.Steps.{step_count};
 use crate::fault::MeasureFault;
 use ecore_meta::{List, Text, Value};
 use model_state::{Id, OpKind, Operation, Package, Place, Step};
-use op_form::{decode, law_of_forms};
+use op_form::{decode, law_of_encodings};
 use std::alloc::Global;
 
 /// How many steps each operation has; the last may have fewer.
@@ -90,9 +90,9 @@ pub(crate) fn read_again(
     bytes: &[u8],
 ) -> Result<Package, MeasureFault>
     requires is { IsPackage «package».now }
-    requires form { bytes.now ≡ package_form «package».now }
+    requires form { bytes.now ≡ package_encoding «package».now }
     ensures same { IfOk result (λ p. p ≡ «package».now) }
 {
-    law_of_forms();
+    law_of_encodings();
     Ok(decode(alloc, bytes)?)
 }

@@ -4,7 +4,7 @@ ghost use Rattle.model_state.specs.Packages.{rev_package};
 ghost use Rattle.merge_laws.specs.Merge.{kept, dropped};
 ghost use Rattle.merge_choices.specs.Flags.{is_flagged};
 
-use crate::picking::{keep, take};
+use crate::picking::{keep, pick};
 use model_state::{Operation, Package};
 use op_form::reverse;
 use std::alloc::{AllocError, Global};
@@ -21,7 +21,7 @@ pub(crate) fn list_after(
     requires other { length drops_other.now ≡ length other.now }
     ensures { IfOk result (λ p. p ≡ rev_package (dropped (is_flagged drops_applied.now) applied.now) ++ kept (is_flagged drops_other.now) other.now) }
 {
-    let gone = take(alloc, drops_applied, applied)?;
+    let gone = pick(alloc, drops_applied, applied)?;
     let mut out = reverse(alloc, &gone)?;
     keep(alloc, drops_other, other, &mut out)?;
     Ok(out)

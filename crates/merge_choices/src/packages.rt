@@ -72,7 +72,7 @@ pub fn update_package(
     ensures list { IfOk result (λ p. p ≡ update_list theirs.now mine.now buckets.now.rows choices.now) }
     ensures fault { IfErr result (λ e. IsChoiceFault buckets.now.rows choices.now e) }
 {
-    // The contract alone speaks of the metamodel.
+    // Only the contract needs the metamodel.
     let _meta = meta;
     let rows = buckets.rows.as_slice();
     if choices.len() != rows.len() {
@@ -102,7 +102,7 @@ pub fn merge_package(
     ensures list { IfOk result (λ p. p ≡ merge_list theirs.now mine.now buckets.now.rows choices.now) }
     ensures fault { IfErr result (λ e. IsChoiceFault buckets.now.rows choices.now e) }
 {
-    // The contract alone speaks of the metamodel.
+    // Only the contract needs the metamodel.
     let _meta = meta;
     let rows = buckets.rows.as_slice();
     if choices.len() != rows.len() {

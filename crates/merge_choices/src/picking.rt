@@ -26,7 +26,7 @@ pub(crate) fn keep(
 }
 
 /// The operations whose flags are set, in order.
-pub(crate) fn take(alloc: Global, flags: &[bool], ops: &[Operation]) -> Result<Package, AllocError>
+pub(crate) fn pick(alloc: Global, flags: &[bool], ops: &[Operation]) -> Result<Package, AllocError>
     requires { length flags.now ≡ length ops.now }
     ensures { IfOk result (λ p. p ≡ dropped (is_flagged flags.now) ops.now) }
 {

@@ -12,7 +12,7 @@ use Rattle.finite_maps.proofs.MapLaws.{IsKeyOrder, same, get-set, get-set_same, 
 use Rattle.spread_maps.proofs.SpreadLaws.{IsJoined, get-mapped, mapped-set, get-spread, spread_alike, spread-set}
 use Rattle.model_state.specs.declared.step.Place.{Place}
 use Rattle.model_state.specs.declared.step.Placed.{Placed}
-use Rattle.model_state.specs.Keys.{Name, AttrKey, RowKey, id_cmp, attr_cmp, row_cmp}
+use Rattle.model_state.specs.Keys.{IdBytes, AttrKey, RowKey, id_cmp, attr_cmp, row_cmp}
 use Rattle.model_state.specs.State.{State, nothing}
 use Rattle.model_state.proofs.Orders.{id_order, nat_order, attr_order, row_order}
 use Rattle.model_graph.specs.declared.element.Node.{Node}
@@ -21,16 +21,16 @@ use Rattle.model_graph.specs.Seen.{Elements, by_feature, by_target, nodes_state,
 use Rattle.model_graph.proofs.ListLaws.{list_key_order}
 
 -- a node taken out for a while and put back changed
-pub rewritten : (m one two : Elements) (e : Name) (bare n : Node) → one ≡ set m e (Some bare) → two ≡ set one e (Some n) → two ≡ set m e (Some n)
+pub rewritten : (m one two : Elements) (e : IdBytes) (bare n : Node) → one ≡ set m e (Some bare) → two ≡ set one e (Some n) → two ≡ set m e (Some n)
 rewritten m one two e bare n first second = second ∙ ap (λ x. set x e (Some n)) first ∙ set_twice id_order m e (Some bare) (Some n)
 
 pub some_is : {A : Type 0} (o : Option A) (x : A) → o ≡ Some x → IsSome o
 some_is o x h = search (rules, h)
 
-pub there : (m one : Elements) (e : Name) (n : Node) → one ≡ set m e (Some n) → IsSome (get one e)
+pub there : (m one : Elements) (e : IdBytes) (n : Node) → one ≡ set m e (Some n) → IsSome (get one e)
 there m one e n is = some_is (get one e) n (ap (λ x. get x e) is ∙ get-set_same id_order m e (Some n))
 
-pub put_back : (m : Elements) (e : Name) (n : Node) → get m e ≡ Some n → set m e (Some n) ≡ m
+pub put_back : (m : Elements) (e : IdBytes) (n : Node) → get m e ≡ Some n → set m e (Some n) ≡ m
 put_back m e n is = set_here id_order m e (Some n) is
 
 feature_joined : IsJoined by_feature
@@ -40,22 +40,22 @@ target_joined : IsJoined by_target
 target_joined = record { whole = λ k. refl; first_is = λ e l. refl; second_is = λ e l. refl }
 
 -- ---- what the state has
-pub class_of : (m : Elements) (e : Name) → get (nodes_state m).kind e ≡ option_map (λ (n : Node). n.class) (get m e)
+pub class_of : (m : Elements) (e : IdBytes) → get (nodes_state m).kind e ≡ option_map (λ (n : Node). n.class) (get m e)
 class_of m e = get-mapped id_order (λ (n : Node). n.class) m e
 
-pub place_of : (m : Elements) (e : Name) → get (nodes_state m).place e ≡ option_map (λ (n : Node). n.placed.place) (get m e)
+pub place_of : (m : Elements) (e : IdBytes) → get (nodes_state m).place e ≡ option_map (λ (n : Node). n.placed.place) (get m e)
 place_of m e = get-mapped id_order (λ (n : Node). n.placed.place) m e
 
-pub prank_of : (m : Elements) (e : Name) → get (nodes_state m).prank e ≡ option_map (λ (n : Node). n.placed.rank) (get m e)
+pub prank_of : (m : Elements) (e : IdBytes) → get (nodes_state m).prank e ≡ option_map (λ (n : Node). n.placed.rank) (get m e)
 prank_of m e = get-mapped id_order (λ (n : Node). n.placed.rank) m e
 
-pub attr_of : (m : Elements) (e : Name) (f : ℕ) → get (nodes_state m).attr (e, f) ≡ inner (λ (n : Node). n.attrs) (get m e) f
+pub attr_of : (m : Elements) (e : IdBytes) (f : ℕ) → get (nodes_state m).attr (e, f) ≡ inner (λ (n : Node). n.attrs) (get m e) f
 attr_of m e f = get-spread id_order nat_order attr_order by_feature feature_joined (λ (n : Node). n.attrs) m (e, f)
 
-pub row_of : (m : Elements) (a : Name) (f : ℕ) (b : Name) → get (nodes_state m).row (a, f, b) ≡ inner (λ (n : Node). n.out) (get m a) (f, b)
+pub row_of : (m : Elements) (a : IdBytes) (f : ℕ) (b : IdBytes) → get (nodes_state m).row (a, f, b) ≡ inner (λ (n : Node). n.out) (get m a) (f, b)
 row_of m a f b = get-spread id_order list_key_order row_order by_target target_joined (λ (n : Node). n.out) m (a, f, b)
 
-pub same_class : (a b : Elements) → ((x : Name) → option_map (λ (n : Node). n.class) (get b x) ≡ option_map (λ (n : Node). n.class) (get a x)) → (nodes_state b).kind ≡ (nodes_state a).kind
+pub same_class : (a b : Elements) → ((x : IdBytes) → option_map (λ (n : Node). n.class) (get b x) ≡ option_map (λ (n : Node). n.class) (get a x)) → (nodes_state b).kind ≡ (nodes_state a).kind
 same_class a b h = same id_order _ _ (λ q. class_of b q ∙ h q ∙ sym (class_of a q))
 
 place_read : (o : Option Node) → option_map (λ (n : Node). n.placed.place) o ≡ option_map (λ (p : Placed). p.place) (option_map (λ (n : Node). n.placed) o)
@@ -66,22 +66,22 @@ rank_read : (o : Option Node) → option_map (λ (n : Node). n.placed.rank) o �
 rank_read None = refl
 rank_read (Some n) = refl
 
-pub same_place : (a b : Elements) → ((x : Name) → placed_at b x ≡ placed_at a x) → (nodes_state b).place ≡ (nodes_state a).place
+pub same_place : (a b : Elements) → ((x : IdBytes) → placed_at b x ≡ placed_at a x) → (nodes_state b).place ≡ (nodes_state a).place
 same_place a b h = same id_order _ _ (λ q. place_of b q ∙ place_read (get b q) ∙ ap (option_map (λ (p : Placed). p.place)) (h q) ∙ sym (place_read (get a q)) ∙ sym (place_of a q))
 
-pub same_prank : (a b : Elements) → ((x : Name) → placed_at b x ≡ placed_at a x) → (nodes_state b).prank ≡ (nodes_state a).prank
+pub same_prank : (a b : Elements) → ((x : IdBytes) → placed_at b x ≡ placed_at a x) → (nodes_state b).prank ≡ (nodes_state a).prank
 same_prank a b h = same id_order _ _ (λ q. prank_of b q ∙ rank_read (get b q) ∙ ap (option_map (λ (p : Placed). p.rank)) (h q) ∙ sym (rank_read (get a q)) ∙ sym (prank_of a q))
 
-pub same_attr : (a b : Elements) → ((x : Name) (l : ℕ) → inner (λ (n : Node). n.attrs) (get b x) l ≡ inner (λ (n : Node). n.attrs) (get a x) l) → (nodes_state b).attr ≡ (nodes_state a).attr
+pub same_attr : (a b : Elements) → ((x : IdBytes) (l : ℕ) → inner (λ (n : Node). n.attrs) (get b x) l ≡ inner (λ (n : Node). n.attrs) (get a x) l) → (nodes_state b).attr ≡ (nodes_state a).attr
 same_attr a b h = same attr_order _ _ (λ q. attr_of b q.0 q.1 ∙ h q.0 q.1 ∙ sym (attr_of a q.0 q.1))
 
-pub same_row : (a b : Elements) → ((x : Name) (l : ListKey) → inner (λ (n : Node). n.out) (get b x) l ≡ inner (λ (n : Node). n.out) (get a x) l) → (nodes_state b).row ≡ (nodes_state a).row
+pub same_row : (a b : Elements) → ((x : IdBytes) (l : ListKey) → inner (λ (n : Node). n.out) (get b x) l ≡ inner (λ (n : Node). n.out) (get a x) l) → (nodes_state b).row ≡ (nodes_state a).row
 same_row a b h = same row_order _ _ (λ q. row_of b q.0 q.1 q.2 ∙ h q.0 (q.1, q.2) ∙ sym (row_of a q.0 q.1 q.2))
 
 -- ---- one node changed
-module _ (m : Elements) (e : Name) (o w : Option Node) (is : get m e ≡ o) where
+module _ (m : Elements) (e : IdBytes) (o w : Option Node) (is : get m e ≡ o) where
   -- what is read of each node stays
-  pub kept : {B : Type 0} (F : Option Node → B) → F w ≡ F o → (x : Name) → F (get (set m e w) x) ≡ F (get m x)
+  pub kept : {B : Type 0} (F : Option Node → B) → F w ≡ F o → (x : IdBytes) → F (get (set m e w) x) ≡ F (get m x)
   kept F h x =
       ap F (get-set id_order m e w x)
       ∙ elim (eq_by_cmp id_cmp x e) as (λ b. eq_by_cmp id_cmp x e ≡ b → F (cond b w (get m x)) ≡ F (get m x)) [
@@ -90,12 +90,12 @@ module _ (m : Elements) (e : Name) (o w : Option Node) (is : get m e ≡ o) wher
       ] refl
 
   -- what is read of this node is written
-  pub hit : {B : Type 0} (F : Option Node → B) (x : Name) → F (get (set m e w) x) ≡ cond (eq_by_cmp id_cmp x e) (F w) (F (get m x))
+  pub hit : {B : Type 0} (F : Option Node → B) (x : IdBytes) → F (get (set m e w) x) ≡ cond (eq_by_cmp id_cmp x e) (F w) (F (get m x))
   hit F x = ap F (get-set id_order m e w x) ∙ elim (eq_by_cmp id_cmp x e) as (λ b. F (cond b w (get m x)) ≡ cond b (F w) (F (get m x))) [ true ↦ refl | false ↦ refl ]
 
   -- an entry of a part of this node is written
   pub part_hit : {L X : Type 0} {Q : L → L → Ordering} (part : Node → FinMap Q X) (k : L) (v : Option X) → ((l : L) → inner part w l ≡ cond (eq_by_cmp Q l k) v (inner part o l))
-      → (x : Name) (l : L) → inner part (get (set m e w) x) l ≡ cond (eq_by_cmp id_cmp x e) (cond (eq_by_cmp Q l k) v (inner part (get m x) l)) (inner part (get m x) l)
+      → (x : IdBytes) (l : L) → inner part (get (set m e w) x) l ≡ cond (eq_by_cmp id_cmp x e) (cond (eq_by_cmp Q l k) v (inner part (get m x) l)) (inner part (get m x) l)
   part_hit {Q = Q} part k v h x l =
       ap (λ a. inner part a l) (get-set id_order m e w x)
       ∙ elim (eq_by_cmp id_cmp x e) as (λ b. eq_by_cmp id_cmp x e ≡ b → inner part (cond b w (get m x)) l ≡ cond b (cond (eq_by_cmp Q l k) v (inner part (get m x) l)) (inner part (get m x) l)) [
@@ -104,7 +104,7 @@ module _ (m : Elements) (e : Name) (o w : Option Node) (is : get m e ≡ o) wher
       ] refl
 
 -- an attribute written
-pub attr_written : (m : Elements) (e : Name) (n : Node) → get m e ≡ Some n → (f : ℕ) (v : Option (List Value)) → nodes_state (set m e (Some (record n { attrs = set n.attrs f v }))) ≡ record (nodes_state m) { attr = set (nodes_state m).attr (e, f) v }
+pub attr_written : (m : Elements) (e : IdBytes) (n : Node) → get m e ≡ Some n → (f : ℕ) (v : Option (List Value)) → nodes_state (set m e (Some (record n { attrs = set n.attrs f v }))) ≡ record (nodes_state m) { attr = set (nodes_state m).attr (e, f) v }
 attr_written m e n is f v =
     let w : Option Node = Some (record n { attrs = set n.attrs f v }) in
     let one = set m e w in
@@ -117,7 +117,7 @@ attr_written m e n is f v =
     λ i. record { kind = kind i; place = place i; prank = prank i; attr = attr i; row = row i }
 
 -- a reference out written
-pub out_written : (m : Elements) (e : Name) (n : Node) → get m e ≡ Some n → (k : ListKey) (v : Option ℕ) → nodes_state (set m e (Some (record n { out = set n.out k v }))) ≡ record (nodes_state m) { row = set (nodes_state m).row (e, k.0, k.1) v }
+pub out_written : (m : Elements) (e : IdBytes) (n : Node) → get m e ≡ Some n → (k : ListKey) (v : Option ℕ) → nodes_state (set m e (Some (record n { out = set n.out k v }))) ≡ record (nodes_state m) { row = set (nodes_state m).row (e, k.0, k.1) v }
 out_written m e n is k v =
     let w : Option Node = Some (record n { out = set n.out k v }) in
     let one = set m e w in
@@ -130,7 +130,7 @@ out_written m e n is k v =
     λ i. record { kind = kind i; place = place i; prank = prank i; attr = attr i; row = row i }
 
 -- where it stands written
-pub placed_written : (m : Elements) (e : Name) (n : Node) → get m e ≡ Some n → (p : Placed) → nodes_state (set m e (Some (record n { placed = p }))) ≡ record (nodes_state m) { place = set (nodes_state m).place e (Some p.place); prank = set (nodes_state m).prank e (Some p.rank) }
+pub placed_written : (m : Elements) (e : IdBytes) (n : Node) → get m e ≡ Some n → (p : Placed) → nodes_state (set m e (Some (record n { placed = p }))) ≡ record (nodes_state m) { place = set (nodes_state m).place e (Some p.place); prank = set (nodes_state m).prank e (Some p.rank) }
 placed_written m e n is p =
     let w : Option Node = Some (record n { placed = p }) in
     let one = set m e w in
@@ -142,7 +142,7 @@ placed_written m e n is p =
     λ i. record { kind = kind i; place = place i; prank = prank i; attr = attr i; row = row i }
 
 -- an element that holds nothing made
-pub made : (m : Elements) (e : Name) (n : Node) → get m e ≡ None → n.attrs ≡ empty → n.out ≡ empty → nodes_state (set m e (Some n)) ≡ record (nodes_state m) { kind = set (nodes_state m).kind e (Some n.class); place = set (nodes_state m).place e (Some n.placed.place); prank = set (nodes_state m).prank e (Some n.placed.rank) }
+pub made : (m : Elements) (e : IdBytes) (n : Node) → get m e ≡ None → n.attrs ≡ empty → n.out ≡ empty → nodes_state (set m e (Some n)) ≡ record (nodes_state m) { kind = set (nodes_state m).kind e (Some n.class); place = set (nodes_state m).place e (Some n.placed.place); prank = set (nodes_state m).prank e (Some n.placed.rank) }
 made m e n is no_value no_row =
     let w : Option Node = Some n in
     let one = set m e w in
@@ -154,7 +154,7 @@ made m e n is no_value no_row =
     λ i. record { kind = kind i; place = place i; prank = prank i; attr = attr i; row = row i }
 
 -- an element without values and references gone
-pub gone : (m : Elements) (e : Name) → ((f : ℕ) → inner (λ (n : Node). n.attrs) (get m e) f ≡ None) → ((k : ListKey) → inner (λ (n : Node). n.out) (get m e) k ≡ None) → nodes_state (set m e None) ≡ record (nodes_state m) { kind = set (nodes_state m).kind e None; place = set (nodes_state m).place e None; prank = set (nodes_state m).prank e None }
+pub gone : (m : Elements) (e : IdBytes) → ((f : ℕ) → inner (λ (n : Node). n.attrs) (get m e) f ≡ None) → ((k : ListKey) → inner (λ (n : Node). n.out) (get m e) k ≡ None) → nodes_state (set m e None) ≡ record (nodes_state m) { kind = set (nodes_state m).kind e None; place = set (nodes_state m).place e None; prank = set (nodes_state m).prank e None }
 gone m e no_value no_row =
     let one = set m e None in
     let kind = mapped-set id_order (λ (n : Node). n.class) m e None in
@@ -174,21 +174,21 @@ state_empty =
     λ i. record { kind = kind i; place = place i; prank = prank i; attr = attr i; row = row i }
 
 -- ---- elements that are there
-pub live_node : (m : Elements) (e : Name) → is_some (get (nodes_state m).kind e) ≡ true → IsSome (get m e)
+pub live_node : (m : Elements) (e : IdBytes) → is_some (get (nodes_state m).kind e) ≡ true → IsSome (get m e)
 live_node m e h = some_of (get m e) (ap is_some (sym (class_of m e)) ∙ h)
   where
     some_of : (o : Option Node) → is_some (option_map (λ (n : Node). n.class) o) ≡ true → IsSome o
     some_of None h = cc
     some_of (Some n) h = some_is (Some n) n refl
 
-pub no_node : (m : Elements) (e : Name) → get (nodes_state m).kind e ≡ None → get m e ≡ None
+pub no_node : (m : Elements) (e : IdBytes) → get (nodes_state m).kind e ≡ None → get m e ≡ None
 no_node m e h = none_of (get m e) (sym (class_of m e) ∙ h)
   where
     none_of : (o : Option Node) → option_map (λ (n : Node). n.class) o ≡ None → o ≡ None
     none_of None h = refl
     none_of (Some n) h = cc
 
-pub live_after : (m : Elements) (e x : Name) (n : Node) → IsSome (get m x) → IsSome (get (set m e (Some n)) x)
+pub live_after : (m : Elements) (e x : IdBytes) (n : Node) → IsSome (get m x) → IsSome (get (set m e (Some n)) x)
 live_after m e x n live = subst (λ (o : Option Node). IsSome o) (sym (get-set id_order m e (Some n) x)) (by_bool (eq_by_cmp id_cmp x e))
   where
     by_bool : (t : Bool) → IsSome (cond t (Some n) (get m x))

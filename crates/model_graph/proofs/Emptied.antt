@@ -14,7 +14,7 @@ use Rattle.finite_maps.proofs.MapLaws.{IsKeyOrder}
 use Rattle.model_state.specs.declared.step.Place.{Place}
 use Rattle.model_state.specs.declared.step.Place.TheVariants.{Root, Inside}
 use Rattle.model_state.specs.declared.step.Placed.{Placed}
-use Rattle.model_state.specs.Keys.{Name, AttrKey, RowKey}
+use Rattle.model_state.specs.Keys.{IdBytes, AttrKey, RowKey}
 use Rattle.model_state.specs.State.{place_eq, is_inside, value_count, link_count, inner_count}
 use Rattle.model_state.proofs.Orders.{id_order, nat_order, attr_order, row_order}
 use Rattle.model_state.proofs.StepTests.{place_equality}
@@ -43,18 +43,18 @@ or_right : (a b : Bool) → b ≡ true → a || b ≡ true
 or_right true b h = refl
 or_right false b h = h
 
-pub no_values : (m : Elements) (e : Name) → bare_part (λ (n : Node). n.attrs) (get m e) ≡ nat_eq (value_count (nodes_state m) e) 0
+pub no_values : (m : Elements) (e : IdBytes) → bare_part (λ (n : Node). n.attrs) (get m e) ≡ nat_eq (value_count (nodes_state m) e) 0
 no_values m e =
     none_pass attr_order (λ (x : AttrKey × List Value). text_eq e x.0.0) (nodes_state m).attr (bare_part (λ (n : Node). n.attrs) (get m e))
     (λ bare k v is. not_so (text_eq e k.0) (λ same. some_none (get (nodes_state m).attr k) v is
     (attr_of m k.0 k.1 ∙ ap (λ z. inner (λ (n : Node). n.attrs) (get m z) k.1) (sym (text_equality.exact e k.0 same)) ∙ part_none nat_order (λ (n : Node). n.attrs) (get m e) bare k.1)))
     (λ full. let x = part_some nat_order (λ (n : Node). n.attrs) (get m e) full in ((e, x.0), x.1, attr_of m e x.0 ∙ x.2, text_equality.own e))
 
-module _ (m : Elements) (mirror : IsMirrored m) (e : Name) where
-  out_none : bare_part (λ (n : Node). n.out) (get m e) ≡ true → (f : ℕ) (b : Name) → get (nodes_state m).row (e, f, b) ≡ None
+module _ (m : Elements) (mirror : IsMirrored m) (e : IdBytes) where
+  out_none : bare_part (λ (n : Node). n.out) (get m e) ≡ true → (f : ℕ) (b : IdBytes) → get (nodes_state m).row (e, f, b) ≡ None
   out_none bare f b = row_of m e f b ∙ part_none list_key_order (λ (n : Node). n.out) (get m e) bare (f, b)
 
-  into_none : bare_part (λ (n : Node). n.into) (get m e) ≡ true → (a : Name) (f : ℕ) → get (nodes_state m).row (a, f, e) ≡ None
+  into_none : bare_part (λ (n : Node). n.into) (get m e) ≡ true → (a : IdBytes) (f : ℕ) → get (nodes_state m).row (a, f, e) ≡ None
   into_none bare a f = row_of m a f e ∙ sym (mirror a e f) ∙ part_none attr_order (λ (n : Node). n.into) (get m e) bare (a, f)
 
   pub no_rows : bare_part (λ (n : Node). n.out) (get m e) && bare_part (λ (n : Node). n.into) (get m e) ≡ nat_eq (link_count (nodes_state m) e) 0
@@ -63,9 +63,9 @@ module _ (m : Elements) (mirror : IsMirrored m) (e : Name) where
       (bare_part (λ (n : Node). n.out) (get m e) && bare_part (λ (n : Node). n.into) (get m e))
       (λ bare k v is. either (text_eq e k.0) (text_eq e k.2)
       (not_so (text_eq e k.0) (λ same. some_none (get (nodes_state m).row k) v is
-      (ap (λ (z : Name). get (nodes_state m).row (z, k.1, k.2)) (sym (text_equality.exact e k.0 same)) ∙ out_none (and_first _ _ bare) k.1 k.2)))
+      (ap (λ (z : IdBytes). get (nodes_state m).row (z, k.1, k.2)) (sym (text_equality.exact e k.0 same)) ∙ out_none (and_first _ _ bare) k.1 k.2)))
       (not_so (text_eq e k.2) (λ same. some_none (get (nodes_state m).row k) v is
-      (ap (λ (z : Name). get (nodes_state m).row (k.0, k.1, z)) (sym (text_equality.exact e k.2 same)) ∙ into_none (and_second _ _ bare) k.0 k.1))))
+      (ap (λ (z : IdBytes). get (nodes_state m).row (k.0, k.1, z)) (sym (text_equality.exact e k.2 same)) ∙ into_none (and_second _ _ bare) k.0 k.1))))
       (λ full. some_row (bare_part (λ (n : Node). n.out) (get m e)) refl full)
     where
       some_row : (b : Bool) → bare_part (λ (n : Node). n.out) (get m e) ≡ b → b && bare_part (λ (n : Node). n.into) (get m e) ≡ false
@@ -97,18 +97,18 @@ stands_so q (Some x) v h =
       | false ↦ λ _ g. cc
     ] refl h
 
-module _ (roots : Ranks) (m : Elements) (housed : IsHoused roots m) (e : Name) where
-  place_at : (x : Name) → get (nodes_state m).place x ≡ option_map (λ (p : Placed). p.place) (placed_at m x)
+module _ (roots : Ranks) (m : Elements) (housed : IsHoused roots m) (e : IdBytes) where
+  place_at : (x : IdBytes) → get (nodes_state m).place x ≡ option_map (λ (p : Placed). p.place) (placed_at m x)
   place_at x = place_of m x ∙ place_read (get m x)
 
   pub no_children : bare_part (λ (n : Node). n.inside) (get m e) ≡ nat_eq (inner_count (nodes_state m) e) 0
   no_children =
-      none_pass id_order (λ (x : Name × Place). is_inside e x.1) (nodes_state m).place (bare_part (λ (n : Node). n.inside) (get m e))
+      none_pass id_order (λ (x : IdBytes × Place). is_inside e x.1) (nodes_state m).place (bare_part (λ (n : Node). n.inside) (get m e))
       (λ bare x p is. outside bare x p (sym (place_at x) ∙ is))
       (λ full. let l = part_some list_key_order (λ (n : Node). n.inside) (get m e) full in
       (l.0.1, Inside e l.0.0, place_at l.0.1 ∙ stands_so (Inside e l.0.0) (placed_at m l.0.1) l.1 (sym (housed (Inside e l.0.0) l.0.1) ∙ l.2), text_equality.own e))
     where
-      outside : bare_part (λ (n : Node). n.inside) (get m e) ≡ true → (x : Name) (p : Place) → option_map (λ (p : Placed). p.place) (placed_at m x) ≡ Some p → is_inside e p ≡ false
+      outside : bare_part (λ (n : Node). n.inside) (get m e) ≡ true → (x : IdBytes) (p : Place) → option_map (λ (p : Placed). p.place) (placed_at m x) ≡ Some p → is_inside e p ≡ false
       outside bare x Root is = refl
       outside bare x (Inside a f) is = not_so (text_eq e a) (λ same.
           stands_there (Inside a f) (placed_at m x) (Inside a f) is (place_equality.own (Inside a f))

@@ -15,7 +15,7 @@ use Rattle.finite_maps.proofs.MapLaws.{get-set, same_key, own_key, by_key}
 use Rattle.model_state.specs.declared.step.Place.{Place}
 use Rattle.model_state.specs.declared.step.Place.TheVariants.{Root, Inside}
 use Rattle.model_state.specs.declared.step.Placed.{Placed}
-use Rattle.model_state.specs.Keys.{Name, AttrKey, id_cmp, attr_cmp}
+use Rattle.model_state.specs.Keys.{IdBytes, AttrKey, id_cmp, attr_cmp}
 use Rattle.model_state.specs.State.{State, place_eq}
 use Rattle.model_state.proofs.Orders.{id_order, nat_order, attr_order}
 use Rattle.model_state.proofs.StepTests.{place_equality}
@@ -28,11 +28,11 @@ use Rattle.model_graph.proofs.ListLaws.{list_key_order}
 
 -- ---- elements that agree but in what stands inside them
 pub record Alike (m n : Elements) : Type 0 where
-  pub class : (x : Name) → option_map (λ (n : Node). n.class) (get n x) ≡ option_map (λ (n : Node). n.class) (get m x)
-  pub placed : (x : Name) → placed_at n x ≡ placed_at m x
-  pub attrs : (x : Name) (l : ℕ) → inner (λ (n : Node). n.attrs) (get n x) l ≡ inner (λ (n : Node). n.attrs) (get m x) l
-  pub out : (x : Name) (l : ListKey) → inner (λ (n : Node). n.out) (get n x) l ≡ inner (λ (n : Node). n.out) (get m x) l
-  pub into : (x : Name) (l : AttrKey) → inner (λ (n : Node). n.into) (get n x) l ≡ inner (λ (n : Node). n.into) (get m x) l
+  pub class : (x : IdBytes) → option_map (λ (n : Node). n.class) (get n x) ≡ option_map (λ (n : Node). n.class) (get m x)
+  pub placed : (x : IdBytes) → placed_at n x ≡ placed_at m x
+  pub attrs : (x : IdBytes) (l : ℕ) → inner (λ (n : Node). n.attrs) (get n x) l ≡ inner (λ (n : Node). n.attrs) (get m x) l
+  pub out : (x : IdBytes) (l : ListKey) → inner (λ (n : Node). n.out) (get n x) l ≡ inner (λ (n : Node). n.out) (get m x) l
+  pub into : (x : IdBytes) (l : AttrKey) → inner (λ (n : Node). n.into) (get n x) l ≡ inner (λ (n : Node). n.into) (get m x) l
 
 pub alike_state : (m n : Elements) → Alike m n → nodes_state n ≡ nodes_state m
 alike_state m n a =
@@ -43,10 +43,10 @@ alike_state m n a =
     let row = same_row m n a.out in
     λ i. record { kind = kind i; place = place i; prank = prank i; attr = attr i; row = row i }
 
-pub mirrored_by : (m n : Elements) → IsMirrored m → ((x : Name) (l : AttrKey) → inner (λ (n : Node). n.into) (get n x) l ≡ inner (λ (n : Node). n.into) (get m x) l) → ((x : Name) (l : ListKey) → inner (λ (n : Node). n.out) (get n x) l ≡ inner (λ (n : Node). n.out) (get m x) l) → IsMirrored n
+pub mirrored_by : (m n : Elements) → IsMirrored m → ((x : IdBytes) (l : AttrKey) → inner (λ (n : Node). n.into) (get n x) l ≡ inner (λ (n : Node). n.into) (get m x) l) → ((x : IdBytes) (l : ListKey) → inner (λ (n : Node). n.out) (get n x) l ≡ inner (λ (n : Node). n.out) (get m x) l) → IsMirrored n
 mirrored_by m n mirror into out a b f = into b (a, f) ∙ mirror a b f ∙ sym (out a (f, b))
 
-pub alike_there : (m n : Elements) → Alike m n → (x : Name) → IsSome (get m x) → IsSome (get n x)
+pub alike_there : (m n : Elements) → Alike m n → (x : IdBytes) → IsSome (get m x) → IsSome (get n x)
 alike_there m n a x live = there (get m x) (get n x) (a.class x) live
   where
     there : (o p : Option Node) → option_map (λ (n : Node). n.class) p ≡ option_map (λ (n : Node). n.class) o → IsSome o → IsSome p
@@ -58,7 +58,7 @@ pub alike_place : (m n : Elements) → Alike m n → (p : Place) → IsPlaceTher
 alike_place m n a Root live = tt
 alike_place m n a (Inside x f) live = alike_there m n a x live
 
-alike_rewritten : (m n : Elements) (e : Name) (h : Node → Node) → ((k : Node) → (h k).class ≡ k.class) → ((k : Node) → (h k).placed ≡ k.placed) → ((k : Node) → (h k).attrs ≡ k.attrs) → ((k : Node) → (h k).out ≡ k.out) → ((k : Node) → (h k).into ≡ k.into) → Rewrites m n e h → Alike m n
+alike_rewritten : (m n : Elements) (e : IdBytes) (h : Node → Node) → ((k : Node) → (h k).class ≡ k.class) → ((k : Node) → (h k).placed ≡ k.placed) → ((k : Node) → (h k).attrs ≡ k.attrs) → ((k : Node) → (h k).out ≡ k.out) → ((k : Node) → (h k).into ≡ k.into) → Rewrites m n e h → Alike m n
 alike_rewritten m n e h class placed attrs out into w =
     let k = w.0 in
     let one = set m e (Some (h k)) in
@@ -73,7 +73,7 @@ alike_rewritten m n e h class placed attrs out into w =
 alike_own : (m n : Elements) → n ≡ m → Alike m n
 alike_own m n is = subst (λ x. Alike m x) (sym is) (record { class = λ x. refl; placed = λ x. refl; attrs = λ x l. refl; out = λ x l. refl; into = λ x l. refl })
 
-pub lists_alike : (p : Place) (e : Name) (v : Option ℕ) (r : Ranks) (m : Elements) (r' : Ranks) (m' : Elements) → IsListWritten p e v r m r' m' → Alike m m'
+pub lists_alike : (p : Place) (e : IdBytes) (v : Option ℕ) (r : Ranks) (m : Elements) (r' : Ranks) (m' : Elements) → IsListWritten p e v r m r' m' → Alike m m'
 lists_alike Root e v r m r' m' w = alike_own m m' w.1
 lists_alike (Inside a f) e v r m r' m' w = alike_rewritten m m' a (λ (n : Node). record n { inside = set n.inside (f, e) v }) (λ k. refl) (λ k. refl) (λ k. refl) (λ k. refl) (λ k. refl) w.1
 
@@ -83,7 +83,7 @@ both_ways true c f g = sym (f refl)
 both_ways false true f g = g refl
 both_ways false false f g = refl
 
-pub text_ties : (a b : Name) → text_eq a b ≡ eq_by_cmp id_cmp b a
+pub text_ties : (a b : IdBytes) → text_eq a b ≡ eq_by_cmp id_cmp b a
 text_ties a b = nat_list_eq_equiv.symm a b ∙ texts_ties b a
 
 pub nat_ties : (f g : ℕ) → nat_eq f g ≡ eq_by_cmp nat_cmp g f
@@ -102,10 +102,10 @@ then_eq Less s = refl
 then_eq Equal s = refl
 then_eq Greater s = refl
 
-list_key_ties : (g f : ℕ) (x e : Name) → eq_by_cmp list_key_cmp (g, x) (f, e) ≡ cond (eq_by_cmp nat_cmp g f) (eq_by_cmp id_cmp x e) false
+list_key_ties : (g f : ℕ) (x e : IdBytes) → eq_by_cmp list_key_cmp (g, x) (f, e) ≡ cond (eq_by_cmp nat_cmp g f) (eq_by_cmp id_cmp x e) false
 list_key_ties g f x e = then_eq (nat_cmp g f) (id_cmp x e)
 
-attr_ties : (p a : Name) (g f : ℕ) → eq_by_cmp attr_cmp (p, g) (a, f) ≡ cond (eq_by_cmp id_cmp p a) (eq_by_cmp nat_cmp g f) false
+attr_ties : (p a : IdBytes) (g f : ℕ) → eq_by_cmp attr_cmp (p, g) (a, f) ≡ cond (eq_by_cmp id_cmp p a) (eq_by_cmp nat_cmp g f) false
 attr_ties p a g f = then_eq (id_cmp p a) (nat_cmp g f)
 
 nested_hit : {X : Type 0} (x y z : Bool) (v o : Option X) → cond x (cond (cond y z false) v o) o ≡ cond (x && y) (cond z v o) o
@@ -114,7 +114,7 @@ nested_hit true false z v o = refl
 nested_hit false y z v o = refl
 
 -- ---- one entry of a list written
-pub standing_listed : (p : Place) (e : Name) (v : Option ℕ) (r : Ranks) (m : Elements) (r' : Ranks) (m' : Elements) → IsListWritten p e v r m r' m' → (q : Place) (x : Name)
+pub standing_listed : (p : Place) (e : IdBytes) (v : Option ℕ) (r : Ranks) (m : Elements) (r' : Ranks) (m' : Elements) → IsListWritten p e v r m r' m' → (q : Place) (x : IdBytes)
     → standing r' m' q x ≡ cond (place_eq p q) (cond (eq_by_cmp id_cmp x e) v (standing r m q x)) (standing r m q x)
 standing_listed Root e v r m r' m' w Root x = ap (λ t. get t x) w.0 ∙ get-set id_order r e v x
 standing_listed Root e v r m r' m' w (Inside b g) x = ap (λ t. inner (λ (n : Node). n.inside) (get t b) (g, x)) w.1
@@ -130,10 +130,10 @@ standing_listed (Inside a f) e v r m r' m' w (Inside b g) x =
     ∙ (λ i. cond (sym (text_ties a b) i && sym (nat_ties f g) i) (cond (eq_by_cmp id_cmp x e) v o) o)
 
 -- where another element stands at e, and the others as before
-pub rehoused : (r : Ranks) (m : Elements) (r' : Ranks) (m' : Elements) (e : Name) (w : Option Placed) → IsHoused r m
-    → ((x : Name) → placed_at m' x ≡ cond (eq_by_cmp id_cmp x e) w (placed_at m x))
+pub rehoused : (r : Ranks) (m : Elements) (r' : Ranks) (m' : Elements) (e : IdBytes) (w : Option Placed) → IsHoused r m
+    → ((x : IdBytes) → placed_at m' x ≡ cond (eq_by_cmp id_cmp x e) w (placed_at m x))
     → ((p : Place) → standing r' m' p e ≡ stood p w)
-    → ((p : Place) (x : Name) → eq_by_cmp id_cmp x e ≡ false → standing r' m' p x ≡ standing r m p x)
+    → ((p : Place) (x : IdBytes) → eq_by_cmp id_cmp x e ≡ false → standing r' m' p x ≡ standing r m p x)
     → IsHoused r' m'
 rehoused r m r' m' e w housed placed here there p x =
     by_key id_order (λ x. standing r' m' p x ≡ stood p (placed_at m' x)) e x
@@ -141,11 +141,11 @@ rehoused r m r' m' e w housed placed here there p x =
     (λ differ. there p x differ ∙ housed p x ∙ ap (stood p) (sym (placed x ∙ ap (λ b. cond b w (placed_at m x)) differ)))
 
 -- the lists stay where what stands inside the one element stays
-pub standing_kept : (r : Ranks) (m : Elements) (e : Name) (o w : Option Node) → get m e ≡ o → ((l : ListKey) → inner (λ (n : Node). n.inside) w l ≡ inner (λ (n : Node). n.inside) o l) → (p : Place) (x : Name) → standing r (set m e w) p x ≡ standing r m p x
+pub standing_kept : (r : Ranks) (m : Elements) (e : IdBytes) (o w : Option Node) → get m e ≡ o → ((l : ListKey) → inner (λ (n : Node). n.inside) w l ≡ inner (λ (n : Node). n.inside) o l) → (p : Place) (x : IdBytes) → standing r (set m e w) p x ≡ standing r m p x
 standing_kept r m e o w is alike Root x = refl
 standing_kept r m e o w is alike (Inside a f) x = kept m e o w is (λ t. inner (λ (n : Node). n.inside) t (f, x)) (alike (f, x)) a
 
-pub housed_by : (r : Ranks) (m m' : Elements) → IsHoused r m → ((x : Name) → placed_at m' x ≡ placed_at m x) → ((p : Place) (x : Name) → standing r m' p x ≡ standing r m p x) → IsHoused r m'
+pub housed_by : (r : Ranks) (m m' : Elements) → IsHoused r m → ((x : IdBytes) → placed_at m' x ≡ placed_at m x) → ((p : Place) (x : IdBytes) → standing r m' p x ≡ standing r m p x) → IsHoused r m'
 housed_by r m m' housed placed stand p x = stand p x ∙ housed p x ∙ ap (stood p) (sym (placed x))
 
 other : {X : Type 0} (b c : Bool) (v o : Option X) → c ≡ false → cond b (cond c v o) o ≡ o
@@ -157,7 +157,7 @@ own true c v o h = ap (λ t. cond t v o) h
 own false c v o h = refl
 
 -- an element made, and put into the list of its place
-pub housed_made : (r : Ranks) (m : Elements) (r' : Ranks) (m' : Elements) (e : Name) (n : Node) → IsHoused r m → get m e ≡ None → n.inside ≡ empty
+pub housed_made : (r : Ranks) (m : Elements) (r' : Ranks) (m' : Elements) (e : IdBytes) (n : Node) → IsHoused r m → get m e ≡ None → n.inside ≡ empty
     → IsListWritten n.placed.place e (Some n.placed.rank) r (set m e (Some n)) r' m' → IsHoused r' m'
 housed_made r m r' m' e n housed is bare w =
     let one = set m e (Some n) in
@@ -174,7 +174,7 @@ housed_made r m r' m' e n housed is bare w =
     (λ p x differ. listed p x ∙ other (place_eq place p) (eq_by_cmp id_cmp x e) (Some rank) (standing r one p x) differ ∙ same p x)
 
 -- an element taken out of its list, and gone
-pub housed_gone : (r : Ranks) (m : Elements) (r' : Ranks) (m' : Elements) (e : Name) (n : Node) → IsHoused r m → get m e ≡ Some n → ((f : ℕ) (x : Name) → standing r m (Inside e f) x ≡ None)
+pub housed_gone : (r : Ranks) (m : Elements) (r' : Ranks) (m' : Elements) (e : IdBytes) (n : Node) → IsHoused r m → get m e ≡ Some n → ((f : ℕ) (x : IdBytes) → standing r m (Inside e f) x ≡ None)
     → IsListWritten n.placed.place e None r m r' m' → IsHoused r' (set m' e None)
 housed_gone r m r' m' e n housed is bare w =
     let place = n.placed.place in
@@ -198,7 +198,7 @@ housed_gone r m r' m' e n housed is bare w =
     left false o = refl
 
 -- an element that gets another rank in its list
-pub housed_reranked : (r : Ranks) (m : Elements) (r' : Ranks) (m' : Elements) (e : Name) (n k : Node) (rank : ℕ) → IsHoused r m → get m e ≡ Some n → get m' e ≡ Some k
+pub housed_reranked : (r : Ranks) (m : Elements) (r' : Ranks) (m' : Elements) (e : IdBytes) (n k : Node) (rank : ℕ) → IsHoused r m → get m e ≡ Some n → get m' e ≡ Some k
     → IsListWritten n.placed.place e (Some rank) r m r' m' → IsHoused r' (set m' e (Some (record k { placed = record { place = n.placed.place; rank = rank } })))
 housed_reranked r m r' m' e n k rank housed is now w =
     let place = n.placed.place in
@@ -219,7 +219,7 @@ housed_reranked r m r' m' e n k rank housed is now w =
     left false o = refl
 
 -- an element that goes from one list to another
-pub housed_moved : (r : Ranks) (m : Elements) (r1 : Ranks) (m1 : Elements) (r2 : Ranks) (m2 : Elements) (e : Name) (n k : Node) (to : Place) (rank : ℕ) → IsHoused r m → get m e ≡ Some n → get m2 e ≡ Some k
+pub housed_moved : (r : Ranks) (m : Elements) (r1 : Ranks) (m1 : Elements) (r2 : Ranks) (m2 : Elements) (e : IdBytes) (n k : Node) (to : Place) (rank : ℕ) → IsHoused r m → get m e ≡ Some n → get m2 e ≡ Some k
     → place_eq n.placed.place to ≡ false → IsListWritten to e (Some rank) r m r1 m1 → IsListWritten n.placed.place e None r1 m1 r2 m2 → IsHoused r2 (set m2 e (Some (record k { placed = record { place = to; rank = rank } })))
 housed_moved r m r1 m1 r2 m2 e n k to rank housed is now differ w u =
     let from = n.placed.place in
@@ -254,7 +254,7 @@ both_hit false true true v o = refl
 both_hit false true false v o = refl
 both_hit false false z v o = refl
 
-module _ (m one two : Elements) (a b : Name) (f : ℕ) (v : Option ℕ) (into : Rewrites m one b (λ (n : Node). record n { into = set n.into (a, f) v })) (out : Rewrites one two a (λ (n : Node). record n { out = set n.out (f, b) v })) where
+module _ (m one two : Elements) (a b : IdBytes) (f : ℕ) (v : Option ℕ) (into : Rewrites m one b (λ (n : Node). record n { into = set n.into (a, f) v })) (out : Rewrites one two a (λ (n : Node). record n { out = set n.out (f, b) v })) where
   pub mirrored_set : IsMirrored m → IsMirrored two
   mirrored_set mirror p q g =
       let k = into.0 in
@@ -292,7 +292,7 @@ module _ (m one two : Elements) (a b : Name) (f : ℕ) (v : Option ℕ) (into : 
       ap nodes_state out.2 ∙ out_written one a out.0 out.1 (f, b) v
       ∙ ap (λ (s : State). record s { row = set s.row (a, f, b) v }) into_alike
 
-  pub standing_linked : (r : Ranks) (p : Place) (x : Name) → standing r two p x ≡ standing r m p x
+  pub standing_linked : (r : Ranks) (p : Place) (x : IdBytes) → standing r two p x ≡ standing r m p x
   standing_linked r p x =
       let k = into.0 in
       let n = out.0 in
@@ -301,7 +301,7 @@ module _ (m one two : Elements) (a b : Name) (f : ℕ) (v : Option ℕ) (into : 
       ∙ ap (λ t. standing r t p x) into.2
       ∙ standing_kept r m b (Some k) (Some (record k { into = set k.into (a, f) v })) into.1 (λ l. refl) p x
 
-  pub placed_linked : (x : Name) → placed_at two x ≡ placed_at m x
+  pub placed_linked : (x : IdBytes) → placed_at two x ≡ placed_at m x
   placed_linked x =
       let k = into.0 in
       let n = out.0 in

@@ -9,7 +9,7 @@ use Rattle.finite_maps.proofs.MapLaws.{get-set_same, set_back, set_here, set_twi
 use Rattle.model_state.specs.declared.step.Place.{Place}
 use Rattle.model_state.specs.declared.step.Place.TheVariants.{Root, Inside}
 use Rattle.model_state.specs.declared.step.Placed.{Placed}
-use Rattle.model_state.specs.Keys.{Name, AttrKey, id_cmp}
+use Rattle.model_state.specs.Keys.{IdBytes, AttrKey, id_cmp}
 use Rattle.model_state.specs.State.{State, is_live}
 use Rattle.model_state.proofs.Orders.{id_order, attr_order}
 use Rattle.model_graph.specs.declared.element.Node.{Node}
@@ -20,19 +20,19 @@ use Rattle.model_graph.proofs.Changed.{rewritten, live_node, live_after, some_is
 use Rattle.model_graph.proofs.ListLaws.{list_key_order}
 use Rattle.model_graph.proofs.Housed.{mirrored_set, placed_linked, standing_linked, housed_by}
 
-pub out_key : (m one : Elements) (a b copy : Name) (f : ℕ) (v : Option ℕ) → copy ≡ b → Rewrites m one a (λ n. record n { out = set n.out (f, copy) v }) → Rewrites m one a (λ n. record n { out = set n.out (f, b) v })
+pub out_key : (m one : Elements) (a b copy : IdBytes) (f : ℕ) (v : Option ℕ) → copy ≡ b → Rewrites m one a (λ n. record n { out = set n.out (f, copy) v }) → Rewrites m one a (λ n. record n { out = set n.out (f, b) v })
 out_key m one a b copy f v is w = subst (λ x. Rewrites m one a (λ n. record n { out = set n.out (f, x) v })) is w
 
-pub into_key : (m one : Elements) (b : Name) (key key' : AttrKey) (v : Option ℕ) → key ≡ key' → Rewrites m one b (λ n. record n { into = set n.into key v }) → Rewrites m one b (λ n. record n { into = set n.into key' v })
+pub into_key : (m one : Elements) (b : IdBytes) (key key' : AttrKey) (v : Option ℕ) → key ≡ key' → Rewrites m one b (λ n. record n { into = set n.into key v }) → Rewrites m one b (λ n. record n { into = set n.into key' v })
 into_key m one b key key' v is w = subst (λ (x : AttrKey). Rewrites m one b (λ n. record n { into = set n.into x v })) is w
 
-pub live_there : (m : Elements) (s : State) (e : Name) → nodes_state m ≡ s → is_live s e ≡ true → IsSome (get m e)
+pub live_there : (m : Elements) (s : State) (e : IdBytes) → nodes_state m ≡ s → is_live s e ≡ true → IsSome (get m e)
 live_there m s e is live = live_node m e (ap (λ (t : State). is_some (get t.kind e)) is ∙ live)
 
-pub live_rewritten : (m one : Elements) (a x : Name) (h : Node → Node) → Rewrites m one a h → IsSome (get m x) → IsSome (get one x)
+pub live_rewritten : (m one : Elements) (a x : IdBytes) (h : Node → Node) → Rewrites m one a h → IsSome (get m x) → IsSome (get one x)
 live_rewritten m one a x h w live = subst (λ (t : Elements). IsSome (get t x)) (sym w.2) (live_after m a x (h w.0) live)
 
-pub into_there : (m one : Elements) (b : Name) (k : AttrKey) (rank : ℕ) → Rewrites m one b (λ n. record n { into = set n.into k (Some rank) }) → is_some (inner (λ (n : Node). n.into) (get one b) k) ≡ true
+pub into_there : (m one : Elements) (b : IdBytes) (k : AttrKey) (rank : ℕ) → Rewrites m one b (λ n. record n { into = set n.into k (Some rank) }) → is_some (inner (λ (n : Node). n.into) (get one b) k) ≡ true
 into_there m one b k rank w =
     let n = w.0 in
     let n' : Node = record n { into = set n.into k (Some rank) } in
@@ -40,13 +40,13 @@ into_there m one b k rank w =
     ∙ ap (λ o. is_some (inner (λ (n : Node). n.into) o k)) (get-set_same id_order m b (Some n'))
     ∙ ap is_some (get-set_same attr_order n.into k (Some rank))
 
-pub linked : (r : Ranks) (m one two : Elements) (a b : Name) (f : ℕ) (v : Option ℕ) → Rewrites m one b (λ (n : Node). record n { into = set n.into (a, f) v }) → Rewrites one two a (λ (n : Node). record n { out = set n.out (f, b) v })
+pub linked : (r : Ranks) (m one two : Elements) (a b : IdBytes) (f : ℕ) (v : Option ℕ) → Rewrites m one b (λ (n : Node). record n { into = set n.into (a, f) v }) → Rewrites one two a (λ (n : Node). record n { out = set n.out (f, b) v })
     → IsMirrored m × IsHoused r m → IsMirrored two × IsHoused r two
 linked r m one two a b f v into out good =
     (mirrored_set m one two a b f v into out good.0, housed_by r m two good.1 (placed_linked m one two a b f v into out) (standing_linked m one two a b f v into out r))
 
 -- what was put in is taken back
-pub row_back : (m one two : Elements) (b : Name) (k : AttrKey) (v old : Option ℕ) → inner (λ (n : Node). n.into) (get m b) k ≡ old → Rewrites m one b (λ n. record n { into = set n.into k v }) → Rewrites one two b (λ n. record n { into = set n.into k old }) → two ≡ m
+pub row_back : (m one two : Elements) (b : IdBytes) (k : AttrKey) (v old : Option ℕ) → inner (λ (n : Node). n.into) (get m b) k ≡ old → Rewrites m one b (λ n. record n { into = set n.into k v }) → Rewrites one two b (λ n. record n { into = set n.into k old }) → two ≡ m
 row_back m one two b k v old was into back =
     let n = into.0 in
     let n' : Node = record n { into = set n.into k v } in

@@ -21,7 +21,7 @@ use Rattle.finite_maps.proofs.EqualLaws.{nat_equality}
 use Rattle.finite_maps.proofs.MapLaws.{IsKeyOrder, get-set, get-set_same, set_twice, own_key, same}
 use Rattle.spread_maps.proofs.SpreadLaws.{IsJoined, get-spread, spread-set}
 use Rattle.finite_maps.proofs.TableLaws.{get-table}
-use Rattle.model_state.specs.Keys.{Name, id_cmp}
+use Rattle.model_state.specs.Keys.{IdBytes, id_cmp}
 use Rattle.model_state.proofs.Orders.{id_order, nat_order}
 use Rattle.ranked_lists.specs.Ranks.{Ranks}
 use Rattle.model_graph.specs.Parts.{ListKey, list_key_cmp, by_list, feature_lists, AreFilled, is_emptied, kept}
@@ -36,19 +36,19 @@ list_joined : IsJoined by_list
 list_joined = record { whole = λ k. refl; first_is = λ f e. refl; second_is = λ f e. refl }
 
 -- what a list that may be there has
-abbrev pub in_list : Option Ranks → Name → Option ℕ
+abbrev pub in_list : Option Ranks → IdBytes → Option ℕ
 in_list o e = inner (λ (g : Ranks). g) o e
 
-pub get_list : (t : BTreeMap ℕ Ranks) (f : ℕ) (e : Name) → get (feature_lists t) (f, e) ≡ in_list (tree.get nat_cmp t f) e
+pub get_list : (t : BTreeMap ℕ Ranks) (f : ℕ) (e : IdBytes) → get (feature_lists t) (f, e) ≡ in_list (tree.get nat_cmp t f) e
 get_list t f e = get-spread nat_order id_order list_key_order by_list list_joined (λ (g : Ranks). g) (table nat_cmp t) (f, e) ∙ ap (λ o. in_list o e) (get-table nat_order t f)
 
-pub in_group : (o : Option Ranks) (e : Name) → get (unwrap_or o (empty {R = id_cmp})) e ≡ in_list o e
+pub in_group : (o : Option Ranks) (e : IdBytes) → get (unwrap_or o (empty {R = id_cmp})) e ≡ in_list o e
 in_group None e = get-empty id_cmp e
 in_group (Some g) e = refl
 
 -- a list that is written
-pub list_written : (t u : BTreeMap ℕ Ranks) (f : ℕ) (e : Name) (v : Option ℕ) (w : Option Ranks) → table nat_cmp u ≡ set (table nat_cmp t) f w
-    → ((i : Name) → in_list w i ≡ cond (eq_by_cmp id_cmp i e) v (in_list (tree.get nat_cmp t f) i)) → feature_lists u ≡ set (feature_lists t) (f, e) v
+pub list_written : (t u : BTreeMap ℕ Ranks) (f : ℕ) (e : IdBytes) (v : Option ℕ) (w : Option Ranks) → table nat_cmp u ≡ set (table nat_cmp t) f w
+    → ((i : IdBytes) → in_list w i ≡ cond (eq_by_cmp id_cmp i e) v (in_list (tree.get nat_cmp t f) i)) → feature_lists u ≡ set (feature_lists t) (f, e) v
 list_written t u f e v w is here =
     ap (λ m. spread list_key_cmp by_list (λ (g : Ranks). g) m) is
     ∙ spread-set nat_order id_order list_key_order by_list list_joined (λ (g : Ranks). g) (table nat_cmp t) f w e v
@@ -63,7 +63,7 @@ filled_written t u f w filled is here q g found =
     by_cases true h = here g h
     by_cases false h = filled q g h
 
-module _ (t u : BTreeMap ℕ Ranks) (f : ℕ) (e : Name) where
+module _ (t u : BTreeMap ℕ Ranks) (f : ℕ) (e : IdBytes) where
   -- an element put in, or its rank written
   pub list_put : (r : ℕ) → table nat_cmp u ≡ set (table nat_cmp t) f (Some (set (unwrap_or (tree.get nat_cmp t f) empty) e (Some r))) → feature_lists u ≡ set (feature_lists t) (f, e) (Some r)
   list_put r is =
@@ -84,14 +84,14 @@ module _ (t u : BTreeMap ℕ Ranks) (f : ℕ) (e : Name) where
   without : Option Ranks → Option Ranks
   without o = option_map (λ (g : Ranks). set g e None) o
 
-  in_kept : (w : Option Ranks) (i : Name) → in_list (kept w) i ≡ in_list w i
+  in_kept : (w : Option Ranks) (i : IdBytes) → in_list (kept w) i ≡ in_list w i
   in_kept None i = refl
   in_kept (Some g) i = elim (is_bare g) as (λ b. is_bare g ≡ b → in_list (cond b None (Some g)) i ≡ get g i) [
     | true ↦ λ bare. sym (bare_none id_order g bare i)
     | false ↦ λ _. refl
   ] refl
 
-  in_without : (o : Option Ranks) (i : Name) → in_list (option_map (λ (g : Ranks). set g e None) o) i ≡ cond (eq_by_cmp id_cmp i e) None (in_list o i)
+  in_without : (o : Option Ranks) (i : IdBytes) → in_list (option_map (λ (g : Ranks). set g e None) o) i ≡ cond (eq_by_cmp id_cmp i e) None (in_list o i)
   in_without None i = elim (eq_by_cmp id_cmp i e) as (λ b. ◌≡◌ {A = Option ℕ} None (cond b None None)) [ true ↦ refl | false ↦ refl ]
   in_without (Some g) i = get-set id_order g e None i
 

@@ -19,7 +19,7 @@ use Rattle.spread_maps.proofs.SpreadLaws.{get-mapped}
 use Rattle.model_state.specs.declared.step.Place.{Place}
 use Rattle.model_state.specs.declared.step.Placed.{Placed}
 use Rattle.model_state.specs.declared.entry.Entry.{Entry}
-use Rattle.model_state.specs.Keys.{Name, AttrKey, RowKey, id_cmp, attr_cmp, row_cmp}
+use Rattle.model_state.specs.Keys.{IdBytes, AttrKey, RowKey, id_cmp, attr_cmp, row_cmp}
 use Rattle.model_state.specs.Listing.{is_of, row_entry, rank_at, row_incoming, incoming, targets, children, entry_cmp}
 use Rattle.model_state.specs.State.{place_eq}
 use Rattle.model_state.proofs.Orders.{id_order, nat_order, attr_order, row_order}
@@ -50,14 +50,14 @@ like : {K : Type 0} {R : K → K → Ordering} → IsTotalOrder R → {x y : K} 
 like {R = R} total {x = x} same = ap (R x) (sym same) ∙ tied_itself total x
 
 -- ---- the targets of a feature
-module _ (row : FinMap row_cmp ℕ) (g : Ranks) (a : Name) (f : ℕ) (is : (b : Name) → get g b ≡ get row (a, f, b)) where
+module _ (row : FinMap row_cmp ℕ) (g : Ranks) (a : IdBytes) (f : ℕ) (is : (b : IdBytes) → get g b ≡ get row (a, f, b)) where
   first_is : (k : RowKey) → is_of a f k ≡ true → a ≡ k.0
   first_is k h = text_equality.exact a k.0 (and_first _ _ h)
 
   second_is : (k : RowKey) → is_of a f k ≡ true → f ≡ k.1
   second_is k h = nat_equality.exact f k.1 (and_second _ _ h)
 
-  entries_held : entries g ≡ map {B = Name × ℕ} (λ (e : RowKey × ℕ). (e.0.2, e.1)) (filter (λ (e : RowKey × ℕ). is_of a f e.0) (entries row))
+  entries_held : entries g ≡ map {B = IdBytes × ℕ} (λ (e : RowKey × ℕ). (e.0.2, e.1)) (filter (λ (e : RowKey × ℕ). is_of a f e.0) (entries row))
   entries_held =
       entries-part row_order id_order (λ (e : RowKey × ℕ). is_of a f e.0) (λ (e : RowKey × ℕ). (e.0.2, e.1)) (λ b. (a, f, b))
       (λ e d he hd less.
@@ -70,7 +70,7 @@ module _ (row : FinMap row_cmp ℕ) (g : Ranks) (a : Name) (f : ℕ) (is : (b : 
       own : is_of a f (a, f, a) ≡ true
       own = (λ i. text_equality.own a i && nat_equality.own f i)
 
-      whole : (b : Name) (w : Option ℕ) → w ≡ part (λ (e : RowKey × ℕ). is_of a f e.0) (λ (e : RowKey × ℕ). (e.0.2, e.1)) (λ b. (a, f, b)) b w
+      whole : (b : IdBytes) (w : Option ℕ) → w ≡ part (λ (e : RowKey × ℕ). is_of a f e.0) (λ (e : RowKey × ℕ). (e.0.2, e.1)) (λ b. (a, f, b)) b w
       whole b None = refl
       whole b (Some r) = ap (λ c. cond c (Some r) None) (sym own)
 
@@ -81,28 +81,28 @@ module _ (row : FinMap row_cmp ℕ) (g : Ranks) (a : Name) (f : ℕ) (is : (b : 
   targets_count = ap length entries_held ∙ tally_part (λ (e : RowKey × ℕ). is_of a f e.0) (λ (e : RowKey × ℕ). (e.0.2, e.1)) (entries row)
 
 -- ---- the elements of a place
-abbrev at_rank : FinMap id_cmp ℕ → Name × Place → Name × ℕ
+abbrev at_rank : FinMap id_cmp ℕ → IdBytes × Place → IdBytes × ℕ
 at_rank prank e = (e.0, rank_at prank e.0)
 
-stood_part : (p : Place) (prank : FinMap id_cmp ℕ) (l : Name) (o : Option Placed) → get prank l ≡ option_map (λ (x : Placed). x.rank) o
-    → stood p o ≡ part (λ (e : Name × Place). place_eq p e.1) (at_rank prank) (λ k. k) l (option_map (λ (x : Placed). x.place) o)
+stood_part : (p : Place) (prank : FinMap id_cmp ℕ) (l : IdBytes) (o : Option Placed) → get prank l ≡ option_map (λ (x : Placed). x.rank) o
+    → stood p o ≡ part (λ (e : IdBytes × Place). place_eq p e.1) (at_rank prank) (λ k. k) l (option_map (λ (x : Placed). x.place) o)
 stood_part p prank l None is = refl
 stood_part p prank l (Some x) is = ap (λ r. cond (place_eq p x.place) (Some r) None) (sym (ap (λ o. unwrap_or o 0) is))
 
-module _ (place : FinMap id_cmp Place) (prank : FinMap id_cmp ℕ) (placed : Name → Option Placed) (g : Ranks) (p : Place)
-    (places : (l : Name) → get place l ≡ option_map (λ (x : Placed). x.place) (placed l))
-    (ranks : (l : Name) → get prank l ≡ option_map (λ (x : Placed). x.rank) (placed l))
-    (is : (l : Name) → get g l ≡ stood p (placed l)) where
-  entries_stood : entries g ≡ map (at_rank prank) (filter (λ (e : Name × Place). place_eq p e.1) (entries place))
+module _ (place : FinMap id_cmp Place) (prank : FinMap id_cmp ℕ) (placed : IdBytes → Option Placed) (g : Ranks) (p : Place)
+    (places : (l : IdBytes) → get place l ≡ option_map (λ (x : Placed). x.place) (placed l))
+    (ranks : (l : IdBytes) → get prank l ≡ option_map (λ (x : Placed). x.rank) (placed l))
+    (is : (l : IdBytes) → get g l ≡ stood p (placed l)) where
+  entries_stood : entries g ≡ map (at_rank prank) (filter (λ (e : IdBytes × Place). place_eq p e.1) (entries place))
   entries_stood =
-      entries-part id_order id_order (λ (e : Name × Place). place_eq p e.1) (at_rank prank) (λ k. k) (λ e d _ _ less. less) (λ e _. refl) (λ l x _. refl) place g
-      (λ l. is l ∙ stood_part p prank l (placed l) (ranks l) ∙ ap (part (λ (e : Name × Place). place_eq p e.1) (at_rank prank) (λ k. k) l) (sym (places l)))
+      entries-part id_order id_order (λ (e : IdBytes × Place). place_eq p e.1) (at_rank prank) (λ k. k) (λ e d _ _ less. less) (λ e _. refl) (λ l x _. refl) place g
+      (λ l. is l ∙ stood_part p prank l (placed l) (ranks l) ∙ ap (part (λ (e : IdBytes × Place). place_eq p e.1) (at_rank prank) (λ k. k) l) (sym (places l)))
 
   pub children_are : in_order entry_cmp (map ranked_entry (entries g)) ≡ children place prank p
-  children_are = ap (λ es. in_order entry_cmp (map ranked_entry es)) entries_stood ∙ ap (in_order entry_cmp) (map_map ranked_entry (at_rank prank) (filter (λ (e : Name × Place). place_eq p e.1) (entries place)))
+  children_are = ap (λ es. in_order entry_cmp (map ranked_entry es)) entries_stood ∙ ap (in_order entry_cmp) (map_map ranked_entry (at_rank prank) (filter (λ (e : IdBytes × Place). place_eq p e.1) (entries place)))
 
-  pub children_count : length (entries g) ≡ count (λ (e : Name × Place). place_eq p e.1) place
-  children_count = ap length entries_stood ∙ tally_part (λ (e : Name × Place). place_eq p e.1) (at_rank prank) (entries place)
+  pub children_count : length (entries g) ≡ count (λ (e : IdBytes × Place). place_eq p e.1) place
+  children_count = ap length entries_stood ∙ tally_part (λ (e : IdBytes × Place). place_eq p e.1) (at_rank prank) (entries place)
 
 -- ---- the references to an element
 then_equal : (r : Ordering) → ordering_then r Equal ≡ r
@@ -110,13 +110,13 @@ then_equal Less = refl
 then_equal Equal = refl
 then_equal Greater = refl
 
-abbrev ends_at : Name → RowKey × ℕ → Bool
+abbrev ends_at : IdBytes → RowKey × ℕ → Bool
 ends_at b e = text_eq b e.0.2
 
 abbrev source_of : RowKey × ℕ → AttrKey × ℕ
 source_of e = ((e.0.0, e.0.1), e.1)
 
-module _ (row : FinMap row_cmp ℕ) (g : Sources) (b : Name) (is : (a : Name) (f : ℕ) → get g (a, f) ≡ get row (a, f, b)) where
+module _ (row : FinMap row_cmp ℕ) (g : Sources) (b : IdBytes) (is : (a : IdBytes) (f : ℕ) → get g (a, f) ≡ get row (a, f, b)) where
   target_is : (e : RowKey × ℕ) → ends_at b e ≡ true → b ≡ e.0.2
   target_is e h = text_equality.exact b e.0.2 h
 

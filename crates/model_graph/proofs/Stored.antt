@@ -12,7 +12,7 @@ use Rattle.finite_maps.proofs.MapLaws.{set_here}
 use Rattle.model_state.specs.declared.step.Place.{Place}
 use Rattle.model_state.specs.declared.step.Place.TheVariants.{Root, Inside}
 use Rattle.model_state.specs.declared.step.Placed.{Placed}
-use Rattle.model_state.specs.Keys.{Name, AttrKey, id_cmp, attr_cmp}
+use Rattle.model_state.specs.Keys.{IdBytes, AttrKey, id_cmp, attr_cmp}
 use Rattle.model_state.specs.Lists.{entry_of}
 use Rattle.model_state.specs.State.{State, is_live, place_eq, value_count, link_count, inner_count}
 use Rattle.model_state.specs.Steps.{place_live}
@@ -46,7 +46,7 @@ place_there m s Root is live = tt
 place_there m s (Inside a f) is live = live_there m s a is live
 
 -- the place of an element is there
-pub housed_place : (r : Ranks) (m : Elements) (e : Name) (n : Node) → IsHoused r m → get m e ≡ Some n → (p : Place) → n.placed.place ≡ p → IsPlaceThere m p
+pub housed_place : (r : Ranks) (m : Elements) (e : IdBytes) (n : Node) → IsHoused r m → get m e ≡ Some n → (p : Place) → n.placed.place ≡ p → IsPlaceThere m p
 housed_place r m e n housed is Root same = tt
 housed_place r m e n housed is (Inside a f) same =
     there_of (get m a) (f, e) n.placed.rank (housed (Inside a f) e ∙ ap (λ o. stood (Inside a f) (option_map (λ (n : Node). n.placed) o)) is
@@ -55,7 +55,7 @@ housed_place r m e n housed is (Inside a f) same =
     place_own : (p : Place) → place_eq p p ≡ true
     place_own p = place_equality.own p
 
-pub stands_at : (m : Elements) (s : State) (e : Name) (n : Node) (p : Place) → nodes_state m ≡ s → get m e ≡ Some n → get s.place e ≡ Some p → n.placed.place ≡ p
+pub stands_at : (m : Elements) (s : State) (e : IdBytes) (n : Node) (p : Place) → nodes_state m ≡ s → get m e ≡ Some n → get s.place e ≡ Some p → n.placed.place ≡ p
 stands_at m s e n p is at stands = one_place n.placed.place p (read_place m s is e (Some n) (sym at) ∙ stands)
   where
     one_place : (p q : Place) → Some p ≡ Some q → p ≡ q
@@ -65,7 +65,7 @@ alike_kept : (m n : Elements) → Alike m n → IsMirrored m → IsMirrored n
 alike_kept m n a mirror = mirrored_by m n mirror a.into a.out
 
 -- ---- an element taken out
-module _ (r : Ranks) (m : Elements) (r' : Ranks) (m' : Elements) (s : State) (e : Name) (p : Place)
+module _ (r : Ranks) (m : Elements) (r' : Ranks) (m' : Elements) (s : State) (e : IdBytes) (p : Place)
     (view : nodes_state m ≡ s) (agree : AreKept r m) (live : is_live s e ≡ true) (stands : get s.place e ≡ Some p)
     (no_value : nat_eq (value_count s e) 0 ≡ true) (no_row : nat_eq (link_count s e) 0 ≡ true) (no_child : nat_eq (inner_count s e) 0 ≡ true)
     (w : IsListWritten p e None r m r' m') where
@@ -102,7 +102,7 @@ module _ (r : Ranks) (m : Elements) (r' : Ranks) (m' : Elements) (s : State) (e 
       )
 
 -- ---- an element made
-module _ (r : Ranks) (m : Elements) (r' : Ranks) (m' : Elements) (s : State) (e : Name) (n : Node)
+module _ (r : Ranks) (m : Elements) (r' : Ranks) (m' : Elements) (s : State) (e : IdBytes) (n : Node)
     (view : nodes_state m ≡ s) (agree : AreKept r m) (absent : get s.kind e ≡ None)
     (no_value : n.attrs ≡ empty) (no_out : n.out ≡ empty) (no_into : n.into ≡ empty) (no_inside : n.inside ≡ empty)
     (w : IsListWritten n.placed.place e (Some n.placed.rank) r (set m e (Some n)) r' m') where
@@ -126,7 +126,7 @@ module _ (r : Ranks) (m : Elements) (r' : Ranks) (m' : Elements) (s : State) (e 
   )
 
 -- ---- an attribute written
-module _ (r : Ranks) (m m' : Elements) (s : State) (e : Name) (f : ℕ) (v : Option (List Value))
+module _ (r : Ranks) (m m' : Elements) (s : State) (e : IdBytes) (f : ℕ) (v : Option (List Value))
     (view : nodes_state m ≡ s) (w : Rewrites m m' e (λ (n : Node). record n { attrs = set n.attrs f v })) where
   pub attr_state : nodes_state m' ≡ record s { attr = set s.attr (e, f) v }
   attr_state = ap nodes_state w.2 ∙ attr_written m e w.0 w.1 f v ∙ ap (λ (t : State). record t { attr = set t.attr (e, f) v }) view
@@ -145,7 +145,7 @@ module _ (r : Ranks) (m m' : Elements) (s : State) (e : Name) (f : ℕ) (v : Opt
       )
 
 -- ---- an element moved to another place
-module _ (r : Ranks) (m : Elements) (r1 : Ranks) (m1 : Elements) (r2 : Ranks) (m2 m3 : Elements) (s : State) (e : Name) (n : Node) (from to : Place) (rank : ℕ)
+module _ (r : Ranks) (m : Elements) (r1 : Ranks) (m1 : Elements) (r2 : Ranks) (m2 m3 : Elements) (s : State) (e : IdBytes) (n : Node) (from to : Place) (rank : ℕ)
     (view : nodes_state m ≡ s) (is : get m e ≡ Some n) (same : n.placed.place ≡ from)
     (w : IsListWritten to e (Some rank) r m r1 m1) (u : IsListWritten from e None r1 m1 r2 m2)
     (t : Rewrites m2 m3 e (λ (k : Node). record k { placed = record { place = to; rank = rank } })) where
@@ -169,7 +169,7 @@ module _ (r : Ranks) (m : Elements) (r1 : Ranks) (m1 : Elements) (r2 : Ranks) (m
       )
 
 -- ---- an element that gets another rank where it stands
-module _ (r : Ranks) (m : Elements) (r1 : Ranks) (m1 m2 : Elements) (s : State) (e : Name) (n : Node) (p : Place) (rank : ℕ)
+module _ (r : Ranks) (m : Elements) (r1 : Ranks) (m1 m2 : Elements) (s : State) (e : IdBytes) (n : Node) (p : Place) (rank : ℕ)
     (view : nodes_state m ≡ s) (is : get m e ≡ Some n) (same : n.placed.place ≡ p)
     (w : IsListWritten p e (Some rank) r m r1 m1)
     (t : Rewrites m1 m2 e (λ (k : Node). record k { placed = record { place = p; rank = rank } })) where
@@ -201,7 +201,7 @@ entry_some [] h = absurd (h refl)
 entry_some (v ∷ vs) h = refl
 
 -- ---- ends of references
-pub source_live : (m : Elements) (s : State) (a b : Name) (f : ℕ) → nodes_state m ≡ s → is_some (get s.row (a, f, b)) ≡ true → is_live s a ≡ true
+pub source_live : (m : Elements) (s : State) (a b : IdBytes) (f : ℕ) → nodes_state m ≡ s → is_some (get s.row (a, f, b)) ≡ true → is_live s a ≡ true
 source_live m s a b f view there =
     ap is_some (sym (read_class m s view a (get m a) refl)) ∙ some_out (get m a) (ap is_some (read_row m s view a f b) ∙ there)
   where
@@ -209,7 +209,7 @@ source_live m s a b f view there =
     some_out None h = cc
     some_out (Some n) h = refl
 
-pub target_live : (m : Elements) (s : State) (a b : Name) (f : ℕ) → IsMirrored m → nodes_state m ≡ s → is_some (get s.row (a, f, b)) ≡ true → is_live s b ≡ true
+pub target_live : (m : Elements) (s : State) (a b : IdBytes) (f : ℕ) → IsMirrored m → nodes_state m ≡ s → is_some (get s.row (a, f, b)) ≡ true → is_live s b ≡ true
 target_live m s a b f mirror view there =
     ap is_some (sym (read_class m s view b (get m b) refl)) ∙ some_into (get m b) (ap is_some (read_into m s view mirror b (get m b) refl a f) ∙ there)
   where
@@ -218,7 +218,7 @@ target_live m s a b f mirror view there =
     some_into (Some n) h = refl
 
 -- ---- copies of ids and places
-pub made_lists : (n : Node) (e : Name) (p : Place) (rank : ℕ) (id : Name) (r : Ranks) (m one : Elements) (r' : Ranks) (m' : Elements) → id ≡ e → n.placed.place ≡ p → n.placed.rank ≡ rank → one ≡ set m e (Some n)
+pub made_lists : (n : Node) (e : IdBytes) (p : Place) (rank : ℕ) (id : IdBytes) (r : Ranks) (m one : Elements) (r' : Ranks) (m' : Elements) → id ≡ e → n.placed.place ≡ p → n.placed.rank ≡ rank → one ≡ set m e (Some n)
     → IsListWritten p id (Some rank) r one r' m' → IsListWritten n.placed.place e (Some n.placed.rank) r (set m e (Some n)) r' m'
 made_lists n e p rank id r m one r' m' is place ranked first w =
     subst (λ q. IsListWritten q e (Some n.placed.rank) r (set m e (Some n)) r' m') (sym place)
@@ -226,12 +226,12 @@ made_lists n e p rank id r m one r' m' is place ranked first w =
     (subst (λ (t : Elements). IsListWritten p e (Some rank) r t r' m') first
     (subst (λ x. IsListWritten p x (Some rank) r one r' m') is w)))
 
-pub place_after : (m one : Elements) (e : Name) (n : Node) (p : Place) → one ≡ set m e (Some n) → IsPlaceThere m p → IsPlaceThere one p
+pub place_after : (m one : Elements) (e : IdBytes) (n : Node) (p : Place) → one ≡ set m e (Some n) → IsPlaceThere m p → IsPlaceThere one p
 place_after m one e n Root is live = tt
 place_after m one e n (Inside a f) is live = subst (λ (t : Elements). IsSome (get t a)) (sym is) (live_after m e a n live)
 
 -- the element that stands in a place
-pub stood_node : (m : Elements) (s : State) (e : Name) (p : Place) → nodes_state m ≡ s → get s.place e ≡ Some p → (n : Node) × (get m e ≡ Some n) × (n.placed.place ≡ p)
+pub stood_node : (m : Elements) (s : State) (e : IdBytes) (p : Place) → nodes_state m ≡ s → get s.place e ≡ Some p → (n : Node) × (get m e ≡ Some n) × (n.placed.place ≡ p)
 stood_node m s e p is stands = found (get m e) refl (read_place m s is e (get m e) refl ∙ stands)
   where
     one_place : (p q : Place) → Some p ≡ Some q → p ≡ q

@@ -12,12 +12,12 @@ use Rattle.finite_maps.specs.Tables.{table}
 use Rattle.ecore_meta.specs.declared.meta.Value.{Value}
 use Rattle.ecore_meta.specs.contracts.meta.Value as value_type
 use Rattle.model_state.specs.declared.entry.Incoming.{Incoming}
-use Rattle.model_state.specs.Keys.{Name, AttrKey, id_cmp, attr_cmp}
+use Rattle.model_state.specs.Keys.{IdBytes, AttrKey, id_cmp, attr_cmp}
 use Rattle.ranked_lists.specs.Ranks.{Ranks, coded_name}
 
 -- a feature and an element
 abbrev pub ListKey : Type 0
-ListKey = ℕ × Name
+ListKey = ℕ × IdBytes
 
 -- by the feature, and then by the element
 abbrev pub list_key_cmp : ListKey → ListKey → Ordering
@@ -32,7 +32,7 @@ abbrev pub lists_code : Coded Lists
 lists_code = code (coded× coded_ℕ coded_name) coded_ℕ
 
 -- a key of the lists is a feature, and an element of its list
-abbrev pub by_list : Joined ℕ Name ListKey
+abbrev pub by_list : Joined ℕ IdBytes ListKey
 by_list = record { first = λ k. k.0; second = λ k. k.1; both = λ f e. (f, e) }
 
 -- the lists that an ordered map holds by feature

@@ -8,7 +8,7 @@ use Rattle.spread_maps.specs.Spread.{mapped, inner, Joined, spread, is_bare}
 use Rattle.model_state.specs.declared.step.Place.{Place}
 use Rattle.model_state.specs.declared.step.Place.TheVariants.{Root, Inside}
 use Rattle.model_state.specs.declared.step.Placed.{Placed}
-use Rattle.model_state.specs.Keys.{Name, AttrKey, RowKey, id_cmp, attr_cmp, row_cmp}
+use Rattle.model_state.specs.Keys.{IdBytes, AttrKey, RowKey, id_cmp, attr_cmp, row_cmp}
 use Rattle.model_state.specs.State.{State, place_eq}
 use Rattle.model_graph.specs.declared.element.Node.{Node}
 use Rattle.ranked_lists.specs.Ranks.{Ranks}
@@ -19,11 +19,11 @@ abbrev pub Elements : Type 0
 Elements = FinMap id_cmp Node
 
 -- an attribute's key is its element, and its feature
-abbrev pub by_feature : Joined Name ℕ AttrKey
+abbrev pub by_feature : Joined IdBytes ℕ AttrKey
 by_feature = record { first = λ k. k.0; second = λ k. k.1; both = λ e f. (e, f) }
 
 -- a row's key is its source, and its feature and target
-abbrev pub by_target : Joined Name ListKey RowKey
+abbrev pub by_target : Joined IdBytes ListKey RowKey
 by_target = record { first = λ k. k.0; second = λ k. (k.1, k.2); both = λ a l. (a, l.0, l.1) }
 
 -- the state that the elements are
@@ -37,11 +37,11 @@ nodes_state m = record {
 }
 
 -- where an element stands, and its rank there
-abbrev pub placed_at : Elements → Name → Option Placed
+abbrev pub placed_at : Elements → IdBytes → Option Placed
 placed_at m x = option_map (λ (n : Node). n.placed) (get m x)
 
 -- the rank that the list of a place has for an element
-abbrev pub standing : Ranks → Elements → Place → Name → Option ℕ
+abbrev pub standing : Ranks → Elements → Place → IdBytes → Option ℕ
 standing roots m Root x = get roots x
 standing roots m (Inside a f) x = inner (λ (n : Node). n.inside) (get m a) (f, x)
 
@@ -52,14 +52,14 @@ stood p (Some x) = cond (place_eq p x.place) (Some x.rank) None
 
 -- each list has the elements that stand there, and no others
 abbrev pub IsHoused : Ranks → Elements → Type 0
-IsHoused roots m = (p : Place) (x : Name) → standing roots m p x ≡ stood p (placed_at m x)
+IsHoused roots m = (p : Place) (x : IdBytes) → standing roots m p x ≡ stood p (placed_at m x)
 
 -- a reference comes in where it goes out, with the same rank
 abbrev pub IsMirrored : Elements → Type 0
-IsMirrored m = (a b : Name) (f : ℕ) → inner (λ (n : Node). n.into) (get m b) (a, f) ≡ inner (λ (n : Node). n.out) (get m a) (f, b)
+IsMirrored m = (a b : IdBytes) (f : ℕ) → inner (λ (n : Node). n.into) (get m b) (a, f) ≡ inner (λ (n : Node). n.out) (get m a) (f, b)
 
 -- the node of the id is as h makes it, and the others stay
-abbrev pub Rewrites : Elements → Elements → Name → (Node → Node) → Type 0
+abbrev pub Rewrites : Elements → Elements → IdBytes → (Node → Node) → Type 0
 Rewrites old new e h = (n : Node) × (get old e ≡ Some n) × (new ≡ set old e (Some (h n)))
 
 -- the place is the root, or inside an element that is there
@@ -68,7 +68,7 @@ IsPlaceThere m Root = Unit {0}
 IsPlaceThere m (Inside a f) = IsSome (get m a)
 
 -- one entry of the list of a place is written, and nothing else
-abbrev pub IsListWritten : Place → Name → Option ℕ → Ranks → Elements → Ranks → Elements → Type 0
+abbrev pub IsListWritten : Place → IdBytes → Option ℕ → Ranks → Elements → Ranks → Elements → Type 0
 IsListWritten Root e v roots m roots' m' = (roots' ≡ set roots e v) × (m' ≡ m)
 IsListWritten (Inside a f) e v roots m roots' m' = (roots' ≡ roots) × Rewrites m m' a (λ (n : Node). record n { inside = set n.inside (f, e) v })
 

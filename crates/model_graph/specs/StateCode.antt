@@ -6,13 +6,13 @@ use Rattle.ecore_meta.specs.declared.meta.Value.{Value}
 use Rattle.ecore_meta.specs.contracts.meta.Value as value_type
 use Rattle.model_state.specs.declared.step.Place.{Place}
 use Rattle.model_state.specs.contracts.step.Place as place_type
-use Rattle.model_state.specs.Keys.{Name, AttrKey, RowKey, id_cmp, attr_cmp, row_cmp}
+use Rattle.model_state.specs.Keys.{IdBytes, AttrKey, RowKey, id_cmp, attr_cmp, row_cmp}
 use Rattle.model_state.specs.State.{State}
 use Rattle.ranked_lists.specs.Ranks.{coded_name}
 
 -- the code of a row's key
 abbrev pub coded_row : Coded RowKey
-coded_row = code_by (Name × (ℕ × Name)) (coded× coded_name (coded× coded_ℕ coded_name)) (λ k. (k.0, (k.1, k.2))) (λ p. (p.0, p.1.0, p.1.1)) (λ _. refl)
+coded_row = code_by (IdBytes × (ℕ × IdBytes)) (coded× coded_name (coded× coded_ℕ coded_name)) (λ k. (k.0, (k.1, k.2))) (λ p. (p.0, p.1.0, p.1.1)) (λ _. refl)
 
 -- the code of a state
 abbrev pub state_code : Coded State

@@ -7,7 +7,7 @@ ghost use Rattle.std.specs.BTreeMap as ordered_map;
 ghost use Rattle.finite_maps.specs.Maps.{set};
 ghost use Rattle.spread_maps.specs.Spread.{is_bare};
 ghost use Rattle.finite_maps.specs.Tables.{table};
-ghost use Rattle.model_state.specs.Keys.{Name};
+ghost use Rattle.model_state.specs.Keys.{IdBytes};
 ghost use Rattle.model_graph.specs.Parts.{is_emptied, kept};
 
 use crate::copies::copied_lists;
@@ -102,7 +102,7 @@ impl FeatureLists {
 
     /// The list of a feature, `None` where it is empty.
     pub fn group(&self, f: u32) -> Option<&RankedList>
-        ensures { (e : Name) → get (unwrap_or (option_copied result) empty) e ≡ get self.now (f, e) }
+        ensures { (e : IdBytes) → get (unwrap_or (option_copied result) empty) e ≡ get self.now (f, e) }
     {
         self.tree.get(&f)
     }

@@ -7,7 +7,7 @@ ghost use Rattle.spread_maps.specs.Spread.{inner};
 ghost use Rattle.ecore_meta.specs.Meta.{Meta};
 ghost use Rattle.model_state.specs.Good.{Good};
 ghost use Rattle.model_state.specs.State.{nothing, is_live};
-ghost use Rattle.model_state.specs.Keys.{Name, id_cmp};
+ghost use Rattle.model_state.specs.Keys.{IdBytes, id_cmp};
 ghost use Rattle.model_graph.specs.Seen.{Rewrites, either_node};
 
 use crate::element::Node;
@@ -85,7 +85,7 @@ fn copy_one(
     id: &Id,
     nodes: &Nodes<Node>,
 ) -> Result<(), AllocError>
-    ensures { OnOk result ((q : Name) → get copy.new q ≡ cond (eq_by_cmp id_cmp q id.now) (either_node (get copy.old q) (get nodes.now q)) (get copy.old q)) }
+    ensures { OnOk result ((q : IdBytes) → get copy.new q ≡ cond (eq_by_cmp id_cmp q id.now) (either_node (get copy.old q) (get nodes.now q)) (get copy.old q)) }
 {
     if copy.find(id).is_some() {
         return Ok(());

@@ -3,7 +3,7 @@ ghost use Rattle.std.specs.Prelude.{◌≡◌, slice_get, unwrap_or};
 ghost use Rattle.std.specs.Option.{option_copied};
 ghost use Rattle.std.specs.FinMap.{get, empty};
 ghost use Rattle.spread_maps.specs.Spread.{inner};
-ghost use Rattle.model_state.specs.Keys.{Name};
+ghost use Rattle.model_state.specs.Keys.{IdBytes};
 ghost use Rattle.model_state.specs.Listing.{children, targets};
 ghost use Rattle.model_graph.specs.Seen.{standing};
 
@@ -18,7 +18,7 @@ use std::alloc::{AllocError, Global};
 
 /// The targets of a feature of an element, `None` where there are none.
 pub(crate) fn targets_of<'a>(nodes: &'a Nodes<Node>, a: &Id, f: u32) -> Option<&'a RankedList>
-    ensures { (b : Name) → get (unwrap_or (option_copied result) empty) b ≡ inner (λ n. n.out) (get nodes.now a.now) (f, b) }
+    ensures { (b : IdBytes) → get (unwrap_or (option_copied result) empty) b ≡ inner (λ n. n.out) (get nodes.now a.now) (f, b) }
 {
     match nodes.find(a) {
         None => None,
@@ -32,7 +32,7 @@ pub(crate) fn children_of<'a>(
     nodes: &'a Nodes<Node>,
     place: &Place,
 ) -> Option<&'a RankedList>
-    ensures { (x : Name) → get (unwrap_or (option_copied result) empty) x ≡ standing roots.now nodes.now place.now x }
+    ensures { (x : IdBytes) → get (unwrap_or (option_copied result) empty) x ≡ standing roots.now nodes.now place.now x }
 {
     match place {
         Place::Root => Some(roots),
@@ -120,7 +120,7 @@ impl Look for Graph {
 
 impl Graph {
     /// The element at an index of a place, with its rank; `None` past the last. This goes over the elements before it, or
-    /// over those behind it where they are fewer.
+    /// over those after it where they are fewer.
     pub fn child_at(&self, place: &Place, index: usize) -> Option<&Entry>
         ensures { option_copied result ≡ slice_get (children self.now.place self.now.prank place.now) index }
     {
@@ -131,7 +131,7 @@ impl Graph {
     }
 
     /// The target at an index of a feature of an element, with its rank; `None` past the last. This goes over the targets
-    /// before it, or over those behind it where they are fewer.
+    /// before it, or over those after it where they are fewer.
     pub fn target_at(&self, a: &Id, f: u32, index: usize) -> Option<&Entry>
         ensures { option_copied result ≡ slice_get (targets self.now.row a.now f) index }
     {

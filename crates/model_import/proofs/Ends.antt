@@ -6,7 +6,7 @@ use Rattle.model_state.specs.declared.entry.Entry.{Entry}
 use Rattle.model_state.specs.declared.step.Step.{Step}
 use Rattle.model_state.specs.declared.step.Step.TheVariants.{New, RerankPlace}
 use Rattle.model_state.specs.declared.step.Place.TheVariants.{Root}
-use Rattle.model_state.specs.Keys.{Name}
+use Rattle.model_state.specs.Keys.{IdBytes}
 use Rattle.model_state.specs.Ranks.{rank_between}
 use Rattle.edit_laws.specs.Places.{rerank_places}
 use Rattle.edit_laws.specs.Spot.{Spot, rank_for, ranks_of, evened, end_spot, spot_by}
@@ -24,7 +24,7 @@ pub no_reranks : (xs : List Entry) → rerank_places xs (ranks_of xs) ≡ []
 no_reranks [] = refl
 no_reranks (x ∷ xs) = ap (λ (b : Bool). cond b (rerank_places xs (ranks_of xs)) (RerankPlace x.id x.rank x.rank ∷ rerank_places xs (ranks_of xs))) (itself x.rank) ∙ no_reranks xs
 
--- where there is a rank behind the last, the others keep theirs
+-- where there is a rank after the last, the others keep theirs
 pub kept_end : (xs : List Entry) (r : ℕ) → rank_for (ranks_of xs) (length xs) ≡ Some r → end_spot xs ≡ record { ranks = ranks_of xs; rank = Some r }
 kept_end xs r is = ap (λ o. spot_by o xs (length xs)) is
 
@@ -40,7 +40,7 @@ even_rank n small = ap (λ (b : Bool). rank_between (n * 4294967296) (cond b (So
     next : (n : ℕ) → n * 4294967296 + 4294967296 ≡ (n + 1) * 4294967296
     next n = omega arith
 
--- so there is behind fewer than 2^32 - 1 that are spread evenly
+-- so there is after fewer than 2^32 - 1 that are spread evenly
 pub even_end : (xs : List Entry) → ranks_of xs ≡ evened 1 xs → length xs < 4294967295 → rank_for (ranks_of xs) (length xs) ≡ Some ((length xs + 1) * 4294967296)
 even_end xs even small = ap (λ rs. rank_for rs (length xs)) even ∙ even_for xs (length xs) (itself_le (length xs)) ∙ even_rank (length xs) small
   where
@@ -60,7 +60,7 @@ new_end xs none small =
     itself_le : (n : ℕ) → n ≤ n
     itself_le n = omega arith
 
--- too many to be ranked anew
+-- too many to be renumbered
 pub no_end : (xs : List Entry) → rank_for (ranks_of xs) (length xs) ≡ None → 4294967295 ≤ length xs → is_some (end_spot xs).rank ≡ false
 no_end xs none many =
     ap (λ o. is_some (spot_by o xs (length xs)).rank) none
@@ -69,22 +69,22 @@ no_end xs none many =
     not_small : (n : ℕ) → 4294967295 ≤ n → nat_lt n 4294967295 ≡ false
     not_small n h = grind (arith, nat_tests)
 
--- ---- what comes behind the last
-pub after_kept : (xs : List Entry) (e : Name) (r : ℕ) → rank_for (ranks_of xs) (length xs) ≡ Some r → xs ++ record { rank = r; id = e } ∷ [] ≡ root_after xs e
+-- ---- what is put after the last
+pub after_kept : (xs : List Entry) (e : IdBytes) (r : ℕ) → rank_for (ranks_of xs) (length xs) ≡ Some r → xs ++ record { rank = r; id = e } ∷ [] ≡ root_after xs e
 after_kept xs e r is =
     sym (ap (λ (s : Spot). with_ranks xs s.ranks ++ record { rank = unwrap_or s.rank 0; id = e } ∷ []) (kept_end xs r is)
     ∙ ap (λ (ys : List Entry). ys ++ record { rank = r; id = e } ∷ []) (same_entries xs))
 
-pub made_kept : (xs : List Entry) (e : Name) (c r : ℕ) → rank_for (ranks_of xs) (length xs) ≡ Some r → New e c Root r ∷ [] ≡ root_made xs e c
+pub made_kept : (xs : List Entry) (e : IdBytes) (c r : ℕ) → rank_for (ranks_of xs) (length xs) ≡ Some r → New e c Root r ∷ [] ≡ root_made xs e c
 made_kept xs e c r is =
     sym (ap (λ (s : Spot). rerank_places xs s.ranks ++ New e c Root (unwrap_or s.rank 0) ∷ []) (kept_end xs r is)
     ∙ ap (λ (ss : List Step). ss ++ New e c Root r ∷ []) (no_reranks xs))
 
-pub after_new : (xs : List Entry) (e : Name) → rank_for (ranks_of xs) (length xs) ≡ None → length xs < 4294967295
+pub after_new : (xs : List Entry) (e : IdBytes) → rank_for (ranks_of xs) (length xs) ≡ None → length xs < 4294967295
     → with_ranks xs (evened 1 xs) ++ record { rank = (length xs + 1) * 4294967296; id = e } ∷ [] ≡ root_after xs e
 after_new xs e none small = sym (ap (λ (s : Spot). with_ranks xs s.ranks ++ record { rank = unwrap_or s.rank 0; id = e } ∷ []) (new_end xs none small))
 
-pub made_new : (xs : List Entry) (e : Name) (c : ℕ) → rank_for (ranks_of xs) (length xs) ≡ None → length xs < 4294967295
+pub made_new : (xs : List Entry) (e : IdBytes) (c : ℕ) → rank_for (ranks_of xs) (length xs) ≡ None → length xs < 4294967295
     → rerank_places xs (evened 1 xs) ++ New e c Root ((length xs + 1) * 4294967296) ∷ [] ≡ root_made xs e c
 made_new xs e c none small = sym (ap (λ (s : Spot). rerank_places xs s.ranks ++ New e c Root (unwrap_or s.rank 0) ∷ []) (new_end xs none small))
 

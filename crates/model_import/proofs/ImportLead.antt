@@ -9,7 +9,7 @@ use Rattle.model_state.specs.declared.operation.Operation.{Operation}
 use Rattle.model_state.specs.declared.step.Place.TheVariants.{Root}
 use Rattle.model_state.specs.declared.step.Step.{Step}
 use Rattle.model_state.specs.Good.{Good, Sound}
-use Rattle.model_state.specs.Keys.{Name}
+use Rattle.model_state.specs.Keys.{IdBytes}
 use Rattle.model_state.specs.Listing.{children}
 use Rattle.model_state.specs.State.{State, is_live}
 use Rattle.model_state.specs.Steps.{fold}
@@ -18,10 +18,10 @@ use Rattle.model_laws.proofs.Runs.{fold_append, steps_keep_good}
 use Rattle.edit_laws.specs.declared.fault.EditFault.{EditFault}
 use Rattle.edit_laws.specs.declared.fault.EditFault.TheVariants.{IdInUse}
 use Rattle.emfjson_model.specs.declared.doc.DocRow.{DocRow}
-use Rattle.emfjson_model.specs.Fits.{Fits}
+use Rattle.emfjson_model.specs.Fits.{DocumentFits}
 use Rattle.model_import.specs.After.{Kinds, attrs_from, import_after, kinds_from, places_from, ranks_from}
 use Rattle.model_import.specs.Import.{and_then, composite, of_steps, steps_made}
-use Rattle.model_import.specs.Laws.{ImportsLead, are_apart}
+use Rattle.model_import.specs.Laws.{ImportsLead, ids_differ}
 use Rattle.model_import.specs.Links.{links_made}
 use Rattle.model_import.specs.Names.{any_in_use, name_at}
 use Rattle.model_import.specs.News.{news_made}
@@ -57,7 +57,7 @@ steps_are : (rows : List DocRow) (ss : List Step) → (rows ≡ [] → ss ≡ []
 steps_are [] ss none = sym (none refl)
 steps_are (r ∷ rows) ss none = refl
 
-nothing_made : (meta : Meta) (m : State) (names : List Name) (rows : List DocRow) (ss : List Step) → steps_made meta m names rows ≡ Ok ss → rows ≡ [] → ss ≡ []
+nothing_made : (meta : Meta) (m : State) (names : List IdBytes) (rows : List DocRow) (ss : List Step) → steps_made meta m names rows ≡ Ok ss → rows ≡ [] → ss ≡ []
 nothing_made meta m names rows ss h is = same_steps ss (sym (ap (steps_made meta m names) is) ∙ h)
   where
     same_steps : (y : List Step) → ◌≡◌ {A = Result (List Step) EditFault} (Ok []) (Ok y) → y ≡ []
@@ -69,13 +69,13 @@ no_rows [] ss h = refl
 no_rows (r ∷ rows) ss h = cc
 
 -- the first element would be live, and would not
-none_come : (kind : Kinds) (names : List Name) (rows : List DocRow) → ((i : ℕ) (r : DocRow) → slice_get rows i ≡ Some r → get kind (name_at names i) ≡ Some r.class) → ((i : ℕ) → i < length rows → get kind (name_at names i) ≡ None)
+none_come : (kind : Kinds) (names : List IdBytes) (rows : List DocRow) → ((i : ℕ) (r : DocRow) → slice_get rows i ≡ Some r → get kind (name_at names i) ≡ Some r.class) → ((i : ℕ) → i < length rows → get kind (name_at names i) ≡ None)
     → rows ≡ []
 none_come kind names [] live dead = refl
 none_come kind names (r ∷ rest) live dead = absurd (some_none (get kind (name_at names 0)) r.class (live 0 r refl) (dead 0 (omega arith)))
 
-module _ (meta : Meta) (sound : Sound meta) (m : State) (good : Good meta m) (names : List Name) (rows : List DocRow) (fit : Fits meta rows) (as_many : length names ≡ length rows) (dead : list_any (is_live m) names ≡ false)
-    (differ : are_apart names ≡ true) where
+module _ (meta : Meta) (sound : Sound meta) (m : State) (good : Good meta m) (names : List IdBytes) (rows : List DocRow) (fit : DocumentFits meta rows) (as_many : length names ≡ length rows) (dead : list_any (is_live m) names ≡ false)
+    (differ : ids_differ names ≡ true) where
   not_there : (i : ℕ) → i < length names → get m.kind (name_at names i) ≡ None
   not_there i small = no_some (get m.kind (name_at names i)) (none_at (is_live m) names i dead small)
 

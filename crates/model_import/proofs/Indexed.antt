@@ -6,15 +6,15 @@ use Rattle.std.proofs.lemmas.List.Sums.{sum_by-append}
 use Rattle.finite_maps.specs.Equal.{text_eq}
 use Rattle.finite_maps.proofs.Cases.{not_so, not_true, true_false, or_first, or_second}
 use Rattle.finite_maps.proofs.EqualLaws.{and_first, and_second, apart, nat_equality, text_equality}
-use Rattle.model_state.specs.Keys.{Name}
+use Rattle.model_state.specs.Keys.{IdBytes}
 use Rattle.model_import.specs.Names.{name_at}
-use Rattle.model_import.specs.Laws.{are_apart}
+use Rattle.model_import.specs.Laws.{ids_differ}
 
 pub or_later : (a b : Bool) → b ≡ true → a || b ≡ true
 or_later true b h = refl
 or_later false b h = h
 
--- ---- what is left of a list behind its first n
+-- ---- what is left of a list after its first n
 module _ {X : Type 0} where
   pub drop_none : (xs : List X) → drop 0 xs ≡ xs
   drop_none [] = refl
@@ -80,17 +80,17 @@ module _ {X : Type 0} where
       fewer w t a b c p q = omega arith
 
 -- ---- names at indices
-pub named : (names : List Name) (i : ℕ) → i < length names → slice_get names i ≡ Some (name_at names i)
+pub named : (names : List IdBytes) (i : ℕ) → i < length names → slice_get names i ≡ Some (name_at names i)
 named [] i h = absurd (omega arith)
 named (x ∷ xs) zero h = refl
 named (x ∷ xs) (suc i) h = named xs i (omega arith)
 
-pub none_at : (p : Name → Bool) (names : List Name) (i : ℕ) → list_any p names ≡ false → i < length names → p (name_at names i) ≡ false
+pub none_at : (p : IdBytes → Bool) (names : List IdBytes) (i : ℕ) → list_any p names ≡ false → i < length names → p (name_at names i) ≡ false
 none_at p [] i none h = absurd (omega arith)
 none_at p (x ∷ xs) zero none h = or_first (p x) _ none
 none_at p (x ∷ xs) (suc i) none h = none_at p xs i (or_second (p x) _ none) (omega arith)
 
-pub one_at : (names : List Name) → are_apart names ≡ true → (i j : ℕ) → i < length names → j < length names → text_eq (name_at names i) (name_at names j) ≡ true → i ≡ j
+pub one_at : (names : List IdBytes) → ids_differ names ≡ true → (i j : ℕ) → i < length names → j < length names → text_eq (name_at names i) (name_at names j) ≡ true → i ≡ j
 one_at [] ok i j h g e = absurd (omega arith)
 one_at (x ∷ xs) ok zero zero h g e = refl
 one_at (x ∷ xs) ok zero (suc j) h g e = absurd (true_false (text_eq x (name_at xs j)) e (none_at (text_eq x) xs j (not_true (list_any (text_eq x) xs) (and_first _ _ ok)) (omega arith)))
@@ -99,12 +99,12 @@ one_at (x ∷ xs) ok (suc i) zero h g e =
 one_at (x ∷ xs) ok (suc i) (suc j) h g e = ap suc (one_at xs (and_second (not (list_any (text_eq x) xs)) _ ok) i j (omega arith) (omega arith) e)
 
 -- the names at two indices are the same where the indices are
-pub same_at : (names : List Name) → are_apart names ≡ true → (i j : ℕ) → i < length names → j < length names → text_eq (name_at names i) (name_at names j) ≡ nat_eq i j
+pub same_at : (names : List IdBytes) → ids_differ names ≡ true → (i j : ℕ) → i < length names → j < length names → text_eq (name_at names i) (name_at names j) ≡ nat_eq i j
 same_at names ok i j h g =
     elim (text_eq (name_at names i) (name_at names j)) as (λ b. text_eq (name_at names i) (name_at names j) ≡ b → b ≡ nat_eq i j) [
       | true ↦ λ e. sym (ap (nat_eq i) (sym (one_at names ok i j h g e)) ∙ nat_equality.own i)
       | false ↦ λ e. sym (not_so (nat_eq i j) (λ same. true_false (text_eq (name_at names i) (name_at names j)) (subst (λ k. text_eq (name_at names i) (name_at names k) ≡ true) (nat_equality.exact i j same) (text_equality.own (name_at names i))) e))
     ] refl
 
-pub differ_at : (names : List Name) → are_apart names ≡ true → (i j : ℕ) → i < length names → j < length names → (i ≡ j → ⊥) → text_eq (name_at names i) (name_at names j) ≡ false
+pub differ_at : (names : List IdBytes) → ids_differ names ≡ true → (i j : ℕ) → i < length names → j < length names → (i ≡ j → ⊥) → text_eq (name_at names i) (name_at names j) ≡ false
 differ_at names ok i j h g other = not_so (text_eq (name_at names i) (name_at names j)) (λ e. other (one_at names ok i j h g e))

@@ -12,7 +12,7 @@ use Rattle.finite_maps.proofs.MapLaws.{by_key, get-set_other, get-set_same, same
 use Rattle.ecore_meta.specs.Meta.{Meta}
 use Rattle.model_state.specs.declared.step.Step.{Step}
 use Rattle.model_state.specs.Good.{Good, Sound}
-use Rattle.model_state.specs.Keys.{Name, RowKey, row_cmp}
+use Rattle.model_state.specs.Keys.{IdBytes, RowKey, row_cmp}
 use Rattle.model_state.specs.Listing.{is_of}
 use Rattle.model_state.specs.State.{State}
 use Rattle.model_state.specs.Steps.{fold, may_link, mirror_room}
@@ -23,7 +23,7 @@ use Rattle.edit_laws.specs.Rows.{Rows, link_step, set_pair}
 use Rattle.edit_laws.proofs.Clears.{good_after}
 use Rattle.edit_laws.proofs.Pairs.{Takes, link_takes}
 use Rattle.emfjson_model.specs.declared.doc.DocRow.{DocRow}
-use Rattle.model_import.specs.Laws.{are_apart}
+use Rattle.model_import.specs.Laws.{ids_differ}
 use Rattle.model_import.specs.Links.{is_made, link_to, mirror_of}
 use Rattle.model_import.specs.Names.{name_at}
 use Rattle.model_import.specs.News.{rank_of}
@@ -47,15 +47,15 @@ set_grows row k r q there =
 pub set_stays : (row : Rows) (k : RowKey) (v : Option ℕ) (q : RowKey) → (q ≡ k → ⊥) → get (set row k v) q ≡ get row q
 set_stays row k v q other = get-set_other row_order row k v q (not_so (eq_by_cmp row_cmp q k) (λ same. other (same_key row_order q k same)))
 
-pair_grows : (row : Rows) (a : Name) (f : ℕ) (b : Name) (o : Option ℕ) (v w : ℕ) (q : RowKey) → is_some (get row q) ≡ true → is_some (get (set_pair row a f b o (Some v) (Some w)) q) ≡ true
+pair_grows : (row : Rows) (a : IdBytes) (f : ℕ) (b : IdBytes) (o : Option ℕ) (v w : ℕ) (q : RowKey) → is_some (get row q) ≡ true → is_some (get (set_pair row a f b o (Some v) (Some w)) q) ≡ true
 pair_grows row a f b None v w q there = set_grows row (a, f, b) v q there
 pair_grows row a f b (Some g) v w q there = set_grows (set row (a, f, b) (Some v)) (b, g, a) w q (set_grows row (a, f, b) v q there)
 
-pair_here : (row : Rows) (a : Name) (f : ℕ) (b : Name) (o : Option ℕ) (v w : ℕ) → is_some (get (set_pair row a f b o (Some v) (Some w)) (a, f, b)) ≡ true
+pair_here : (row : Rows) (a : IdBytes) (f : ℕ) (b : IdBytes) (o : Option ℕ) (v w : ℕ) → is_some (get (set_pair row a f b o (Some v) (Some w)) (a, f, b)) ≡ true
 pair_here row a f b None v w = ap is_some (get-set_same row_order row (a, f, b) (Some v))
 pair_here row a f b (Some g) v w = set_grows (set row (a, f, b) (Some v)) (b, g, a) w (a, f, b) (ap is_some (get-set_same row_order row (a, f, b) (Some v)))
 
-pair_stays : (row : Rows) (a : Name) (f : ℕ) (b : Name) (o : Option ℕ) (v w : Option ℕ) (q : RowKey) → (q ≡ (a, f, b) → ⊥) → ((g : ℕ) → o ≡ Some g → q ≡ (b, g, a) → ⊥) → get (set_pair row a f b o v w) q ≡ get row q
+pair_stays : (row : Rows) (a : IdBytes) (f : ℕ) (b : IdBytes) (o : Option ℕ) (v w : Option ℕ) (q : RowKey) → (q ≡ (a, f, b) → ⊥) → ((g : ℕ) → o ≡ Some g → q ≡ (b, g, a) → ⊥) → get (set_pair row a f b o v w) q ≡ get row q
 pair_stays row a f b None v w q one other = set_stays row (a, f, b) v q one
 pair_stays row a f b (Some g) v w q one other = set_stays (set row (a, f, b) v) (b, g, a) w q (other g refl) ∙ set_stays row (a, f, b) v q one
 
@@ -66,7 +66,7 @@ made_once n f b g other here there = grind (arith, nat_tests)
 pub made_there : (n f b g : ℕ) → is_made (Some g) n f b ≡ true → is_made (Some f) b g n ≡ false
 made_there n f b g here = grind (arith, nat_tests)
 
-module _ (names : List Name) (differ : are_apart names ≡ true) where
+module _ (names : List IdBytes) (differ : ids_differ names ≡ true) where
   pub same_row : (i j : ℕ) → i < length names → j < length names → name_at names i ≡ name_at names j → i ≡ j
   same_row i j small small' is = one_at names differ i j small small' (subst (λ x. text_eq (name_at names i) x ≡ true) is (text_equality.own (name_at names i)))
 
@@ -108,7 +108,7 @@ module _ (names : List Name) (differ : are_apart names ≡ true) where
       (λ other there. old q (sym (ap is_some (get-set_other row_order row (key_of names t) (Some (rank_of t.index)) q other)) ∙ there)))
       all.1 q there
 
-module _ (meta : Meta) (sound : Sound meta) (s : State) (names : List Name) (rows : List DocRow) (differ : are_apart names ≡ true) (whole : Rows)
+module _ (meta : Meta) (sound : Sound meta) (s : State) (names : List IdBytes) (rows : List DocRow) (differ : ids_differ names ≡ true) (whole : Rows)
     (bound : (i h : ℕ) → i < length names → is_within (count (λ (e : RowKey × ℕ). is_of (name_at names i) h e.0) whole) (row_upper meta h) ≡ true) where
   abbrev pub linked : Rows → State
   linked row = record s { row = row }
@@ -136,10 +136,10 @@ module _ (meta : Meta) (sound : Sound meta) (s : State) (names : List Name) (row
   Absent row t = is_made (opposite_of meta t.feature) t.row t.feature t.target ≡ false → get row (key_of names t) ≡ None
 
   module _ (t : Turn) (due : Due t) (row : Rows) (inside : within row whole) where
-    abbrev e : Name
+    abbrev e : IdBytes
     e = name_at names t.row
 
-    abbrev x : Name
+    abbrev x : IdBytes
     x = name_at names t.target
 
     abbrev f : ℕ

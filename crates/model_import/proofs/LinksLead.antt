@@ -12,7 +12,7 @@ use Rattle.finite_maps.proofs.EqualLaws.{and_first, and_second, nat_equality}
 use Rattle.finite_maps.proofs.MapLaws.{same}
 use Rattle.ecore_meta.specs.Meta.{Meta}
 use Rattle.model_state.specs.Good.{Good, Sound}
-use Rattle.model_state.specs.Keys.{Name, RowKey}
+use Rattle.model_state.specs.Keys.{IdBytes, RowKey}
 use Rattle.model_state.specs.Listing.{is_of}
 use Rattle.model_state.specs.State.{State}
 use Rattle.model_state.specs.Steps.{fold, may_link}
@@ -23,10 +23,10 @@ use Rattle.edit_laws.proofs.Joins.{none_counted_at}
 use Rattle.emfjson_model.specs.declared.doc.DocRefs.{DocRefs}
 use Rattle.emfjson_model.specs.declared.doc.DocRow.{DocRow}
 use Rattle.emfjson_model.specs.Fits as fits
-use Rattle.emfjson_model.specs.Fits.{Fits}
+use Rattle.emfjson_model.specs.Fits.{DocumentFits}
 use Rattle.emfjson_model.specs.Merged.{targets_at}
 use Rattle.model_import.specs.After.{rows_from}
-use Rattle.model_import.specs.Laws.{are_apart}
+use Rattle.model_import.specs.Laws.{ids_differ}
 use Rattle.model_import.specs.Links.{index_in, is_made, links_made, mirror_of, refs_at}
 use Rattle.model_import.specs.Names.{name_at}
 use Rattle.model_import.specs.News.{rank_of}
@@ -45,7 +45,7 @@ any_at (c ∷ bs) zero b is = ap (λ x. x || list_any (nat_eq b) bs) (ap (nat_eq
 any_at (c ∷ bs) (suc j) b is = or_later (nat_eq b c) _ (any_at bs j b is)
 
 -- where each number comes once, it stands at one index
-pub index_is : (bs : List ℕ) (j n : ℕ) → fits.are_apart bs ≡ true → slice_get bs j ≡ Some n → index_in n bs ≡ j
+pub index_is : (bs : List ℕ) (j n : ℕ) → fits.numbers_differ bs ≡ true → slice_get bs j ≡ Some n → index_in n bs ≡ j
 index_is [] j n ok is = cc
 index_is (c ∷ bs) zero n ok is = ap (λ t. cond t 0 (suc (index_in n bs))) (ap (nat_eq n) (same_item c n is) ∙ nat_equality.own n)
   where
@@ -83,7 +83,7 @@ feature_there (x ∷ refs) zero q is = ap (λ b. b || list_any (nat_eq q.feature
 feature_there (x ∷ refs) (suc l) q is = or_later (nat_eq q.feature x.feature) _ (feature_there refs l q is)
 
 -- the list of a feature that comes once
-pub list_is : (refs : List DocRefs) (l : ℕ) (q : DocRefs) → fits.are_apart (map (λ (x : DocRefs). x.feature) refs) ≡ true → slice_get refs l ≡ Some q → targets_at q.feature refs ≡ q.targets
+pub list_is : (refs : List DocRefs) (l : ℕ) (q : DocRefs) → fits.numbers_differ (map (λ (x : DocRefs). x.feature) refs) ≡ true → slice_get refs l ≡ Some q → targets_at q.feature refs ≡ q.targets
 list_is [] l q ok is = cc
 list_is (x ∷ refs) zero q ok is =
     ap (λ b. cond b x.targets (targets_at q.feature refs)) (ap (nat_eq q.feature) (ap (λ (z : DocRefs). z.feature) (same_refs x q is)) ∙ nat_equality.own q.feature) ∙ ap (λ (z : DocRefs). z.targets) (same_refs x q is)
@@ -115,7 +115,7 @@ pub record Sits (meta : Meta) (rows : List DocRow) (t : Turn) : Type 0 where
   pub linked : links meta source.class t.feature to.class ≡ true
   pub among : slice_get (targets_at t.feature source.refs) t.index ≡ Some t.target
 
-module _ (meta : Meta) (rows : List DocRow) (fit : Fits meta rows) where
+module _ (meta : Meta) (rows : List DocRow) (fit : DocumentFits meta rows) where
   pub all_sit : Each (Sits meta rows) (turns_from 0 rows)
   all_sit = each_from (Sits meta rows) rows rows 0 (drop_none rows) (λ i r is l q at j b here.
       let row = fit.each i r is in
@@ -134,8 +134,8 @@ module _ (meta : Meta) (rows : List DocRow) (fit : Fits meta rows) where
   all_alone = alone_from rows rows 0 (drop_none rows) (λ i r is. (fit.each i r is).refs_apart) (λ i r is l q at. ((fit.each i r is).refs l q at).apart)
 
   -- each target is there once
-  pub list_apart : (i : ℕ) (r : DocRow) → slice_get rows i ≡ Some r → (g : ℕ) → fits.are_apart (targets_at g r.refs) ≡ true
-  list_apart i r is g = at_feature (λ f bs. fits.are_apart bs ≡ true) g refl r.refs (λ l q at. ((fit.each i r is).refs l q at).apart)
+  pub list_apart : (i : ℕ) (r : DocRow) → slice_get rows i ≡ Some r → (g : ℕ) → fits.numbers_differ (targets_at g r.refs) ≡ true
+  list_apart i r is g = at_feature (λ f bs. fits.numbers_differ bs ≡ true) g refl r.refs (λ l q at. ((fit.each i r is).refs l q at).apart)
 
   list_within : (i : ℕ) (r : DocRow) → slice_get rows i ≡ Some r → (g : ℕ) → is_within (length (targets_at g r.refs)) (row_upper meta g) ≡ true
   list_within i r is g = at_feature (λ f bs. is_within (length bs) (row_upper meta f) ≡ true) g (none_within (row_upper meta g)) r.refs (λ l q at. ((fit.each i r is).refs l q at).bound)
@@ -144,9 +144,9 @@ module _ (meta : Meta) (rows : List DocRow) (fit : Fits meta rows) where
   back_there : (t : Turn) (sits : Sits meta rows t) (g : ℕ) → opposite_of meta t.feature ≡ Some g → list_any (nat_eq t.row) (targets_at g sits.to.refs) ≡ true
   back_there t sits g is = sym (fit.mirrored t.row sits.source t.feature t.target sits.to g sits.is_source sits.is_to is) ∙ any_at (targets_at t.feature sits.source.refs) t.index t.target sits.among
 
-module _ (meta : Meta) (sound : Sound meta) (s : State) (good : Good meta s) (names : List Name) (rows : List DocRow) (fit : Fits meta rows) (as_many : length names ≡ length rows) (differ : are_apart names ≡ true)
+module _ (meta : Meta) (sound : Sound meta) (s : State) (good : Good meta s) (names : List IdBytes) (rows : List DocRow) (fit : DocumentFits meta rows) (as_many : length names ≡ length rows) (differ : ids_differ names ≡ true)
     (kinds : (i : ℕ) (r : DocRow) → slice_get rows i ≡ Some r → get s.kind (name_at names i) ≡ Some r.class)
-    (free : (i f : ℕ) (y : Name) → i < length names → get s.row (name_at names i, f, y) ≡ None) where
+    (free : (i f : ℕ) (y : IdBytes) → i < length names → get s.row (name_at names i, f, y) ≡ None) where
   abbrev ts : List Turn
   ts = turns_from 0 rows
 
@@ -198,7 +198,7 @@ module _ (meta : Meta) (sound : Sound meta) (s : State) (good : Good meta s) (na
   mirror_due t sits g is =
       let there = found_from Ranked rows 0 t.target sits.to g t.row all_ranked sits.is_to (back_there meta rows fit t sits g is) t.target (own t.target) in
       let refs = refs_are t.target sits.to sits.is_to in
-      let index : index_in t.row (targets_at g (refs_at rows t.target)) ≡ there.0 = index_is (targets_at g (refs_at rows t.target)) there.0 t.row (ap (λ x. fits.are_apart (targets_at g x)) refs ∙ list_apart meta rows fit t.target sits.to sits.is_to g) there.1 in
+      let index : index_in t.row (targets_at g (refs_at rows t.target)) ≡ there.0 = index_is (targets_at g (refs_at rows t.target)) there.0 t.row (ap (λ x. fits.numbers_differ (targets_at g x)) refs ∙ list_apart meta rows fit t.target sits.to sits.is_to g) there.1 in
       there.2 ∙ ap (λ j. Some (rank_of j)) (sym index)
     where
       own : (i : ℕ) → i ≡ 0 + i

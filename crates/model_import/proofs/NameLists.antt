@@ -4,7 +4,7 @@ use Rattle.std.proofs.Common.{◌≡◌, ℕ, zero, suc, ◌+◌, ◌<◌, ◌�
 use Rattle.std.specs.Prelude.{Option, None, Some, Result, Ok, Err, if◌then◌else◌}
 use Rattle.ecore_meta.specs.Meta.{Meta}
 use Rattle.model_state.specs.declared.operation.Operation.{Operation}
-use Rattle.model_state.specs.Keys.{Name}
+use Rattle.model_state.specs.Keys.{IdBytes}
 use Rattle.model_state.specs.State.{State}
 use Rattle.edit_laws.specs.declared.fault.EditFault.{EditFault}
 use Rattle.edits.specs.FreshIds.{numbered}
@@ -73,13 +73,13 @@ next_is m rows ws from k next = first_is m rows ws 18446744073709551615 from k n
     low from k small = omega arith
 
 -- the ids that a document's elements get are these
-pub names_are : (m : State) (rows : List DocRow) (ws k : ℕ) (rest : List DocRow) (names : List Name) → AreNames m rows ws k rest names → names ≡ names_from m rows ws k rest
+pub names_are : (m : State) (rows : List DocRow) (ws k : ℕ) (rest : List DocRow) (names : List IdBytes) → AreNames m rows ws k rest names → names ≡ names_from m rows ws k rest
 names_are m rows ws k [] [] are = refl
 names_are m rows ws k [] (x ∷ xs) are = absurd are
 names_are m rows ws k (r ∷ rest) [] are = absurd are
 names_are m rows ws k (r ∷ rest) (x ∷ xs) are = by r.id are.1 (names_are m rows ws are.0 rest xs are.2)
   where
-    by : (id : Option Name) → IsName m rows ws k id x are.0 → xs ≡ names_from m rows ws are.0 rest → x ∷ xs ≡ name_and_rest m rows ws k id (λ next. names_from m rows ws next rest)
+    by : (id : Option IdBytes) → IsName m rows ws k id x are.0 → xs ≡ names_from m rows ws are.0 rest → x ∷ xs ≡ name_and_rest m rows ws k id (λ next. names_from m rows ws next rest)
     by (Some id) is others = (λ i. is.0 i ∷ xs) ∙ ap (λ l. id ∷ l) (others ∙ ap (λ n. names_from m rows ws n rest) is.1)
     by None is others =
         let number = next_is m rows ws k is.0 is.2 in
@@ -87,7 +87,7 @@ names_are m rows ws k (r ∷ rest) (x ∷ xs) are = by r.id are.1 (names_are m r
         ∙ ap (λ l. numbered ws is.0 ∷ l) (others ∙ ap (λ n. names_from m rows ws n rest) is.3)
         ∙ ap (λ n. numbered ws n ∷ names_from m rows ws (n + 1) rest) (sym number)
 
-with_names : (meta : Meta) (m : State) (ws : ℕ) (rows : List DocRow) (names : List Name) → AreNames m rows ws 1 rows names → recorded_import meta m ws rows ≡ import_of meta m names rows
+with_names : (meta : Meta) (m : State) (ws : ℕ) (rows : List DocRow) (names : List IdBytes) → AreNames m rows ws 1 rows names → recorded_import meta m ws rows ≡ import_of meta m names rows
 with_names meta m ws rows names are = ap (λ l. import_of meta m l rows) (sym (names_are m rows ws 1 rows names are))
 
 in_use : (meta : Meta) (m : State) (ws : ℕ) (rows : List DocRow) → any_in_use m rows ≡ true → recorded_import meta m ws rows ≡ Err EditFault.IdInUse

@@ -1,4 +1,4 @@
--- The elements of a document come.
+-- The elements of a document are created.
 use Rattle.std.proofs.lemmas.Bool.Decides.{nat_tests}
 use Rattle.std.proofs.Common.{◌≡◌, ℕ, suc, ◌+◌, ◌<◌, ◌≤◌, Bool, true, false, cond, ◌&&◌, List, [], ◌∷◌, ◌++◌, length, drop, take, refl, sym, ap, subst, ◌∙◌, arith, nat_eq, nat_lt}
 use Rattle.std.specs.Prelude.{Option, None, Some, is_some, Result, Ok, Err, if◌then◌else◌, slice_get}
@@ -17,7 +17,7 @@ use Rattle.model_state.specs.declared.step.Place.{Place}
 use Rattle.model_state.specs.declared.step.Place.TheVariants.{Root, Inside}
 use Rattle.model_state.specs.declared.step.Step.{Step}
 use Rattle.model_state.specs.Good.{Good, Sound}
-use Rattle.model_state.specs.Keys.{Name, id_cmp}
+use Rattle.model_state.specs.Keys.{IdBytes, id_cmp}
 use Rattle.model_state.specs.Listing.{children}
 use Rattle.model_state.specs.State.{State, child_count, is_inside, is_live, place_eq}
 use Rattle.model_state.specs.Steps.{class_has, fold, has_room, may_stand, place_live}
@@ -31,11 +31,11 @@ use Rattle.edit_laws.specs.Places.{Ranks}
 use Rattle.edit_laws.proofs.Creates.{Stand, children_stand, names_differ}
 use Rattle.emfjson_model.specs.declared.doc.DocParent.{DocParent}
 use Rattle.emfjson_model.specs.declared.doc.DocRow.{DocRow}
-use Rattle.emfjson_model.specs.Fits.{Fits, StandsFit, standing}
-use Rattle.emfjson_model.specs.Laws.{are_behind, parent_before}
+use Rattle.emfjson_model.specs.Fits.{DocumentFits, StandsFit, standing}
+use Rattle.emfjson_model.specs.Laws.{parents_before, parent_before}
 use Rattle.emfjson_model.specs.References.{parent_eq}
 use Rattle.model_import.specs.After.{Kinds, Places, kinds_from, places_from, ranks_after, ranks_from}
-use Rattle.model_import.specs.Laws.{are_apart}
+use Rattle.model_import.specs.Laws.{ids_differ}
 use Rattle.model_import.specs.Names.{name_at}
 use Rattle.model_import.specs.News as news
 use Rattle.model_import.specs.News.{element_made, inside, news_from, place_of, roots_after}
@@ -59,11 +59,11 @@ swapped a b =
     apart_numbers : (a b : ℕ) → nat_eq b a ≡ false → nat_eq a b ≡ false
     apart_numbers a b e = grind (arith, nat_tests)
 
-module _ (meta : Meta) (sound : Sound meta) (m : State) (names : List Name) (rows : List DocRow) (fit : Fits meta rows) (as_many : length names ≡ length rows) (differ : are_apart names ≡ true) where
-  abbrev at : ℕ → Name
+module _ (meta : Meta) (sound : Sound meta) (m : State) (names : List IdBytes) (rows : List DocRow) (fit : DocumentFits meta rows) (as_many : length names ≡ length rows) (differ : ids_differ names ≡ true) where
+  abbrev at : ℕ → IdBytes
   at i = name_at names i
 
-  -- the first n rows have come
+  -- the elements of the first n rows are created
   pub record Come (n : ℕ) (s : State) (xs : List Entry) : Type 0 where
     pub good : Good meta s
     pub stand : Stand s xs
@@ -71,7 +71,7 @@ module _ (meta : Meta) (sound : Sound meta) (m : State) (names : List Name) (row
     pub ahead : (i : ℕ) → n ≤ i → i < length names → is_live s (name_at names i) ≡ false
     pub stood : (p f : ℕ) → p < length names → child_count s (Inside (name_at names p) f) ≡ standing (Some (record { row = p; feature = f })) (take n rows)
 
-  -- all rows have come
+  -- those of all rows are created
   pub record Led (ss : List Step) (s : State) : Type 0 where
     pub run : fold meta m ss ≡ Some s
     pub good : Good meta s
@@ -87,7 +87,7 @@ module _ (meta : Meta) (sound : Sound meta) (m : State) (names : List Name) (row
     parent_within : (p : DocParent) → parent_before n (Some p) ≡ true → p.row < length names
     parent_within p before = let less = less_is p.row n before in let w = within in omega (arith, less, w)
 
-    -- ---- the row may come
+    -- ---- its element may be created
     abbrev MayCome : State → ℕ → Place → Type 0
     MayCome s c p = (place_live s p ≡ true) × (may_stand meta s c p ≡ true) × (has_room meta s p ≡ true)
 
@@ -127,7 +127,7 @@ module _ (meta : Meta) (sound : Sound meta) (m : State) (names : List Name) (row
     stood_next s xs come before prank p f small =
         let e = at n in
         let to = place_of names r.parent in
-        let test = λ (x : Name × Place). place_eq (Inside (at p) f) x.1 in
+        let test = λ (x : IdBytes × Place). place_eq (Inside (at p) f) x.1 in
         let parent : DocParent = record { row = p; feature = f } in
         let sum : count test (set s.place e (Some to)) + counts test e (get s.place e) ≡ count test s.place + counts test e (Some to) = count-set id_order test s.place e (Some to) in
         let none : counts test e (get s.place e) ≡ 0 = ap (counts test e) (dead_place meta s come.good e (no_some _ (come.ahead n (itself n) within))).0 in
@@ -142,7 +142,7 @@ module _ (meta : Meta) (sound : Sound meta) (m : State) (names : List Name) (row
         added : (new none was one k k' b : ℕ) → new + none ≡ was + one → none ≡ 0 → one ≡ b → was ≡ k → k' ≡ k + (0 + b) → new ≡ k'
         added new none was one k k' b h g i j l = omega arith
 
-    -- ---- the row has come
+    -- ---- its element is created
     come_next : (s : State) (xs : List Entry) → Come n s xs → parent_before n r.parent ≡ true → (k : ℕ) → news.has_room xs (place_of names r.parent) ≡ true
         → Arrives meta s (element_made xs (place_of names r.parent) (at n) r.class k) (with_new s (at n) r.class (place_of names r.parent) (ranks_after xs (place_of names r.parent) (at n) k s.prank)) (roots_after xs (place_of names r.parent) (at n))
         × Come (suc n) (with_new s (at n) r.class (place_of names r.parent) (ranks_after xs (place_of names r.parent) (at n) k s.prank)) (roots_after xs (place_of names r.parent) (at n))
@@ -194,7 +194,7 @@ module _ (meta : Meta) (sound : Sound meta) (m : State) (names : List Name) (row
         from_next : (i n : ℕ) → suc n ≤ i → n ≤ i
         from_next i n later = omega arith
 
-  news_lead : (rest : List DocRow) (n : ℕ) (kind : Kinds) (place : Places) (prank : Ranks) (xs : List Entry) (steps ss : List Step) → drop n rows ≡ rest → are_behind n rest ≡ true → Come n (placed m kind place prank) xs
+  news_lead : (rest : List DocRow) (n : ℕ) (kind : Kinds) (place : Places) (prank : Ranks) (xs : List Entry) (steps ss : List Step) → drop n rows ≡ rest → parents_before n rest ≡ true → Come n (placed m kind place prank) xs
       → fold meta m steps ≡ Some (placed m kind place prank) → news_from names rows steps n xs rest ≡ Ok ss
       → Led ss (placed m (kinds_from names n kind rest) (places_from names n place rest) (ranks_from names rows n xs prank rest))
   news_lead [] n kind place prank xs steps ss left before come run made = record {
@@ -227,7 +227,7 @@ module _ (meta : Meta) (sound : Sound meta) (m : State) (names : List Name) (row
   module _ (good : Good meta m) (dead : list_any (is_live m) names ≡ false) where
     none_inside : (p f : ℕ) → p < length names → child_count m (Inside (at p) f) ≡ 0
     none_inside p f small =
-        count_none id_order (λ (x : Name × Place). place_eq (Inside (at p) f) x.1) m.place (λ q v is.
+        count_none id_order (λ (x : IdBytes × Place). place_eq (Inside (at p) f) x.1) m.place (λ q v is.
         outside v (dead_inner meta m good (at p) (no_some _ (none_at (is_live m) names p dead small)) q v is))
       where
         outside : (v : Place) → is_inside (at p) v ≡ false → place_eq (Inside (at p) f) v ≡ false

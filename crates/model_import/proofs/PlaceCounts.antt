@@ -7,7 +7,7 @@ use Rattle.std.proofs.lemmas.List.{length-take}
 use Rattle.finite_maps.specs.Equal.{option_eq}
 use Rattle.finite_maps.proofs.EqualLaws.{and_first, and_second, nat_equality}
 use Rattle.model_state.specs.declared.entry.Entry.{Entry}
-use Rattle.model_state.specs.Keys.{Name}
+use Rattle.model_state.specs.Keys.{IdBytes}
 use Rattle.emfjson_model.specs.declared.doc.DocParent.{DocParent}
 use Rattle.emfjson_model.specs.declared.doc.DocRow.{DocRow}
 use Rattle.emfjson_model.specs.References.{parent_eq}
@@ -62,8 +62,8 @@ few m rows n (Some p) less counts =
     let most = count_by-le-length (λ (x : DocRow). option_eq parent_eq x.parent (Some p)) (take n rows) in
     omega (arith, is, most, length-take n rows)
 
--- the element is the one that comes next of its place
-pub same_element : (m : BTreeMap (ℕ × ℕ) ℕ) (names : List Name) (rows : List DocRow) (xs : List Entry) (e : Name) (c : ℕ) (parent : Option DocParent) → Counts m rows
+-- the element is the one that is created next of its place
+pub same_element : (m : BTreeMap (ℕ × ℕ) ℕ) (names : List IdBytes) (rows : List DocRow) (xs : List Entry) (e : IdBytes) (c : ℕ) (parent : Option DocParent) → Counts m rows
     → element_made xs (place_of names parent) e c (counted m parent) ≡ element_made xs (place_of names parent) e c (standing parent rows)
 same_element m names rows xs e c None counts = refl
 same_element m names rows xs e c (Some p) counts = ap (element_made xs (place_of names (Some p)) e c) (counts p)

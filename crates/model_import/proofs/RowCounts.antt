@@ -10,11 +10,11 @@ use Rattle.finite_maps.specs.Maps.{count, counts, is_below, is_within, passes, s
 use Rattle.finite_maps.proofs.CountLaws.{count-set, count_alike}
 use Rattle.finite_maps.proofs.EqualLaws.{and_both, nat_equality, text_equality}
 use Rattle.finite_maps.proofs.MapLaws.{by_key, get-set_other, get-set_same}
-use Rattle.model_state.specs.Keys.{Name, RowKey, row_cmp}
+use Rattle.model_state.specs.Keys.{IdBytes, RowKey, row_cmp}
 use Rattle.model_state.specs.Listing.{is_of}
 use Rattle.model_state.proofs.Orders.{row_order}
 use Rattle.edit_laws.specs.Rows.{Rows}
-use Rattle.model_import.specs.Laws.{are_apart}
+use Rattle.model_import.specs.Laws.{ids_differ}
 use Rattle.model_import.specs.Names.{name_at}
 use Rattle.model_import.specs.News.{rank_of}
 use Rattle.model_import.proofs.Indexed.{same_at}
@@ -23,7 +23,7 @@ use Rattle.model_import.proofs.Turns.{Each, Turn, is_mine, key_of, turn_set, tur
 abbrev pub within : Rows → Rows → Type 0
 within row whole = (q : RowKey) (r : ℕ) → get row q ≡ Some r → get whole q ≡ Some r
 
-abbrev of : Name → ℕ → RowKey × ℕ → Bool
+abbrev of : IdBytes → ℕ → RowKey × ℕ → Bool
 of a f e = is_of a f e.0
 
 tally-filter : (p : RowKey × ℕ → Bool) (test : RowKey × ℕ → Bool) (es : List (RowKey × ℕ)) → tally p (filter test es) ≤ tally p es
@@ -48,7 +48,7 @@ module _ (row whole : Rows) (inside : within row whole) where
       ∙ find-where_key row_cmp held q (λ x tied. ap held (sym (row_order.exact q x tied))) (entries whole)
       ∙ ap (λ o. cond (held q) o None) (sym (get-entries whole q))
 
-  part_alike : (a : Name) (f : ℕ) (q : RowKey) → passes (of a f) q (get row q) ≡ passes (of a f) q (get part q)
+  part_alike : (a : IdBytes) (f : ℕ) (q : RowKey) → passes (of a f) q (get row q) ≡ passes (of a f) q (get part q)
   part_alike a f q =
       elim (get row q) as (λ o. get row q ≡ o → passes (of a f) q o ≡ passes (of a f) q (cond (is_some o) (get whole q) None)) [
         | None ↦ λ _. refl
@@ -57,7 +57,7 @@ module _ (row whole : Rows) (inside : within row whole) where
       ∙ sym (ap (passes (of a f) q) (part_get q))
 
   -- no more rows than in the whole
-  pub no_more : (a : Name) (f : ℕ) → count (of a f) row ≤ count (of a f) whole
+  pub no_more : (a : IdBytes) (f : ℕ) → count (of a f) row ≤ count (of a f) whole
   no_more a f =
       let same : count (of a f) row ≡ count (of a f) part = count_alike row_order (of a f) row part (part_alike a f) in
       let listed : count (of a f) part ≡ tally (of a f) (where_key row_cmp held (entries whole)) = ap (tally (of a f)) (entries-from_sorted row_cmp (where_key row_cmp held (entries whole)) (is_sorted-where_key row_cmp held (entries whole) (entries_sorted whole))) in
@@ -68,7 +68,7 @@ module _ (row whole : Rows) (inside : within row whole) where
       fewer a b c d p q h = omega arith
 
 -- where a row of the whole is not there, there is room for it
-pub space : (row whole : Rows) → within row whole → (a : Name) (f : ℕ) (b : Name) (r : ℕ) → get row (a, f, b) ≡ None → get whole (a, f, b) ≡ Some r → (upper : Option ℕ)
+pub space : (row whole : Rows) → within row whole → (a : IdBytes) (f : ℕ) (b : IdBytes) (r : ℕ) → get row (a, f, b) ≡ None → get whole (a, f, b) ≡ Some r → (upper : Option ℕ)
     → is_within (count (λ (e : RowKey × ℕ). is_of a f e.0) whole) upper ≡ true → is_below (count (λ (e : RowKey × ℕ). is_of a f e.0) row) upper ≡ true
 space row whole inside a f b r none some None bound = refl
 space row whole inside a f b r none some (Some upper) bound =
@@ -87,7 +87,7 @@ space row whole inside a f b r none some (Some upper) bound =
     below n k w c d upper sum was now less bound = grind (arith, nat_tests)
 
 -- ---- after the turns of a document
-module _ (names : List Name) (differ : are_apart names ≡ true) (i : ℕ) (small : i < length names) (h : ℕ) where
+module _ (names : List IdBytes) (differ : ids_differ names ≡ true) (i : ℕ) (small : i < length names) (h : ℕ) where
   abbrev p : RowKey × ℕ → Bool
   p e = is_of (name_at names i) h e.0
 

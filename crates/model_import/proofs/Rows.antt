@@ -1,16 +1,16 @@
--- The next of a list, and the next row that comes.
+-- The next of a list, and the next row whose element is created.
 use Rattle.std.proofs.Common.{◌≡◌, ◌∙◌, ℕ, zero, suc, ◌+◌, ◌<◌, ◌≤◌, Bool, true, List, [], ◌∷◌, ◌++◌, length, drop, take, get_or, add-one, drop-cons, refl, sym, ap, arith}
 use Rattle.std.specs.Prelude.{Err, if◌then◌else◌}
 use Rattle.model_state.specs.declared.entry.Entry.{Entry}
 use Rattle.model_state.specs.declared.step.Step.{Step}
-use Rattle.model_state.specs.Keys.{Name}
+use Rattle.model_state.specs.Keys.{IdBytes}
 use Rattle.edit_laws.specs.declared.fault.EditFault.TheVariants.{Bound}
 use Rattle.emfjson_model.specs.declared.doc.DocRow.{DocRow}
 use Rattle.model_import.specs.Names.{name_at}
 use Rattle.emfjson_model.specs.Fits.{standing}
 use Rattle.model_import.specs.News.{element_made, has_room, news_from, place_of, roots_after}
 
--- what is left of a list is its item at the place, and what is left behind it
+-- what is left of a list is its item at the place, and what is left after it
 pub next : {X : Type 0} (xs : List X) (i : ℕ) (x : X) → i < length xs → x ≡ get_or xs i x → drop i xs ≡ x ∷ drop (i + 1) xs
 next xs i x less is = rw (add-one, drop-cons xs i x less) (ap (λ y. y ∷ drop (suc i) xs) (sym is))
 
@@ -20,8 +20,8 @@ none_left [] (suc i) h = refl
 none_left (x ∷ xs) zero h = absurd (omega arith)
 none_left (x ∷ xs) (suc i) h = none_left xs i (omega arith)
 
--- the next row comes, where there is room
-pub news_on : (names : List Name) (rows : List DocRow) (steps : List Step) (n : ℕ) (xs : List Entry) (r : DocRow) (rest : List DocRow) (more : List Step) (k : ℕ) (ys : List Entry)
+-- the element of the next row is created, where there is room
+pub news_on : (names : List IdBytes) (rows : List DocRow) (steps : List Step) (n : ℕ) (xs : List Entry) (r : DocRow) (rest : List DocRow) (more : List Step) (k : ℕ) (ys : List Entry)
     → has_room xs (place_of names r.parent) ≡ true → ys ≡ roots_after xs (place_of names r.parent) (name_at names n)
     → more ≡ steps ++ element_made xs (place_of names r.parent) (name_at names n) r.class (standing r.parent (take n rows)) → k ≡ suc n
     → news_from names rows steps n xs (r ∷ rest) ≡ news_from names rows more k ys rest

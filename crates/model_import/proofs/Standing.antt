@@ -1,4 +1,4 @@
--- The elements at the root have their ranks, also once another has come.
+-- The elements at the root have their ranks, also once another is created.
 use Rattle.std.proofs.Common.{◌≡◌, ℕ, true, false, List, [], ◌∷◌, ◌++◌, refl, sym, ap, subst, ◌∙◌}
 use Rattle.std.specs.Prelude.{Option, Some, is_some, unwrap_or}
 use Rattle.std.specs.List.{list_any}
@@ -15,7 +15,7 @@ use Rattle.model_state.specs.declared.step.Place.TheVariants.{Root, Inside}
 use Rattle.model_state.specs.declared.step.Step.{Step}
 use Rattle.model_state.specs.declared.step.Step.TheVariants.{New}
 use Rattle.model_state.specs.Good.{Good, Sound}
-use Rattle.model_state.specs.Keys.{Name}
+use Rattle.model_state.specs.Keys.{IdBytes}
 use Rattle.model_state.specs.State.{State, is_live}
 use Rattle.model_state.specs.Steps.{Can, fold, has_room, may_stand, place_live, tests}
 use Rattle.model_state.specs.Typing.{is_concrete}
@@ -32,15 +32,15 @@ use Rattle.model_import.specs.News as news
 use Rattle.model_import.specs.Roots.{with_ranks}
 
 -- ---- what is live differs from what is not
-pub live_differ : (s : State) (e x : Name) → is_live s e ≡ false → is_live s x ≡ true → text_eq e x ≡ false
+pub live_differ : (s : State) (e x : IdBytes) → is_live s e ≡ false → is_live s x ≡ true → text_eq e x ≡ false
 live_differ s e x dead live = not_so (text_eq e x) (λ same. true_false (is_live s x) live (ap (is_live s) (sym (text_equality.exact e x same)) ∙ dead))
 
-none_stands : (s : State) (e : Name) → is_live s e ≡ false → (xs : List Entry) → Stand s xs → list_any (λ (y : Entry). text_eq e y.id) xs ≡ false
+none_stands : (s : State) (e : IdBytes) → is_live s e ≡ false → (xs : List Entry) → Stand s xs → list_any (λ (y : Entry). text_eq e y.id) xs ≡ false
 none_stands s e dead [] stand = refl
 none_stands s e dead (x ∷ xs) stand = or_none (text_eq e x.id) _ (live_differ s e x.id dead stand.0) (none_stands s e dead xs stand.3)
 
 -- ---- another element gets a rank
-ranks_still : (s : State) (x : Name) (v : Option ℕ) (xs : List Entry) → list_any (λ (y : Entry). text_eq x y.id) xs ≡ false → Stand s xs → Stand (record s { prank = set s.prank x v }) xs
+ranks_still : (s : State) (x : IdBytes) (v : Option ℕ) (xs : List Entry) → list_any (λ (y : Entry). text_eq x y.id) xs ≡ false → Stand s xs → Stand (record s { prank = set s.prank x v }) xs
 ranks_still s x v [] differ stand = tt
 ranks_still s x v (y ∷ ys) differ stand = (
   stand.0,
@@ -49,11 +49,11 @@ ranks_still s x v (y ∷ ys) differ stand = (
   ranks_still s x v ys (or_second (text_eq x y.id) _ differ) stand.3,
 )
 
--- a new element comes
-abbrev pub with_new : State → Name → ℕ → Place → Ranks → State
+-- a new element is created
+abbrev pub with_new : State → IdBytes → ℕ → Place → Ranks → State
 with_new s e c p prank = record s { kind = set s.kind e (Some c); place = set s.place e (Some p); prank = prank }
 
-stands_still : (s : State) (e : Name) (c : ℕ) (p : Place) (v : Option ℕ) → is_live s e ≡ false → (xs : List Entry) → Stand s xs → Stand (with_new s e c p (set s.prank e v)) xs
+stands_still : (s : State) (e : IdBytes) (c : ℕ) (p : Place) (v : Option ℕ) → is_live s e ≡ false → (xs : List Entry) → Stand s xs → Stand (with_new s e c p (set s.prank e v)) xs
 stands_still s e c p v dead [] stand = tt
 stands_still s e c p v dead (x ∷ xs) stand =
     let other = names_differ e x.id (live_differ s e x.id dead stand.0) in (
@@ -63,15 +63,15 @@ stands_still s e c p v dead (x ∷ xs) stand =
       stands_still s e c p v dead xs stand.3,
     )
 
--- ---- the elements are ranked anew
-ranked_other : (x : Name) (xs : List Entry) (rs : List ℕ) (prank : Ranks) → list_any (λ (y : Entry). text_eq x y.id) xs ≡ false → get (ranked_places xs rs prank) x ≡ get prank x
+-- ---- the elements are renumbered
+ranked_other : (x : IdBytes) (xs : List Entry) (rs : List ℕ) (prank : Ranks) → list_any (λ (y : Entry). text_eq x y.id) xs ≡ false → get (ranked_places xs rs prank) x ≡ get prank x
 ranked_other x [] rs prank differ = refl
 ranked_other x (y ∷ ys) [] prank differ = refl
 ranked_other x (y ∷ ys) (r ∷ rs) prank differ =
     ranked_other x ys rs (set prank y.id (Some r)) (or_second (text_eq x y.id) _ differ)
     ∙ get-set_other id_order prank y.id (Some r) x (names_differ y.id x (apart text_eq text_equality x y.id (or_first (text_eq x y.id) _ differ)))
 
-none_ranked : (x : Name) (xs : List Entry) (rs : List ℕ) → list_any (λ (y : Entry). text_eq x y.id) xs ≡ false → list_any (λ (y : Entry). text_eq x y.id) (with_ranks xs rs) ≡ false
+none_ranked : (x : IdBytes) (xs : List Entry) (rs : List ℕ) → list_any (λ (y : Entry). text_eq x y.id) xs ≡ false → list_any (λ (y : Entry). text_eq x y.id) (with_ranks xs rs) ≡ false
 none_ranked x [] rs differ = refl
 none_ranked x (y ∷ ys) [] differ = refl
 none_ranked x (y ∷ ys) (r ∷ rs) differ = or_none (text_eq x y.id) _ (or_first (text_eq x y.id) _ differ) (none_ranked x ys rs (or_second (text_eq x y.id) _ differ))
@@ -86,8 +86,8 @@ stand_ranked s (x ∷ xs) (r ∷ rs) stand = (
   stand_ranked (record s { prank = set s.prank x.id (Some r) }) xs rs (ranks_still s x.id (Some r) xs stand.2 stand.3),
 )
 
--- ---- an element behind the last
-none_more : (x : Name) (xs : List Entry) (y : Entry) → list_any (λ (z : Entry). text_eq x z.id) xs ≡ false → text_eq x y.id ≡ false → list_any (λ (z : Entry). text_eq x z.id) (xs ++ (y ∷ [])) ≡ false
+-- ---- an element after the last
+none_more : (x : IdBytes) (xs : List Entry) (y : Entry) → list_any (λ (z : Entry). text_eq x z.id) xs ≡ false → text_eq x y.id ≡ false → list_any (λ (z : Entry). text_eq x z.id) (xs ++ (y ∷ [])) ≡ false
 none_more x [] y none other = or_none (text_eq x y.id) false other refl
 none_more x (z ∷ zs) y none other = or_none (text_eq x z.id) _ (or_first (text_eq x z.id) _ none) (none_more x zs y (or_second (text_eq x z.id) _ none) other)
 
@@ -100,13 +100,13 @@ stand_last s (x ∷ xs) y live rank none stand = (
   stand_last s xs y live rank (or_second (text_eq y.id x.id) _ none) stand.3,
 )
 
--- ---- a new element comes
+-- ---- a new element is created
 pub record Arrives (meta : Meta) (s : State) (ss : List Step) (s' : State) (xs : List Entry) : Type 0 where
   pub run : fold meta s ss ≡ Some s'
   pub good : Good meta s'
   pub stand : Stand s' xs
 
-module _ (meta : Meta) (sound : Sound meta) (s : State) (good : Good meta s) (xs : List Entry) (stand : Stand s xs) (e : Name) (c : ℕ) (dead : is_live s e ≡ false) (concrete : is_concrete meta c ≡ true) where
+module _ (meta : Meta) (sound : Sound meta) (s : State) (good : Good meta s) (xs : List Entry) (stand : Stand s xs) (e : IdBytes) (c : ℕ) (dead : is_live s e ≡ false) (concrete : is_concrete meta c ≡ true) where
   root_arrives : (k : ℕ) → news.has_room xs Root ≡ true → Arrives meta s (news.element_made xs Root e c k) (with_new s e c Root (ranks_after xs Root e k s.prank)) (news.roots_after xs Root e)
   root_arrives k room =
       let spot = end_spot xs in
@@ -125,7 +125,7 @@ module _ (meta : Meta) (sound : Sound meta) (s : State) (good : Good meta s) (xs
         stand = subst (λ w. Stand (with_new n e c Root (set n.prank e w)) (with_ranks xs spot.ranks ++ record { rank = rank; id = e } ∷ [])) (sym is) last;
       }
 
-  inside_arrives : (a : Name) (f k : ℕ) → place_live s (Inside a f) ≡ true → may_stand meta s c (Inside a f) ≡ true → has_room meta s (Inside a f) ≡ true
+  inside_arrives : (a : IdBytes) (f k : ℕ) → place_live s (Inside a f) ≡ true → may_stand meta s c (Inside a f) ≡ true → has_room meta s (Inside a f) ≡ true
       → Arrives meta s (news.element_made xs (Inside a f) e c k) (with_new s e c (Inside a f) (ranks_after xs (Inside a f) e k s.prank)) (news.roots_after xs (Inside a f) e)
   inside_arrives a f k live typed room =
       let can : Can meta s (New e c (Inside a f) (news.rank_of k)) = pass (tests meta s (New e c (Inside a f) (news.rank_of k))) (not_false _ dead, (live, (concrete, (typed, (room, tt))))) in

@@ -8,11 +8,11 @@ use Rattle.finite_maps.proofs.Cases.{not_so, not_true, true_false, or_first, or_
 use Rattle.finite_maps.proofs.EqualLaws.{and_first, and_second, nat_equality}
 use Rattle.ecore_meta.specs.Meta.{Meta}
 use Rattle.model_state.specs.declared.step.Step.{Step}
-use Rattle.model_state.specs.Keys.{Name, RowKey}
+use Rattle.model_state.specs.Keys.{IdBytes, RowKey}
 use Rattle.edit_laws.specs.Rows.{Rows}
 use Rattle.emfjson_model.specs.declared.doc.DocRefs.{DocRefs}
 use Rattle.emfjson_model.specs.declared.doc.DocRow.{DocRow}
-use Rattle.emfjson_model.specs.Fits.{are_apart}
+use Rattle.emfjson_model.specs.Fits.{numbers_differ}
 use Rattle.emfjson_model.specs.Merged.{targets_at}
 use Rattle.model_import.specs.After.{refs_set, rows_from, targets_set}
 use Rattle.model_import.specs.Links.{link_to, links_from, refs_made, targets_made}
@@ -43,14 +43,14 @@ turns_from n [] = []
 turns_from n (r ∷ rest) = turns_of n r.refs ++ turns_from (suc n) rest
 
 -- ---- the steps of the turns
-abbrev pub turn_step : Meta → List Name → List DocRow → Turn → List Step
+abbrev pub turn_step : Meta → List IdBytes → List DocRow → Turn → List Step
 turn_step meta names rows t = link_to meta rows t.row (name_at names t.row) t.feature t.index t.target (slice_get names t.target)
 
-abbrev pub turn_steps : Meta → List Name → List DocRow → List Turn → List Step
+abbrev pub turn_steps : Meta → List IdBytes → List DocRow → List Turn → List Step
 turn_steps meta names rows [] = []
 turn_steps meta names rows (t ∷ ts) = turn_step meta names rows t ++ turn_steps meta names rows ts
 
-module _ (meta : Meta) (names : List Name) (rows : List DocRow) where
+module _ (meta : Meta) (names : List IdBytes) (rows : List DocRow) where
   steps_append : (ts us : List Turn) → turn_steps meta names rows (ts ++ us) ≡ turn_steps meta names rows ts ++ turn_steps meta names rows us
   steps_append [] us = refl
   steps_append (t ∷ ts) us = ap (λ ss. turn_step meta names rows t ++ ss) (steps_append ts us) ∙ sym (append_assoc (turn_step meta names rows t) (turn_steps meta names rows ts) (turn_steps meta names rows us))
@@ -74,17 +74,17 @@ module _ (meta : Meta) (names : List Name) (rows : List DocRow) where
       ∙ sym (steps_append (turns_of n r.refs) (turns_from (suc n) rest))
 
 -- ---- what the turns leave
-abbrev pub key_of : List Name → Turn → RowKey
+abbrev pub key_of : List IdBytes → Turn → RowKey
 key_of names t = (name_at names t.row, t.feature, name_at names t.target)
 
-abbrev pub turn_set : List Name → Rows → Turn → Rows
+abbrev pub turn_set : List IdBytes → Rows → Turn → Rows
 turn_set names row t = set row (key_of names t) (Some (rank_of t.index))
 
-abbrev pub turns_set : List Name → Rows → List Turn → Rows
+abbrev pub turns_set : List IdBytes → Rows → List Turn → Rows
 turns_set names row [] = row
 turns_set names row (t ∷ ts) = turns_set names (turn_set names row t) ts
 
-module _ (names : List Name) where
+module _ (names : List IdBytes) where
   set_append : (row : Rows) (ts us : List Turn) → turns_set names row (ts ++ us) ≡ turns_set names (turns_set names row ts) us
   set_append row [] us = refl
   set_append row (t ∷ ts) us = set_append (turn_set names row t) ts us
@@ -211,7 +211,7 @@ targets_differ : (n f k b : ℕ) (j : ℕ) (bs : List ℕ) → list_any (nat_eq 
 targets_differ n f k b j [] h = tt
 targets_differ n f k b j (c ∷ bs) h = (no_second (nat_eq n n) _ (no_second (nat_eq f f) _ (or_first (nat_eq b c) _ h)), targets_differ n f k b (suc j) bs (or_second (nat_eq b c) _ h))
 
-alone_in : (n f k : ℕ) (bs : List ℕ) → are_apart bs ≡ true → Alone (turns_in n f k bs)
+alone_in : (n f k : ℕ) (bs : List ℕ) → numbers_differ bs ≡ true → Alone (turns_in n f k bs)
 alone_in n f k [] h = tt
 alone_in n f k (b ∷ bs) h = (targets_differ n f k b (suc k) bs (not_true (list_any (nat_eq b) bs) (and_first _ _ h)), alone_in n f (suc k) bs (and_second (not (list_any (nat_eq b) bs)) _ h))
 
@@ -229,7 +229,7 @@ of_features n (q ∷ refs) =
     (each_map (λ t. (t.row ≡ n) × (t.feature ≡ q.feature)) (λ t. (t.row ≡ n) × (nat_eq t.feature q.feature || list_any (nat_eq t.feature) (features refs) ≡ true)) (λ t is. (is.0, ap (λ b. b || list_any (nat_eq t.feature) (features refs)) (ap (λ g. nat_eq g q.feature) is.1 ∙ nat_equality.own q.feature))) (turns_in n q.feature 0 q.targets) (in_feature n q.feature 0 q.targets))
     (each_map (λ t. (t.row ≡ n) × (list_any (nat_eq t.feature) (features refs) ≡ true)) (λ t. (t.row ≡ n) × (nat_eq t.feature q.feature || list_any (nat_eq t.feature) (features refs) ≡ true)) (λ t is. (is.0, or_later (nat_eq t.feature q.feature) _ is.1)) (turns_of n refs) (of_features n refs))
 
-alone_of : (n : ℕ) (refs : List DocRefs) → are_apart (features refs) ≡ true → ((l : ℕ) (q : DocRefs) → slice_get refs l ≡ Some q → are_apart q.targets ≡ true) → Alone (turns_of n refs)
+alone_of : (n : ℕ) (refs : List DocRefs) → numbers_differ (features refs) ≡ true → ((l : ℕ) (q : DocRefs) → slice_get refs l ≡ Some q → numbers_differ q.targets ≡ true) → Alone (turns_of n refs)
 alone_of n [] h each = tt
 alone_of n (q ∷ refs) h each =
     let away : list_any (nat_eq q.feature) (features refs) ≡ false = not_true (list_any (nat_eq q.feature) (features refs)) (and_first _ _ h) in
@@ -252,8 +252,8 @@ behind_rows n (r ∷ rest) =
     less : (n k : ℕ) → suc n ≤ k → n ≤ k
     less n k h = omega arith
 
-pub alone_from : (rows rest : List DocRow) (n : ℕ) → drop n rows ≡ rest → ((i : ℕ) (r : DocRow) → slice_get rows i ≡ Some r → are_apart (map (λ (q : DocRefs). q.feature) r.refs) ≡ true)
-    → ((i : ℕ) (r : DocRow) → slice_get rows i ≡ Some r → (l : ℕ) (q : DocRefs) → slice_get r.refs l ≡ Some q → are_apart q.targets ≡ true) → Alone (turns_from n rest)
+pub alone_from : (rows rest : List DocRow) (n : ℕ) → drop n rows ≡ rest → ((i : ℕ) (r : DocRow) → slice_get rows i ≡ Some r → numbers_differ (map (λ (q : DocRefs). q.feature) r.refs) ≡ true)
+    → ((i : ℕ) (r : DocRow) → slice_get rows i ≡ Some r → (l : ℕ) (q : DocRefs) → slice_get r.refs l ≡ Some q → numbers_differ q.targets ≡ true) → Alone (turns_from n rest)
 alone_from rows [] n left h each = tt
 alone_from rows (r ∷ rest) n left h each =
     let here = drop_at n rows r rest left in
@@ -288,7 +288,7 @@ tally_missing : (i h n : ℕ) (refs : List DocRefs) → list_any (nat_eq h) (fea
 tally_missing i h n refs away = tally_none (is_mine i h) (turns_of n refs) (each_map (λ t. (t.row ≡ n) × (list_any (nat_eq t.feature) (features refs) ≡ true)) (λ t. is_mine i h t ≡ false)
     (λ t is. no_second (nat_eq i t.row) _ (not_so (nat_eq h t.feature) (λ same. true_false (list_any (nat_eq t.feature) (features refs)) is.1 (ap (λ g. list_any (nat_eq g) (features refs)) (sym (nat_equality.exact h t.feature same)) ∙ away)))) (turns_of n refs) (of_features n refs))
 
-tally_of : (i h : ℕ) (refs : List DocRefs) → are_apart (features refs) ≡ true → tally (is_mine i h) (turns_of i refs) ≡ length (targets_at h refs)
+tally_of : (i h : ℕ) (refs : List DocRefs) → numbers_differ (features refs) ≡ true → tally (is_mine i h) (turns_of i refs) ≡ length (targets_at h refs)
 tally_of i h [] ok = refl
 tally_of i h (q ∷ refs) ok =
     tally_append (is_mine i h) (turns_in i q.feature 0 q.targets) (turns_of i refs)
@@ -309,7 +309,7 @@ tally_before i h n rest less = tally_none (is_mine i h) (turns_from n rest) (eac
     differ : (i n k : ℕ) → i < n → n ≤ k → nat_eq i k ≡ false
     differ i n k h g = grind (arith, nat_tests)
 
-pub tally_from : (rest : List DocRow) (n i k h : ℕ) (r : DocRow) → slice_get rest i ≡ Some r → k ≡ n + i → are_apart (map (λ (q : DocRefs). q.feature) r.refs) ≡ true → tally (is_mine k h) (turns_from n rest) ≡ length (targets_at h r.refs)
+pub tally_from : (rest : List DocRow) (n i k h : ℕ) (r : DocRow) → slice_get rest i ≡ Some r → k ≡ n + i → numbers_differ (map (λ (q : DocRefs). q.feature) r.refs) ≡ true → tally (is_mine k h) (turns_from n rest) ≡ length (targets_at h r.refs)
 tally_from [] n i k h r is at ok = cc
 tally_from (x ∷ rest) n zero k h r is at ok =
     let here : k ≡ n = at ∙ first n in

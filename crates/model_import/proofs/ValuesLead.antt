@@ -17,7 +17,7 @@ use Rattle.ecore_meta.specs.declared.meta.Scalar.{Scalar}
 use Rattle.ecore_meta.specs.declared.meta.Value.{Value}
 use Rattle.model_state.specs.declared.step.Step.TheVariants.{Put, Ins}
 use Rattle.model_state.specs.Good.{ValuesOk, is_distinct}
-use Rattle.model_state.specs.Keys.{Name, AttrKey, attr_cmp}
+use Rattle.model_state.specs.Keys.{IdBytes, AttrKey, attr_cmp}
 use Rattle.model_state.specs.Lists.{entry_of, values_of}
 use Rattle.model_state.specs.State.{State}
 use Rattle.model_state.specs.Steps.{Can, class_has, fold, single, tests}
@@ -28,7 +28,7 @@ use Rattle.model_laws.proofs.Many.{part}
 use Rattle.model_laws.proofs.Runs.{fold_append, fold_more}
 use Rattle.emfjson_model.specs.declared.doc.DocAttr.{DocAttr}
 use Rattle.emfjson_model.specs.declared.doc.DocRow.{DocRow}
-use Rattle.emfjson_model.specs.Fits.{AttrFits, Fits, are_apart}
+use Rattle.emfjson_model.specs.Fits.{AttrFits, DocumentFits, numbers_differ}
 use Rattle.model_import.specs.After.{Attrs, attrs_from, attrs_set}
 use Rattle.model_import.specs.Laws as laws
 use Rattle.model_import.specs.Names.{name_at}
@@ -73,11 +73,11 @@ own_le n = grind (arith, nat_tests)
 is_less : (n k : ℕ) → n < k → nat_lt n k ≡ true
 is_less n k h = grind (arith, nat_tests)
 
-keys_apart : (e x : Name) (f g : ℕ) → text_eq e x ≡ false → eq_by_cmp attr_cmp (e, f) (x, g) ≡ false
+keys_apart : (e x : IdBytes) (f g : ℕ) → text_eq e x ≡ false → eq_by_cmp attr_cmp (e, f) (x, g) ≡ false
 keys_apart e x f g differ = not_so (eq_by_cmp attr_cmp (e, f) (x, g)) (λ same.
     true_false (text_eq e x) (ap (λ (q : AttrKey). text_eq e q.0) (sym (same_key attr_order (e, f) (x, g) same)) ∙ text_equality.own e) differ)
 
-features_apart : (e : Name) (f g : ℕ) → nat_eq f g ≡ false → eq_by_cmp attr_cmp (e, f) (e, g) ≡ false
+features_apart : (e : IdBytes) (f g : ℕ) → nat_eq f g ≡ false → eq_by_cmp attr_cmp (e, f) (e, g) ≡ false
 features_apart e f g differ = not_so (eq_by_cmp attr_cmp (e, f) (e, g)) (λ same.
     true_false (nat_eq f g) (ap (λ (q : AttrKey). nat_eq f q.1) (sym (same_key attr_order (e, f) (e, g) same)) ∙ nat_equality.own f) differ)
 
@@ -86,7 +86,7 @@ module _ (meta : Meta) (s : State) where
   valued attr = record s { attr = attr }
 
   -- ---- an attribute of an element that has not been set
-  module _ (e : Name) (c : ℕ) (f : ℕ) (kind : get s.kind e ≡ Some c) (has : has_feature meta c f ≡ true) where
+  module _ (e : IdBytes) (c : ℕ) (f : ℕ) (kind : get s.kind e ≡ Some c) (has : has_feature meta c f ≡ true) where
     live : is_some (get s.kind e) ≡ true
     live = ap is_some kind
 
@@ -191,7 +191,7 @@ module _ (meta : Meta) (s : State) where
     by_kind Skip is vs ok attr none = absurd ok
 
   -- ---- the attributes of an element
-  attrs_lead : (e : Name) (c : ℕ) → get s.kind e ≡ Some c → (attrs : List DocAttr) (attr : Attrs) → are_apart (map (λ (a : DocAttr). a.feature) attrs) ≡ true → ((k : ℕ) (a : DocAttr) → slice_get attrs k ≡ Some a → AttrFits meta c a)
+  attrs_lead : (e : IdBytes) (c : ℕ) → get s.kind e ≡ Some c → (attrs : List DocAttr) (attr : Attrs) → numbers_differ (map (λ (a : DocAttr). a.feature) attrs) ≡ true → ((k : ℕ) (a : DocAttr) → slice_get attrs k ≡ Some a → AttrFits meta c a)
       → ((f : ℕ) → list_any (nat_eq f) (map (λ (a : DocAttr). a.feature) attrs) ≡ true → get attr (e, f) ≡ None) → fold meta (valued attr) (attrs_made meta e attrs) ≡ Some (valued (attrs_set e attr attrs))
   attrs_lead e c kind [] attr differ ok none = refl
   attrs_lead e c kind (a ∷ attrs) attr differ ok none =
@@ -207,12 +207,12 @@ module _ (meta : Meta) (s : State) where
       let other : nat_eq g f ≡ false = not_so (nat_eq g f) (λ same. true_false (list_any (nat_eq g) fs) here (ap (λ n. list_any (nat_eq n) fs) (nat_equality.exact g f same) ∙ away)) in
       get-set_other attr_order attr (e, f) (Some a.values) (e, g) (features_apart e g f other) ∙ none g (ap (λ b. b || list_any (nat_eq g) fs) other ∙ here))
 
-  attrs_other : (e x : Name) (g : ℕ) → text_eq x e ≡ false → (attrs : List DocAttr) (attr : Attrs) → get (attrs_set e attr attrs) (x, g) ≡ get attr (x, g)
+  attrs_other : (e x : IdBytes) (g : ℕ) → text_eq x e ≡ false → (attrs : List DocAttr) (attr : Attrs) → get (attrs_set e attr attrs) (x, g) ≡ get attr (x, g)
   attrs_other e x g differ [] attr = refl
   attrs_other e x g differ (a ∷ attrs) attr = attrs_other e x g differ attrs (set attr (e, a.feature) (Some a.values)) ∙ get-set_other attr_order attr (e, a.feature) (Some a.values) (x, g) (keys_apart x e g a.feature differ)
 
   -- ---- those of all rows
-  module _ (names : List Name) (rows : List DocRow) (fit : Fits meta rows) (as_many : length names ≡ length rows) (differ : laws.are_apart names ≡ true)
+  module _ (names : List IdBytes) (rows : List DocRow) (fit : DocumentFits meta rows) (as_many : length names ≡ length rows) (differ : laws.ids_differ names ≡ true)
       (kinds : (i : ℕ) (r : DocRow) → slice_get rows i ≡ Some r → get s.kind (name_at names i) ≡ Some r.class) where
     pub values_lead : (rest : List DocRow) (n : ℕ) (attr : Attrs) → drop n rows ≡ rest → ((i f : ℕ) → n ≤ i → i < length names → get attr (name_at names i, f) ≡ None)
         → fold meta (valued attr) (values_from meta names n rest) ≡ Some (valued (attrs_from names n attr rest))

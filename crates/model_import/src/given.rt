@@ -10,7 +10,7 @@ use std::alloc::{AllocError, Global};
 use std::collections::BTreeSet;
 use std::marker::Model;
 
-/// The rows of a document, whose ids are in order, so that it is soon told whether they give one.
+/// The rows of a document, whose ids are in order, so that it is soon found whether they give one.
 #[derive(Drop)]
 pub(crate) struct Given<'a> {
     rows: &'a [DocRow],
@@ -30,7 +30,7 @@ impl<'a> Model for Given<'a> {
 }
 
 impl<'a> Given<'a> {
-    /// Makes the set of the ids, from all rows. The error is want of memory.
+    /// Makes the set of the ids, from all rows. The error is out of memory.
     pub fn new(alloc: Global, rows: &'a [DocRow]) -> Result<Given<'a>, AllocError>
         ensures { IfOk result (λ given. given ≡ rows.now) }
     {

@@ -1,6 +1,6 @@
 //! The import of a document as one composite: creations first, then values, then links.
 ghost use Rattle.std.specs.Prelude.{◌≡◌, IfOk, length};
-ghost use Rattle.emfjson_model.specs.Fits.{Fits};
+ghost use Rattle.emfjson_model.specs.Fits.{DocumentFits};
 ghost use Rattle.model_import.specs.Import.{Imports, composite, of_steps, recorded_import, steps_made};
 ghost use Rattle.edits.specs.Answers.{Answers};
 
@@ -14,7 +14,7 @@ use emfjson_model::{Doc, DocRow};
 use model_state::{Id, Look, Operation, Step};
 use std::alloc::{AllocError, Global};
 
-/// The steps: the elements come, then they get their values, then they are linked.
+/// The steps: the elements are created, then they get their values, then they are linked.
 fn steps<L: Look>(
     alloc: Global,
     look: &L,
@@ -96,13 +96,13 @@ fn imported<L: Look>(
     }
 }
 
-/// Records that a document is brought in, as one composite of the name `import`: its roots come behind the last element at the
+/// Records that a document is brought in, as one composite of the name `import`: its roots stand after the last element at the
 /// root, and elements without an id get fresh ones of the workspace. A document without elements makes no operation. The
 /// document fits the metamodel, as each does that was read with it: both sides of a reference are given, in one order.
 ///
 /// # Errors
 ///
-/// `IdInUse` where the document gives an id that is live; `Bound` where the root is to be ranked anew and has 4,294,967,295
+/// `IdInUse` where the document gives an id that is live; `Bound` where the root is to be renumbered and has 4,294,967,295
 /// elements or more; `Memory`.
 pub fn import_doc<L: Look>(
     alloc: Global,
@@ -111,7 +111,7 @@ pub fn import_doc<L: Look>(
     ws: u32,
     doc: &Doc,
 ) -> Result<Option<Operation>, EditFault>
-    requires fits { Fits meta.now doc.now.rows }
+    requires fits { DocumentFits meta.now doc.now.rows }
     ensures made { Imports meta.now (L.state look.now) ws doc.now.rows result }
     ensures recorded { Answers result (recorded_import meta.now (L.state look.now) ws doc.now.rows) }
 {

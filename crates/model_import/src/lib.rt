@@ -1,4 +1,4 @@
-//! A document is brought into a model as one composite: its elements come, get their values, and are linked.
+//! A document is brought into a model as one composite: its elements are created, get their values, and are linked.
 #![tactic(auto)]
 
 mod counts;

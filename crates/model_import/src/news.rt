@@ -42,7 +42,7 @@ fn place_of(alloc: Global, names: &[Id], parent: Option<DocParent>) -> Result<Pl
     }
 }
 
-/// A new element in its place, where it is the k-th unless it comes to the root.
+/// A new element in its place, where it is the k-th unless that is the root.
 fn add_element(
     alloc: Global,
     place: Place,
@@ -88,7 +88,7 @@ fn add_inside(
     Ok(())
 }
 
-/// The element of the n-th row, behind those that stand in its place so far.
+/// The element of the n-th row, after those that stand in its place so far.
 fn add_row(
     alloc: Global,
     names: &[Id],
@@ -118,7 +118,7 @@ fn add_row(
     }
 }
 
-/// The steps in which the elements of a document come.
+/// The steps in which the elements of a document are created.
 pub(crate) fn news<L: Look>(
     alloc: Global,
     look: &L,

@@ -12,8 +12,8 @@ use edit_laws::EditFault;
 use model_state::{Entry, Id, Place, Step, rank_between};
 use std::alloc::{AllocError, Global};
 
-/// The rank behind the last of the entries, None where none is left.
-fn rank_behind(list: &[Entry]) -> Option<u64>
+/// The rank after the last of the entries, None where none is left.
+fn rank_after(list: &[Entry]) -> Option<u64>
     ensures { result ≡ rank_for (ranks_of list.now) (length list.now) }
 {
     match list.last() {
@@ -65,7 +65,7 @@ fn even_reranks(alloc: Global, list: &[Entry], steps: &mut List<Step>) -> Result
     Ok(())
 }
 
-/// A new element behind the last at the root, with that rank.
+/// A new element after the last at the root, with that rank.
 fn push_root(
     alloc: Global,
     roots: &mut List<Entry>,
@@ -90,7 +90,7 @@ fn push_root(
     Ok(())
 }
 
-/// The same where the others are to be ranked anew before.
+/// The same where the others are to be renumbered before.
 fn spread_root(
     alloc: Global,
     roots: &mut List<Entry>,
@@ -110,11 +110,11 @@ fn spread_root(
     Ok(())
 }
 
-/// An element comes behind the last at the root.
+/// An element is created after the last at the root.
 ///
 /// # Errors
 ///
-/// `Bound` where the root is to be ranked anew and has 4,294,967,295 elements or more; `Memory`.
+/// `Bound` where the root is to be renumbered and has 4,294,967,295 elements or more; `Memory`.
 pub(crate) fn add_root(
     alloc: Global,
     roots: &mut List<Entry>,
@@ -127,7 +127,7 @@ pub(crate) fn add_root(
     ensures steps { OnOk result (steps.new ≡ steps.old ++ root_made roots.old e.now class) }
     ensures refused { IfErr result (λ x. (x ≡ Memory) ⊎ ((x ≡ Bound) × (has_end roots.old ≡ false))) }
 {
-    match rank_behind(roots.as_slice()) {
+    match rank_after(roots.as_slice()) {
         Some(rank) => match push_root(alloc, roots, steps, e, class, rank) {
             Err(_) => Err(EditFault::Memory),
             Ok(()) => Ok(()),

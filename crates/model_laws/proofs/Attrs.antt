@@ -9,7 +9,7 @@ use Rattle.finite_maps.proofs.EqualLaws.{apart, option_equality}
 use Rattle.ecore_meta.specs.Meta.{Meta}
 use Rattle.ecore_meta.specs.declared.meta.Value.{Value}
 use Rattle.model_state.specs.declared.step.Step.TheVariants.{Put}
-use Rattle.model_state.specs.Keys.{Name}
+use Rattle.model_state.specs.Keys.{IdBytes}
 use Rattle.ecore_meta.specs.declared.meta.Kind.{Kind}
 use Rattle.ecore_meta.specs.declared.meta.Kind.TheVariants.{Attr, AttrMany, Bounded, Free, Contains, Container, Skip}
 use Rattle.model_state.specs.Typing.{value_eq, is_attr, attr_fits, is_default, kind_of}
@@ -36,13 +36,13 @@ put_ok meta None f (Some v) has is fit other = cc
 put_ok meta (Some c) f (Some v) has is fit other = (has, value_ok meta (kind_of meta f) _ v is fit other)
 
 module _ (meta : Meta) (m : State) where
-  pub put_undone : (e : Name) (f : ℕ) (old new : Option Value) → Can meta m (Put e f old new) → apply meta (apply meta m (Put e f old new)) (Put e f new old) ≡ m
+  pub put_undone : (e : IdBytes) (f : ℕ) (old new : Option Value) → Can meta m (Put e f old new) → apply meta (apply meta m (Put e f old new)) (Put e f new old) ≡ m
   put_undone e f old new can =
       let p = passed (tests meta m (Put e f old new)) can in
       let was = values_equality.exact _ _ p.1.1.1.1.1.1.1.1.0 in
       ap (λ a. record m { attr = a }) (set_back attr_order m.attr (e, f) (single old) (single new) was)
 
-  pub put_back : (e : Name) (f : ℕ) (old new : Option Value) → Can meta m (Put e f old new) → Can meta (apply meta m (Put e f old new)) (Put e f new old)
+  pub put_back : (e : IdBytes) (f : ℕ) (old new : Option Value) → Can meta m (Put e f old new) → Can meta (apply meta m (Put e f old new)) (Put e f new old)
   put_back e f old new can =
       let p = passed (tests meta m (Put e f old new)) can in
       let q = p.1.1.1 in
@@ -72,7 +72,7 @@ module _ (meta : Meta) (m : State) where
         ),
       )
 
-  pub put_keeps : Good meta m → (e : Name) (f : ℕ) (old new : Option Value) → Can meta m (Put e f old new) → Good meta (apply meta m (Put e f old new))
+  pub put_keeps : Good meta m → (e : IdBytes) (f : ℕ) (old new : Option Value) → Can meta m (Put e f old new) → Good meta (apply meta m (Put e f old new))
   put_keeps good e f old new can =
       let p = passed (tests meta m (Put e f old new)) can in
       record {

@@ -13,7 +13,7 @@ use Rattle.ecore_meta.specs.declared.meta.Value.{Value}
 use Rattle.model_state.specs.declared.step.Place.{Place}
 use Rattle.model_state.specs.declared.step.Place.TheVariants.{Root, Inside}
 use Rattle.model_state.specs.declared.step.Step.TheVariants.{New, Gone}
-use Rattle.model_state.specs.Keys.{Name, id_cmp}
+use Rattle.model_state.specs.Keys.{IdBytes, id_cmp}
 use Rattle.model_state.specs.Typing.{kind_of, child_upper, contains_to}
 use Rattle.model_state.specs.State.{State, place_eq, is_inside, value_count, link_count, inner_count}
 use Rattle.model_state.specs.Steps.{tests, Can, apply, class_has, place_live, may_stand, has_room}
@@ -42,20 +42,20 @@ no_place meta kind None (Some r) h = absurd h
 no_place meta kind (Some p) r h = absurd h
 
 -- the parent of an element has the feature that it stands in
-pub parent_has : (meta : Meta) (kind : FinMap id_cmp ℕ) (c : Option ℕ) (a : Name) (f : ℕ) (r : Option ℕ) → PlaceOk meta kind c (Some (Inside a f)) r → class_has meta (get kind a) f ≡ true
+pub parent_has : (meta : Meta) (kind : FinMap id_cmp ℕ) (c : Option ℕ) (a : IdBytes) (f : ℕ) (r : Option ℕ) → PlaceOk meta kind c (Some (Inside a f)) r → class_has meta (get kind a) f ≡ true
 parent_has meta kind None a f r h = absurd h
 parent_has meta kind (Some c) a f None h = absurd h
 parent_has meta kind (Some c) a f (Some r) h = h.1.0
 
 -- an id that is not live holds nothing
-module _ (meta : Meta) (m : State) (good : Good meta m) (e : Name) (dead : get m.kind e ≡ None) where
+module _ (meta : Meta) (m : State) (good : Good meta m) (e : IdBytes) (dead : get m.kind e ≡ None) where
   pub dead_attr : (f : ℕ) → get m.attr (e, f) ≡ None
   dead_attr f = no_attr meta f _ (subst (λ k. AttrOk meta k f (get m.attr (e, f))) dead (good.attrs.typed e f))
 
-  pub dead_from : (f : ℕ) (b : Name) → get m.row (e, f, b) ≡ None
+  pub dead_from : (f : ℕ) (b : IdBytes) → get m.row (e, f, b) ≡ None
   dead_from f b = no_row_from meta f (get m.kind b) _ (subst (λ k. RowOk meta k f (get m.kind b) (get m.row (e, f, b))) dead (good.rows.typed e f b))
 
-  pub dead_to : (a : Name) (f : ℕ) → get m.row (a, f, e) ≡ None
+  pub dead_to : (a : IdBytes) (f : ℕ) → get m.row (a, f, e) ≡ None
   dead_to a f = no_row_to meta f (get m.kind a) _ (subst (λ k. RowOk meta (get m.kind a) f k (get m.row (a, f, e))) dead (good.rows.typed a f e))
 
   pub dead_place : (get m.place e ≡ None) × (get m.prank e ≡ None)
@@ -79,7 +79,7 @@ module _ (meta : Meta) (m : State) (good : Good meta m) (e : Name) (dead : get m
       ] refl same))
 
   -- no place is inside it
-  pub dead_inner : (q : Name) (p : Place) → get m.place q ≡ Some p → is_inside e p ≡ false
+  pub dead_inner : (q : IdBytes) (p : Place) → get m.place q ≡ Some p → is_inside e p ≡ false
   dead_inner q Root is = refl
   dead_inner q (Inside a f) is = not_so _ (λ same.
       let here : a ≡ e = sym (text_equality.exact _ _ same) in
@@ -92,7 +92,7 @@ module _ (meta : Meta) (m : State) (good : Good meta m) (e : Name) (dead : get m
   dead_children = count_none id_order (λ x. is_inside e x.1) m.place (λ q v is. dead_inner q v is)
 
 -- a chain stays where each place on it stays
-pub chain_stays : (place place' : FinMap id_cmp Place) → ((q : Name) (p : Place) → get place q ≡ Some p → get place' q ≡ Some p) → (o : Option Place) (xs : List Name) → IsChain place o xs → IsChain place' o xs
+pub chain_stays : (place place' : FinMap id_cmp Place) → ((q : IdBytes) (p : Place) → get place q ≡ Some p → get place' q ≡ Some p) → (o : Option Place) (xs : List IdBytes) → IsChain place o xs → IsChain place' o xs
 chain_stays place place' stays None xs h = absurd h
 chain_stays place place' stays (Some Root) [] h = tt
 chain_stays place place' stays (Some Root) (x ∷ xs) h = absurd h
@@ -106,11 +106,11 @@ chain_stays place place' stays (Some (Inside a f)) (x ∷ xs) h = (
 )
 
 -- where an element may stand, among classes that were there before
-pub stands_still : (meta : Meta) (kind kind' : FinMap id_cmp ℕ) (c : ℕ) (p : Place) → ((a : Name) (f : ℕ) → p ≡ Inside a f → get kind' a ≡ get kind a) → StandsOk meta kind c p → StandsOk meta kind' c p
+pub stands_still : (meta : Meta) (kind kind' : FinMap id_cmp ℕ) (c : ℕ) (p : Place) → ((a : IdBytes) (f : ℕ) → p ≡ Inside a f → get kind' a ≡ get kind a) → StandsOk meta kind c p → StandsOk meta kind' c p
 stands_still meta kind kind' c Root stays h = tt
 stands_still meta kind kind' c (Inside a f) stays h = (ap (λ k. class_has meta k f) (stays a f refl) ∙ h.0, h.1)
 
-pub places_still : (meta : Meta) (kind kind' : FinMap id_cmp ℕ) (c : Option ℕ) (p : Option Place) (r : Option ℕ) → ((a : Name) (f : ℕ) → p ≡ Some (Inside a f) → get kind' a ≡ get kind a) → PlaceOk meta kind c p r → PlaceOk meta kind' c p r
+pub places_still : (meta : Meta) (kind kind' : FinMap id_cmp ℕ) (c : Option ℕ) (p : Option Place) (r : Option ℕ) → ((a : IdBytes) (f : ℕ) → p ≡ Some (Inside a f) → get kind' a ≡ get kind a) → PlaceOk meta kind c p r → PlaceOk meta kind' c p r
 places_still meta kind kind' None None None stays h = tt
 places_still meta kind kind' None None (Some r) stays h = absurd h
 places_still meta kind kind' None (Some p) r stays h = absurd h
@@ -136,10 +136,10 @@ pub carry : {A B C : Type 0} (P : A → B → C → Type 0) (a a' : A) (b b' : B
 carry P a a' b b' c c' p q r h = subst (λ x. P x b' c') (sym p) (subst (λ y. P a y c') (sym q) (subst (λ z. P a b z) (sym r) h))
 
 -- the place of a live element has a chain
-chain_at : (meta : Meta) (m : State) → Good meta m → (place' : FinMap id_cmp Place) → ((q : Name) (p : Place) → get m.place q ≡ Some p → get place' q ≡ Some p) → (p : Place) → place_live m p ≡ true → (xs : List Name) × IsChain place' (Some p) xs
+chain_at : (meta : Meta) (m : State) → Good meta m → (place' : FinMap id_cmp Place) → ((q : IdBytes) (p : Place) → get m.place q ≡ Some p → get place' q ≡ Some p) → (p : Place) → place_live m p ≡ true → (xs : List IdBytes) × IsChain place' (Some p) xs
 chain_at meta m good place' stays Root live = ([], tt)
 chain_at meta m good place' stays (Inside a f) live =
-    elim (get m.place a) as (λ o. get m.place a ≡ o → (xs : List Name) × IsChain place' (Some (Inside a f)) xs) [
+    elim (get m.place a) as (λ o. get m.place a ≡ o → (xs : List IdBytes) × IsChain place' (Some (Inside a f)) xs) [
       | None ↦ λ none. absurd (live_has_place meta m.kind (get m.kind a) (get m.place a) (get m.prank a) live none (good.places.stands a))
       | Some p ↦ λ is.
           let old = good.places.ends a p is in
@@ -148,28 +148,28 @@ chain_at meta m good place' stays (Inside a f) live =
 
 -- ---- New
 -- what New's tests say of the place, among the classes after it
-new_may : (meta : Meta) (m : State) (kind' : FinMap id_cmp ℕ) (c : ℕ) (p : Place) → ((a : Name) → is_some (get m.kind a) ≡ true → get kind' a ≡ get m.kind a) → may_stand meta m c p ≡ true → StandsOk meta kind' c p
+new_may : (meta : Meta) (m : State) (kind' : FinMap id_cmp ℕ) (c : ℕ) (p : Place) → ((a : IdBytes) → is_some (get m.kind a) ≡ true → get kind' a ≡ get m.kind a) → may_stand meta m c p ≡ true → StandsOk meta kind' c p
 new_may meta m kind' c Root stays h = tt
 new_may meta m kind' c (Inside a f) stays h =
     let has : class_has meta (get m.kind a) f ≡ true = and_first _ _ h in
     (ap (λ k. class_has meta k f) (stays a (has_class meta (get m.kind a) f has)) ∙ has, and_second (class_has meta (get m.kind a) f) _ h)
 
 -- an element that is live differs from one that is not
-live_apart : (kind : FinMap id_cmp ℕ) (e a : Name) → get kind e ≡ None → is_some (get kind a) ≡ true → eq_by_cmp id_cmp a e ≡ false
+live_apart : (kind : FinMap id_cmp ℕ) (e a : IdBytes) → get kind e ≡ None → is_some (get kind a) ≡ true → eq_by_cmp id_cmp a e ≡ false
 live_apart kind e a dead live = not_so _ (λ same.
     let here : is_some (get kind a) ≡ is_some (get kind e) = ap (λ x. is_some (get kind x)) (same_key id_order a e same) in
     let none : is_some (get kind e) ≡ false = ap is_some dead in
     cc)
 
 -- an outer place is not inside the element
-outside : (kind : FinMap id_cmp ℕ) (e : Name) (p : Place) (m : State) → get m.kind e ≡ None → place_live m p ≡ true → is_inside e p ≡ false
+outside : (kind : FinMap id_cmp ℕ) (e : IdBytes) (p : Place) (m : State) → get m.kind e ≡ None → place_live m p ≡ true → is_inside e p ≡ false
 outside kind e Root m dead live = refl
 outside kind e (Inside a f) m dead live = not_so _ (λ same.
     let here : is_some (get m.kind e) ≡ is_some (get m.kind a) = ap (λ x. is_some (get m.kind x)) (text_equality.exact _ _ same) in
     let none : is_some (get m.kind e) ≡ false = ap is_some dead in
     cc)
 
-module _ (meta : Meta) (m : State) (good : Good meta m) (e : Name) (class : ℕ) (place : Place) (rank : ℕ) (can : Can meta m (New e class place rank)) where
+module _ (meta : Meta) (m : State) (good : Good meta m) (e : IdBytes) (class : ℕ) (place : Place) (rank : ℕ) (can : Can meta m (New e class place rank)) where
   new_dead : get m.kind e ≡ None
   new_dead = no_some _ (not_true _ (passed (tests meta m (New e class place rank)) can).0)
 
@@ -189,9 +189,9 @@ module _ (meta : Meta) (m : State) (good : Good meta m) (e : Name) (class : ℕ)
       let kind_is : get after.kind e ≡ Some class = get-set_same id_order m.kind e (Some class) in
       let place_is : get after.place e ≡ Some place = get-set_same id_order m.place e (Some place) in
       let rank_is : get after.prank e ≡ Some rank = get-set_same id_order m.prank e (Some rank) in
-      let sum : inner_count after e + counts (λ (x : Name × Place). is_inside e x.1) e (get m.place e) ≡ inner_count m e + counts (λ (x : Name × Place). is_inside e x.1) e (Some place) = count-set id_order (λ x. is_inside e x.1) m.place e (Some place) in
-      let was : counts (λ (x : Name × Place). is_inside e x.1) e (get m.place e) ≡ 0 = ap (counts (λ (x : Name × Place). is_inside e x.1) e) none.0 in
-      let now : counts (λ (x : Name × Place). is_inside e x.1) e (Some place) ≡ 0 = ap (λ b. cond b 1 0) (outside m.kind e place m new_dead p.1.0) in
+      let sum : inner_count after e + counts (λ (x : IdBytes × Place). is_inside e x.1) e (get m.place e) ≡ inner_count m e + counts (λ (x : IdBytes × Place). is_inside e x.1) e (Some place) = count-set id_order (λ x. is_inside e x.1) m.place e (Some place) in
+      let was : counts (λ (x : IdBytes × Place). is_inside e x.1) e (get m.place e) ≡ 0 = ap (counts (λ (x : IdBytes × Place). is_inside e x.1) e) none.0 in
+      let now : counts (λ (x : IdBytes × Place). is_inside e x.1) e (Some place) ≡ 0 = ap (λ b. cond b 1 0) (outside m.kind e place m new_dead p.1.0) in
       let before : inner_count m e ≡ 0 = dead_children meta m good e new_dead in
       let inner : inner_count after e ≡ 0 = omega (arith, sum, was, now, before) in
       pass (tests meta after (Gone e class place rank)) (
@@ -240,14 +240,14 @@ module _ (meta : Meta) (m : State) (good : Good meta m) (e : Name) (class : ℕ)
         bound = good.rows.bound;
       }
 
-  new_stays : (a : Name) → is_some (get m.kind a) ≡ true → get (set m.kind e (Some class)) a ≡ get m.kind a
+  new_stays : (a : IdBytes) → is_some (get m.kind a) ≡ true → get (set m.kind e (Some class)) a ≡ get m.kind a
   new_stays a live = get-set_other id_order m.kind e (Some class) a (live_apart m.kind e a new_dead live)
 
-  new_place_stays : (q : Name) (p : Place) → get m.place q ≡ Some p → get (set m.place e (Some place)) q ≡ Some p
+  new_place_stays : (q : IdBytes) (p : Place) → get m.place q ≡ Some p → get (set m.place e (Some place)) q ≡ Some p
   new_place_stays q p is = get-set_other id_order m.place e (Some place) q (not_so _ (λ same.
       some_none (get m.place q) p is (ap (λ x. get m.place x) (same_key id_order q e same) ∙ (dead_place meta m good e new_dead).0))) ∙ is
 
-  new_stands : (x : Name) → PlaceOk meta (set m.kind e (Some class)) (get (set m.kind e (Some class)) x) (get (set m.place e (Some place)) x) (get (set m.prank e (Some rank)) x)
+  new_stands : (x : IdBytes) → PlaceOk meta (set m.kind e (Some class)) (get (set m.kind e (Some class)) x) (get (set m.place e (Some place)) x) (get (set m.prank e (Some rank)) x)
   new_stands x =
       let kind' = set m.kind e (Some class) in
       let p = passed (tests meta m (New e class place rank)) can in
@@ -259,20 +259,20 @@ module _ (meta : Meta) (m : State) (good : Good meta m) (e : Name) (class : ℕ)
       (λ a f is. new_stays a (has_class meta (get m.kind a) f (parent_has meta m.kind (get m.kind x) a f (get m.prank x) (subst (λ o. PlaceOk meta m.kind (get m.kind x) o (get m.prank x)) is (good.places.stands x)))))
       (good.places.stands x)))
 
-  new_bound : (a : Name) (f : ℕ) → is_within (count (λ (x : Name × Place). place_eq (Inside a f) x.1) (set m.place e (Some place))) (child_upper meta f) ≡ true
+  new_bound : (a : IdBytes) (f : ℕ) → is_within (count (λ (x : IdBytes × Place). place_eq (Inside a f) x.1) (set m.place e (Some place))) (child_upper meta f) ≡ true
   new_bound a f =
       let p = passed (tests meta m (New e class place rank)) can in
-      one_more id_order (λ (x : Name × Place). place_eq (Inside a f) x.1) m.place e place (child_upper meta f) (dead_place meta m good e new_dead).0 (good.places.bound a f)
+      one_more id_order (λ (x : IdBytes × Place). place_eq (Inside a f) x.1) m.place e place (child_upper meta f) (dead_place meta m good e new_dead).0 (good.places.bound a f)
       (λ same. subst (λ q. has_room meta m q ≡ true) (sym (place_equality.exact (Inside a f) place same)) p.1.1.1.1.0)
 
-  new_ends : (x : Name) (p : Place) → get (set m.place e (Some place)) x ≡ Some p → (xs : List Name) × IsChain (set m.place e (Some place)) (Some p) xs
+  new_ends : (x : IdBytes) (p : Place) → get (set m.place e (Some place)) x ≡ Some p → (xs : List IdBytes) × IsChain (set m.place e (Some place)) (Some p) xs
   new_ends x p is =
       let place' = set m.place e (Some place) in
-      elim (eq_by_cmp id_cmp x e) as (λ b. eq_by_cmp id_cmp x e ≡ b → (xs : List Name) × IsChain place' (Some p) xs) [
+      elim (eq_by_cmp id_cmp x e) as (λ b. eq_by_cmp id_cmp x e ≡ b → (xs : List IdBytes) × IsChain place' (Some p) xs) [
         | true ↦ λ same.
             let here : get place' x ≡ Some place = ap (λ q. get place' q) (same_key id_order x e same) ∙ get-set_same id_order m.place e (Some place) in
             let it : Some place ≡ Some p = sym here ∙ is in
-            subst (λ o. (xs : List Name) × IsChain place' o xs) it (chain_at meta m good place' new_place_stays place (passed (tests meta m (New e class place rank)) can).1.0)
+            subst (λ o. (xs : List IdBytes) × IsChain place' o xs) it (chain_at meta m good place' new_place_stays place (passed (tests meta m (New e class place rank)) can).1.0)
         | false ↦ λ apart.
             let old = good.places.ends x p (sym (get-set_other id_order m.place e (Some place) x apart) ∙ is) in
             (old.0, chain_stays m.place place' new_place_stays (Some p) old.0 old.1)
@@ -288,10 +288,10 @@ no_value None h = refl
 no_value (Some v) h = absurd (h v refl)
 
 -- an id that is not the element, by its bytes, is another key
-pub other_key : (e a : Name) → text_eq e a ≡ false → eq_by_cmp id_cmp a e ≡ false
+pub other_key : (e a : IdBytes) → text_eq e a ≡ false → eq_by_cmp id_cmp a e ≡ false
 other_key e a h = not_so _ (λ same. true_false (text_eq e a) (subst (λ x. text_eq e x ≡ true) (sym (same_key id_order a e same)) (text_equality.own e)) h)
 
-module _ (meta : Meta) (m : State) (good : Good meta m) (e : Name) (class : ℕ) (place : Place) (rank : ℕ) (can : Can meta m (Gone e class place rank)) where
+module _ (meta : Meta) (m : State) (good : Good meta m) (e : IdBytes) (class : ℕ) (place : Place) (rank : ℕ) (can : Can meta m (Gone e class place rank)) where
   gone_kind : get m.kind e ≡ Some class
   gone_kind = number_equality.exact _ _ (passed (tests meta m (Gone e class place rank)) can).1.0
 
@@ -313,22 +313,22 @@ module _ (meta : Meta) (m : State) (good : Good meta m) (e : Name) (class : ℕ)
       let zero = nat_equality.exact _ _ (passed (tests meta m (Gone e class place rank)) can).1.1.1.1.0 in
       no_value _ (λ v is. true_false (text_eq e e) (text_equality.own e) (none_counted attr_order (λ x. text_eq e x.0.0) m.attr zero (e, f) v is))
 
-  gone_from : (f : ℕ) (b : Name) → get m.row (e, f, b) ≡ None
+  gone_from : (f : ℕ) (b : IdBytes) → get m.row (e, f, b) ≡ None
   gone_from f b =
       let zero = nat_equality.exact _ _ (passed (tests meta m (Gone e class place rank)) can).1.1.1.1.1.0 in
       no_value _ (λ v is. true_false (text_eq e e || text_eq e b) (ap (λ x. x || text_eq e b) (text_equality.own e)) (none_counted row_order (λ x. text_eq e x.0.0 || text_eq e x.0.2) m.row zero (e, f, b) v is))
 
-  gone_to : (a : Name) (f : ℕ) → get m.row (a, f, e) ≡ None
+  gone_to : (a : IdBytes) (f : ℕ) → get m.row (a, f, e) ≡ None
   gone_to a f =
       let zero = nat_equality.exact _ _ (passed (tests meta m (Gone e class place rank)) can).1.1.1.1.1.0 in
       no_value _ (λ v is. true_false (text_eq e a || text_eq e e) (ap (λ x. text_eq e a || x) (text_equality.own e) ∙ or_true (text_eq e a)) (none_counted row_order (λ x. text_eq e x.0.0 || text_eq e x.0.2) m.row zero (a, f, e) v is))
 
-  gone_inner : (q : Name) (p : Place) → get m.place q ≡ Some p → is_inside e p ≡ false
+  gone_inner : (q : IdBytes) (p : Place) → get m.place q ≡ Some p → is_inside e p ≡ false
   gone_inner q p is =
       let zero = nat_equality.exact _ _ (passed (tests meta m (Gone e class place rank)) can).1.1.1.1.1.1.0 in
       none_counted id_order (λ x. is_inside e x.1) m.place zero q p is
 
-  gone_stays : (a : Name) (f : ℕ) (q : Name) → get m.place q ≡ Some (Inside a f) → get (set m.kind e None) a ≡ get m.kind a
+  gone_stays : (a : IdBytes) (f : ℕ) (q : IdBytes) → get m.place q ≡ Some (Inside a f) → get (set m.kind e None) a ≡ get m.kind a
   gone_stays a f q is = get-set_other id_order m.kind e None a (other_key e a (gone_inner q (Inside a f) is))
 
   gone_attrs : GoodAttrs meta (set m.kind e None) m.attr
@@ -354,7 +354,7 @@ module _ (meta : Meta) (m : State) (good : Good meta m) (e : Name) (class : ℕ)
         bound = good.rows.bound;
       }
 
-  gone_stands : (x : Name) → PlaceOk meta (set m.kind e None) (get (set m.kind e None) x) (get (set m.place e None) x) (get (set m.prank e None) x)
+  gone_stands : (x : IdBytes) → PlaceOk meta (set m.kind e None) (get (set m.kind e None) x) (get (set m.place e None) x) (get (set m.prank e None) x)
   gone_stands x =
       let kind' = set m.kind e None in
       by_key id_order (λ x. PlaceOk meta kind' (get kind' x) (get (set m.place e None) x) (get (set m.prank e None) x)) e x
@@ -363,7 +363,7 @@ module _ (meta : Meta) (m : State) (good : Good meta m) (e : Name) (class : ℕ)
       (places_still meta m.kind kind' (get m.kind x) (get m.place x) (get m.prank x) (λ a f is. gone_stays a f x is) (good.places.stands x)))
 
   -- no chain goes through it
-  gone_chain : (p : Place) (xs : List Name) → is_inside e p ≡ false → IsChain m.place (Some p) xs → IsChain (set m.place e None) (Some p) xs
+  gone_chain : (p : Place) (xs : List IdBytes) → is_inside e p ≡ false → IsChain m.place (Some p) xs → IsChain (set m.place e None) (Some p) xs
   gone_chain Root [] out h = tt
   gone_chain Root (x ∷ xs) out h = absurd h
   gone_chain (Inside a f) [] out h = absurd h
@@ -377,9 +377,9 @@ module _ (meta : Meta) (m : State) (good : Good meta m) (e : Name) (class : ℕ)
             ] refl h.1),
       )
 
-  gone_ends : (x : Name) (p : Place) → get (set m.place e None) x ≡ Some p → (xs : List Name) × IsChain (set m.place e None) (Some p) xs
+  gone_ends : (x : IdBytes) (p : Place) → get (set m.place e None) x ≡ Some p → (xs : List IdBytes) × IsChain (set m.place e None) (Some p) xs
   gone_ends x p is =
-      elim (eq_by_cmp id_cmp x e) as (λ b. eq_by_cmp id_cmp x e ≡ b → (xs : List Name) × IsChain (set m.place e None) (Some p) xs) [
+      elim (eq_by_cmp id_cmp x e) as (λ b. eq_by_cmp id_cmp x e ≡ b → (xs : List IdBytes) × IsChain (set m.place e None) (Some p) xs) [
         | true ↦ λ same. absurd (some_none _ p is (ap (λ q. get (set m.place e None) q) (same_key id_order x e same) ∙ get-set_same id_order m.place e None))
         | false ↦ λ apart.
             let was : get m.place x ≡ Some p = sym (get-set_other id_order m.place e None x apart) ∙ is in

@@ -1,4 +1,4 @@
--- Runs that do not touch what the other needs may change places.
+-- Runs that do not touch what the other needs commute.
 use Rattle.std.proofs.Common.{◌≡◌, Bool, true, false, List, [], ◌∷◌, ◌++◌, refl, sym, subst, ◌∙◌, ◌||◌, map}
 use Rattle.std.specs.Prelude.{Some}
 use Rattle.std.specs.FinMap.{get}
@@ -8,11 +8,11 @@ use Rattle.finite_maps.proofs.Cases.{or_first, or_second}
 use Rattle.ecore_meta.specs.Meta.{Meta}
 use Rattle.model_state.specs.declared.step.Place.TheVariants.{Inside}
 use Rattle.model_state.specs.declared.step.Step.{Step}
-use Rattle.model_state.specs.Keys.{Name, RowKey}
+use Rattle.model_state.specs.Keys.{IdBytes, RowKey}
 use Rattle.model_state.specs.State.{State, Writes, written}
 use Rattle.model_state.specs.Steps.{Can, fault, writes, apply, fold}
 use Rattle.model_state.specs.Good.{Good, Sound}
-use Rattle.model_laws.specs.Cells.{Cell, OfKind, OfPlace, OfRank, OfAttr, OfRow, OfWhole, About, is_bounded, cell_eq, has, stands_in, stands_inside, Agree, AgreeAt, step_writes, step_reads, kinds_written, kinds_read, needs, touches, needs_all, touches_all}
+use Rattle.model_laws.specs.Cells.{Cell, OfKind, OfPlace, OfRank, OfAttr, OfRow, OfWhole, About, is_bounded, cell_eq, has, stands_in, stands_inside, Agree, AgreeAt, step_writes, step_reads, kinds_written, kinds_read, needs, may_change, needs_all, may_change_all}
 use Rattle.model_state.proofs.Orders.{id_order, attr_order, row_order}
 use Rattle.model_laws.proofs.Runs.{undoes, fold_more, fold_first, steps_keep_good, same_state}
 
@@ -87,7 +87,7 @@ abbrev pub IsReal : Cell → Type 0
 IsReal (About e) = ⊥
 IsReal c = Unit {0}
 
-pub real_apart : (c : Cell) (xs : List Name) → IsReal c → has (map About xs) c ≡ false
+pub real_apart : (c : Cell) (xs : List IdBytes) → IsReal c → has (map About xs) c ≡ false
 real_apart (OfKind e) [] r = refl
 real_apart (OfKind e) (x ∷ xs) r = real_apart (OfKind e) xs r
 real_apart (OfPlace e) [] r = refl
@@ -103,10 +103,10 @@ real_apart (OfWhole a f) (x ∷ xs) r = real_apart (OfWhole a f) xs r
 real_apart (About e) xs r = absurd r
 
 -- a cell that a run touches is one that it needs
-touched_needed : (meta : Meta) (ss : List Step) (c : Cell) → IsReal c → has (touches_all meta ss) c ≡ true → has (needs_all meta ss) c ≡ true
+touched_needed : (meta : Meta) (ss : List Step) (c : Cell) → IsReal c → has (may_change_all meta ss) c ≡ true → has (needs_all meta ss) c ≡ true
 touched_needed meta [] c r h = h
 touched_needed meta (s ∷ ss) c r h =
-    or_cases (has (touches meta s) c) (has (touches_all meta ss) c) (sym (has_append (touches meta s) (touches_all meta ss) c) ∙ h)
+    or_cases (has (may_change meta s) c) (has (may_change_all meta ss) c) (sym (has_append (may_change meta s) (may_change_all meta ss) c) ∙ h)
     (λ here. or_cases (has (step_writes meta s) c) (has (map About (kinds_read s ++ kinds_written s)) c) (sym (has_append (step_writes meta s) (map About (kinds_read s ++ kinds_written s)) c) ∙ here)
     (λ w. has_first (needs meta s) (needs_all meta ss) c (has_second (step_reads s) (map About (kinds_written s) ++ step_writes meta s) c (has_second (map About (kinds_written s)) (step_writes meta s) c w)))
     (λ a. absurd (clash (real_apart c (kinds_read s ++ kinds_written s) r) a)))
@@ -132,20 +132,20 @@ agree_everywhere meta m n h =
 -- ---- what is proved of each step
 -- a step leaves what it does not touch
 abbrev pub LeavesOthers : Meta → Type 0
-LeavesOthers meta = (m : State) → Good meta m → (s : Step) → Can meta m s → (c : Cell) → has (touches meta s) c ≡ false → Agree meta m (apply meta m s) c
+LeavesOthers meta = (m : State) → Good meta m → (s : Step) → Can meta m s → (c : Cell) → has (may_change meta s) c ≡ false → Agree meta m (apply meta m s) c
 
 -- a step goes by what it needs alone
 abbrev pub GoesByNeeds : Meta → Type 0
 GoesByNeeds meta = (m n : State) → Good meta m → Good meta n → (s : Step) → AgreeAt meta m n (needs meta s) → (fault meta m s ≡ fault meta n s) × (writes meta m s ≡ writes meta n s)
 
 module _ (meta : Meta) (sound : Sound meta) (leaves : LeavesOthers meta) (goes : GoesByNeeds meta) where
-  pub run_leaves : (ss : List Step) (m n : State) → Good meta m → fold meta m ss ≡ Some n → (c : Cell) → has (touches_all meta ss) c ≡ false → Agree meta m n c
+  pub run_leaves : (ss : List Step) (m n : State) → Good meta m → fold meta m ss ≡ Some n → (c : Cell) → has (may_change_all meta ss) c ≡ false → Agree meta m n c
   run_leaves [] m n good is c out = subst (λ x. Agree meta m x c) (same_state m n is) (agree_self meta m c)
   run_leaves (s ∷ ss) m n good is c out =
       let p = fold_first meta m n s ss is in
       agree_join meta m (apply meta m s) n c
-      (leaves m good s p.0 c (not_first (touches meta s) (touches_all meta ss) c out))
-      (run_leaves ss (apply meta m s) n (undoes meta sound m good s p.0).keeps p.1 c (not_second (touches meta s) (touches_all meta ss) c out))
+      (leaves m good s p.0 c (not_first (may_change meta s) (may_change_all meta ss) c out))
+      (run_leaves ss (apply meta m s) n (undoes meta sound m good s p.0).keeps p.1 c (not_second (may_change meta s) (may_change_all meta ss) c out))
 
   pub run_goes : (ss : List Step) (m n k : State) → Good meta m → Good meta n → AgreeAt meta m n (needs_all meta ss) → fold meta m ss ≡ Some k → (l : State) × (fold meta n ss ≡ Some l) × ((c : Cell) → Agree meta m n c → Agree meta k l c)
   run_goes [] m n k good goodn alike is = (n, refl, λ c h. subst (λ x. Agree meta x n c) (same_state m k is) h)
@@ -157,10 +157,10 @@ module _ (meta : Meta) (sound : Sound meta) (leaves : LeavesOthers meta) (goes :
       let rest = run_goes ss (apply meta m s) (apply meta n s) k (undoes meta sound m good s p.0).keeps (undoes meta sound n goodn s (sym q.0 ∙ p.0)).keeps (λ c h. on c (alike c (has_second (needs meta s) (needs_all meta ss) c h))) p.1 in
       (rest.0, fold_more meta n s ss (sym q.0 ∙ p.0) ∙ rest.1, λ c h. rest.2 c (on c h))
 
-  -- two runs, neither of which touches what the other needs, may change places
+  -- two runs, neither of which touches what the other needs, commute
   pub exchange : (ps qs : List Step) (m m1 m2 : State) → Good meta m → fold meta m ps ≡ Some m1 → fold meta m1 qs ≡ Some m2
-      → ((c : Cell) → has (needs_all meta qs) c ≡ true → has (touches_all meta ps) c ≡ false)
-      → ((c : Cell) → has (needs_all meta ps) c ≡ true → has (touches_all meta qs) c ≡ false)
+      → ((c : Cell) → has (needs_all meta qs) c ≡ true → has (may_change_all meta ps) c ≡ false)
+      → ((c : Cell) → has (needs_all meta ps) c ≡ true → has (may_change_all meta qs) c ≡ false)
       → (n : State) × (fold meta m qs ≡ Some n) × (fold meta n ps ≡ Some m2)
   exchange ps qs m m1 m2 good first second qp pq =
       let good1 = steps_keep_good meta sound m m1 good ps first in
@@ -169,7 +169,7 @@ module _ (meta : Meta) (sound : Sound meta) (leaves : LeavesOthers meta) (goes :
       let goodn = steps_keep_good meta sound m n good qs back.1 in
       let again = run_goes ps m n m1 good goodn (λ c h. run_leaves qs m n good back.1 c (pq c h)) first in
       let all : again.0 ≡ m2 = agree_everywhere meta again.0 m2 (λ c real.
-      elim (has (touches_all meta qs) c) as (λ b. has (touches_all meta qs) c ≡ b → Agree meta again.0 m2 c) [
+      elim (has (may_change_all meta qs) c) as (λ b. has (may_change_all meta qs) c ≡ b → Agree meta again.0 m2 c) [
         | false ↦ λ out. agree_join meta again.0 m1 m2 c
             (agree_turn meta m1 again.0 c (again.2 c (run_leaves qs m n good back.1 c out)))
             (run_leaves qs m1 m2 good1 second c out)

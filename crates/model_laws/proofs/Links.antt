@@ -11,7 +11,7 @@ use Rattle.finite_maps.proofs.CountLaws.{one_more, one_less, one_free, count_sam
 use Rattle.finite_maps.proofs.EqualLaws.{apart, and_first, and_second, and_both, text_equality, nat_equality}
 use Rattle.ecore_meta.specs.Meta.{Meta}
 use Rattle.model_state.specs.declared.step.Step.TheVariants.{Link, Unlink}
-use Rattle.model_state.specs.Keys.{Name, RowKey, id_cmp, row_cmp}
+use Rattle.model_state.specs.Keys.{IdBytes, RowKey, id_cmp, row_cmp}
 use Rattle.model_state.specs.Typing.{opposite_of, row_upper}
 use Rattle.model_state.specs.State.{State, row_count}
 use Rattle.model_state.specs.Steps.{tests, Can, apply, may_link, mirror_write, mirror_given, mirror_at, mirror_room}
@@ -21,12 +21,12 @@ use Rattle.model_state.proofs.StepTests.{passed, pass, number_equality}
 use Rattle.finite_maps.proofs.Cases.{no_some, not_so, not_true, some_none, true_false}
 
 -- two rows of different features
-rows_apart : (a : Name) (f : ℕ) (b : Name) (x : Name) (g : ℕ) (y : Name) → nat_eq f g ≡ false → eq_by_cmp row_cmp (a, f, b) (x, g, y) ≡ false
+rows_apart : (a : IdBytes) (f : ℕ) (b : IdBytes) (x : IdBytes) (g : ℕ) (y : IdBytes) → nat_eq f g ≡ false → eq_by_cmp row_cmp (a, f, b) (x, g, y) ≡ false
 rows_apart a f b x g y differ = not_so (eq_by_cmp row_cmp (a, f, b) (x, g, y)) (λ same.
     true_false (nat_eq f g) (ap (λ (q : RowKey). nat_eq f q.1) (sym (same_key row_order (a, f, b) (x, g, y) same)) ∙ nat_equality.own f) differ)
 
 -- the rows after a row and its mirror are written
-abbrev two : FinMap row_cmp ℕ → Name → ℕ → Name → Option ℕ → Option ℕ → Option ℕ → FinMap row_cmp ℕ
+abbrev two : FinMap row_cmp ℕ → IdBytes → ℕ → IdBytes → Option ℕ → Option ℕ → Option ℕ → FinMap row_cmp ℕ
 two row a f b o v w = set_all (set row (a, f, b) v) (mirror_write o a b w)
 
 -- the opposite of a reference that may stand may stand too
@@ -35,7 +35,7 @@ mirror_may meta sound None f d g is h = cc
 mirror_may meta sound (Some c) f None g is h = cc
 mirror_may meta sound (Some c) f (Some d) g is h = sound.mirrors c f d g is h
 
-module _ (meta : Meta) (sound : Sound meta) (row : FinMap row_cmp ℕ) (a : Name) (f : ℕ) (b : Name) where
+module _ (meta : Meta) (sound : Sound meta) (row : FinMap row_cmp ℕ) (a : IdBytes) (f : ℕ) (b : IdBytes) where
   -- to write the old ranks back undoes both
   two_back : (o : Option ℕ) → opposite_of meta f ≡ o → (was v mirror w : Option ℕ) → get row (a, f, b) ≡ was → ((g : ℕ) → o ≡ Some g → get row (b, g, a) ≡ mirror) → two (two row a f b o v w) a f b o was mirror ≡ row
   two_back None is was v mirror w here there = set_back row_order row (a, f, b) was v here
@@ -63,7 +63,7 @@ both_there true false v w r r' e f = e
 both_there false true v w r r' e f = sym e
 both_there false false v w r r' e f = f
 
-module _ (meta : Meta) (sound : Sound meta) (kind : FinMap id_cmp ℕ) (row : FinMap row_cmp ℕ) (good : GoodRows meta kind row) (a : Name) (f : ℕ) (b : Name) (v w : Option ℕ) where
+module _ (meta : Meta) (sound : Sound meta) (kind : FinMap id_cmp ℕ) (row : FinMap row_cmp ℕ) (good : GoodRows meta kind row) (a : IdBytes) (f : ℕ) (b : IdBytes) (v w : Option ℕ) where
   one_typed : RowOk meta (get kind a) f (get kind b) v → (q : RowKey) → RowOk meta (get kind q.0) q.1 (get kind q.2) (get (set row (a, f, b) v) q)
   one_typed here q =
       by_key row_order (λ q. RowOk meta (get kind q.0) q.1 (get kind q.2) (get (set row (a, f, b) v) q)) (a, f, b) q
@@ -77,7 +77,7 @@ module _ (meta : Meta) (sound : Sound meta) (kind : FinMap id_cmp ℕ) (row : Fi
       (subst (λ x. RowOk meta (get kind b) g (get kind a) x) (sym (get-set_same row_order (set row (a, f, b) v) (b, g, a) w)) (there g refl))
       (λ apart. subst (λ x. RowOk meta (get kind q.0) q.1 (get kind q.2) x) (sym (get-set_other row_order (set row (a, f, b) v) (b, g, a) w q apart)) (one_typed here q))
 
-  two_mirrored : (o : Option ℕ) → opposite_of meta f ≡ o → ((g : ℕ) → o ≡ Some g → is_some v ≡ is_some w) → (x : Name) (h : ℕ) (y : Name) (k : ℕ) → opposite_of meta h ≡ Some k
+  two_mirrored : (o : Option ℕ) → opposite_of meta f ≡ o → ((g : ℕ) → o ≡ Some g → is_some v ≡ is_some w) → (x : IdBytes) (h : ℕ) (y : IdBytes) (k : ℕ) → opposite_of meta h ≡ Some k
       → is_some (get (two row a f b o v w) (x, h, y)) ≡ is_some (get (two row a f b o v w) (y, k, x))
   two_mirrored None is alike x h y k opp =
       let away : eq_by_cmp row_cmp (x, h, y) (a, f, b) ≡ false = not_so (eq_by_cmp row_cmp (x, h, y) (a, f, b)) (λ same.
@@ -114,17 +114,17 @@ module _ (meta : Meta) (sound : Sound meta) (kind : FinMap id_cmp ℕ) (row : Fi
       ∙ sym (ap is_some (at (y, k, x)) ∙ ap (λ z. is_some (cond z w (cond (eq_by_cmp row_cmp (y, k, x) (a, f, b)) v (get row (y, k, x))))) turn ∙ ap (λ z. is_some (cond s w (cond z v (get row (y, k, x))))) turn')
 
 -- the rows of a feature of an element
-abbrev of_list : Name → ℕ → RowKey × ℕ → Bool
+abbrev of_list : IdBytes → ℕ → RowKey × ℕ → Bool
 of_list a f e = text_eq a e.0.0 && nat_eq f e.0.1
 
 -- room in the one list that a row is of
-list_room : (meta : Meta) (m : State) (a : Name) (f : ℕ) (x : Name) (h : ℕ) → text_eq x a && nat_eq h f ≡ true → is_below (row_count m a f) (row_upper meta f) ≡ true → is_below (count (of_list x h) m.row) (row_upper meta h) ≡ true
+list_room : (meta : Meta) (m : State) (a : IdBytes) (f : ℕ) (x : IdBytes) (h : ℕ) → text_eq x a && nat_eq h f ≡ true → is_below (row_count m a f) (row_upper meta f) ≡ true → is_below (count (of_list x h) m.row) (row_upper meta h) ≡ true
 list_room meta m a f x h passes room =
     let e : x ≡ a = text_equality.exact x a (and_first _ _ passes) in
     let d : h ≡ f = nat_equality.exact h f (and_second (text_eq x a) _ passes) in
     subst (λ y. is_below (count (of_list y h) m.row) (row_upper meta h) ≡ true) (sym e) (subst (λ k. is_below (count (of_list a k) m.row) (row_upper meta k) ≡ true) (sym d) room)
 
-module _ (meta : Meta) (sound : Sound meta) (m : State) (good : Good meta m) (a : Name) (f : ℕ) (ra : ℕ) (b : Name) (rb : Option ℕ) (can : Can meta m (Link a f ra b rb)) where
+module _ (meta : Meta) (sound : Sound meta) (m : State) (good : Good meta m) (a : IdBytes) (f : ℕ) (ra : ℕ) (b : IdBytes) (rb : Option ℕ) (can : Can meta m (Link a f ra b rb)) where
   link_none : get m.row (a, f, b) ≡ None
   link_none = no_some _ (not_true _ (passed (tests meta m (Link a f ra b rb)) can).1.1.1.1.0)
 
@@ -167,12 +167,12 @@ module _ (meta : Meta) (sound : Sound meta) (m : State) (good : Good meta m) (a 
       link_mirror (Some g) = ap (λ x. option_eq nat_eq x rb) (two_there meta sound m.row a f b g (Some ra) rb) ∙ number_equality.own rb
 
   -- the targets of a feature, after the row and after its mirror
-  row_bound : (x : Name) (h : ℕ) → is_within (count (of_list x h) (set m.row (a, f, b) (Some ra))) (row_upper meta h) ≡ true
+  row_bound : (x : IdBytes) (h : ℕ) → is_within (count (of_list x h) (set m.row (a, f, b) (Some ra))) (row_upper meta h) ≡ true
   row_bound x h =
       one_more row_order (of_list x h) m.row (a, f, b) ra (row_upper meta h) link_none (good.rows.bound x h)
       (λ passes. list_room meta m a f x h passes (passed (tests meta m (Link a f ra b rb)) can).1.1.1.1.1.0)
 
-  mirror_bound : (g : ℕ) → opposite_of meta f ≡ Some g → is_below (row_count m b g) (row_upper meta g) ≡ true → (w : Option ℕ) (x : Name) (h : ℕ) → is_within (count (of_list x h) (set (set m.row (a, f, b) (Some ra)) (b, g, a) w)) (row_upper meta h) ≡ true
+  mirror_bound : (g : ℕ) → opposite_of meta f ≡ Some g → is_below (row_count m b g) (row_upper meta g) ≡ true → (w : Option ℕ) (x : IdBytes) (h : ℕ) → is_within (count (of_list x h) (set (set m.row (a, f, b) (Some ra)) (b, g, a) w)) (row_upper meta h) ≡ true
   mirror_bound g is room None x h = one_less row_order (of_list x h) (set m.row (a, f, b) (Some ra)) (b, g, a) (row_upper meta h) (row_bound x h)
   mirror_bound g is room (Some r) x h =
       let other = sound.other f g is in
@@ -185,7 +185,7 @@ module _ (meta : Meta) (sound : Sound meta) (m : State) (good : Good meta m) (a 
       count_same row_order (of_list x h) m.row (a, f, b) (Some ra) (ap (counts (of_list x h) (a, f, b)) link_none) (ap (λ z. cond z 1 0) fails) in
       ap (λ n. is_below n (row_upper meta h)) unchanged ∙ list_room meta m b g x h passes room)
 
-  link_bound : (o : Option ℕ) → opposite_of meta f ≡ o → mirror_room meta m o b ≡ true → (x : Name) (h : ℕ) → is_within (count (of_list x h) (two m.row a f b o (Some ra) rb)) (row_upper meta h) ≡ true
+  link_bound : (o : Option ℕ) → opposite_of meta f ≡ o → mirror_room meta m o b ≡ true → (x : IdBytes) (h : ℕ) → is_within (count (of_list x h) (two m.row a f b o (Some ra) rb)) (row_upper meta h) ≡ true
   link_bound None is room = row_bound
   link_bound (Some g) is room = mirror_bound g is room rb
 
@@ -209,7 +209,7 @@ module _ (meta : Meta) (sound : Sound meta) (m : State) (good : Good meta m) (a 
   pub link_keeps : Good meta (apply meta m (Link a f ra b rb))
   link_keeps = record { places = good.places; attrs = good.attrs; rows = link_rows }
 
-module _ (meta : Meta) (sound : Sound meta) (m : State) (good : Good meta m) (a : Name) (f : ℕ) (ra : ℕ) (b : Name) (rb : Option ℕ) (can : Can meta m (Unlink a f ra b rb)) where
+module _ (meta : Meta) (sound : Sound meta) (m : State) (good : Good meta m) (a : IdBytes) (f : ℕ) (ra : ℕ) (b : IdBytes) (rb : Option ℕ) (can : Can meta m (Unlink a f ra b rb)) where
   unlink_row : get m.row (a, f, b) ≡ Some ra
   unlink_row = number_equality.exact _ _ (passed (tests meta m (Unlink a f ra b rb)) can).1.1.1.1.1.0
 
@@ -220,10 +220,10 @@ module _ (meta : Meta) (sound : Sound meta) (m : State) (good : Good meta m) (a 
   unlink_undone = ap (λ r. record m { row = r }) (two_back meta sound m.row a f b (opposite_of meta f) refl (Some ra) None rb None unlink_row unlink_mirror)
 
   -- the targets of a feature, without the row and without its mirror
-  less_row : (x : Name) (h : ℕ) → is_within (count (of_list x h) (set m.row (a, f, b) None)) (row_upper meta h) ≡ true
+  less_row : (x : IdBytes) (h : ℕ) → is_within (count (of_list x h) (set m.row (a, f, b) None)) (row_upper meta h) ≡ true
   less_row x h = one_less row_order (of_list x h) m.row (a, f, b) (row_upper meta h) (good.rows.bound x h)
 
-  less_bound : (o : Option ℕ) (x : Name) (h : ℕ) → is_within (count (of_list x h) (two m.row a f b o None None)) (row_upper meta h) ≡ true
+  less_bound : (o : Option ℕ) (x : IdBytes) (h : ℕ) → is_within (count (of_list x h) (two m.row a f b o None None)) (row_upper meta h) ≡ true
   less_bound None x h = less_row x h
   less_bound (Some g) x h = one_less row_order (of_list x h) (set m.row (a, f, b) None) (b, g, a) (row_upper meta h) (less_row x h)
 

@@ -13,7 +13,7 @@ use Rattle.ecore_meta.specs.declared.meta.Kind.{Kind}
 use Rattle.ecore_meta.specs.declared.meta.Kind.TheVariants.{Attr, AttrMany, Bounded, Free, Contains, Container, Skip}
 use Rattle.ecore_meta.specs.declared.meta.Value.{Value}
 use Rattle.model_state.specs.declared.step.Step.TheVariants.{Ins, Del, Shift}
-use Rattle.model_state.specs.Keys.{Name}
+use Rattle.model_state.specs.Keys.{IdBytes}
 use Rattle.model_state.specs.Lists.{entry_of, values_of, shifted}
 use Rattle.model_state.specs.Typing.{value_eq, kind_of, upper_of, is_many, is_unique, many_fits}
 use Rattle.model_state.specs.State.{State}
@@ -115,7 +115,7 @@ any_at p (x ∷ xs) zero v h out = ap p (same v x (sym h)) ∙ or_first (p x) _ 
     same v x e = cc
 any_at p (x ∷ xs) (suc i) v h out = any_at p xs i v h (or_second (p x) _ out)
 
--- a value that stands once is gone when it is taken out
+-- a value that stands once is not there once it is taken out
 once_gone : (xs : List Value) (i : ℕ) (v : Value) → slice_get xs i ≡ Some v → is_distinct xs ≡ true → list_any (value_eq v) (remove xs i) ≡ false
 once_gone [] i v h d = cc
 once_gone (x ∷ xs) zero v h d = subst (λ y. list_any (value_eq y) xs ≡ false) (same x v h) (not_true (list_any (value_eq x) xs) (and_first (not (list_any (value_eq x) xs)) _ d))
@@ -176,7 +176,7 @@ length-remove (x ∷ xs) (suc i) h = ap suc (length-remove xs i (omega arith))
 value_test : IsEquality (option_eq value_eq)
 value_test = option_equality value_eq value_equality
 
-module _ (meta : Meta) (m : State) (good : Good meta m) (e : Name) (f : ℕ) (at : ℕ) (v : Value) where
+module _ (meta : Meta) (m : State) (good : Good meta m) (e : IdBytes) (f : ℕ) (at : ℕ) (v : Value) where
   module _ (can : Can meta m (Ins e f at v)) where
     ins_whole : entry_of (values_of (get m.attr (e, f))) ≡ get m.attr (e, f)
     ins_whole = whole meta (get m.kind e) f (get m.attr (e, f)) (good.attrs.typed e f)
@@ -354,7 +354,7 @@ module _ (vs : List Value) (from to : ℕ) (v : Value) (here : slice_get vs from
     once = λ is. ap is_distinct (shifted_is vs from to v here) ∙ distinct-insert (remove vs from) to v (once_gone vs from v here (old.once is)) (distinct-remove vs from (old.once is));
   }
 
-module _ (meta : Meta) (m : State) (good : Good meta m) (e : Name) (f : ℕ) (from to : ℕ) (can : Can meta m (Shift e f from to)) where
+module _ (meta : Meta) (m : State) (good : Good meta m) (e : IdBytes) (f : ℕ) (from to : ℕ) (can : Can meta m (Shift e f from to)) where
   from_in : from < length (values_of (get m.attr (e, f)))
   from_in = lt_is _ _ (passed (tests meta m (Shift e f from to)) can).1.1.1.1.0
 

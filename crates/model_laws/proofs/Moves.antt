@@ -14,7 +14,7 @@ use Rattle.ecore_meta.specs.Meta.{Meta}
 use Rattle.model_state.specs.declared.step.Place.{Place}
 use Rattle.model_state.specs.declared.step.Place.TheVariants.{Root, Inside}
 use Rattle.model_state.specs.declared.step.Step.TheVariants.{Move}
-use Rattle.model_state.specs.Keys.{Name, id_cmp}
+use Rattle.model_state.specs.Keys.{IdBytes, id_cmp}
 use Rattle.model_state.specs.Typing.{kind_of, child_upper, contains_to}
 use Rattle.model_state.specs.State.{State, place_eq}
 use Rattle.model_state.specs.Steps.{tests, Can, apply, class_has, place_live, may_stand, may_move, has_room, chain_is}
@@ -25,14 +25,14 @@ use Rattle.model_laws.proofs.Births.{has_class, other_key}
 use Rattle.finite_maps.proofs.Cases.{not_false, not_so, not_true, or_first, or_second}
 
 -- the test of a chain and the chain
-is_chain : (place : FinMap id_cmp Place) (o : Option Place) (xs : List Name) → chain_is place o xs ≡ true → IsChain place o xs
+is_chain : (place : FinMap id_cmp Place) (o : Option Place) (xs : List IdBytes) → chain_is place o xs ≡ true → IsChain place o xs
 is_chain place None xs h = cc
 is_chain place (Some Root) [] h = tt
 is_chain place (Some Root) (x ∷ xs) h = cc
 is_chain place (Some (Inside a f)) [] h = cc
 is_chain place (Some (Inside a f)) (x ∷ xs) h = (text_equality.exact x a (and_first _ _ h), is_chain place (get place x) xs (and_second (text_eq x a) _ h))
 
-chain_test : (place : FinMap id_cmp Place) (o : Option Place) (xs : List Name) → IsChain place o xs → chain_is place o xs ≡ true
+chain_test : (place : FinMap id_cmp Place) (o : Option Place) (xs : List IdBytes) → IsChain place o xs → chain_is place o xs ≡ true
 chain_test place None xs h = absurd h
 chain_test place (Some Root) [] h = refl
 chain_test place (Some Root) (x ∷ xs) h = absurd h
@@ -40,7 +40,7 @@ chain_test place (Some (Inside a f)) [] h = absurd h
 chain_test place (Some (Inside a f)) (x ∷ xs) h = and_both (text_eq x a) _ (subst (λ y. text_eq x y ≡ true) h.0 (text_equality.own x)) (chain_test place (get place x) xs h.1)
 
 -- a place has one chain
-one_chain : (place : FinMap id_cmp Place) (o : Option Place) (xs ys : List Name) → IsChain place o xs → IsChain place o ys → length xs ≡ length ys
+one_chain : (place : FinMap id_cmp Place) (o : Option Place) (xs ys : List IdBytes) → IsChain place o xs → IsChain place o ys → length xs ≡ length ys
 one_chain place None xs ys g h = absurd g
 one_chain place (Some Root) [] [] g h = refl
 one_chain place (Some Root) [] (y ∷ ys) g h = absurd h
@@ -51,19 +51,19 @@ one_chain place (Some (Inside a f)) (x ∷ xs) (y ∷ ys) g h =
     ap suc (one_chain place (get place x) xs ys g.1 (subst (λ z. IsChain place (get place z) ys) (h.0 ∙ sym g.0) h.1))
 
 -- from an element on a chain a shorter chain goes on
-goes_on : (place : FinMap id_cmp Place) (e : Name) (o : Option Place) (xs : List Name) → IsChain place o xs → list_any (text_eq e) xs ≡ true → (ys : List Name) × IsChain place (get place e) ys × (length ys < length xs)
+goes_on : (place : FinMap id_cmp Place) (e : IdBytes) (o : Option Place) (xs : List IdBytes) → IsChain place o xs → list_any (text_eq e) xs ≡ true → (ys : List IdBytes) × IsChain place (get place e) ys × (length ys < length xs)
 goes_on place e None xs g h = absurd g
 goes_on place e (Some Root) [] g h = cc
 goes_on place e (Some Root) (x ∷ xs) g h = absurd g
 goes_on place e (Some (Inside a f)) [] g h = absurd g
 goes_on place e (Some (Inside a f)) (x ∷ xs) g h =
-    elim (text_eq e x) as (λ b. text_eq e x ≡ b → b || list_any (text_eq e) xs ≡ true → (ys : List Name) × IsChain place (get place e) ys × (length ys < suc (length xs))) [
+    elim (text_eq e x) as (λ b. text_eq e x ≡ b → b || list_any (text_eq e) xs ≡ true → (ys : List IdBytes) × IsChain place (get place e) ys × (length ys < suc (length xs))) [
       | true ↦ λ is _. (xs, subst (λ z. IsChain place (get place z) xs) (sym (text_equality.exact e x is)) g.1, omega arith)
       | false ↦ λ _ later. let r = goes_on place e (get place x) xs g.1 later in let short : length r.0 < length xs = r.2 in (r.0, r.1, omega (arith, short))
     ] refl h
 
 -- a chain without the element stays when the element is moved
-chain_without : (place : FinMap id_cmp Place) (e : Name) (v : Option Place) (o : Option Place) (xs : List Name) → list_any (text_eq e) xs ≡ false → IsChain place o xs → IsChain (set place e v) o xs
+chain_without : (place : FinMap id_cmp Place) (e : IdBytes) (v : Option Place) (o : Option Place) (xs : List IdBytes) → list_any (text_eq e) xs ≡ false → IsChain place o xs → IsChain (set place e v) o xs
 chain_without place e v None xs out h = absurd h
 chain_without place e v (Some Root) [] out h = tt
 chain_without place e v (Some Root) (x ∷ xs) out h = absurd h
@@ -72,12 +72,12 @@ chain_without place e v (Some (Inside a f)) (x ∷ xs) out h =
     (h.0, subst (λ o. IsChain (set place e v) o xs) (sym (get-set_other id_order place e v x (other_key e x (or_first (text_eq e x) _ out)))) (chain_without place e v (get place x) xs (or_second (text_eq e x) _ out) h.1))
 
 -- where the element's new place has a chain, each old chain has one that takes its place
-rechained : (place : FinMap id_cmp Place) (e : Name) (to : Place) (zs : List Name) → IsChain (set place e (Some to)) (Some to) zs → (o : Option Place) (xs : List Name) → IsChain place o xs → (ys : List Name) × IsChain (set place e (Some to)) o ys
+rechained : (place : FinMap id_cmp Place) (e : IdBytes) (to : Place) (zs : List IdBytes) → IsChain (set place e (Some to)) (Some to) zs → (o : Option Place) (xs : List IdBytes) → IsChain place o xs → (ys : List IdBytes) × IsChain (set place e (Some to)) o ys
 rechained place e to zs above None xs h = absurd h
 rechained place e to zs above (Some Root) xs h = ([], tt)
 rechained place e to zs above (Some (Inside a f)) [] h = absurd h
 rechained place e to zs above (Some (Inside a f)) (x ∷ xs) h =
-    elim (eq_by_cmp id_cmp x e) as (λ b. eq_by_cmp id_cmp x e ≡ b → (ys : List Name) × IsChain (set place e (Some to)) (Some (Inside a f)) ys) [
+    elim (eq_by_cmp id_cmp x e) as (λ b. eq_by_cmp id_cmp x e ≡ b → (ys : List IdBytes) × IsChain (set place e (Some to)) (Some (Inside a f)) ys) [
       | true ↦ λ same. (x ∷ zs, (h.0, subst (λ o. IsChain (set place e (Some to)) o zs) (sym (ap (λ z. get (set place e (Some to)) z) (same_key id_order x e same) ∙ get-set_same id_order place e (Some to))) above))
       | false ↦ λ other.
           let r = rechained place e to zs above (get place x) xs h.1 in
@@ -85,7 +85,7 @@ rechained place e to zs above (Some (Inside a f)) (x ∷ xs) h =
     ] refl
 
 -- one entry for another: where the new one counts there was room, and the old one did not count
-swapped : {X : Type 0} (p : Name × X → Bool) (m : FinMap id_cmp X) (e : Name) (old v : X) (upper : Option ℕ) → get m e ≡ Some old → is_within (count p m) upper ≡ true → (p (e, v) ≡ true → is_below (count p m) upper ≡ true) → is_within (count p (set m e (Some v))) upper ≡ true
+swapped : {X : Type 0} (p : IdBytes × X → Bool) (m : FinMap id_cmp X) (e : IdBytes) (old v : X) (upper : Option ℕ) → get m e ≡ Some old → is_within (count p m) upper ≡ true → (p (e, v) ≡ true → is_below (count p m) upper ≡ true) → is_within (count p (set m e (Some v))) upper ≡ true
 swapped p m e old v None is within room = refl
 swapped p m e old v (Some n) is within room =
     let sum : count p (set m e (Some v)) + counts p e (get m e) ≡ count p m + counts p e (Some v) = count-set id_order p m e (Some v) in
@@ -97,7 +97,7 @@ swapped p m e old v (Some n) is within room =
     le_of_lt' : (a b n : ℕ) → a ≤ b + 1 → nat_lt b n ≡ true → nat_le a n ≡ true
     le_of_lt' a b n h k = grind (arith, nat_tests)
 
-freed : {X : Type 0} (p : Name × X → Bool) (m : FinMap id_cmp X) (e : Name) (old v : X) (upper : Option ℕ) → get m e ≡ Some old → p (e, old) ≡ true → p (e, v) ≡ false → is_within (count p m) upper ≡ true → is_below (count p (set m e (Some v))) upper ≡ true
+freed : {X : Type 0} (p : IdBytes × X → Bool) (m : FinMap id_cmp X) (e : IdBytes) (old v : X) (upper : Option ℕ) → get m e ≡ Some old → p (e, old) ≡ true → p (e, v) ≡ false → is_within (count p m) upper ≡ true → is_below (count p (set m e (Some v))) upper ≡ true
 freed p m e old v None is counted out within = refl
 freed p m e old v (Some n) is counted out within =
     let sum : count p (set m e (Some v)) + counts p e (get m e) ≡ count p m + counts p e (Some v) = count-set id_order p m e (Some v) in
@@ -136,7 +136,7 @@ moved_ok meta m (Some c) (Some p) None to rank h may = absurd h
 moved_ok meta m (Some c) (Some p) (Some r) Root rank h may = (h.0, tt)
 moved_ok meta m (Some c) (Some p) (Some r) (Inside a f) rank h may = (h.0, (and_first _ _ may, and_second (class_has meta (get m.kind a) f) _ may))
 
-module _ (meta : Meta) (m : State) (e : Name) (from : Place) (from_rank : ℕ) (to : Place) (to_rank : ℕ) (above_from above_to : List Name) (can : Can meta m (Move e from from_rank to to_rank above_from above_to)) where
+module _ (meta : Meta) (m : State) (e : IdBytes) (from : Place) (from_rank : ℕ) (to : Place) (to_rank : ℕ) (above_from above_to : List IdBytes) (can : Can meta m (Move e from from_rank to to_rank above_from above_to)) where
   there : get m.place e ≡ Some from
   there = place_test.exact _ _ (passed (tests meta m (Move e from from_rank to to_rank above_from above_to)) can).1.0
 
@@ -206,7 +206,7 @@ module _ (meta : Meta) (m : State) (e : Name) (from : Place) (from_rank : ℕ) (
     where
       room : (q : Place) → q ≡ from → place_eq from to ≡ false → has_room meta (apply meta m (Move e from from_rank to to_rank above_from above_to)) q ≡ true
       room Root is differ = refl
-      room (Inside a f) is differ = freed (λ (x : Name × Place). place_eq (Inside a f) x.1) m.place e from to (child_upper meta f) there
+      room (Inside a f) is differ = freed (λ (x : IdBytes × Place). place_eq (Inside a f) x.1) m.place e from to (child_upper meta f) there
           (subst (λ z. place_eq z from ≡ true) (sym is) (place_equality.own from)) (subst (λ z. place_eq z to ≡ false) (sym is) differ) (good.places.bound a f)
 
   pub move_keeps : Good meta m → Good meta (apply meta m (Move e from from_rank to to_rank above_from above_to))
@@ -218,10 +218,10 @@ module _ (meta : Meta) (m : State) (e : Name) (from : Place) (from_rank : ℕ) (
           (moved_ok meta m (get m.kind e) (get m.place e) (get m.prank e) to to_rank (good.places.stands e) (passed (tests meta m (Move e from from_rank to to_rank above_from above_to)) can).1.1.1.1.1.0)))
           (λ other. subst (λ o. PlaceOk meta m.kind (get m.kind x) o (get (set m.prank e (Some to_rank)) x)) (sym (get-set_other id_order m.place e (Some to) x other))
           (subst (λ r. PlaceOk meta m.kind (get m.kind x) (get m.place x) r) (sym (get-set_other id_order m.prank e (Some to_rank) x other)) (good.places.stands x)));
-      bound = λ a f. swapped (λ (x : Name × Place). place_eq (Inside a f) x.1) m.place e from to (child_upper meta f) there (good.places.bound a f)
+      bound = λ a f. swapped (λ (x : IdBytes × Place). place_eq (Inside a f) x.1) m.place e from to (child_upper meta f) there (good.places.bound a f)
           (λ counted. subst (λ q. has_room meta m q ≡ true) (sym (place_equality.exact (Inside a f) to counted)) (passed (tests meta m (Move e from from_rank to to_rank above_from above_to)) can).1.1.1.1.1.1.1.1.1.0);
-      ends = λ x p is. by_key id_order (λ x. get (set m.place e (Some to)) x ≡ Some p → (xs : List Name) × IsChain (set m.place e (Some to)) (Some p) xs) e x
-          (λ here. subst (λ o. (xs : List Name) × IsChain (set m.place e (Some to)) o xs) (sym (get-set_same id_order m.place e (Some to)) ∙ here) (above_to, above))
+      ends = λ x p is. by_key id_order (λ x. get (set m.place e (Some to)) x ≡ Some p → (xs : List IdBytes) × IsChain (set m.place e (Some to)) (Some p) xs) e x
+          (λ here. subst (λ o. (xs : List IdBytes) × IsChain (set m.place e (Some to)) o xs) (sym (get-set_same id_order m.place e (Some to)) ∙ here) (above_to, above))
           (λ other there'. let old = good.places.ends x p (sym (get-set_other id_order m.place e (Some to) x other) ∙ there') in rechained m.place e to above_to above (Some p) old.0 old.1)
           is;
     };

@@ -9,7 +9,7 @@ use Rattle.finite_maps.proofs.EqualLaws.{apart, nat_equality}
 use Rattle.ecore_meta.specs.Meta.{Meta}
 use Rattle.model_state.specs.declared.step.Place.{Place}
 use Rattle.model_state.specs.declared.step.Step.TheVariants.{RerankPlace}
-use Rattle.model_state.specs.Keys.{Name, id_cmp}
+use Rattle.model_state.specs.Keys.{IdBytes, id_cmp}
 use Rattle.model_state.specs.State.{State}
 use Rattle.model_state.specs.Steps.{tests, Can, apply}
 use Rattle.model_state.specs.Good.{PlaceOk, Good}
@@ -26,7 +26,7 @@ any_rank meta kind (Some c) None r old new is h = absurd h
 any_rank meta kind (Some c) (Some p) None old new is h = absurd h
 any_rank meta kind (Some c) (Some p) (Some r) old new is h = h
 
-module _ (meta : Meta) (m : State) (e : Name) (old new : ℕ) (can : Can meta m (RerankPlace e old new)) where
+module _ (meta : Meta) (m : State) (e : IdBytes) (old new : ℕ) (can : Can meta m (RerankPlace e old new)) where
   was : get m.prank e ≡ Some old
   was = number_equality.exact _ _ (passed (tests meta m (RerankPlace e old new)) can).1.1.0
 

@@ -9,7 +9,7 @@ use Rattle.finite_maps.proofs.CountLaws.{count-set}
 use Rattle.finite_maps.proofs.EqualLaws.{apart, nat_equality}
 use Rattle.ecore_meta.specs.Meta.{Meta}
 use Rattle.model_state.specs.declared.step.Step.TheVariants.{RerankRow}
-use Rattle.model_state.specs.Keys.{Name, RowKey}
+use Rattle.model_state.specs.Keys.{IdBytes, RowKey}
 use Rattle.model_state.specs.Typing.{row_upper}
 use Rattle.model_state.specs.State.{State}
 use Rattle.model_state.specs.Steps.{tests, Can, apply}
@@ -18,7 +18,7 @@ use Rattle.model_state.proofs.Orders.{row_order}
 use Rattle.model_state.proofs.StepTests.{passed, pass, number_equality}
 use Rattle.finite_maps.proofs.Cases.{not_false, not_true}
 
-module _ (meta : Meta) (m : State) (a : Name) (f : ℕ) (b : Name) (old new : ℕ) (can : Can meta m (RerankRow a f b old new)) where
+module _ (meta : Meta) (m : State) (a : IdBytes) (f : ℕ) (b : IdBytes) (old new : ℕ) (can : Can meta m (RerankRow a f b old new)) where
   was : get m.row (a, f, b) ≡ Some old
   was = number_equality.exact _ _ (passed (tests meta m (RerankRow a f b old new)) can).1.1.1.1.1.0
 

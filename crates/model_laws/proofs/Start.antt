@@ -7,7 +7,7 @@ use Rattle.finite_maps.specs.Maps.{is_within}
 use Rattle.finite_maps.proofs.CountLaws.{count_none}
 use Rattle.model_state.specs.declared.step.Place.{Place}
 use Rattle.model_state.specs.declared.step.Place.TheVariants.{Inside}
-use Rattle.model_state.specs.Keys.{Name, RowKey, id_cmp, attr_cmp, row_cmp}
+use Rattle.model_state.specs.Keys.{IdBytes, RowKey, id_cmp, attr_cmp, row_cmp}
 use Rattle.model_state.specs.Typing.{row_upper, child_upper}
 use Rattle.model_state.specs.State.{nothing, place_eq}
 use Rattle.model_state.specs.Good.{AttrOk, RowOk, PlaceOk}
@@ -21,7 +21,7 @@ pub starts_good : StartsGood
 starts_good meta = record {
   places = record {
     stands = λ e. carry (λ c p r. PlaceOk meta empty c p r) None _ None _ None _ (get-empty id_cmp e) (get-empty id_cmp e) (get-empty id_cmp e) tt;
-    bound = λ a f. ap (λ n. is_within n (child_upper meta f)) (count_none id_order (λ (x : Name × Place). place_eq (Inside a f) x.1) empty (λ q v is. absurd (some_none (get empty q) v is (get-empty id_cmp q)))) ∙ within_none (child_upper meta f);
+    bound = λ a f. ap (λ n. is_within n (child_upper meta f)) (count_none id_order (λ (x : IdBytes × Place). place_eq (Inside a f) x.1) empty (λ q v is. absurd (some_none (get empty q) v is (get-empty id_cmp q)))) ∙ within_none (child_upper meta f);
     ends = λ e p is. absurd (some_none (get empty e) p is (get-empty id_cmp e));
   };
   attrs = record { typed = λ e f. subst (λ o. AttrOk meta (get nothing.kind e) f o) (sym (get-empty attr_cmp (e, f))) tt };

@@ -9,19 +9,19 @@ use Rattle.model_state.specs.declared.step.Place.{Place}
 use Rattle.model_state.specs.declared.step.Place.TheVariants.{Root, Inside}
 use Rattle.model_state.specs.declared.step.Step.{Step}
 use Rattle.model_state.specs.declared.step.Step.TheVariants.{Put, Ins, Del, Shift, Link, Unlink, RerankRow, New, Gone, Move, RerankPlace}
-use Rattle.model_state.specs.Keys.{Name}
+use Rattle.model_state.specs.Keys.{IdBytes}
 use Rattle.model_state.specs.Typing.{bounded_kind, contains_kind, kind_of, upper_of, opposite_of}
 use Rattle.model_state.specs.State.{State, place_eq, is_inside}
 
 -- OfKind, OfPlace, OfRank, OfAttr, OfRow, OfWhole are cells; About e is all that hangs on e
 pub data Cell : Type 0 where
-  OfKind : Name → Cell
-  OfPlace : Name → Cell
-  OfRank : Name → Cell
-  OfAttr : Name → ℕ → Cell
-  OfRow : Name → ℕ → Name → Cell
-  OfWhole : Name → ℕ → Cell
-  About : Name → Cell
+  OfKind : IdBytes → Cell
+  OfPlace : IdBytes → Cell
+  OfRank : IdBytes → Cell
+  OfAttr : IdBytes → ℕ → Cell
+  OfRow : IdBytes → ℕ → IdBytes → Cell
+  OfWhole : IdBytes → ℕ → Cell
+  About : IdBytes → Cell
 
 -- a plain reference with a finite upper bound
 abbrev pub is_bounded : Meta → ℕ → Bool
@@ -51,7 +51,7 @@ abbrev pub stands_in : Place → Option Place → Bool
 stands_in p o = option_map_or (place_eq p) o false
 
 -- the element stands inside the other
-abbrev pub stands_inside : Name → Option Place → Bool
+abbrev pub stands_inside : IdBytes → Option Place → Bool
 stands_inside e o = option_map_or (is_inside e) o false
 
 -- what two states may have in common at a cell
@@ -61,15 +61,15 @@ Agree meta m n (OfPlace e) = get m.place e ≡ get n.place e
 Agree meta m n (OfRank e) = get m.prank e ≡ get n.prank e
 Agree meta m n (OfAttr e f) = get m.attr (e, f) ≡ get n.attr (e, f)
 Agree meta m n (OfRow a f b) = is_bounded meta f ≡ false → get m.row (a, f, b) ≡ get n.row (a, f, b)
-Agree meta m n (OfWhole a f) = (is_bounded meta f ≡ true → (b : Name) → get m.row (a, f, b) ≡ get n.row (a, f, b)) × (is_finite meta f ≡ true → (x : Name) → stands_in (Inside a f) (get m.place x) ≡ stands_in (Inside a f) (get n.place x))
-Agree meta m n (About e) = ((f : ℕ) → get m.attr (e, f) ≡ get n.attr (e, f)) × ((f : ℕ) (b : Name) → get m.row (e, f, b) ≡ get n.row (e, f, b)) × ((a : Name) (f : ℕ) → get m.row (a, f, e) ≡ get n.row (a, f, e)) × ((x : Name) → stands_inside e (get m.place x) ≡ stands_inside e (get n.place x))
+Agree meta m n (OfWhole a f) = (is_bounded meta f ≡ true → (b : IdBytes) → get m.row (a, f, b) ≡ get n.row (a, f, b)) × (is_finite meta f ≡ true → (x : IdBytes) → stands_in (Inside a f) (get m.place x) ≡ stands_in (Inside a f) (get n.place x))
+Agree meta m n (About e) = ((f : ℕ) → get m.attr (e, f) ≡ get n.attr (e, f)) × ((f : ℕ) (b : IdBytes) → get m.row (e, f, b) ≡ get n.row (e, f, b)) × ((a : IdBytes) (f : ℕ) → get m.row (a, f, e) ≡ get n.row (a, f, e)) × ((x : IdBytes) → stands_inside e (get m.place x) ≡ stands_inside e (get n.place x))
 
 -- the cell of one end of a row
-abbrev pub side : Meta → Name → ℕ → Name → Cell
+abbrev pub side : Meta → IdBytes → ℕ → IdBytes → Cell
 side meta a f b = elim (is_bounded meta f) [ true ↦ OfWhole a f | false ↦ OfRow a f b ]
 
 -- the cell of the other end, where there is an opposite
-abbrev pub mirror_side : Meta → Option ℕ → Name → Name → List Cell
+abbrev pub mirror_side : Meta → Option ℕ → IdBytes → IdBytes → List Cell
 mirror_side meta None a b = []
 mirror_side meta (Some g) a b = side meta b g a ∷ []
 
@@ -79,7 +79,7 @@ place_list meta Root = []
 place_list meta (Inside a f) = elim (is_finite meta f) [ true ↦ OfWhole a f ∷ [] | false ↦ [] ]
 
 -- the element that a place is inside, if any
-abbrev pub parent_kind : Place → List Name
+abbrev pub parent_kind : Place → List IdBytes
 parent_kind Root = []
 parent_kind (Inside a f) = a ∷ []
 
@@ -98,7 +98,7 @@ step_writes meta (RerankRow a f b old new) = side meta a f b ∷ []
 step_writes meta (Shift e f from to) = OfAttr e f ∷ []
 
 -- the elements whose class a step reads, as Kind cells
-abbrev pub kinds_read : Step → List Name
+abbrev pub kinds_read : Step → List IdBytes
 kinds_read (Put e f old new) = e ∷ []
 kinds_read (Link a f ra b rb) = a ∷ b ∷ []
 kinds_read (Unlink a f ra b rb) = a ∷ b ∷ []
@@ -112,7 +112,7 @@ kinds_read (Shift e f from to) = e ∷ []
 kinds_read s = []
 
 -- the elements whose class a step writes
-abbrev pub kinds_written : Step → List Name
+abbrev pub kinds_written : Step → List IdBytes
 kinds_written (New e class place rank) = e ∷ []
 kinds_written (Gone e class place rank) = e ∷ []
 kinds_written s = []
@@ -127,13 +127,13 @@ others_read s = []
 abbrev pub step_reads : Step → List Cell
 step_reads s = map OfKind (kinds_read s) ++ others_read s
 
--- what a step stands on: its cells, and all that hangs on the elements that come or go
+-- what a step stands on: its cells, and all that hangs on the elements that are created or deleted
 abbrev pub needs : Meta → Step → List Cell
 needs meta s = step_reads s ++ (map About (kinds_written s) ++ step_writes meta s)
 
 -- what a step may change: the cells that it writes, and all that hangs on the elements whose class it reads or writes
-abbrev pub touches : Meta → Step → List Cell
-touches meta s = step_writes meta s ++ map About (kinds_read s ++ kinds_written s)
+abbrev pub may_change : Meta → Step → List Cell
+may_change meta s = step_writes meta s ++ map About (kinds_read s ++ kinds_written s)
 
 -- what some steps stand on
 abbrev pub needs_all : Meta → List Step → List Cell
@@ -141,9 +141,9 @@ needs_all meta [] = []
 needs_all meta (s ∷ ss) = needs meta s ++ needs_all meta ss
 
 -- what some steps may change
-abbrev pub touches_all : Meta → List Step → List Cell
-touches_all meta [] = []
-touches_all meta (s ∷ ss) = touches meta s ++ touches_all meta ss
+abbrev pub may_change_all : Meta → List Step → List Cell
+may_change_all meta [] = []
+may_change_all meta (s ∷ ss) = may_change meta s ++ may_change_all meta ss
 
 -- the two states agree at each of the cells
 abbrev pub AgreeAt : Meta → State → State → List Cell → Type 0
@@ -160,7 +160,7 @@ reads_all [] = []
 reads_all (s ∷ ss) = step_reads s ++ reads_all ss
 
 -- no cell written by one is written or read by the other
-pub record KeepApart (meta : Meta) (ps qs : List Step) : Type 0 where
+pub record AreDisjoint (meta : Meta) (ps qs : List Step) : Type 0 where
   pub written : (c : Cell) → has (writes_all meta ps) c ≡ true → has (writes_all meta qs) c ≡ false
   pub first_read : (c : Cell) → has (writes_all meta qs) c ≡ true → has (reads_all ps) c ≡ false
   pub second_read : (c : Cell) → has (writes_all meta ps) c ≡ true → has (reads_all qs) c ≡ false

@@ -8,7 +8,7 @@ pub fn law_of_reversal()
     ensures starts { StartsGood }
 {}
 
-/// Steps that keep apart by their cells may change places.
+/// Steps whose cells are disjoint commute.
 pub fn law_of_exchange()
     ensures exchange { ExchangeHolds }
     ensures side_by_side { SideBySide }

@@ -1,5 +1,5 @@
-//! Laws of the steps: each keeps the invariant of a state, reversal undoes, and steps whose cells keep apart may
-//! change places. A law is the contract of a function that does nothing.
+//! Laws of the steps: each keeps the invariant of a state, reversal undoes, and steps whose cells are disjoint
+//! commute. A law is the contract of a function that does nothing.
 #![tactic(auto)]
 
 mod laws;

@@ -7,8 +7,8 @@ ghost use Rattle.model_state.specs.Good.{Good, Sound};
 use ecore_meta::Metamodel;
 use model_state::{ApplyFault, Change, Step};
 
-/// Takes the steps one by one, up to the first that can't be taken, whose place, from 0, and fault it tells. The steps
-/// before it are taken then. Where memory is wanting it stops at any step.
+/// Takes the steps one by one, up to the first that can't be taken, whose place, from 0, and fault it gives. The steps
+/// before it are taken then. Where memory runs out it stops at any step.
 pub fn replay<M: Change>(model: &mut M, meta: &Metamodel, steps: &[Step]) -> Result<(), ApplyFault>
     requires sound { Sound meta.now }
     requires good { Good meta.now (M.state model.old) }

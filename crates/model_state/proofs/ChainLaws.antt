@@ -4,13 +4,13 @@ use Rattle.std.specs.Prelude.{Some}
 use Rattle.std.specs.FinMap.{FinMap, get}
 use Rattle.model_state.specs.declared.step.Place.{Place}
 use Rattle.model_state.specs.declared.step.Place.TheVariants.{Root, Inside}
-use Rattle.model_state.specs.Keys.{Name, id_cmp}
+use Rattle.model_state.specs.Keys.{IdBytes, id_cmp}
 use Rattle.model_state.specs.Chains.{IsChain, parent_of}
 
 -- one container further
-pub go_on : (place : FinMap id_cmp Place) (first q r : Place) (a : Name) (above xs : List Name) → Some a ≡ parent_of q → Some r ≡ get place a
+pub go_on : (place : FinMap id_cmp Place) (first q r : Place) (a : IdBytes) (above xs : List IdBytes) → Some a ≡ parent_of q → Some r ≡ get place a
     → IsChain place (Some q) xs → IsChain place (Some first) (above ++ xs)
-    → (x : List Name) × IsChain place (Some r) x × IsChain place (Some first) ((above ++ a ∷ []) ++ x)
+    → (x : List IdBytes) × IsChain place (Some r) x × IsChain place (Some first) ((above ++ a ∷ []) ++ x)
 go_on place first Root r a above xs is there chain whole = cc
 go_on place first (Inside b f) r a above [] is there chain whole = absurd chain
 go_on place first (Inside b f) r a above (y ∷ ys) is there chain whole =

@@ -8,7 +8,7 @@ use Rattle.std.proofs.lemmas.Map.Lookups.{exact_pairs, exact_unsigned, exact_byt
 use Rattle.finite_maps.proofs.MapLaws.{IsKeyOrder}
 use Rattle.model_state.specs.declared.entry.Entry.{Entry}
 use Rattle.model_state.specs.Listing.{entry_cmp}
-use Rattle.model_state.specs.Keys.{Name, AttrKey, RowKey, id_cmp, attr_cmp, row_cmp}
+use Rattle.model_state.specs.Keys.{IdBytes, AttrKey, RowKey, id_cmp, attr_cmp, row_cmp}
 
 pub id_order : IsKeyOrder id_cmp
 id_order = record { total = nat_list_cmp_total; exact = exact_bytes }
@@ -20,8 +20,8 @@ attr_order = record {
 }
 
 exact_rows : CmpEqualImpliesEq row_cmp
-exact_rows a b h = ap (λ (p : (Name × ℕ) × Name). (p.0.0, p.0.1, p.1))
-    (exact_pairs (λ (x y : Name × ℕ). ordering_then (id_cmp x.0 y.0) (nat_cmp x.1 y.1)) id_cmp (exact_pairs id_cmp nat_cmp exact_bytes exact_unsigned) exact_bytes ((a.0, a.1), a.2) ((b.0, b.1), b.2) h)
+exact_rows a b h = ap (λ (p : (IdBytes × ℕ) × IdBytes). (p.0.0, p.0.1, p.1))
+    (exact_pairs (λ (x y : IdBytes × ℕ). ordering_then (id_cmp x.0 y.0) (nat_cmp x.1 y.1)) id_cmp (exact_pairs id_cmp nat_cmp exact_bytes exact_unsigned) exact_bytes ((a.0, a.1), a.2) ((b.0, b.1), b.2) h)
 
 pub row_order : IsKeyOrder row_cmp
 row_order = record {

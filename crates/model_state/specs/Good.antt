@@ -10,7 +10,7 @@ use Rattle.ecore_meta.specs.declared.meta.Kind.TheVariants.{Attr, AttrMany}
 use Rattle.ecore_meta.specs.declared.meta.Value.{Value}
 use Rattle.model_state.specs.declared.step.Place.{Place}
 use Rattle.model_state.specs.declared.step.Place.TheVariants.{Root, Inside}
-use Rattle.model_state.specs.Keys.{Name, id_cmp, attr_cmp, row_cmp}
+use Rattle.model_state.specs.Keys.{IdBytes, id_cmp, attr_cmp, row_cmp}
 use Rattle.model_state.specs.Typing.{has_feature, kind_of, upper_of, row_upper, child_upper, opposite_of, is_concrete, contains_to, fits, value_eq, is_default}
 use Rattle.model_state.specs.State.{State, place_eq}
 use Rattle.model_state.specs.Steps.{class_has, may_link}
@@ -36,7 +36,7 @@ AttrOk meta (Some c) f (Some vs) = (has_feature meta c f ≡ true) × ValuesOk m
 
 -- the attributes are those of live elements, with values that they may hold
 pub record GoodAttrs (meta : Meta) (kind : FinMap id_cmp ℕ) (attr : FinMap attr_cmp (List Value)) : Type 0 where
-  pub typed : (e : Name) (f : ℕ) → AttrOk meta (get kind e) f (get attr (e, f))
+  pub typed : (e : IdBytes) (f : ℕ) → AttrOk meta (get kind e) f (get attr (e, f))
 
 -- a row's entry, by the classes of its ends
 abbrev pub RowOk : Meta → Option ℕ → ℕ → Option ℕ → Option ℕ → Type 0
@@ -45,9 +45,9 @@ RowOk meta c f d (Some rank) = may_link meta c f d ≡ true
 
 -- the rows are of plain features of live elements, each with its mirror, in lists within their bounds
 pub record GoodRows (meta : Meta) (kind : FinMap id_cmp ℕ) (row : FinMap row_cmp ℕ) : Type 0 where
-  pub typed : (a : Name) (f : ℕ) (b : Name) → RowOk meta (get kind a) f (get kind b) (get row (a, f, b))
-  pub mirrored : (a : Name) (f : ℕ) (b : Name) (g : ℕ) → opposite_of meta f ≡ Some g → is_some (get row (a, f, b)) ≡ is_some (get row (b, g, a))
-  pub bound : (a : Name) (f : ℕ) → is_within (count (λ e. text_eq a e.0.0 && nat_eq f e.0.1) row) (row_upper meta f) ≡ true
+  pub typed : (a : IdBytes) (f : ℕ) (b : IdBytes) → RowOk meta (get kind a) f (get kind b) (get row (a, f, b))
+  pub mirrored : (a : IdBytes) (f : ℕ) (b : IdBytes) (g : ℕ) → opposite_of meta f ≡ Some g → is_some (get row (a, f, b)) ≡ is_some (get row (b, g, a))
+  pub bound : (a : IdBytes) (f : ℕ) → is_within (count (λ e. text_eq a e.0.0 && nat_eq f e.0.1) row) (row_upper meta f) ≡ true
 
 -- where an element of the class may stand
 abbrev pub StandsOk : Meta → FinMap id_cmp ℕ → ℕ → Place → Type 0
@@ -62,9 +62,9 @@ PlaceOk meta kind c p r = ⊥
 
 -- each live element stands where it may, in chains that end at the root, in places within their bounds
 pub record GoodPlaces (meta : Meta) (kind : FinMap id_cmp ℕ) (place : FinMap id_cmp Place) (prank : FinMap id_cmp ℕ) : Type 0 where
-  pub stands : (e : Name) → PlaceOk meta kind (get kind e) (get place e) (get prank e)
-  pub bound : (a : Name) (f : ℕ) → is_within (count (λ e. place_eq (Inside a f) e.1) place) (child_upper meta f) ≡ true
-  pub ends : (e : Name) (p : Place) → get place e ≡ Some p → (xs : List Name) × IsChain place (Some p) xs
+  pub stands : (e : IdBytes) → PlaceOk meta kind (get kind e) (get place e) (get prank e)
+  pub bound : (a : IdBytes) (f : ℕ) → is_within (count (λ e. place_eq (Inside a f) e.1) place) (child_upper meta f) ≡ true
+  pub ends : (e : IdBytes) (p : Place) → get place e ≡ Some p → (xs : List IdBytes) × IsChain place (Some p) xs
 
 -- a good state: its places, its attributes and its rows are good
 pub record Good (meta : Meta) (m : State) : Type 0 where

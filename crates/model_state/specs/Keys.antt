@@ -5,16 +5,16 @@ use Rattle.std.specs.Ordering.{nat_cmp, ordering_then}
 use Rattle.std.specs.Cmp.Lexicographic.{slice_cmp}
 
 -- an id is seen as its bytes, and ids stand in the order of their bytes
-abbrev pub Name : Type 0
-Name = List ℕ
+abbrev pub IdBytes : Type 0
+IdBytes = List ℕ
 
 -- the order of ids
-abbrev pub id_cmp : Name → Name → Ordering
+abbrev pub id_cmp : IdBytes → IdBytes → Ordering
 id_cmp = slice_cmp nat_cmp
 
 -- an element and a feature
 abbrev pub AttrKey : Type 0
-AttrKey = Name × ℕ
+AttrKey = IdBytes × ℕ
 
 -- by the element, and then by the feature
 abbrev pub attr_cmp : AttrKey → AttrKey → Ordering
@@ -22,7 +22,7 @@ attr_cmp x y = ordering_then (id_cmp x.0 y.0) (nat_cmp x.1 y.1)
 
 -- a source, a feature and a target
 abbrev pub RowKey : Type 0
-RowKey = Name × ℕ × Name
+RowKey = IdBytes × ℕ × IdBytes
 
 -- by the source, then by the feature, then by the target
 abbrev pub row_cmp : RowKey → RowKey → Ordering

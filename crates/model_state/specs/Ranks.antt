@@ -1,4 +1,4 @@
--- The rank of an entry that comes between two, or after the last.
+-- The rank of an entry between two others, or after the last.
 use Rattle.std.specs.Prelude.{ℕ, ◌+◌, ◌-◌, ◌/◌, Option, None, Some, cond, nat_lt}
 
 -- midway, None where no number lies strictly between; without a next one 2^32 further, None where that passes 64 bits

@@ -6,7 +6,7 @@ use Rattle.finite_maps.specs.Equal.{text_eq}
 use Rattle.ecore_meta.specs.declared.meta.Value.{Value}
 use Rattle.model_state.specs.declared.step.Place.{Place}
 use Rattle.model_state.specs.declared.step.Place.TheVariants.{Root, Inside}
-use Rattle.model_state.specs.Keys.{Name, AttrKey, RowKey, id_cmp, attr_cmp, row_cmp}
+use Rattle.model_state.specs.Keys.{IdBytes, AttrKey, RowKey, id_cmp, attr_cmp, row_cmp}
 
 -- the five maps of a model
 pub record State : Type 0 where
@@ -33,11 +33,11 @@ place_eq (Inside a f) Root = false
 place_eq (Inside a f) (Inside b g) = text_eq a b && nat_eq f g
 
 -- the element is there
-abbrev pub is_live : State → Name → Bool
+abbrev pub is_live : State → IdBytes → Bool
 is_live m e = is_some (get m.kind e)
 
 -- the place is inside the element
-abbrev pub is_inside : Name → Place → Bool
+abbrev pub is_inside : IdBytes → Place → Bool
 is_inside e Root = false
 is_inside e (Inside a f) = text_eq e a
 
@@ -46,26 +46,26 @@ abbrev pub child_count : State → Place → ℕ
 child_count m p = count (λ e. place_eq p e.1) m.place
 
 -- how many targets a feature of an element has
-abbrev pub row_count : State → Name → ℕ → ℕ
+abbrev pub row_count : State → IdBytes → ℕ → ℕ
 row_count m a f = count (λ e. text_eq a e.0.0 && nat_eq f e.0.1) m.row
 
 -- how many attributes of an element are set
-abbrev pub value_count : State → Name → ℕ
+abbrev pub value_count : State → IdBytes → ℕ
 value_count m e = count (λ x. text_eq e x.0.0) m.attr
 
--- how many references go out of an element or come to it
-abbrev pub link_count : State → Name → ℕ
+-- how many references begin at an element or end at it
+abbrev pub link_count : State → IdBytes → ℕ
 link_count m e = count (λ x. text_eq e x.0.0 || text_eq e x.0.2) m.row
 
 -- how many elements stand inside an element
-abbrev pub inner_count : State → Name → ℕ
+abbrev pub inner_count : State → IdBytes → ℕ
 inner_count m e = count (λ x. is_inside e x.1) m.place
 
 -- the writes of a step, map by map
 pub record Writes : Type 0 where
-  pub kind : List (Name × Option ℕ)
-  pub place : List (Name × Option Place)
-  pub prank : List (Name × Option ℕ)
+  pub kind : List (IdBytes × Option ℕ)
+  pub place : List (IdBytes × Option Place)
+  pub prank : List (IdBytes × Option ℕ)
   pub attr : List (AttrKey × Option (List Value))
   pub row : List (RowKey × Option ℕ)
 

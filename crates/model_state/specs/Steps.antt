@@ -14,7 +14,7 @@ use Rattle.model_state.specs.declared.step.Step.TheVariants.{Put, Ins, Del, Shif
 use Rattle.model_state.specs.declared.step.StepFault.{StepFault}
 use Rattle.model_state.specs.declared.step.ApplyFault.{ApplyFault}
 use Rattle.model_state.specs.declared.step.StepFault.TheVariants.{NotThere, There, OldDiffers, Bound, WrongType, Chain, NotEmpty, BadStep}
-use Rattle.model_state.specs.Keys.{Name, id_cmp}
+use Rattle.model_state.specs.Keys.{IdBytes, id_cmp}
 use Rattle.model_state.specs.Typing.{is_plain, is_many, is_unique, many_fits, upper_of, has_feature, kind_of, row_upper, child_upper, opposite_of, links, contains_to, is_concrete, is_default, attr_fits, is_attr, value_eq}
 use Rattle.model_state.specs.State.{State, place_eq, is_live, child_count, row_count, value_count, link_count, inner_count, Writes, no_writes, written}
 
@@ -75,12 +75,12 @@ mirror_given (Some g) f None = false
 mirror_given (Some g) f (Some r) = not (nat_lt g f)
 
 -- the opposite's list has room for one more
-abbrev pub mirror_room : Meta → State → Option ℕ → Name → Bool
+abbrev pub mirror_room : Meta → State → Option ℕ → IdBytes → Bool
 mirror_room meta m None b = true
 mirror_room meta m (Some g) b = is_below (row_count m b g) (row_upper meta g)
 
 -- the mirror has the rank
-abbrev pub mirror_at : State → Option ℕ → Name → Name → Option ℕ → Bool
+abbrev pub mirror_at : State → Option ℕ → IdBytes → IdBytes → Option ℕ → Bool
 mirror_at m None a b r = true
 mirror_at m (Some g) a b r = option_eq nat_eq (get m.row (b, g, a)) r
 
@@ -90,7 +90,7 @@ may_move meta m None p = false
 may_move meta m (Some c) p = may_stand meta m c p
 
 -- the elements are the containers of the place, the innermost first
-abbrev pub chain_is : FinMap id_cmp Place → Option Place → List Name → Bool
+abbrev pub chain_is : FinMap id_cmp Place → Option Place → List IdBytes → Bool
 chain_is place None xs = false
 chain_is place (Some Root) [] = true
 chain_is place (Some Root) (x ∷ xs) = false
@@ -205,7 +205,7 @@ abbrev pub Can : Meta → State → Step → Type 0
 Can meta m s = fault meta m s ≡ None
 
 -- the mirror of a row
-abbrev pub mirror_write : Option ℕ → Name → Name → Option ℕ → List ((Name × ℕ × Name) × Option ℕ)
+abbrev pub mirror_write : Option ℕ → IdBytes → IdBytes → Option ℕ → List ((IdBytes × ℕ × IdBytes) × Option ℕ)
 mirror_write None a b r = []
 mirror_write (Some g) a b r = ((b, g, a), r) ∷ []
 

@@ -1,6 +1,6 @@
 //! The chain of containers of a place, up to the root.
 ghost use Rattle.std.specs.Prelude.{IfOk, List, Some};
-ghost use Rattle.model_state.specs.Keys.{Name};
+ghost use Rattle.model_state.specs.Keys.{IdBytes};
 ghost use Rattle.model_state.specs.Chains.{IsChain};
 
 use crate::{Id, Look, Place};
@@ -9,7 +9,7 @@ use std::alloc::{AllocError, Global};
 
 /// The containers of a place, the innermost first, up to the root.
 pub fn chain<L: Look>(alloc: Global, look: &L, place: &Place) -> Result<List<Id>, AllocError>
-    requires ends { (xs : List Name) × IsChain (L.state look.now).place (Some place.now) xs }
+    requires ends { (xs : List IdBytes) × IsChain (L.state look.now).place (Some place.now) xs }
     ensures chain { IfOk result (λ l. IsChain (L.state look.now).place (Some place.now) l) }
 {
     let mut above = List::new(alloc);

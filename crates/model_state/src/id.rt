@@ -13,7 +13,7 @@ use std::cmp::Ordering;
 use std::marker::Model;
 use thiserror::Error;
 
-/// The id of an element: 1 to 128 printable ASCII bytes without `"` and `\`, and no `/` or `#` in front (this
+/// The id of an element: 1 to 128 printable ASCII bytes without `"` and `\`, the first neither `/` nor `#` (this
 /// project's profile, so that an id can stand in a path of emfjson). Contracts see its bytes, and ids stand in
 /// their order.
 #[derive(Debug, Drop)]

@@ -33,14 +33,14 @@ pub enum Step {
         old: Option<Value>,
         new: Option<Value>,
     },
-    /// A value comes into a many-valued attribute, in front of the value at `at`.
+    /// A value is inserted into a many-valued attribute, before the value at `at`.
     Ins {
         e: Id,
         f: u32,
         at: u32,
         v: Value,
     },
-    /// The value at `at` of a many-valued attribute goes.
+    /// The value at `at` of a many-valued attribute is removed.
     Del {
         e: Id,
         f: u32,
@@ -54,7 +54,7 @@ pub enum Step {
         from: u32,
         to: u32,
     },
-    /// A reference comes, with the rank `ra` in its list, and its opposite with the rank `rb` in that list.
+    /// A reference is added, with the rank `ra` in its list, and its opposite with the rank `rb` in that list.
     Link {
         a: Id,
         f: u32,
@@ -62,7 +62,7 @@ pub enum Step {
         b: Id,
         rb: Option<u64>,
     },
-    /// A reference goes, and its opposite with it.
+    /// A reference is removed, and its opposite with it.
     Unlink {
         a: Id,
         f: u32,
@@ -78,21 +78,21 @@ pub enum Step {
         old: u64,
         new: u64,
     },
-    /// An element comes, without values and references.
+    /// An element is created, without values and references.
     New {
         e: Id,
         class: u32,
         place: Place,
         rank: u64,
     },
-    /// An element goes that holds nothing and that nothing names.
+    /// An element is deleted that holds nothing and that nothing names.
     Gone {
         e: Id,
         class: u32,
         place: Place,
         rank: u64,
     },
-    /// An element goes to another place. The containers of both places are recorded, so that moves which would
+    /// An element is moved to another place. The containers of both places are recorded, so that moves which would
     /// make a cycle touch what each other reads.
     Move {
         e: Id,
@@ -129,7 +129,7 @@ pub enum StepFault {
     /// The metamodel doesn't allow it, whatever the state.
     #[error("a wrong type")]
     WrongType,
-    /// The containers aren't those recorded, or the element would come to stand inside itself.
+    /// The containers aren't those recorded, or the element would stand inside itself.
     #[error("other containers")]
     Chain,
     /// The element still holds something, or something names it.

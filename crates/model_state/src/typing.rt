@@ -192,7 +192,7 @@ fn in_int(n: i64) -> bool
 fn in_long(n: i64) -> bool
     ensures { result ≡ in_width 9223372036854775808 n }
 {
-    // The contract alone speaks of it.
+    // Only the contract needs it.
     let _n = n;
     true
 }

@@ -41,16 +41,16 @@ const DELETIONS: &str = "deletion e0 -> 5000
 delete 7 e0 | count -> 0";
 
 #[test]
-fn a_chain_of_5000_elements_goes(rt: HostRuntime) -> Result<(), Fail> {
+fn a_chain_of_5000_elements_is_deleted(rt: HostRuntime) -> Result<(), Fail> {
     check_chain(&rt, rt.alloc(), DELETIONS)
 }
 
-// The element to which the others refer goes.
+// The element to which the others refer is deleted.
 const STAR: &str = "deletion top -> 2001
 delete 7 top | count -> 2000";
 
 #[test]
-fn an_element_with_2000_references_to_it_goes(rt: HostRuntime) -> Result<(), Fail> {
+fn an_element_with_2000_references_to_it_is_deleted(rt: HostRuntime) -> Result<(), Fail> {
     let alloc = rt.alloc();
     let steps = series(alloc, "; New e% 0 / 1; Link e% 10 1 top -", 2001)?;
     let table = format!(in alloc; "parts; New top 0 / 1{steps}\n{STAR}")?;

@@ -79,7 +79,7 @@ fn shown<L: Look>(alloc: Global, meta: &Metamodel, model: &L) -> Result<String, 
     Ok(text)
 }
 
-// Takes the steps that a text says.
+// Takes the steps that a text describes.
 fn take<M: Change>(alloc: Global, meta: &Metamodel, model: &mut M, text: &str) -> Result<(), Fail>
     requires sound { Sound meta.now }
     requires good { Good meta.now (M.state model.old) }

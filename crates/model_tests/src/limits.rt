@@ -80,6 +80,6 @@ pub(crate) fn answer(alloc: Global, call: &str) -> Result<String, Fail> {
 }
 
 #[test]
-fn ranks_ids_and_copies_are_as_told(rt: HostRuntime) -> Result<(), Fail> {
+fn ranks_ids_and_copies_are_as_listed(rt: HostRuntime) -> Result<(), Fail> {
     check(&rt, rt.alloc(), Calls::Limits, TABLE)
 }

@@ -15,8 +15,8 @@ use std::alloc::Global;
 use std::test::Fail;
 use step_apply::Plain;
 
-// The boxes are elements with equal ranks, one that moves into another, and one that is gone; references with equal ranks, a pair of opposites that goes, and one
-// that stays; values that change places and go. The lines of operations have `;` between them, and a blank before each step.
+// The boxes are elements with equal ranks, one that moves into another, and one that is deleted; references with equal ranks, a pair of opposites that is removed, and one
+// that stays; values that are shifted and removed. The lines of operations have `;` between them, and a blank before each step.
 const TABLE: &str =
     r#"boxes; New a 0 / 5; New b 0 / 3; New c 0 / 3; New l 1 / 9; New e 0 a.4 7; New d 0 e.4 7; New g 0 b.4 1; Gone g 0 b.4 1; Move c / 3 e.4 7 - e,a; RerankPlace b 3 5; Link a 8 2 c -; Link a 8 2 b -; Link a 8 9 a -; RerankRow a 8 a 9 1; Link b 5 4 c 6; Link c 5 4 b 6; Unlink c 5 4 b 6; Ins a 2 0 "t"; Ins a 2 0 "u"; Shift a 2 0 1; Ins b 2 0 "v"; Ins b 2 1 "w"; Del b 2 0 "v"; Put c 0 - "x"
 # elements stand by rank and then by id

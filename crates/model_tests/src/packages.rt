@@ -1,5 +1,5 @@
 //! What becomes of packages: tidied, paired and grouped by what interferes, and what choices make of two. A package is operations with ` + ` between them; two have
-//! ` & ` between them, theirs first. Choices are a letter a bucket, `m` for mine and `t` for theirs. Pairs have the places of operations, from 0; buckets are told by
+//! ` & ` between them, theirs first. Choices are a letter a bucket, `m` for mine and `t` for theirs. Pairs have the places of operations, from 0; buckets are shown by
 //! their lines, with numbers from 1.
 ghost use Rattle.std.specs.Prelude.{IsTrue, All};
 ghost use Rattle.data_lines.specs.Buckets.{HasNumber, HasNumbers};

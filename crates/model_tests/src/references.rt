@@ -15,7 +15,7 @@ use crate::reading::{Words, words_of};
 use ecore_meta::{List, Metamodel};
 use model_state::{Id, Look, Step, class_has, is_plain};
 use opposites::{
-    LinkFault, is_one, link_steps, reorder_steps, set_ref_steps, unlink_steps, unset_ref_steps,
+    LinkFault, holds_one, link_steps, reorder_steps, set_ref_steps, unlink_steps, unset_ref_steps,
 };
 use std::alloc::Global;
 use std::test::Fail;
@@ -157,7 +157,7 @@ fn set(
     requires reference { IsReference meta.now (plain_state plain.now) a.now f }
     requires target { is_some (get (plain_state plain.now).kind b.now) ≡ true }
 {
-    if !is_one(meta, f) {
+    if !holds_one(meta, f) {
         return Err("a list is linked to")?;
     }
     told(alloc, set_ref_steps(alloc, plain, meta, a, f, b))
@@ -177,7 +177,7 @@ fn link_at(
     requires reference { IsReference meta.now (plain_state plain.now) a.now f }
     requires target { is_some (get (plain_state plain.now).kind b.now) ≡ true }
 {
-    if is_one(meta, f) {
+    if holds_one(meta, f) {
         return Err("a single reference is set")?;
     }
     told(alloc, link_steps(alloc, plain, meta, a, f, b, at))

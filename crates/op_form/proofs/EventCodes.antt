@@ -2,18 +2,18 @@
 use Rattle.std.proofs.Common.{◌≡◌, inl, inr, ℕ, List, [], ◌∷◌, map, nat_eq, true, Ok, refl}
 use Rattle.byte_form.specs.Rest.{Rest}
 use Rattle.byte_form.specs.Fields.{byte_at}
-use Rattle.byte_form.specs.Laws.{IsReadAgain, IsSpelledSo, StoodThere, AreBytes, IsBelow, byte_form}
+use Rattle.byte_form.specs.Laws.{IsReadAgain, IsSpelledSo, StoodThere, AreBytes, IsBelow, byte_encoding}
 use Rattle.byte_form.proofs.FieldLemmas.{reached}
 use Rattle.op_form.specs.declared.event.Event.{Event}
 use Rattle.op_form.specs.declared.event.Event.TheVariants.{Init, Checkout, Edit, Begin, End, Undo, Discard, Tidy, Commit, Branch, Tag, Update, Merge, Drop}
 use Rattle.op_form.specs.Reading.{Reading, made, u8_at}
-use Rattle.op_form.specs.Events.{init_at, checkout_at, edit_at, begin_at, commit_at, branch_at, tag_at, update_at, merge_at, events_by_kind, chosen, event_at, event_form}
+use Rattle.op_form.specs.Events.{init_at, checkout_at, edit_at, begin_at, commit_at, branch_at, tag_at, update_at, merge_at, events_by_kind, chosen, event_at, event_encoding}
 use Rattle.op_form.specs.Laws.{IsEvent}
 use Rattle.op_form.proofs.Codes.{Codes, both, either, u32_codes, text_codes, made_again, made_spelled, byte_stood}
 use Rattle.op_form.proofs.PackageCodes.{package_codes}
 
-event_again : IsReadAgain IsEvent event_form event_at
-unfolding event_at event_form byte_at init_at checkout_at edit_at begin_at commit_at branch_at tag_at update_at merge_at
+event_again : IsReadAgain IsEvent event_encoding event_at
+unfolding event_at event_encoding byte_at init_at checkout_at edit_at begin_at commit_at branch_at tag_at update_at merge_at
 event_again (Init text) is rest place = made_again text_codes (λ t. Init t) 1 text is rest place
 event_again (Checkout version branch) is rest place = made_again (both u32_codes u32_codes) (λ t. Checkout t.0 t.1) 2 (version, branch) is rest place
 event_again (Edit ws operations) is rest place = made_again (both u32_codes package_codes) (λ t. Edit t.0 t.1) 3 (ws, operations) is rest place
@@ -30,19 +30,19 @@ event_again (Merge ws branch choices) is rest place =
     made_again (both u32_codes (both u32_codes text_codes)) (λ t. Merge t.0 t.1.0 t.1.1) 13 (ws, (branch, choices)) is rest place
 event_again (Drop ws) is rest place = made_again u32_codes (λ ws. Drop ws) 14 ws is rest place
 
--- a kind's byte, how its fields are read, and that an event of the kind stood where they are read behind that byte
+-- a kind's byte, how its fields are read, and that an event of the kind stood where they are read after that byte
 record Row : Type 0 where
   tag : ℕ
   read : Reading Event
-  spelled : (before mid after : Rest) (event : Event) → AreBytes before.bytes → StoodThere (IsBelow 256) byte_form before mid tag → read mid ≡ Ok (event, after)
-      → StoodThere IsEvent event_form before after event
+  spelled : (before mid after : Rest) (event : Event) → AreBytes before.bytes → StoodThere (IsBelow 256) byte_encoding before mid tag → read mid ≡ Ok (event, after)
+      → StoodThere IsEvent event_encoding before after event
 
 abbrev known : {X : Type 0} {Is : X → Type 0} {form : X → List ℕ} {read : Reading X} → Codes Is form read → (make : X → Event) (tag : ℕ)
-    → ((x : X) → Is x → IsEvent (make x)) → ((x : X) → Is x → event_form (make x) ≡ tag ∷ form x) → Row
+    → ((x : X) → Is x → IsEvent (make x)) → ((x : X) → Is x → event_encoding (make x) ≡ tag ∷ form x) → Row
 known {read} codes make tag is_made form_made = record {
   tag = tag;
   read = λ r. made make (read r);
-  spelled = λ before mid after event bytes stood e. made_spelled codes make tag IsEvent event_form is_made form_made before mid after event bytes stood e;
+  spelled = λ before mid after event bytes stood e. made_spelled codes make tag IsEvent event_encoding is_made form_made before mid after event bytes stood e;
 }
 
 abbrev plain : Row → ℕ × Reading Event
@@ -50,8 +50,8 @@ plain row = (row.tag, row.read)
 
 -- an event of the kind that the byte chooses stood there
 chosen_spelled : (rows : List Row) (before mid after : Rest) (event : Event) (n : ℕ) → AreBytes before.bytes
-    → ((tag : ℕ) → nat_eq n tag ≡ true → StoodThere (IsBelow 256) byte_form before mid tag)
-    → chosen (map plain rows) before.place (n, mid) ≡ Ok (event, after) → StoodThere IsEvent event_form before after event
+    → ((tag : ℕ) → nat_eq n tag ≡ true → StoodThere (IsBelow 256) byte_encoding before mid tag)
+    → chosen (map plain rows) before.place (n, mid) ≡ Ok (event, after) → StoodThere IsEvent event_encoding before after event
 chosen_spelled [] before mid after event n bytes stood e = cc
 chosen_spelled (row ∷ rows) before mid after event n bytes stood e =
     elim (either (nat_eq n row.tag) (row.read mid) (chosen (map plain rows) before.place (n, mid)) (Ok (event, after)) e) [
@@ -59,8 +59,8 @@ chosen_spelled (row ∷ rows) before mid after event n bytes stood e =
       | inr h ↦ chosen_spelled rows before mid after event n bytes stood h.1
     ]
 
-event_spelled : IsSpelledSo IsEvent event_form event_at
-unfolding event_at event_form init_at checkout_at edit_at begin_at commit_at branch_at tag_at update_at merge_at
+event_spelled : IsSpelledSo IsEvent event_encoding event_at
+unfolding event_at event_encoding init_at checkout_at edit_at begin_at commit_at branch_at tag_at update_at merge_at
 event_spelled before bytes event after e =
     let k = reached (u8_at before) (chosen events_by_kind before.place) (event, after) e in
     let stood = byte_stood before k.0.0 k.0.1 bytes k.1 in
@@ -80,5 +80,5 @@ event_spelled before bytes event after e =
     known (both u32_codes (both u32_codes text_codes)) (λ t. Merge t.0 t.1.0 t.1.1) 13 (λ t is. is) (λ t is. refl) ∷
     known u32_codes (λ t. Drop t) 14 (λ t is. is) (λ t is. refl) ∷ []) before k.0.1 after event k.0.0 bytes stood k.2
 
-pub event_codes : Codes IsEvent event_form event_at
+pub event_codes : Codes IsEvent event_encoding event_at
 event_codes = record { again = event_again; spelled = event_spelled }

@@ -1,11 +1,11 @@
--- Items read one behind another, as far as a loop has come.
+-- Items read one after another, as far as a loop has come.
 use Rattle.std.proofs.Common.{◌≡◌, ℕ, suc, ◌+◌, ◌-◌, ◌<◌, arith, List, [], ◌∷◌, ◌++◌, refl, sym, ap, ◌∙◌, Result, Ok, Err, append_assoc, append-nil}
 use Rattle.byte_form.specs.Rest.{Rest}
 use Rattle.byte_form.specs.Fields.{◌>>=◌}
 use Rattle.op_form.specs.declared.fault.FormFault.{FormFault}
 use Rattle.op_form.specs.Reading.{Reading, made, items_at}
 
--- what is read behind the items that were read
+-- what is read after the items that were read
 abbrev pub behind : {X : Type 0} → List X → Result (List X × Rest) FormFault → Result (List X × Rest) FormFault
 behind xs (Ok ys) = Ok (xs ++ ys.0, ys.1)
 behind xs (Err e) = Err e

@@ -1,13 +1,13 @@
 -- The bytes of events: a byte for the kind, and the fields in their order.
 use Rattle.std.specs.Prelude.{ℕ, ◌==◌, List, [], ◌∷◌, ◌++◌, Result, Ok, Err, if◌then◌else◌}
 use Rattle.byte_form.specs.Rest.{Rest}
-use Rattle.byte_form.specs.Fields.{◌>>=◌, text_form, ends_at, u32_form}
+use Rattle.byte_form.specs.Fields.{◌>>=◌, text_encoding, ends_at, u32_encoding}
 use Rattle.op_form.specs.declared.fault.FormFault.{FormFault}
 use Rattle.op_form.specs.declared.fault.FormFault.TheVariants.{NotForm}
 use Rattle.op_form.specs.declared.event.Event.{Event}
 use Rattle.op_form.specs.declared.event.Event.TheVariants.{Init, Checkout, Edit, Begin, End, Undo, Discard, Tidy, Commit, Branch, Tag, Update, Merge, Drop}
 use Rattle.op_form.specs.Reading.{Reading, made, ◌⊗◌, field, u8_at, u32_at, any_text_at}
-use Rattle.op_form.specs.Packages.{package_at, package_form}
+use Rattle.op_form.specs.Packages.{package_at, package_encoding}
 
 -- Init: the text of the metamodel
 unfoldable pub init_at : Reading Event
@@ -77,21 +77,21 @@ unfoldable pub event_at : Reading Event
 event_at r = u8_at r >>= chosen events_by_kind r.place
 
 -- the spelling of an event
-unfoldable pub event_form : Event → List ℕ
-event_form (Init text) = 1 ∷ text_form text
-event_form (Checkout version branch) = 2 ∷ (u32_form version ++ u32_form branch)
-event_form (Edit ws operations) = 3 ∷ (u32_form ws ++ package_form operations)
-event_form (Begin ws name) = 4 ∷ (u32_form ws ++ text_form name)
-event_form (End ws) = 5 ∷ u32_form ws
-event_form (Undo ws) = 6 ∷ u32_form ws
-event_form (Discard ws) = 7 ∷ u32_form ws
-event_form (Tidy ws) = 8 ∷ u32_form ws
-event_form (Commit ws message) = 9 ∷ (u32_form ws ++ text_form message)
-event_form (Branch ws name) = 10 ∷ (u32_form ws ++ text_form name)
-event_form (Tag name version) = 11 ∷ (text_form name ++ u32_form version)
-event_form (Update ws choices) = 12 ∷ (u32_form ws ++ text_form choices)
-event_form (Merge ws branch choices) = 13 ∷ (u32_form ws ++ (u32_form branch ++ text_form choices))
-event_form (Drop ws) = 14 ∷ u32_form ws
+unfoldable pub event_encoding : Event → List ℕ
+event_encoding (Init text) = 1 ∷ text_encoding text
+event_encoding (Checkout version branch) = 2 ∷ (u32_encoding version ++ u32_encoding branch)
+event_encoding (Edit ws operations) = 3 ∷ (u32_encoding ws ++ package_encoding operations)
+event_encoding (Begin ws name) = 4 ∷ (u32_encoding ws ++ text_encoding name)
+event_encoding (End ws) = 5 ∷ u32_encoding ws
+event_encoding (Undo ws) = 6 ∷ u32_encoding ws
+event_encoding (Discard ws) = 7 ∷ u32_encoding ws
+event_encoding (Tidy ws) = 8 ∷ u32_encoding ws
+event_encoding (Commit ws message) = 9 ∷ (u32_encoding ws ++ text_encoding message)
+event_encoding (Branch ws name) = 10 ∷ (u32_encoding ws ++ text_encoding name)
+event_encoding (Tag name version) = 11 ∷ (text_encoding name ++ u32_encoding version)
+event_encoding (Update ws choices) = 12 ∷ (u32_encoding ws ++ text_encoding choices)
+event_encoding (Merge ws branch choices) = 13 ∷ (u32_encoding ws ++ (u32_encoding branch ++ text_encoding choices))
+event_encoding (Drop ws) = 14 ∷ u32_encoding ws
 
 -- all of some bytes, as one value
 unfoldable pub whole_of : {X : Type 0} → Reading X → List ℕ → Result X FormFault

@@ -15,8 +15,8 @@ use Rattle.model_state.specs.declared.operation.Operation.TheVariants.{Simple, C
 use Rattle.op_form.specs.declared.event.Event.{Event}
 use Rattle.op_form.specs.declared.event.Event.TheVariants.{Init, Checkout, Edit, Begin, End, Undo, Discard, Tidy, Commit, Branch, Tag, Update, Merge, Drop}
 use Rattle.op_form.specs.declared.fault.FormFault.{FormFault}
-use Rattle.op_form.specs.Packages.{package_at, package_form}
-use Rattle.op_form.specs.Events.{event_at, event_form, whole_of}
+use Rattle.op_form.specs.Packages.{package_at, package_encoding}
+use Rattle.op_form.specs.Events.{event_at, event_encoding, whole_of}
 use Rattle.op_form.specs.Formed.{is_event}
 
 -- a number of 32 bits
@@ -111,27 +111,27 @@ AreSpelledSo Is form read = (bytes : List ℕ) → AreBytes bytes → (x : _) �
 
 -- the spelling of each package is read as it
 abbrev pub PackagesAreReadAgain : Type 0
-PackagesAreReadAgain = AreReadAgain IsPackage package_form (whole_of package_at)
+PackagesAreReadAgain = AreReadAgain IsPackage package_encoding (whole_of package_at)
 
 -- bytes that are read as a package are its spelling
 abbrev pub PackagesAreSpelledSo : Type 0
-PackagesAreSpelledSo = AreSpelledSo IsPackage package_form (whole_of package_at)
+PackagesAreSpelledSo = AreSpelledSo IsPackage package_encoding (whole_of package_at)
 
 -- no package's spelling begins that of another
 abbrev pub NoPackageBeginsAnother : Type 0
-NoPackageBeginsAnother = NoneBeginsAnother IsPackage package_form
+NoPackageBeginsAnother = NoneBeginsAnother IsPackage package_encoding
 
 -- the spelling of each event is read as it
 abbrev pub EventsAreReadAgain : Type 0
-EventsAreReadAgain = AreReadAgain IsEvent event_form (whole_of event_at)
+EventsAreReadAgain = AreReadAgain IsEvent event_encoding (whole_of event_at)
 
 -- bytes that are read as an event are its spelling
 abbrev pub EventsAreSpelledSo : Type 0
-EventsAreSpelledSo = AreSpelledSo IsEvent event_form (whole_of event_at)
+EventsAreSpelledSo = AreSpelledSo IsEvent event_encoding (whole_of event_at)
 
 -- no event's spelling begins that of another
 abbrev pub NoEventBeginsAnother : Type 0
-NoEventBeginsAnother = NoneBeginsAnother IsEvent event_form
+NoEventBeginsAnother = NoneBeginsAnother IsEvent event_encoding
 
 -- the test of events holds of just those that have a spelling
 abbrev pub EventsAreTested : Type 0

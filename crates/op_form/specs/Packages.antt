@@ -1,7 +1,7 @@
 -- The bytes of operations and packages.
 use Rattle.std.specs.Prelude.{ℕ, ◌==◌, List, [], ◌∷◌, ◌++◌, Option, Some, None, Result, Ok, Err, if◌then◌else◌}
 use Rattle.byte_form.specs.Rest.{Rest}
-use Rattle.byte_form.specs.Fields.{◌>>=◌, text_form}
+use Rattle.byte_form.specs.Fields.{◌>>=◌, text_encoding}
 use Rattle.model_state.specs.Names.{is_name}
 use Rattle.model_state.specs.declared.operation.OpKind.{OpKind}
 use Rattle.model_state.specs.declared.operation.OpKind.TheVariants as kinds
@@ -9,9 +9,9 @@ use Rattle.model_state.specs.declared.operation.Operation.{Operation}
 use Rattle.model_state.specs.declared.operation.Operation.TheVariants.{Simple, Composite}
 use Rattle.op_form.specs.declared.fault.FormFault.{FormFault}
 use Rattle.op_form.specs.declared.fault.FormFault.TheVariants.{NotForm}
-use Rattle.op_form.specs.Reading.{Reading, made, ◌⊗◌, u8_at, any_text_at, some_at, list_at, list_form}
-use Rattle.op_form.specs.Values.{told_text}
-use Rattle.op_form.specs.Steps.{step_at, step_form}
+use Rattle.op_form.specs.Reading.{Reading, made, ◌⊗◌, u8_at, any_text_at, some_at, list_at, list_encoding}
+use Rattle.op_form.specs.Values.{tested_text}
+use Rattle.op_form.specs.Steps.{step_at, step_encoding}
 
 -- a kind of simple operations by its byte, from 1 to 6
 abbrev pub kind_of : ℕ → Option OpKind
@@ -43,12 +43,12 @@ kind_byte kinds.Reference = 5
 kind_byte kinds.Move = 6
 
 -- the spelling of a kind
-abbrev pub kind_form : OpKind → List ℕ
-kind_form kind = kind_byte kind ∷ []
+abbrev pub kind_encoding : OpKind → List ℕ
+kind_encoding kind = kind_byte kind ∷ []
 
 -- the name of a composite is a text of a name's form
 unfoldable pub name_at : Reading (List ℕ)
-name_at r = any_text_at r >>= told_text is_name r.place
+name_at r = any_text_at r >>= tested_text is_name r.place
 
 -- a simple operation: its kind and its steps
 unfoldable pub simple_at : Reading Operation
@@ -70,14 +70,14 @@ unfoldable pub operation_at : Reading Operation
 operation_at r = u8_at r >>= operation_of r.place
 
 -- the spelling of an operation
-unfoldable pub operation_form : Operation → List ℕ
-operation_form (Simple kind steps) = 1 ∷ (kind_form kind ++ list_form step_form steps)
-operation_form (Composite name steps) = 2 ∷ (text_form name ++ list_form step_form steps)
+unfoldable pub operation_encoding : Operation → List ℕ
+operation_encoding (Simple kind steps) = 1 ∷ (kind_encoding kind ++ list_encoding step_encoding steps)
+operation_encoding (Composite name steps) = 2 ∷ (text_encoding name ++ list_encoding step_encoding steps)
 
 -- a package is a list of operations
 unfoldable pub package_at : Reading (List Operation)
 package_at r = list_at operation_at r
 
 -- the spelling of a package
-unfoldable pub package_form : List Operation → List ℕ
-package_form operations = list_form operation_form operations
+unfoldable pub package_encoding : List Operation → List ℕ
+package_encoding operations = list_encoding operation_encoding operations

@@ -1,25 +1,25 @@
--- Readings of fields one behind another, and the spellings of options and lists.
+-- Readings of fields one after another, and the spellings of options and lists.
 use Rattle.std.specs.Prelude.{ℕ, zero, suc, ◌==◌, List, [], ◌∷◌, ◌++◌, length, Option, Some, None, Result, Ok, Err, if◌then◌else◌}
 use Rattle.std.specs.Int.{w32, w64}
 use Rattle.byte_form.specs.declared.reader.ReadFault.{ReadFault}
 use Rattle.byte_form.specs.declared.reader.ReadFault.TheVariants as read
 use Rattle.byte_form.specs.Rest.{Rest}
-use Rattle.byte_form.specs.Fields.{◌>>=◌, byte_at, number_at, text_at, u32_form}
+use Rattle.byte_form.specs.Fields.{◌>>=◌, byte_at, number_at, text_at, u32_encoding}
 use Rattle.op_form.specs.declared.fault.FormFault.{FormFault}
 use Rattle.op_form.specs.declared.fault.FormFault.TheVariants.{NotForm, Memory}
 
--- what stands in front and what is left behind it, or the fault
+-- what the bytes begin with and what is left after it, or the fault
 abbrev pub Reading : Type 0 → Type 0
 Reading X = Rest → Result (X × Rest) FormFault
 
--- a field that can't be read is no form, at the field's place
+-- a field that can't be read is no encoding, at the field's place
 abbrev pub not_form : ReadFault → FormFault
 not_form (read.Short at) = NotForm at
 not_form (read.BadText at) = NotForm at
 not_form (read.Spare at) = NotForm at
 not_form read.Memory = Memory
 
--- a field that is read, with its fault as one of forms
+-- a field that is read, with its fault as one of encodings
 abbrev pub field : {X : Type 0} → Result X ReadFault → Result X FormFault
 field (Ok x) = Ok x
 field (Err e) = Err (not_form e)
@@ -45,12 +45,12 @@ abbrev pub made : {X Y : Type 0} → (X → Y) → Result (X × Rest) FormFault 
 made make (Ok x) = Ok (make x.0, x.1)
 made make (Err e) = Err e
 
--- one reading behind another
+-- one reading after another
 infixr 8 ◌⊗◌
 abbrev pub ◌⊗◌ : {A B : Type 0} → Reading A → Reading B → Reading (A × B)
 (a ⊗ b) r = a r >>= λ x. made (λ y. (x.0, y)) (b x.1)
 
--- a value behind its byte 1, or none behind the byte 0
+-- a value after its byte 1, or none after the byte 0
 abbrev pub option_of : {X : Type 0} → Reading X → ℕ → ℕ × Rest → Result (Option X × Rest) FormFault
 option_of read place tag =
     if tag.0 == 0 then Ok (None, tag.1)
@@ -62,19 +62,19 @@ unfoldable pub option_at : {X : Type 0} → Reading X → Reading (Option X)
 option_at read r = u8_at r >>= option_of read r.place
 
 -- the spelling of a value or none
-abbrev pub option_form : {X : Type 0} → (X → List ℕ) → Option X → List ℕ
-option_form form None = 0 ∷ []
-option_form form (Some x) = 1 ∷ form x
+abbrev pub option_encoding : {X : Type 0} → (X → List ℕ) → Option X → List ℕ
+option_encoding form None = 0 ∷ []
+option_encoding form (Some x) = 1 ∷ form x
 
--- so many items one behind another
+-- so many items one after another
 abbrev pub items_at : {X : Type 0} → Reading X → ℕ → Reading (List X)
 items_at read zero r = Ok ([], r)
 items_at read (suc n) r = read r >>= λ x. made (λ xs. x.0 ∷ xs) (items_at read n x.1)
 
--- the spellings of items, one behind another
-abbrev pub items_form : {X : Type 0} → (X → List ℕ) → List X → List ℕ
-items_form form [] = []
-items_form form (x ∷ xs) = form x ++ items_form form xs
+-- the spellings of items, one after another
+abbrev pub items_encoding : {X : Type 0} → (X → List ℕ) → List X → List ℕ
+items_encoding form [] = []
+items_encoding form (x ∷ xs) = form x ++ items_encoding form xs
 
 -- a list: the count of its items in four bytes, and the items
 unfoldable pub list_at : {X : Type 0} → Reading X → Reading (List X)
@@ -85,5 +85,5 @@ unfoldable pub some_at : {X : Type 0} → Reading X → Reading (List X)
 some_at read r = u32_at r >>= λ count. if count.0 == 0 then Err (NotForm r.place) else items_at read count.0 count.1
 
 -- the spelling of a list
-abbrev pub list_form : {X : Type 0} → (X → List ℕ) → List X → List ℕ
-list_form form xs = u32_form (length xs) ++ items_form form xs
+abbrev pub list_encoding : {X : Type 0} → (X → List ℕ) → List X → List ℕ
+list_encoding form xs = u32_encoding (length xs) ++ items_encoding form xs

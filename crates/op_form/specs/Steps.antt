@@ -1,13 +1,13 @@
 -- The bytes of steps: a kind's byte from 1 to 11, and the step's fields in their order.
 use Rattle.std.specs.Prelude.{ℕ, ◌==◌, List, ◌∷◌, ◌++◌, Result, Err, if◌then◌else◌}
 use Rattle.byte_form.specs.Rest.{Rest}
-use Rattle.byte_form.specs.Fields.{◌>>=◌, text_form, u32_form, u64_form}
+use Rattle.byte_form.specs.Fields.{◌>>=◌, text_encoding, u32_encoding, u64_encoding}
 use Rattle.model_state.specs.declared.step.Step.{Step}
 use Rattle.model_state.specs.declared.step.Step.TheVariants.{Put, Ins, Del, Shift, Link, Unlink, RerankRow, New, Gone, Move, RerankPlace}
 use Rattle.op_form.specs.declared.fault.FormFault.{FormFault}
 use Rattle.op_form.specs.declared.fault.FormFault.TheVariants.{NotForm}
-use Rattle.op_form.specs.Reading.{Reading, made, ◌⊗◌, u8_at, u32_at, u64_at, option_at, option_form, list_at, list_form}
-use Rattle.op_form.specs.Values.{id_at, value_at, value_form, place_at, place_form}
+use Rattle.op_form.specs.Reading.{Reading, made, ◌⊗◌, u8_at, u32_at, u64_at, option_at, option_encoding, list_at, list_encoding}
+use Rattle.op_form.specs.Values.{id_at, value_at, value_encoding, place_at, place_encoding}
 
 -- Put: the element, the feature, and the values before and after
 unfoldable pub put_at : Reading Step
@@ -75,16 +75,16 @@ unfoldable pub step_at : Reading Step
 step_at r = u8_at r >>= step_of r.place
 
 -- the spelling of a step
-unfoldable pub step_form : Step → List ℕ
-step_form (Put e f old new) = 1 ∷ (text_form e ++ (u32_form f ++ (option_form value_form old ++ option_form value_form new)))
-step_form (Ins e f at v) = 2 ∷ (text_form e ++ (u32_form f ++ (u32_form at ++ value_form v)))
-step_form (Del e f at v) = 3 ∷ (text_form e ++ (u32_form f ++ (u32_form at ++ value_form v)))
-step_form (Shift e f from to) = 4 ∷ (text_form e ++ (u32_form f ++ (u32_form from ++ u32_form to)))
-step_form (Link a f ra b rb) = 5 ∷ (text_form a ++ (u32_form f ++ (u64_form ra ++ (text_form b ++ option_form u64_form rb))))
-step_form (Unlink a f ra b rb) = 6 ∷ (text_form a ++ (u32_form f ++ (u64_form ra ++ (text_form b ++ option_form u64_form rb))))
-step_form (RerankRow a f b old new) = 7 ∷ (text_form a ++ (u32_form f ++ (text_form b ++ (u64_form old ++ u64_form new))))
-step_form (New e class place rank) = 8 ∷ (text_form e ++ (u32_form class ++ (place_form place ++ u64_form rank)))
-step_form (Gone e class place rank) = 9 ∷ (text_form e ++ (u32_form class ++ (place_form place ++ u64_form rank)))
-step_form (Move e from from_rank to to_rank above_from above_to) =
-    10 ∷ (text_form e ++ (place_form from ++ (u64_form from_rank ++ (place_form to ++ (u64_form to_rank ++ (list_form text_form above_from ++ list_form text_form above_to))))))
-step_form (RerankPlace e old new) = 11 ∷ (text_form e ++ (u64_form old ++ u64_form new))
+unfoldable pub step_encoding : Step → List ℕ
+step_encoding (Put e f old new) = 1 ∷ (text_encoding e ++ (u32_encoding f ++ (option_encoding value_encoding old ++ option_encoding value_encoding new)))
+step_encoding (Ins e f at v) = 2 ∷ (text_encoding e ++ (u32_encoding f ++ (u32_encoding at ++ value_encoding v)))
+step_encoding (Del e f at v) = 3 ∷ (text_encoding e ++ (u32_encoding f ++ (u32_encoding at ++ value_encoding v)))
+step_encoding (Shift e f from to) = 4 ∷ (text_encoding e ++ (u32_encoding f ++ (u32_encoding from ++ u32_encoding to)))
+step_encoding (Link a f ra b rb) = 5 ∷ (text_encoding a ++ (u32_encoding f ++ (u64_encoding ra ++ (text_encoding b ++ option_encoding u64_encoding rb))))
+step_encoding (Unlink a f ra b rb) = 6 ∷ (text_encoding a ++ (u32_encoding f ++ (u64_encoding ra ++ (text_encoding b ++ option_encoding u64_encoding rb))))
+step_encoding (RerankRow a f b old new) = 7 ∷ (text_encoding a ++ (u32_encoding f ++ (text_encoding b ++ (u64_encoding old ++ u64_encoding new))))
+step_encoding (New e class place rank) = 8 ∷ (text_encoding e ++ (u32_encoding class ++ (place_encoding place ++ u64_encoding rank)))
+step_encoding (Gone e class place rank) = 9 ∷ (text_encoding e ++ (u32_encoding class ++ (place_encoding place ++ u64_encoding rank)))
+step_encoding (Move e from from_rank to to_rank above_from above_to) =
+    10 ∷ (text_encoding e ++ (place_encoding from ++ (u64_encoding from_rank ++ (place_encoding to ++ (u64_encoding to_rank ++ (list_encoding text_encoding above_from ++ list_encoding text_encoding above_to))))))
+step_encoding (RerankPlace e old new) = 11 ∷ (text_encoding e ++ (u64_encoding old ++ u64_encoding new))

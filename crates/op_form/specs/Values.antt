@@ -2,7 +2,7 @@
 use Rattle.std.specs.Prelude.{ℕ, ◌==◌, List, [], ◌∷◌, ◌++◌, Bool, true, false, Result, Ok, Err, if◌then◌else◌}
 use Rattle.std.specs.Int.{w64, cast_signed, cast_unsigned}
 use Rattle.byte_form.specs.Rest.{Rest}
-use Rattle.byte_form.specs.Fields.{◌>>=◌, text_form, u32_form, u64_form}
+use Rattle.byte_form.specs.Fields.{◌>>=◌, text_encoding, u32_encoding, u64_encoding}
 use Rattle.ecore_meta.specs.declared.meta.Value.{Value}
 use Rattle.ecore_meta.specs.declared.meta.Value.TheVariants.{Text, Flag, Whole, Literal}
 use Rattle.model_state.specs.Ident.{is_id}
@@ -13,12 +13,12 @@ use Rattle.op_form.specs.declared.fault.FormFault.TheVariants.{NotForm}
 use Rattle.op_form.specs.Reading.{Reading, made, ◌⊗◌, u8_at, u32_at, u64_at, any_text_at}
 
 -- a text that passes a test; where it fails, the text can't be read
-abbrev pub told_text : (List ℕ → Bool) → ℕ → List ℕ × Rest → Result (List ℕ × Rest) FormFault
-told_text test place text = if test text.0 then Ok text else Err (NotForm place)
+abbrev pub tested_text : (List ℕ → Bool) → ℕ → List ℕ × Rest → Result (List ℕ × Rest) FormFault
+tested_text test place text = if test text.0 then Ok text else Err (NotForm place)
 
 -- an id is a text of its form
 unfoldable pub id_at : Reading (List ℕ)
-id_at r = any_text_at r >>= told_text is_id r.place
+id_at r = any_text_at r >>= tested_text is_id r.place
 
 -- a byte 0 or 1
 abbrev pub flag_of : ℕ → ℕ × Rest → Result (Value × Rest) FormFault
@@ -42,16 +42,16 @@ unfoldable pub value_at : Reading Value
 value_at r = u8_at r >>= value_of r.place
 
 -- the spelling of a flag
-abbrev pub flag_form : Bool → List ℕ
-flag_form true = 1 ∷ []
-flag_form false = 0 ∷ []
+abbrev pub flag_encoding : Bool → List ℕ
+flag_encoding true = 1 ∷ []
+flag_encoding false = 0 ∷ []
 
 -- the spelling of a value
-unfoldable pub value_form : Value → List ℕ
-value_form (Text t) = 1 ∷ text_form t
-value_form (Flag b) = 2 ∷ flag_form b
-value_form (Whole z) = 3 ∷ u64_form (cast_unsigned w64 z)
-value_form (Literal n) = 4 ∷ u32_form n
+unfoldable pub value_encoding : Value → List ℕ
+value_encoding (Text t) = 1 ∷ text_encoding t
+value_encoding (Flag b) = 2 ∷ flag_encoding b
+value_encoding (Whole z) = 3 ∷ u64_encoding (cast_unsigned w64 z)
+value_encoding (Literal n) = 4 ∷ u32_encoding n
 
 -- a place: a byte 0, or a byte 1, the parent's id and the feature's number
 abbrev pub place_of : ℕ → ℕ × Rest → Result (Place × Rest) FormFault
@@ -65,6 +65,6 @@ unfoldable pub place_at : Reading Place
 place_at r = u8_at r >>= place_of r.place
 
 -- the spelling of a place
-unfoldable pub place_form : Place → List ℕ
-place_form Root = 0 ∷ []
-place_form (Inside parent feature) = 1 ∷ (text_form parent ++ u32_form feature)
+unfoldable pub place_encoding : Place → List ℕ
+place_encoding Root = 0 ∷ []
+place_encoding (Inside parent feature) = 1 ∷ (text_encoding parent ++ u32_encoding feature)

@@ -15,9 +15,9 @@ pub enum Event {
     Begin { ws: u32, name: Text },
     /// The open composite is closed.
     End { ws: u32 },
-    /// The last local operation goes.
+    /// The last local operation is dropped.
     Undo { ws: u32 },
-    /// What the workspace has recorded goes.
+    /// What the workspace has recorded is dropped.
     Discard { ws: u32 },
     /// The local operations are tidied.
     Tidy { ws: u32 },
@@ -31,6 +31,6 @@ pub enum Event {
     Update { ws: u32, choices: Text },
     /// The workspace takes up the versions of that branch, with these choices.
     Merge { ws: u32, branch: u32, choices: Text },
-    /// The workspace goes.
+    /// The workspace is dropped.
     Drop { ws: u32 },
 }

@@ -10,9 +10,9 @@ use crate::Event;
 use ecore_meta::{List, Text, Value};
 use model_state::{Id, Operation, Package, Place, Step, is_name};
 
-/// Whether an event has a form, so that `encode_event` takes it: each operation has a step, each composite a name of its form, and each
+/// Whether an event has an encoding, so that `encode_event` takes it: each operation has a step, each composite a name of its form, and each
 /// text and list fewer than 2^32 bytes or items.
-pub fn has_form(event: &Event) -> bool
+pub fn has_encoding(event: &Event) -> bool
     ensures form { result ≡ is_event event.now }
     ensures spelled { IsTrue result → IsEvent event.now }
 {
@@ -31,7 +31,7 @@ pub fn is_package(package: &Package) -> bool
 fn is_u32(number: u32) -> bool
     ensures { result ≡ is_u32 number }
 {
-    // The contract alone speaks of it.
+    // Only the contract needs it.
     let _number = number;
     true
 }
@@ -39,7 +39,7 @@ fn is_u32(number: u32) -> bool
 fn is_u64(number: u64) -> bool
     ensures { result ≡ is_u64 number }
 {
-    // The contract alone speaks of it.
+    // Only the contract needs it.
     let _number = number;
     true
 }
@@ -47,7 +47,7 @@ fn is_u64(number: u64) -> bool
 fn is_i64(number: i64) -> bool
     ensures { result ≡ is_i64 number }
 {
-    // The contract alone speaks of it.
+    // Only the contract needs it.
     let _number = number;
     true
 }

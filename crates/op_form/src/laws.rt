@@ -2,9 +2,9 @@
 ghost use Rattle.op_form.specs.Reversals.{PackageReversalUndoes, PackagesKeepGood, TwiceReversedIsSame, OperationTwiceReversedIsSame};
 ghost use Rattle.op_form.specs.Laws.{PackagesAreReadAgain, PackagesAreSpelledSo, NoPackageBeginsAnother, EventsAreReadAgain, EventsAreSpelledSo, NoEventBeginsAnother, EventsAreTested};
 
-/// The laws of the forms: what is spelled is read again, what is read was spelled so, no spelling begins another, and the test of
-/// `has_form` holds of just the events that have a spelling.
-pub fn law_of_forms()
+/// The laws of the encodings: what is spelled is read again, what is read was spelled so, no spelling begins another, and the test of
+/// `has_encoding` holds of just the events that have a spelling.
+pub fn law_of_encodings()
     ensures packages_again { PackagesAreReadAgain }
     ensures packages_spelled { PackagesAreSpelledSo }
     ensures packages_apart { NoPackageBeginsAnother }

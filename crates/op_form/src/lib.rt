@@ -14,8 +14,8 @@ mod write_step;
 
 pub use event::Event;
 pub use fault::FormFault;
-pub use formed::{has_form, is_package};
-pub use laws::{law_of_forms, law_of_reversals};
+pub use formed::{has_encoding, is_package};
+pub use laws::{law_of_encodings, law_of_reversals};
 pub use read_event::{decode, decode_event};
 pub use reversal::{reverse, reverse_op};
 pub use write_event::{encode, encode_event};

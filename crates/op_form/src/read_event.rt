@@ -1,4 +1,4 @@
-//! Packages and events, read from the front, and whole.
+//! Packages and events, read from the first byte on, and as all of the bytes.
 ghost use Rattle.op_form.specs.Reading.{list_at, some_at, items_at};
 ghost use Rattle.op_form.specs.Steps.{step_at};
 ghost use Rattle.op_form.specs.Packages.{kind_at, name_at, simple_at, composite_at, operation_at, package_at};

@@ -1,4 +1,4 @@
-//! Steps, read from the front: one function a kind.
+//! Steps, read from the first byte on: one function a kind.
 ghost use Rattle.op_form.specs.Steps.{put_at, ins_at, del_at, shift_at, link_at, unlink_at, rerank_row_at, new_at, gone_at, move_at, rerank_place_at, step_at};
 ghost use Rattle.op_form.specs.Given.{Gives};
 

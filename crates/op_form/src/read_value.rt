@@ -1,4 +1,4 @@
-//! Ids, values and places, read from the front.
+//! Ids, values and places, read from the first byte on.
 ghost use Rattle.op_form.specs.Reading.{any_text_at, option_at, list_at, items_at, u64_at};
 ghost use Rattle.op_form.specs.Values.{id_at, value_at, place_at, flag_at};
 ghost use Rattle.op_form.specs.Given.{Gives};
@@ -58,7 +58,7 @@ pub(crate) fn take_value(alloc: Global, reader: &mut Reader<'_>) -> Result<Value
     }
 }
 
-/// A value behind a byte 1, or none behind a byte 0.
+/// A value after a byte 1, or none after a byte 0.
 #[tactic(auto, unfolding(crate::specs::Reading::option_at))]
 pub(crate) fn take_value_if_any(
     alloc: Global,
@@ -74,7 +74,7 @@ pub(crate) fn take_value_if_any(
     }
 }
 
-/// A rank of eight bytes behind a byte 1, or none behind a byte 0.
+/// A rank of eight bytes after a byte 1, or none after a byte 0.
 #[tactic(auto, unfolding(crate::specs::Reading::option_at))]
 pub(crate) fn take_rank_if_any(reader: &mut Reader<'_>) -> Result<Option<u64>, FormFault>
     ensures { Gives reader.new result (option_at u64_at reader.old) }

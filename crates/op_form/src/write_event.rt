@@ -1,10 +1,10 @@
 //! Packages and events, as bytes.
-ghost use Rattle.byte_form.specs.Fields.{u32_form};
+ghost use Rattle.byte_form.specs.Fields.{u32_encoding};
 ghost use Rattle.std.specs.Prelude.{◌≡◌, ◌++◌, ◌∷◌, IfOk, OnOk, All};
-ghost use Rattle.op_form.specs.Reading.{items_form, list_form};
-ghost use Rattle.op_form.specs.Steps.{step_form};
-ghost use Rattle.op_form.specs.Packages.{kind_form, operation_form, package_form};
-ghost use Rattle.op_form.specs.Events.{event_form};
+ghost use Rattle.op_form.specs.Reading.{items_encoding, list_encoding};
+ghost use Rattle.op_form.specs.Steps.{step_encoding};
+ghost use Rattle.op_form.specs.Packages.{kind_encoding, operation_encoding, package_encoding};
+ghost use Rattle.op_form.specs.Events.{event_encoding};
 ghost use Rattle.op_form.specs.Laws.{IsSomeList, IsStep, IsOperation, IsPackage, IsEvent};
 
 use crate::Event;
@@ -17,7 +17,7 @@ use std::alloc::{AllocError, Global};
 /// The spelling of a package.
 pub fn encode(alloc: Global, package: &Package) -> Result<Vec<u8>, AllocError>
     requires spelled { IsPackage «package».now }
-    ensures form { IfOk result (λ bytes. bytes.items ≡ package_form «package».now) }
+    ensures form { IfOk result (λ bytes. bytes.items ≡ package_encoding «package».now) }
 {
     let mut form = Form::new(alloc);
     put_package(&mut form, package)?;
@@ -27,7 +27,7 @@ pub fn encode(alloc: Global, package: &Package) -> Result<Vec<u8>, AllocError>
 /// The spelling of an event.
 pub fn encode_event(alloc: Global, event: &Event) -> Result<Vec<u8>, AllocError>
     requires spelled { IsEvent event.now }
-    ensures form { IfOk result (λ bytes. bytes.items ≡ event_form event.now) }
+    ensures form { IfOk result (λ bytes. bytes.items ≡ event_encoding event.now) }
 {
     let mut form = Form::new(alloc);
     put_event(&mut form, event)?;
@@ -35,7 +35,7 @@ pub fn encode_event(alloc: Global, event: &Event) -> Result<Vec<u8>, AllocError>
 }
 
 fn put_kind(form: &mut Form, kind: OpKind) -> Result<(), AllocError>
-    ensures { OnOk result (form.new ≡ form.old ++ kind_form kind) }
+    ensures { OnOk result (form.new ≡ form.old ++ kind_encoding kind) }
 {
     form.put_u8(match kind {
         OpKind::Create => 1,
@@ -49,7 +49,7 @@ fn put_kind(form: &mut Form, kind: OpKind) -> Result<(), AllocError>
 
 fn put_step_items(form: &mut Form, steps: &[Step]) -> Result<(), AllocError>
     requires { All IsStep steps.now }
-    ensures { OnOk result (form.new ≡ form.old ++ items_form step_form steps.now) }
+    ensures { OnOk result (form.new ≡ form.old ++ items_encoding step_encoding steps.now) }
 {
     for step in steps {
         put_step(form, step)?;
@@ -59,16 +59,16 @@ fn put_step_items(form: &mut Form, steps: &[Step]) -> Result<(), AllocError>
 
 fn put_steps(form: &mut Form, steps: &List<Step>) -> Result<(), AllocError>
     requires { IsSomeList IsStep steps.now }
-    ensures { OnOk result (form.new ≡ form.old ++ list_form step_form steps.now) }
+    ensures { OnOk result (form.new ≡ form.old ++ list_encoding step_encoding steps.now) }
 {
     form.put_u32(steps.len() as u32)?;
     put_step_items(form, steps.as_slice())
 }
 
-#[tactic(auto, unfolding(crate::specs::Packages::operation_form))]
+#[tactic(auto, unfolding(crate::specs::Packages::operation_encoding))]
 fn put_operation(form: &mut Form, operation: &Operation) -> Result<(), AllocError>
     requires { IsOperation operation.now }
-    ensures { OnOk result (form.new ≡ form.old ++ operation_form operation.now) }
+    ensures { OnOk result (form.new ≡ form.old ++ operation_encoding operation.now) }
 {
     match operation {
         Operation::Simple { kind, steps } => {
@@ -86,7 +86,7 @@ fn put_operation(form: &mut Form, operation: &Operation) -> Result<(), AllocErro
 
 fn put_operation_items(form: &mut Form, operations: &[Operation]) -> Result<(), AllocError>
     requires { All IsOperation operations.now }
-    ensures { OnOk result (form.new ≡ form.old ++ items_form operation_form operations.now) }
+    ensures { OnOk result (form.new ≡ form.old ++ items_encoding operation_encoding operations.now) }
 {
     for operation in operations {
         put_operation(form, operation)?;
@@ -94,19 +94,19 @@ fn put_operation_items(form: &mut Form, operations: &[Operation]) -> Result<(), 
     Ok(())
 }
 
-#[tactic(auto, unfolding(crate::specs::Packages::package_form))]
+#[tactic(auto, unfolding(crate::specs::Packages::package_encoding))]
 fn put_package(form: &mut Form, package: &Package) -> Result<(), AllocError>
     requires { IsPackage «package».now }
-    ensures { OnOk result (form.new ≡ form.old ++ package_form «package».now) }
+    ensures { OnOk result (form.new ≡ form.old ++ package_encoding «package».now) }
 {
     form.put_u32(package.len() as u32)?;
     put_operation_items(form, package.as_slice())
 }
 
-#[tactic(auto, unfolding(crate::specs::Events::event_form))]
+#[tactic(auto, unfolding(crate::specs::Events::event_encoding))]
 fn put_event(form: &mut Form, event: &Event) -> Result<(), AllocError>
     requires { IsEvent event.now }
-    ensures { OnOk result (form.new ≡ form.old ++ event_form event.now) }
+    ensures { OnOk result (form.new ≡ form.old ++ event_encoding event.now) }
 {
     match event {
         Event::Init { text } => {
@@ -168,7 +168,7 @@ fn put_event(form: &mut Form, event: &Event) -> Result<(), AllocError>
 
 /// An event that is its kind's byte and a workspace's number.
 fn put_of_workspace(form: &mut Form, kind: u8, ws: u32) -> Result<(), AllocError>
-    ensures { OnOk result (form.new ≡ form.old ++ kind ∷ u32_form ws) }
+    ensures { OnOk result (form.new ≡ form.old ++ kind ∷ u32_encoding ws) }
 {
     form.put_u8(kind)?;
     form.put_u32(ws)

@@ -1,9 +1,9 @@
-//! Steps, written behind what stands: ids, values, places, and each kind's fields.
+//! Steps, written after what stands: ids, values, places, and each kind's fields.
 ghost use Rattle.std.specs.Prelude.{◌≡◌, ◌++◌, ◌∷◌, ◌<◌, OnOk};
-ghost use Rattle.byte_form.specs.Fields.{text_form, u32_form, u64_form};
-ghost use Rattle.op_form.specs.Reading.{option_form, items_form, list_form};
-ghost use Rattle.op_form.specs.Values.{value_form, place_form, flag_form};
-ghost use Rattle.op_form.specs.Steps.{step_form};
+ghost use Rattle.byte_form.specs.Fields.{text_encoding, u32_encoding, u64_encoding};
+ghost use Rattle.op_form.specs.Reading.{option_encoding, items_encoding, list_encoding};
+ghost use Rattle.op_form.specs.Values.{value_encoding, place_encoding, flag_encoding};
+ghost use Rattle.op_form.specs.Steps.{step_encoding};
 ghost use Rattle.op_form.specs.Laws.{IsGiven, IsIdText, IsList, IsValue, IsStep};
 
 use byte_form::Form;
@@ -11,24 +11,24 @@ use ecore_meta::{List, Value};
 use model_state::{Id, Place, Step};
 use std::alloc::AllocError;
 
-/// Writes an id as a text: the count of its bytes, and the bytes. The error is want of memory.
+/// Writes an id as a text: the count of its bytes, and the bytes. The error is out of memory.
 pub(crate) fn put_id(form: &mut Form, id: &Id) -> Result<(), AllocError>
-    ensures { OnOk result (form.new ≡ form.old ++ text_form id.now) }
+    ensures { OnOk result (form.new ≡ form.old ++ text_encoding id.now) }
 {
     form.put_text(id.as_str())
 }
 
 fn put_flag(form: &mut Form, flag: bool) -> Result<(), AllocError>
-    ensures { OnOk result (form.new ≡ form.old ++ flag_form flag) }
+    ensures { OnOk result (form.new ≡ form.old ++ flag_encoding flag) }
 {
     form.put_u8(if flag { 1 } else { 0 })
 }
 
-/// Writes the byte of a value's kind, from 1 to 4, and what that kind has. The error is want of memory.
-#[tactic(auto, unfolding(crate::specs::Values::value_form))]
+/// Writes the byte of a value's kind, from 1 to 4, and what that kind has. The error is out of memory.
+#[tactic(auto, unfolding(crate::specs::Values::value_encoding))]
 pub(crate) fn put_value(form: &mut Form, value: &Value) -> Result<(), AllocError>
     requires { IsValue value.now }
-    ensures { OnOk result (form.new ≡ form.old ++ value_form value.now) }
+    ensures { OnOk result (form.new ≡ form.old ++ value_encoding value.now) }
 {
     match value {
         Value::Text(text) => {
@@ -52,7 +52,7 @@ pub(crate) fn put_value(form: &mut Form, value: &Value) -> Result<(), AllocError
 
 fn put_value_if_any(form: &mut Form, value: &Option<Value>) -> Result<(), AllocError>
     requires { IsGiven IsValue value.now }
-    ensures { OnOk result (form.new ≡ form.old ++ option_form value_form value.now) }
+    ensures { OnOk result (form.new ≡ form.old ++ option_encoding value_encoding value.now) }
 {
     match value {
         None => form.put_u8(0),
@@ -64,7 +64,7 @@ fn put_value_if_any(form: &mut Form, value: &Option<Value>) -> Result<(), AllocE
 }
 
 fn put_rank_if_any(form: &mut Form, rank: Option<u64>) -> Result<(), AllocError>
-    ensures { OnOk result (form.new ≡ form.old ++ option_form u64_form rank) }
+    ensures { OnOk result (form.new ≡ form.old ++ option_encoding u64_encoding rank) }
 {
     match rank {
         None => form.put_u8(0),
@@ -75,10 +75,10 @@ fn put_rank_if_any(form: &mut Form, rank: Option<u64>) -> Result<(), AllocError>
     }
 }
 
-/// Writes a byte 0 for the root, or a byte 1, the parent's id and the feature's number. The error is want of memory.
-#[tactic(auto, unfolding(crate::specs::Values::place_form))]
+/// Writes a byte 0 for the root, or a byte 1, the parent's id and the feature's number. The error is out of memory.
+#[tactic(auto, unfolding(crate::specs::Values::place_encoding))]
 pub(crate) fn put_place(form: &mut Form, place: &Place) -> Result<(), AllocError>
-    ensures { OnOk result (form.new ≡ form.old ++ place_form place.now) }
+    ensures { OnOk result (form.new ≡ form.old ++ place_encoding place.now) }
 {
     match place {
         Place::Root => form.put_u8(0),
@@ -91,7 +91,7 @@ pub(crate) fn put_place(form: &mut Form, place: &Place) -> Result<(), AllocError
 }
 
 fn put_id_items(form: &mut Form, ids: &[Id]) -> Result<(), AllocError>
-    ensures { OnOk result (form.new ≡ form.old ++ items_form text_form ids.now) }
+    ensures { OnOk result (form.new ≡ form.old ++ items_encoding text_encoding ids.now) }
 {
     for id in ids {
         put_id(form, id)?;
@@ -101,17 +101,17 @@ fn put_id_items(form: &mut Form, ids: &[Id]) -> Result<(), AllocError>
 
 fn put_ids(form: &mut Form, ids: &List<Id>) -> Result<(), AllocError>
     requires { IsList IsIdText ids.now }
-    ensures { OnOk result (form.new ≡ form.old ++ list_form text_form ids.now) }
+    ensures { OnOk result (form.new ≡ form.old ++ list_encoding text_encoding ids.now) }
 {
     form.put_u32(ids.len() as u32)?;
     put_id_items(form, ids.as_slice())
 }
 
 /// A step: its kind's byte, and its fields.
-#[tactic(auto, unfolding(crate::specs::Steps::step_form))]
+#[tactic(auto, unfolding(crate::specs::Steps::step_encoding))]
 pub(crate) fn put_step(form: &mut Form, step: &Step) -> Result<(), AllocError>
     requires { IsStep step.now }
-    ensures { OnOk result (form.new ≡ form.old ++ step_form step.now) }
+    ensures { OnOk result (form.new ≡ form.old ++ step_encoding step.now) }
 {
     match step {
         Step::Put { e, f, old, new } => put_change(form, e, *f, old, new),
@@ -157,7 +157,7 @@ fn put_change(
 ) -> Result<(), AllocError>
     requires old { IsGiven IsValue old.now }
     requires new { IsGiven IsValue new.now }
-    ensures { OnOk result (form.new ≡ form.old ++ 1 ∷ (text_form e.now ++ (u32_form f ++ (option_form value_form old.now ++ option_form value_form new.now)))) }
+    ensures { OnOk result (form.new ≡ form.old ++ 1 ∷ (text_encoding e.now ++ (u32_encoding f ++ (option_encoding value_encoding old.now ++ option_encoding value_encoding new.now)))) }
 {
     form.put_u8(1)?;
     put_id(form, e)?;
@@ -167,7 +167,7 @@ fn put_change(
 }
 
 fn put_shift(form: &mut Form, e: &Id, f: u32, from: u32, to: u32) -> Result<(), AllocError>
-    ensures { OnOk result (form.new ≡ form.old ++ 4 ∷ (text_form e.now ++ (u32_form f ++ (u32_form from ++ u32_form to)))) }
+    ensures { OnOk result (form.new ≡ form.old ++ 4 ∷ (text_encoding e.now ++ (u32_encoding f ++ (u32_encoding from ++ u32_encoding to)))) }
 {
     form.put_u8(4)?;
     put_id(form, e)?;
@@ -184,7 +184,7 @@ fn put_rank_of_row(
     old: u64,
     new: u64,
 ) -> Result<(), AllocError>
-    ensures { OnOk result (form.new ≡ form.old ++ 7 ∷ (text_form a.now ++ (u32_form f ++ (text_form b.now ++ (u64_form old ++ u64_form new))))) }
+    ensures { OnOk result (form.new ≡ form.old ++ 7 ∷ (text_encoding a.now ++ (u32_encoding f ++ (text_encoding b.now ++ (u64_encoding old ++ u64_encoding new))))) }
 {
     form.put_u8(7)?;
     put_id(form, a)?;
@@ -205,7 +205,7 @@ fn put_move(
 ) -> Result<(), AllocError>
     requires above_from { IsList IsIdText above_from.now }
     requires above_to { IsList IsIdText above_to.now }
-    ensures { OnOk result (form.new ≡ form.old ++ 10 ∷ (text_form e.now ++ (place_form from.now ++ (u64_form from_rank ++ (place_form to.now ++ (u64_form to_rank ++ (list_form text_form above_from.now ++ list_form text_form above_to.now))))))) }
+    ensures { OnOk result (form.new ≡ form.old ++ 10 ∷ (text_encoding e.now ++ (place_encoding from.now ++ (u64_encoding from_rank ++ (place_encoding to.now ++ (u64_encoding to_rank ++ (list_encoding text_encoding above_from.now ++ list_encoding text_encoding above_to.now))))))) }
 {
     form.put_u8(10)?;
     put_id(form, e)?;
@@ -216,7 +216,7 @@ fn put_move(
 }
 
 fn put_rank_of_place(form: &mut Form, e: &Id, old: u64, new: u64) -> Result<(), AllocError>
-    ensures { OnOk result (form.new ≡ form.old ++ 11 ∷ (text_form e.now ++ (u64_form old ++ u64_form new))) }
+    ensures { OnOk result (form.new ≡ form.old ++ 11 ∷ (text_encoding e.now ++ (u64_encoding old ++ u64_encoding new))) }
 {
     form.put_u8(11)?;
     put_id(form, e)?;
@@ -232,7 +232,7 @@ fn put_at_index(
     v: &Value,
 ) -> Result<(), AllocError>
     requires { IsValue v.now }
-    ensures { OnOk result (form.new ≡ form.old ++ kind ∷ (text_form e.now ++ (u32_form f ++ (u32_form at ++ value_form v.now)))) }
+    ensures { OnOk result (form.new ≡ form.old ++ kind ∷ (text_encoding e.now ++ (u32_encoding f ++ (u32_encoding at ++ value_encoding v.now)))) }
 {
     form.put_u8(kind)?;
     put_id(form, e)?;
@@ -250,7 +250,7 @@ fn put_row(
     b: &Id,
     rb: Option<u64>,
 ) -> Result<(), AllocError>
-    ensures { OnOk result (form.new ≡ form.old ++ kind ∷ (text_form a.now ++ (u32_form f ++ (u64_form ra ++ (text_form b.now ++ option_form u64_form rb))))) }
+    ensures { OnOk result (form.new ≡ form.old ++ kind ∷ (text_encoding a.now ++ (u32_encoding f ++ (u64_encoding ra ++ (text_encoding b.now ++ option_encoding u64_encoding rb))))) }
 {
     form.put_u8(kind)?;
     put_id(form, a)?;
@@ -268,7 +268,7 @@ fn put_birth(
     place: &Place,
     rank: u64,
 ) -> Result<(), AllocError>
-    ensures { OnOk result (form.new ≡ form.old ++ kind ∷ (text_form e.now ++ (u32_form class ++ (place_form place.now ++ u64_form rank)))) }
+    ensures { OnOk result (form.new ≡ form.old ++ kind ∷ (text_encoding e.now ++ (u32_encoding class ++ (place_encoding place.now ++ u64_encoding rank)))) }
 {
     form.put_u8(kind)?;
     put_id(form, e)?;
@@ -277,14 +277,14 @@ fn put_birth(
 }
 
 fn put_spot(form: &mut Form, place: &Place, rank: u64) -> Result<(), AllocError>
-    ensures { OnOk result (form.new ≡ form.old ++ (place_form place.now ++ u64_form rank)) }
+    ensures { OnOk result (form.new ≡ form.old ++ (place_encoding place.now ++ u64_encoding rank)) }
 {
     put_place(form, place)?;
     form.put_u64(rank)
 }
 
 fn put_ranks(form: &mut Form, old: u64, new: u64) -> Result<(), AllocError>
-    ensures { OnOk result (form.new ≡ form.old ++ (u64_form old ++ u64_form new)) }
+    ensures { OnOk result (form.new ≡ form.old ++ (u64_encoding old ++ u64_encoding new)) }
 {
     form.put_u64(old)?;
     form.put_u64(new)

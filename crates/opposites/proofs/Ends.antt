@@ -1,10 +1,10 @@
--- The end of a list: what an entry that comes there finds, and when it is refused.
+-- The end of a list: what an entry that is added there finds, and when it is refused.
 use Rattle.std.proofs.lemmas.Bool.Decides.{nat_tests}
 use Rattle.std.proofs.Common.{◌≡◌, ℕ, Bool, false, true, cond, List, [], ◌∷◌, ◌++◌, refl, sym, ap, ◌∙◌, arith, length, inl, inr}
 use Rattle.std.specs.Prelude.{None, Some, Result, Ok, Err, IfErr, is_some, nat_le}
 use Rattle.model_state.specs.declared.entry.Entry.{Entry}
 use Rattle.model_state.specs.declared.step.Step.{Step}
-use Rattle.model_state.specs.Keys.{Name}
+use Rattle.model_state.specs.Keys.{IdBytes}
 use Rattle.model_state.specs.Listing.{targets}
 use Rattle.ecore_meta.specs.Meta.{Meta}
 use Rattle.edit_laws.specs.Refusals.{first_refusal}
@@ -14,11 +14,11 @@ use Rattle.opposites.specs.declared.fault.LinkFault.{LinkFault}
 use Rattle.opposites.specs.declared.fault.LinkFault.TheVariants.{AlreadyThere, Bound, Memory, NoEntry, WrongType}
 use Rattle.opposites.specs.Refusals.{IsFull, IsRefusal, edit_fault, enter_refusal}
 use Rattle.edit_laws.specs.Rows.{Rows, reranks}
-use Rattle.edit_laws.specs.References.{is_one, others_there}
+use Rattle.edit_laws.specs.References.{holds_one, others_there}
 use Rattle.opposites.proofs.SpotLaws.{no_reranks, nothing_added}
 
--- where there is a rank behind the last entry, the others keep theirs
-pub end_kept : (steps : List Step) (a : Name) (f : ℕ) (xs : List Entry) (r : ℕ) → Some r ≡ rank_for (ranks_of xs) (length xs) → steps ≡ steps ++ reranks a f xs (end_spot xs).ranks
+-- where there is a rank after the last entry, the others keep theirs
+pub end_kept : (steps : List Step) (a : IdBytes) (f : ℕ) (xs : List Entry) (r : ℕ) → Some r ≡ rank_for (ranks_of xs) (length xs) → steps ≡ steps ++ reranks a f xs (end_spot xs).ranks
 end_kept steps a f xs r is =
     nothing_added steps ∙ ap (λ ss. steps ++ ss) (sym (no_reranks a f xs)) ∙ ap (λ o. steps ++ reranks a f xs (spot_by o xs (length xs)).ranks) is
 
@@ -29,15 +29,15 @@ end_rank xs r is = ap (λ o. (spot_by o xs (length xs)).rank) (sym is)
 pub alone : (xs : List Entry) → xs ≡ [] → (end_spot xs).rank ≡ Some 4294967296
 alone xs none = ap (λ ys. (end_spot ys).rank) none
 
-pub none_reranked : (b : Name) (g : ℕ) (xs : List Entry) → xs ≡ [] → reranks b g xs (end_spot xs).ranks ≡ []
+pub none_reranked : (b : IdBytes) (g : ℕ) (xs : List Entry) → xs ≡ [] → reranks b g xs (end_spot xs).ranks ≡ []
 none_reranked b g xs none = ap (λ ys. reranks b g ys (end_spot ys).ranks) none
 
--- the entry of an opposite that holds one goes
-pub one_goes : (meta : Meta) (row : Rows) (g : ℕ) (b : Name) → is_one meta g ≡ true → others_there meta row (Some g) b ≡ []
+-- the entry of an opposite that holds one is removed
+pub one_goes : (meta : Meta) (row : Rows) (g : ℕ) (b : IdBytes) → holds_one meta g ≡ true → others_there meta row (Some g) b ≡ []
 one_goes meta row g b one = ap (λ t. cond {A = List Entry} t [] (targets row b g)) one
 
 -- the entries of another stay
-pub others_stay : (meta : Meta) (row : Rows) (g : ℕ) (b : Name) → is_one meta g ≡ false → others_there meta row (Some g) b ≡ targets row b g
+pub others_stay : (meta : Meta) (row : Rows) (g : ℕ) (b : IdBytes) → holds_one meta g ≡ false → others_there meta row (Some g) b ≡ targets row b g
 others_stay meta row g b many = ap (λ t. cond {A = List Entry} t [] (targets row b g)) many
 
 -- ---- refusals

@@ -3,7 +3,7 @@ use Rattle.std.proofs.Common.{◌≡◌, ℕ, suc, ◌+◌, Bool, true, false, c
 use Rattle.std.specs.FinMap.{FinMap, entries}
 use Rattle.finite_maps.specs.Equal.{text_eq}
 use Rattle.model_state.specs.declared.entry.Entry.{Entry}
-use Rattle.model_state.specs.Keys.{Name, RowKey, row_cmp}
+use Rattle.model_state.specs.Keys.{IdBytes, RowKey, row_cmp}
 use Rattle.model_state.specs.Listing.{targets, entry_cmp, row_entry, is_of}
 use Rattle.finite_maps.specs.Maps.{tally, count}
 use Rattle.finite_maps.specs.Sorts.{picked}
@@ -20,7 +20,7 @@ pub true_too : (b : Bool) → b && true ≡ b
 true_too true = refl
 true_too false = refl
 
-pub length_targets : (row : FinMap row_cmp ℕ) (a : Name) (f : ℕ) → length (targets row a f) ≡ count (λ (e : RowKey × ℕ). is_of a f e.0) row
+pub length_targets : (row : FinMap row_cmp ℕ) (a : IdBytes) (f : ℕ) → length (targets row a f) ≡ count (λ (e : RowKey × ℕ). is_of a f e.0) row
 length_targets row a f =
     length_tally (targets row a f)
     ∙ tally-in_order entry_cmp (λ _. true) (map row_entry (picked (λ e. is_of a f e.0) row))
@@ -28,8 +28,8 @@ length_targets row a f =
     ∙ tally-filter (λ (e : RowKey × ℕ). is_of a f e.0) (λ _. true) (entries row)
     ∙ (λ i. tally (λ (e : RowKey × ℕ). true_too (is_of a f e.0) i) (entries row))
 
--- as many entries as those that stay and those that go
-stay_or_go : (b : Name) (xs : List Entry) → length xs ≤ length (without_entry b xs) + tally (λ (x : Entry). text_eq b x.id) xs
+-- as many entries as those that stay and those that are removed
+stay_or_go : (b : IdBytes) (xs : List Entry) → length xs ≤ length (without_entry b xs) + tally (λ (x : Entry). text_eq b x.id) xs
 stay_or_go b [] = omega arith
 stay_or_go b (x ∷ xs) =
     elim (text_eq b x.id) as (λ t. length (x ∷ xs) ≤ length (cond {A = List Entry} (not t) (x ∷ without_entry b xs) (without_entry b xs)) + (cond t 1 0 + tally (λ (x : Entry). text_eq b x.id) xs)) [
@@ -44,7 +44,7 @@ stay_or_go b (x ∷ xs) =
     stays n k t h = omega arith
 
 -- an index of a list is one among the others too
-pub stands_among : (row : FinMap row_cmp ℕ) (a : Name) (f : ℕ) (b : Name) (k : ℕ) → k < length (targets row a f) → k ≤ length (without_entry b (targets row a f))
+pub stands_among : (row : FinMap row_cmp ℕ) (a : IdBytes) (f : ℕ) (b : IdBytes) (k : ℕ) → k < length (targets row a f) → k ≤ length (without_entry b (targets row a f))
 stands_among row a f b k less = at_most k _ _ _ less (stay_or_go b (targets row a f)) (one_passes row a f b)
   where
     at_most : (k n o t : ℕ) → k < n → n ≤ o + t → t ≤ 1 → k ≤ o

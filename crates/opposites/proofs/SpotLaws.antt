@@ -6,7 +6,7 @@ use Rattle.finite_maps.proofs.EqualLaws.{nat_equality}
 use Rattle.model_state.specs.declared.entry.Entry.{Entry}
 use Rattle.model_state.specs.declared.step.Step.{Step}
 use Rattle.model_state.specs.declared.step.Step.TheVariants.{RerankRow}
-use Rattle.model_state.specs.Keys.{Name}
+use Rattle.model_state.specs.Keys.{IdBytes}
 use Rattle.model_state.specs.Ranks.{rank_between}
 use Rattle.edit_laws.specs.Spot.{rank_for, ranks_of, evened, spot, spot_by}
 use Rattle.edit_laws.specs.Rows.{reranks}
@@ -83,12 +83,12 @@ spot_kept xs k h = kept (rank_for (ranks_of xs) k) h
     kept None h = cc
     kept (Some r) h = refl
 
-pub no_reranks : (a : Name) (f : ℕ) (xs : List Entry) → reranks a f xs (ranks_of xs) ≡ []
+pub no_reranks : (a : IdBytes) (f : ℕ) (xs : List Entry) → reranks a f xs (ranks_of xs) ≡ []
 no_reranks a f [] = refl
 no_reranks a f (x ∷ xs) = ap (λ b. cond b (reranks a f xs (ranks_of xs)) (RerankRow a f x.id x.rank x.rank ∷ reranks a f xs (ranks_of xs))) (nat_equality.own x.rank) ∙ no_reranks a f xs
 
 -- one entry more
-pub reranks_last : (a : Name) (f : ℕ) (n : ℕ) (xs : List Entry) (x : Entry) → reranks a f (xs ++ x ∷ []) (evened n (xs ++ x ∷ [])) ≡ reranks a f xs (evened n xs) ++ cond (nat_eq x.rank ((n + length xs) * 4294967296)) [] (RerankRow a f x.id x.rank ((n + length xs) * 4294967296) ∷ [])
+pub reranks_last : (a : IdBytes) (f : ℕ) (n : ℕ) (xs : List Entry) (x : Entry) → reranks a f (xs ++ x ∷ []) (evened n (xs ++ x ∷ [])) ≡ reranks a f xs (evened n xs) ++ cond (nat_eq x.rank ((n + length xs) * 4294967296)) [] (RerankRow a f x.id x.rank ((n + length xs) * 4294967296) ∷ [])
 reranks_last a f n [] x = ap (λ r. cond (nat_eq x.rank r) [] (RerankRow a f x.id x.rank r ∷ [])) (ap (λ k. k * 4294967296) (nothing n))
   where
     nothing : (n : ℕ) → n ≡ n + 0

@@ -3,15 +3,15 @@ ghost use Rattle.std.specs.Prelude.{◌≡◌, IfOk};
 ghost use Rattle.finite_maps.specs.Maps.{is_below};
 ghost use Rattle.model_state.specs.State.{row_count};
 ghost use Rattle.model_state.specs.Typing.{row_upper};
-ghost use Rattle.edit_laws.specs.References.{is_one};
+ghost use Rattle.edit_laws.specs.References.{holds_one};
 
 use ecore_meta::Metamodel;
 use model_state::{Id, Look, row_upper};
 use std::alloc::{AllocError, Global};
 
 /// Whether a plain reference holds one target at most.
-pub fn is_one(meta: &Metamodel, f: u32) -> bool
-    ensures { result ≡ is_one meta.now f }
+pub fn holds_one(meta: &Metamodel, f: u32) -> bool
+    ensures { result ≡ holds_one meta.now f }
 {
     match row_upper(meta, f) {
         None => false,

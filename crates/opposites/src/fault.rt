@@ -11,7 +11,7 @@ use thiserror::Error;
 #[derive(Clone, Copy, Debug, PartialEq, Eq, Drop, Error)]
 pub enum LinkFault {
     /// A list would get an entry more and is at its upper bound, or it has no room at that index and is too long to be
-    /// ranked anew. An entry that the edit itself displaces isn't counted.
+    /// renumbered. An entry that the edit itself displaces isn't counted.
     #[error("the list is full")]
     Bound,
     /// The source refers to the target by the feature already.

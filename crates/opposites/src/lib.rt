@@ -1,5 +1,5 @@
 //! Edits of plain references as steps. A reference and its opposite change together, an entry that an opposite of upper
-//! bound 1 displaces goes first, and a list without room at the index is ranked anew.
+//! bound 1 displaces is removed first, and a list without room at the index is renumbered.
 #![tactic(auto)]
 
 mod bounds;
@@ -15,7 +15,7 @@ mod there;
 mod unlink;
 mod unset_ref;
 
-pub use bounds::is_one;
+pub use bounds::holds_one;
 pub use fault::LinkFault;
 pub use laws::law_of_calls;
 pub use link::{index_or_end, link_step, link_steps};

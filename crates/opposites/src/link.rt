@@ -4,7 +4,7 @@ ghost use Rattle.std.specs.FinMap.{get};
 ghost use Rattle.model_state.specs.Good.{Good, Sound};
 ghost use Rattle.model_state.specs.Listing.{targets};
 ghost use Rattle.edit_laws.specs.Rows.{link_step};
-ghost use Rattle.edit_laws.specs.References.{is_one, link_made};
+ghost use Rattle.edit_laws.specs.References.{holds_one, link_made};
 ghost use Rattle.edit_laws.specs.Refusals.{first_refusal, link_index, link_refusal};
 ghost use Rattle.opposites.specs.Refusals.{IsReference, IsRefusal, list_tests};
 
@@ -60,7 +60,7 @@ pub fn link_step(
     }
 }
 
-/// The index, that behind the last of n entries where none is given.
+/// The index, that after the last of n entries where none is given.
 pub fn index_or_end(at: Option<u32>, n: usize) -> usize
     ensures { result ≡ unwrap_or at n }
 {
@@ -99,7 +99,7 @@ fn link<L: Look>(
 
 /// The steps that link two elements by a reference whose upper bound isn't 1, at an index or last.
 ///
-/// The source that an opposite of upper bound 1 displaces is unlinked; both lists are ranked anew where there is no room;
+/// The source that an opposite of upper bound 1 displaces is unlinked; both lists are renumbered where there is no room;
 /// then the two are linked. Refused with WrongType, AlreadyThere, NoEntry and Bound, in this order.
 pub fn link_steps<L: Look>(
     alloc: Global,
@@ -113,7 +113,7 @@ pub fn link_steps<L: Look>(
     requires sound { Sound meta.now }
     requires good { Good meta.now (L.state look.now) }
     requires reference { IsReference meta.now (L.state look.now) a.now f }
-    requires many { is_one meta.now f ≡ false }
+    requires many { holds_one meta.now f ≡ false }
     requires target { is_some (get (L.state look.now).kind b.now) ≡ true }
     ensures made { IfOk result (λ s. s ≡ link_made meta.now (L.state look.now).row a.now f b.now (unwrap_or at (length (targets (L.state look.now).row a.now f)))) }
     ensures taken { OnOk result (link_refusal meta.now (L.state look.now) a.now f b.now at ≡ None) }

@@ -9,14 +9,14 @@ use ecore_meta::List;
 use model_state::{Entry, Id, Step, rank_between};
 use std::alloc::{AllocError, Global};
 
-/// A list that an entry comes into.
+/// A list into which an entry is inserted.
 #[derive(Debug, Drop)]
 pub struct Opening {
     /// The other entries.
     pub others: List<Entry>,
     /// Where the entry is to stand among them.
     pub index: usize,
-    /// Whether the others are to be ranked anew before.
+    /// Whether the others are to be renumbered before.
     pub reranks: bool,
     /// The rank of the entry.
     pub rank: u64,
@@ -74,7 +74,7 @@ fn even_rank(n: usize, k: usize) -> Option<u64>
     }
 }
 
-/// The rank of an entry that comes to stand at index k of the others, None where the list is too long to be ranked anew.
+/// The rank of an entry at index k of the others, None where the list is too long to be renumbered.
 fn find_rank(list: &[Entry], k: usize) -> Option<(bool, u64)>
     requires { k ≤ length list.now }
     ensures rank { option_map (λ s. s.1) result ≡ (spot list.now k).rank }
@@ -96,8 +96,8 @@ fn find_rank(list: &[Entry], k: usize) -> Option<(bool, u64)>
 }
 
 impl Opening {
-    /// The opening of a list for an entry at an index, None where there is no room and the list is too long to be ranked
-    /// anew.
+    /// The opening of a list for an entry at an index, None where there is no room and the list is too long to be
+    /// renumbered.
     pub fn find(others: List<Entry>, index: usize) -> Option<Opening>
         requires { index ≤ length others }
         ensures others { IfSome result (λ o. o.others ≡ others) }

@@ -68,7 +68,7 @@ fn reorder(
 
 /// The steps that put a reference at another index of its list, none where it stands there.
 ///
-/// The other entries are ranked anew where there is no room, and then this one gets its rank; a step that would give an
+/// The other entries are renumbered where there is no room, and then this one gets its rank; a step that would give an
 /// entry the rank that it has is left out. Refused with NoEntry before Bound.
 pub fn reorder_steps<L: Look>(
     alloc: Global,
@@ -86,7 +86,7 @@ pub fn reorder_steps<L: Look>(
     ensures taken { OnOk result (reorder_refusal (L.state look.now) a.now f b.now at ≡ None) }
     ensures refused { IfErr result (λ e. IsRefusal (reorder_refusal (L.state look.now) a.now f b.now at) e) }
 {
-    // The contract alone speaks of it.
+    // Only the contract needs it.
     let _meta = meta;
     let Some(old) = look.row(a, f, b) else {
         return Err(LinkFault::NoEntry);

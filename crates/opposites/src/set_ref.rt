@@ -5,7 +5,7 @@ ghost use Rattle.model_state.specs.Good.{Good, Sound};
 ghost use Rattle.model_state.specs.Typing.{opposite_of};
 ghost use Rattle.model_state.specs.Listing.{targets};
 ghost use Rattle.edit_laws.specs.Rows.{link_step, unlinks};
-ghost use Rattle.edit_laws.specs.References.{is_one, set_ref_made, displace, rank_there, reranks_there};
+ghost use Rattle.edit_laws.specs.References.{holds_one, set_ref_made, displace, rank_there, reranks_there};
 ghost use Rattle.edit_laws.specs.Refusals.{first_refusal, set_ref_refusal};
 ghost use Rattle.opposites.specs.Refusals.{IsReference, IsRefusal, mirror_tests};
 
@@ -43,7 +43,7 @@ fn set_ref<L: Look>(
 /// The steps that set a reference of upper bound 1 to an element, none where it refers to it already.
 ///
 /// The old target is unlinked; so is the source that an opposite of upper bound 1 displaces; an opposite of a greater one
-/// is ranked anew where there is no room at its end; then the two are linked, the target with the rank `2^32`. Refused
+/// is renumbered where there is no room at its end; then the two are linked, the target with the rank `2^32`. Refused
 /// with WrongType before Bound.
 pub fn set_ref_steps<L: Look>(
     alloc: Global,
@@ -56,7 +56,7 @@ pub fn set_ref_steps<L: Look>(
     requires sound { Sound meta.now }
     requires good { Good meta.now (L.state look.now) }
     requires reference { IsReference meta.now (L.state look.now) a.now f }
-    requires one { is_one meta.now f ≡ true }
+    requires one { holds_one meta.now f ≡ true }
     requires target { is_some (get (L.state look.now).kind b.now) ≡ true }
     ensures made { IfOk result (λ s. s ≡ set_ref_made meta.now (L.state look.now).row a.now f b.now) }
     ensures taken { OnOk result (set_ref_refusal meta.now (L.state look.now) a.now f b.now ≡ None) }

@@ -4,14 +4,14 @@ ghost use Rattle.edit_laws.specs.References.{reranks_there, rank_there, room_the
 ghost use Rattle.opposites.specs.Refusals.{IsFull};
 
 use crate::LinkFault;
-use crate::bounds::{has_room_for, is_one};
+use crate::bounds::{has_room_for, holds_one};
 use crate::entering::enter_last;
 use crate::unlink::unlinks;
 use ecore_meta::{List, Metamodel};
 use model_state::{Id, Look, Step};
 use std::alloc::{AllocError, Global};
 
-/// Whether the opposite's list has room, once the entry that it displaces is gone.
+/// Whether the opposite's list has room, once the entry that it displaces is removed.
 fn has_room_there<L: Look>(
     alloc: Global,
     look: &L,
@@ -24,7 +24,7 @@ fn has_room_there<L: Look>(
     match opposite {
         None => Ok(true),
         Some(g) => {
-            if is_one(meta, g) {
+            if holds_one(meta, g) {
                 Ok(true)
             } else {
                 has_room_for(alloc, look, meta, b, g)
@@ -49,7 +49,7 @@ fn rank_there<L: Look>(
     match opposite {
         None => Ok(4294967296),
         Some(g) => {
-            if is_one(meta, g) {
+            if holds_one(meta, g) {
                 Ok(4294967296)
             } else {
                 enter_last(alloc, look, b, g, steps)
@@ -95,7 +95,7 @@ pub fn displace<L: Look>(
     match opposite {
         None => Ok(()),
         Some(g) => {
-            if is_one(meta, g) {
+            if holds_one(meta, g) {
                 let list = look.targets(alloc, b, g)?;
                 unlinks(alloc, look, Some(f), b, g, list.as_slice(), steps)
             } else {

@@ -3,7 +3,7 @@ use Rattle.std.proofs.Common.{◌≡◌, inl, inr, ℕ, ◌+◌, ◌*◌, ◌<�
 use Rattle.std.specs.Prelude.{Option, None, Some, unwrap_or, IfSome}
 use Rattle.std.proofs.lemmas.List.{length-take, length-replicate, take-append-drop, take-take, drop-take, take_all, drop_all, take_at, append-nil}
 use Rattle.page_pool.specs.Frames.{Frames, frame_at, IsOut, zeros, overwritten, IsTaken, IsWritten}
-use Rattle.page_pool.specs.Paged.{IsAmong, AreOut, AreFree, KeepsOthers, joined, frames_for, PagedState, Holds}
+use Rattle.page_pool.specs.Paged.{IsAmong, AreOut, AreFree, KeepsOthers, joined, frames_for, PagedState, HoldsBytes}
 use Rattle.page_pool.proofs.Among.{among_split, among_front, among_last, out_not_free, all_kept, joined_kept, joined_append, out_append, out_each}
 
 pub length-zeros : length zeros ≡ 4096
@@ -36,7 +36,7 @@ nothing_filled old new bytes same = record {
 pub take-plus : (n m : ℕ) (xs : List ℕ) → take (n + m) xs ≡ take n xs ++ take m (drop n xs)
 take-plus n m xs = sym (take-append-drop n (take (n + m) xs)) ∙ ap (λ (l : List ℕ). l ++ drop n (take (n + m) xs)) (take-take n (n + m) xs (omega arith)) ∙ ap (λ (l : List ℕ). take n xs ++ l) (drop-take n m xs)
 
--- a piece of a byte string, and the zeros behind it
+-- a piece of a byte string, and the zeros after it
 module _ (old mid one two : Frames) (fs : List ℕ) (f i : ℕ) (bytes piece : List ℕ) (so_far : Filled old mid fs bytes i) (taken : IsTaken mid one f) (written : IsWritten one two f (overwritten zeros 0 piece)) (piece_is : piece ≡ take 4096 (drop (4096 * i) bytes)) (before_end : 4096 * i < length bytes) where
   abbrev rest : List ℕ
   rest = drop (0 + length piece) zeros
@@ -108,7 +108,7 @@ pub at_some : (P : List ℕ → Type 0) (o : Option (List ℕ)) (b : List ℕ) �
 at_some P o b is h = subst (λ (p : Option (List ℕ)). IfSome p P) is h
 
 -- the whole string, when all of its frames are filled
-pub all_filled : (old new : Frames) (fs bytes : List ℕ) (n : ℕ) (paged : PagedState) → Filled old new fs bytes n → n ≡ frames_for (length bytes) → length fs ≡ n → paged.frames ≡ fs → paged.size ≡ length bytes → Holds new paged bytes
+pub all_filled : (old new : Frames) (fs bytes : List ℕ) (n : ℕ) (paged : PagedState) → Filled old new fs bytes n → n ≡ frames_for (length bytes) → length fs ≡ n → paged.frames ≡ fs → paged.size ≡ length bytes → HoldsBytes new paged bytes
 all_filled old new fs bytes n paged filled n_is count frames size = record {
   out = subst (λ (l : List ℕ). AreOut new l) (sym frames) filled.out;
   count = ap (λ (l : List ℕ). length l) frames ∙ count ∙ n_is;

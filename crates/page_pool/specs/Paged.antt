@@ -24,7 +24,7 @@ KeepsOthers old new frames = (k : ℕ) → ¬ IsAmong k frames → frame_at new 
 abbrev pub frames_for : ℕ → ℕ
 frames_for size = (size + 4095) / 4096
 
--- the bytes of these frames, one frame behind another
+-- the bytes of these frames, one frame after another
 abbrev pub joined : Frames → List ℕ → List ℕ
 joined pool [] = []
 joined pool (frame ∷ frames) = unwrap_or (frame_at pool frame) [] ++ joined pool frames
@@ -39,7 +39,7 @@ abbrev pub content : Frames → PagedState → List ℕ
 content pool paged = take paged.size (joined pool paged.frames)
 
 -- exactly these bytes lie in frames that are out of the pool, each once
-pub record Holds (pool : Frames) (paged : PagedState) (bytes : List ℕ) : Type 0 where
+pub record HoldsBytes (pool : Frames) (paged : PagedState) (bytes : List ℕ) : Type 0 where
   pub out : AreOut pool paged.frames
   pub count : length paged.frames ≡ frames_for (length bytes)
   pub size : paged.size ≡ length bytes

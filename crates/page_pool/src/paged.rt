@@ -1,7 +1,7 @@
 //! Byte strings in frames of a pool.
 ghost use Rattle.std.specs.Prelude.{◌≡◌, ◌+◌, ◌*◌, ◌<◌, ◌≤◌, ◌^◌, length, take, drop, IfOk, OnOk, OnErr};
 ghost use Rattle.page_pool.specs.Frames.{out_of, free_of, SameFrames};
-ghost use Rattle.page_pool.specs.Paged.{AreOut, AreFree, KeepsOthers, frames_for, content, Holds};
+ghost use Rattle.page_pool.specs.Paged.{AreOut, AreFree, KeepsOthers, frames_for, content, HoldsBytes};
 
 use crate::pool::{FRAME_SIZE, Frame, Pool};
 use std::alloc::{AllocError, Global};
@@ -74,7 +74,7 @@ impl Room {
     fn fill(self, pool: &mut Pool, bytes: &[u8]) -> PagedBytes
         requires room { frames_for (length bytes.now) ≤ self }
         requires free { frames_for (length bytes.now) ≤ free_of pool.old }
-        ensures holds { Holds pool.new result bytes.now }
+        ensures holds { HoldsBytes pool.new result bytes.now }
         ensures fresh { AreFree pool.old result.frames }
         ensures others { KeepsOthers pool.old pool.new result.frames }
         ensures out { out_of pool.new ≡ out_of pool.old + frames_for (length bytes.now) }
@@ -97,10 +97,10 @@ impl Room {
 }
 
 impl PagedBytes {
-    /// Writes bytes into frames that it takes from a pool. After want of memory the pool's frames are as before.
+    /// Writes bytes into frames that it takes from a pool. When out of memory the pool's frames are as before.
     pub fn store(alloc: Global, pool: &mut Pool, bytes: &[u8]) -> Result<PagedBytes, AllocError>
         requires room { out_of pool.old + frames_for (length bytes.now) ≤ 8192 }
-        ensures holds { IfOk result (λ paged. Holds pool.new paged bytes.now) }
+        ensures holds { IfOk result (λ paged. HoldsBytes pool.new paged bytes.now) }
         ensures fresh { IfOk result (λ paged. AreFree pool.old paged.frames) }
         ensures others { IfOk result (λ paged. KeepsOthers pool.old pool.new paged.frames) }
         ensures out { OnOk result (out_of pool.new ≡ out_of pool.old + frames_for (length bytes.now)) }

@@ -21,11 +21,11 @@ use Rattle.plain_repository.specs.Tidying.{tidied}
 use Rattle.plain_repository.specs.Merging.{updated, merged_with}
 use Rattle.plain_repository.specs.Events.{by_meta, effect, play, playable, playable_with}
 use Rattle.plain_repository.specs.Laws.{is_of, WorkspacesStayApart, ModelsStayApart}
-use Rattle.plain_repository.proofs.Forms.{and_right}
+use Rattle.plain_repository.proofs.Encodings.{and_right}
 use Rattle.plain_repository.proofs.Places.{of_number, is_of_number, other_number, more_number}
 use Rattle.plain_repository.proofs.Reached.{in_order}
 
--- numbers that a test tells apart differ
+-- numbers that a test finds unequal differ
 pub differ : (k n : ℕ) → nat_eq k n ≡ false → k ≢ n
 differ k n is e = true≢false (sym (heads.same_number k) ∙ ap (λ m. nat_eq k m) e ∙ is)
 

@@ -27,12 +27,12 @@ use Rattle.plain_repository.specs.Answers.{fits_record}
 use Rattle.plain_repository.specs.Events.{by_meta, effect, playable, playable_with}
 use Rattle.plain_repository.specs.Laws.{EventsChange}
 use Rattle.finite_maps.proofs.EqualLaws.{nat_equality}
-use Rattle.plain_repository.proofs.Forms.{and_left, and_right}
+use Rattle.plain_repository.proofs.Encodings.{and_left, and_right}
 use Rattle.plain_repository.proofs.Merging.{changed_is}
 use Rattle.plain_repository.proofs.Places.{of_number, is_of_number}
 
 -- ---- lists
--- a list with something behind it is another
+-- a list with something after it is another
 not_longer : {X : Type 0} (xs ys : List X) → 0 < length ys → xs ++ ys ≡ xs → ⊥
 not_longer xs ys more same =
     let count : length xs + length ys ≡ length xs = sym (length-append xs ys) ∙ ap length same in

@@ -15,7 +15,7 @@ use Rattle.commit_journal.specs.declared.fit.Fit.{Fit}
 use Rattle.commit_journal.specs.declared.fit.Fit.TheVariants as fits
 use Rattle.op_form.specs.declared.event.Event.{Event}
 use Rattle.op_form.specs.declared.event.Event.TheVariants.{Commit}
-use Rattle.op_form.specs.Events.{event_form}
+use Rattle.op_form.specs.Events.{event_encoding}
 use Rattle.script_lang.specs.declared.command.Command.TheVariants as commands
 use Rattle.script_lang.specs.declared.reply.Refusal.TheVariants as refusals
 use Rattle.script_lang.specs.declared.reply.Last.TheVariants as last
@@ -27,7 +27,7 @@ use Rattle.plain_repository.specs.Repository.{decide_with, decide_command}
 use Rattle.plain_repository.specs.Laws.{IsStale, CommitsAreStale, CommitsKeepModels}
 use Rattle.plain_repository.specs.Orderly.{Runs, steps_to, InOrder, Orderly}
 use Rattle.plain_repository.proofs.Apart.{differ}
-use Rattle.plain_repository.proofs.Forms.{and_left, and_right}
+use Rattle.plain_repository.proofs.Encodings.{and_left, and_right}
 use Rattle.plain_repository.proofs.Places.{of_number, is_of_number, same_number, at_number}
 use Rattle.plain_repository.proofs.Runs.{workspace_model}
 use Rattle.plain_repository.proofs.Kept.{commit_steps, commit_itself}
@@ -41,7 +41,7 @@ Says d base at = d.reply.last ≡ last.No (refusals.Stale base at)
 -- an event for which there may be no room is never stale
 room_not_stale : (s : State) (lines : List (List ℕ)) (words : List ℕ) (event : Event) (base at : ℕ) → Says (with_room s lines words event) base at → ⊥
 unfolding with_room
-room_not_stale s lines words event base at = by (nat_le most_events s.events) (fit_of s.end (length (event_form event)))
+room_not_stale s lines words event base at = by (nat_le most_events s.events) (fit_of s.end (length (event_encoding event)))
   where
     by : (full : Bool) (fit : Fit) → Says (cond full (refused refusals.HistoryFull) (by_fit fit lines words event)) base at → ⊥
     by true fit e = cc
@@ -116,7 +116,7 @@ module _ (s : State) (meta : Meta) (k : Orderly meta s) (ws : ℕ) (w : Workspac
   pub order : InOrder meta s.history w
   order = at_number (InOrder meta s.history) s ws w there k.workspaces
 
-  -- the workspace has the same steps behind it as before
+  -- the workspace has the same steps after it as before
   same_steps : (c : Option Open) → w.composite ≡ c → steps_to more n ++ recorded_steps (committed n w) ≡ steps_to s.history w.base ++ recorded_steps w
   same_steps None is = ap (λ (c : Option Open). steps_to more n ++ open_steps c) is ∙ append-nil (steps_to more n) ∙ commit_steps meta s k message w order at_head closed
   same_steps (Some c) is = absurd (by (ap (λ (c : Option Open). not (is_some c)) (sym is) ∙ closed))

@@ -9,7 +9,7 @@ use Rattle.serde_json.specs.Data.{Data, object, Members, no_members}
 use Rattle.serde_json.specs.Written.{compact_text}
 use Rattle.ecore_meta.specs.Meta.{Meta}
 use Rattle.std.specs.FinMap.{get, len}
-use Rattle.model_state.specs.Keys.{Name}
+use Rattle.model_state.specs.Keys.{IdBytes}
 use Rattle.model_state.specs.State as models
 use Rattle.model_state.specs.declared.step.Place.TheVariants.{Root}
 use Rattle.model_state.specs.Packages.{steps_of}
@@ -100,23 +100,23 @@ record IsObject (d : Data) : Type 0 where
   held : Members
   is : d ≡ object held
 
-class_object : (meta : Meta) (m : models.State) (below : Name → Data) (e : Name) (class : Option ℕ) → IsObject (object_of meta m below e class)
+class_object : (meta : Meta) (m : models.State) (below : IdBytes → Data) (e : IdBytes) (class : Option ℕ) → IsObject (object_of meta m below e class)
 class_object meta m below e None = record { held = no_members; is = refl }
 class_object meta m below e (Some c) = record { held = members (key_name meta) (part meta m below e c) (keys_of meta c); is = refl }
 
-element_object : (meta : Meta) (m : models.State) (n : ℕ) (e : Name) → IsObject (element meta m n e)
+element_object : (meta : Meta) (m : models.State) (n : ℕ) (e : IdBytes) → IsObject (element meta m n e)
 unfolding element
 element_object meta m zero e = record { held = no_members; is = refl }
 element_object meta m (suc n) e = class_object meta m (element meta m n) e (get m.kind e)
 
-whole_object : (meta : Meta) (m : models.State) (e : Name) → IsObject (whole meta m e)
+whole_object : (meta : Meta) (m : models.State) (e : IdBytes) → IsObject (whole meta m e)
 unfolding whole
 whole_object meta m e = element_object meta m (len m.kind) e
 
 object_apart : (d : Data) → IsObject d → Apart (compact_text d)
 object_apart d o = subst (λ (x : Data). Apart (compact_text x)) (sym o.is) refl
 
-roots_apart : (meta : Meta) (m : models.State) (es : List Name) → Apart (compact_text (one_or_list true (map (whole meta m) es)))
+roots_apart : (meta : Meta) (m : models.State) (es : List IdBytes) → Apart (compact_text (one_or_list true (map (whole meta m) es)))
 roots_apart meta m [] = refl
 roots_apart meta m (e ∷ []) = object_apart (whole meta m e) (whole_object meta m e)
 roots_apart meta m (e ∷ f ∷ es) = refl

@@ -10,7 +10,7 @@ use Rattle.plain_repository.specs.Commits.{version_of, with_commit, with_new_bra
 use Rattle.plain_repository.specs.Events.{effect, play, playable, playable_with}
 use Rattle.plain_repository.specs.Laws.{Extends, Grows, HistoryOnlyGrows}
 use Rattle.plain_repository.specs.Orderly.{AllOrderly}
-use Rattle.plain_repository.proofs.Forms.{and_right}
+use Rattle.plain_repository.proofs.Encodings.{and_right}
 
 same_list : {X : Type 0} (xs : List X) → Extends xs xs
 same_list xs = ([], sym (append-nil xs))

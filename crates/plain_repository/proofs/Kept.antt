@@ -39,8 +39,8 @@ use Rattle.merge_plans.specs.Choices.{are_choices}
 use Rattle.plain_repository.specs.Tidying.{tidied, can_tidy}
 use Rattle.plain_repository.specs.Merging.{update_buckets, updated, can_update, merge_buckets, merged_with, is_other_branch, has_theirs, can_merge}
 use Rattle.plain_repository.specs.Events.{by_meta, effect, play, playable, playable_with, are_playable}
-use Rattle.plain_repository.specs.Orderly.{RunsTo, Runs, steps_to, Stands, InOrder, HeadsLead, IfThere, Orderly, AllOrderly, IsOrderly}
-use Rattle.plain_repository.proofs.Forms.{and_left, and_right, playable_is_event}
+use Rattle.plain_repository.specs.Orderly.{RunsTo, Runs, steps_to, StandsInHistory, InOrder, HeadsLead, IfThere, Orderly, AllOrderly, IsOrderly}
+use Rattle.plain_repository.proofs.Encodings.{and_left, and_right, playable_is_event}
 use Rattle.plain_repository.proofs.Merged.{tidied_led, updated_led, merged_led}
 use Rattle.plain_repository.proofs.Places.{both, at_number, all_weaker, number_changed, number_dropped}
 use Rattle.plain_repository.proofs.Recorded.{steps_append}
@@ -48,7 +48,7 @@ use Rattle.plain_repository.proofs.Runs.{same_run, untouched_runs, more_runs, op
 
 -- ---- workspaces
 -- a change that leaves branch, base and pending list leaves the workspace in order where its steps are a run
-in_order : (meta : Meta) (h : History) (v w : Workspace) → v.branch ≡ w.branch → v.base ≡ w.base → v.pending ≡ w.pending → Stands h w → Runs meta h v → InOrder meta h v
+in_order : (meta : Meta) (h : History) (v w : Workspace) → v.branch ≡ w.branch → v.base ≡ w.base → v.pending ≡ w.pending → StandsInHistory h w → Runs meta h v → InOrder meta h v
 in_order meta h v w branch base pending stands runs = record {
   stands = record {
     branch = subst (λ b. b < length h.branches) (sym branch) stands.branch;
@@ -120,7 +120,7 @@ checkout_kept meta s version branch can kept =
     ))
 
 -- ---- events that change the history
--- an item of a list with one more behind it
+-- an item of a list with one more after it
 split_last : {X : Type 0} (xs : List X) (y : X) (k : ℕ) (x : X) → slice_get (xs ++ y ∷ []) k ≡ Some x → (slice_get xs k ≡ Some x) ⊎ ((k ≡ length xs) × (y ≡ x))
 split_last [] y zero x is = inr (refl, cc)
 split_last [] y (suc k) x is = absurd cc

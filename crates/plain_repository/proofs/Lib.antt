@@ -2,7 +2,7 @@ pub mod Apart
 pub mod Changing
 pub mod Commits
 pub mod DataLines
-pub mod Forms
+pub mod Encodings
 pub mod Growth
 pub mod Kept
 pub mod Merged

@@ -35,7 +35,7 @@ use Rattle.plain_repository.specs.State.{Workspace, recorded_steps, model_of, is
 use Rattle.plain_repository.specs.Tidying.{tidied}
 use Rattle.plain_repository.specs.Merging.{update_buckets, updated, merge_theirs, merge_mine, merge_buckets, merge_tail, merged_with}
 use Rattle.plain_repository.specs.Orderly.{RunsTo, Runs, steps_to, InOrder}
-use Rattle.plain_repository.proofs.Forms.{and_left}
+use Rattle.plain_repository.proofs.Encodings.{and_left}
 use Rattle.plain_repository.proofs.Places.{both}
 use Rattle.plain_repository.proofs.Runs.{version_folded, version_model, workspace_folded, workspace_model, closed_steps_are}
 use Rattle.plain_repository.proofs.Spelled.{AreSpelled, behind, steps_spelled, spelled_steps, package_back, update_spelled, merge_spelled, tidy_spelled}

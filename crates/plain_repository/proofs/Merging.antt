@@ -25,7 +25,7 @@ use Rattle.plain_repository.specs.Merging.{update_buckets, updated, can_update, 
 use Rattle.plain_repository.specs.Events.{by_meta, play, playable, playable_with}
 use Rattle.plain_repository.specs.Orderly.{InOrder, Orderly}
 use Rattle.plain_repository.specs.MergeLaws.{Changes, TidyingKeepsModels, UpdatesMerge, MergesMerge, MergesCount}
-use Rattle.plain_repository.proofs.Forms.{and_left, and_right}
+use Rattle.plain_repository.proofs.Encodings.{and_left, and_right}
 use Rattle.plain_repository.proofs.Merged.{tidied_led, update_leads, updated_led, merge_leads, merged_led}
 use Rattle.plain_repository.proofs.Places.{of_number, is_of_number, same_number, at_number}
 use Rattle.plain_repository.proofs.Reached.{kept}

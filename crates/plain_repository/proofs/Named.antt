@@ -6,7 +6,7 @@ use Rattle.finite_maps.specs.Maps.{set}
 use Rattle.finite_maps.proofs.MapLaws.{by_key, get-set_other}
 use Rattle.ecore_meta.specs.Meta.{Meta}
 use Rattle.model_state.specs.Ident.{is_id}
-use Rattle.model_state.specs.Keys.{Name}
+use Rattle.model_state.specs.Keys.{IdBytes}
 use Rattle.model_state.specs.State.{State, is_live}
 use Rattle.model_state.specs.Steps.{apply, fold}
 use Rattle.model_state.specs.declared.step.Step.{Step}
@@ -17,7 +17,7 @@ use Rattle.op_form.specs.Laws.{IsStep}
 
 -- the id of each live element has the form of an id
 abbrev pub HasIds : State → Type 0
-HasIds m = (e : Name) → is_live m e ≡ true → is_id e ≡ true
+HasIds m = (e : IdBytes) → is_live m e ≡ true → is_id e ≡ true
 
 step_named : (meta : Meta) (m : State) (s : Step) → IsStep s → HasIds m → HasIds (apply meta m s)
 step_named meta m (New e class place rank) spelled ids x =

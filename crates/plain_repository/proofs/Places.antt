@@ -46,7 +46,7 @@ module _ (P Q : Workspace → Type 0) (weaker : (w : Workspace) → P w → Q w)
   number_changed change s zero keeps all = all_weaker s.workspaces all
   number_changed change s (suc n) keeps all = place_changed change s.workspaces n keeps all
 
--- one that goes leaves what holds of the others
+-- one that is dropped leaves what holds of the others
 place_dropped : (P : Workspace → Type 0) (ws : List (Option Workspace)) (n : ℕ) → AllByRecursion (IfThere P) ws → AllByRecursion (IfThere P) (changed_at (λ o. None) ws n)
 place_dropped P [] n all = tt
 place_dropped P (o ∷ ws) zero all = (tt, all.1)

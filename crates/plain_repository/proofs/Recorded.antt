@@ -28,7 +28,7 @@ pub steps_append : (ps qs : List Operation) → steps_all (ps ++ qs) ≡ steps_a
 steps_append [] qs = refl
 steps_append (p ∷ ps) qs = ap (λ l. steps_of p ++ l) (steps_append ps qs) ∙ sym (append_assoc (steps_of p) (steps_all ps) (steps_all qs))
 
--- the steps of operations that come behind those that are there, or join the composite that is open
+-- the steps of operations that are added after those that are there, or join the composite that is open
 pub more_steps : (more : List Operation) (c : Option Composite) (w : Workspace) → w.composite ≡ c → recorded_steps (added more c w) ≡ recorded_steps w ++ steps_all more
 more_steps more None w is =
     append-nil (steps_all (w.operations ++ more)) ∙ steps_append w.operations more ∙ ap (λ (l : List Step). l ++ steps_all more) (sym (append-nil (steps_all w.operations)))

@@ -34,7 +34,7 @@ use Rattle.commit_journal.specs.declared.fit.Fit.TheVariants as fits
 use Rattle.op_form.specs.declared.event.Event.{Event}
 use Rattle.op_form.specs.declared.fault.FormFault.{FormFault}
 use Rattle.op_form.specs.Packages.{package_at as package_form_at}
-use Rattle.op_form.specs.Events.{event_form, whole_of}
+use Rattle.op_form.specs.Events.{event_encoding, whole_of}
 use Rattle.op_form.specs.Formed.{is_package}
 use Rattle.script_lang.specs.declared.command.Command.{Command}
 use Rattle.script_lang.specs.declared.command.Command.TheVariants as commands
@@ -93,7 +93,7 @@ chosen_told (b ∷ bs) (Some letters) rest = either (are_choices letters (b ∷ 
 module _ (s : State) where
   room_for : (lines : List (List ℕ)) (words : List ℕ) (event : Event) → All Apart lines → Told false (with_room s lines words event)
   unfolding with_room
-  room_for lines words event all = either (nat_le most_events s.events) (silent refl refl) (fit_told (fit_of s.end (length (event_form event))) lines words event all)
+  room_for lines words event all = either (nat_le most_events s.events) (silent refl refl) (fit_told (fit_of s.end (length (event_encoding event))) lines words event all)
 
   room : (words : List ℕ) (event : Event) → Told false (with_room s [] words event)
   room words event = room_for [] words event no_lines

@@ -2,10 +2,10 @@
 use Rattle.std.proofs.Common.{◌≡◌, [], ◌∷◌, None, Some, refl, codes}
 use Rattle.std.specs.Fmt.{digits}
 use lib.Utf8.{encode}
-use Rattle.byte_form.specs.Fields.{u32_form, u64_form, text_form}
-use Rattle.op_form.specs.Events.{event_form}
-use Rattle.op_form.specs.Packages.{package_form, operation_form}
-use Rattle.op_form.specs.Steps.{step_form}
+use Rattle.byte_form.specs.Fields.{u32_encoding, u64_encoding, text_encoding}
+use Rattle.op_form.specs.Events.{event_encoding}
+use Rattle.op_form.specs.Packages.{package_encoding, operation_encoding}
+use Rattle.op_form.specs.Steps.{step_encoding}
 use Rattle.command_runs.specs.Runs.{played}
 use Rattle.ecore_meta.specs.Meta.{Meta}
 use Rattle.model_state.specs.declared.step.Step.TheVariants.{RerankPlace}
@@ -84,7 +84,7 @@ unfolding decide_command play decide_revert
 no_version meta = refl
 
 third : (meta : Meta) → said (four meta) (commands.Commit 2 (Some (codes "k"))) ≡ last.Ok (codes "3")
-unfolding decide_command play decide_commit with_room event_form u32_form u64_form text_form package_form operation_form step_form digits encode
+unfolding decide_command play decide_commit with_room event_encoding u32_encoding u64_encoding text_encoding package_encoding operation_encoding step_encoding digits encode
 third meta = refl
 
 -- paths and heads
@@ -112,9 +112,9 @@ unfolding decide_command play decide_commit
 gone meta = refl
 
 checked_out : (meta : Meta) → said (five meta) (commands.Checkout (specs.Tag (codes "t"))) ≡ last.Ok (codes "3 1 trunk")
-unfolding decide_command play decide_checkout with_room event_form u32_form u64_form text_form package_form operation_form step_form digits
+unfolding decide_command play decide_checkout with_room event_encoding u32_encoding u64_encoding text_encoding package_encoding operation_encoding step_encoding digits
 checked_out meta = refl
 
 on_dev : (meta : Meta) → said (five meta) (commands.Checkout (specs.Branch (codes "dev"))) ≡ last.Ok (codes "3 3 dev")
-unfolding decide_command play decide_checkout with_room event_form u32_form u64_form text_form package_form operation_form step_form digits
+unfolding decide_command play decide_checkout with_room event_encoding u32_encoding u64_encoding text_encoding package_encoding operation_encoding step_encoding digits
 on_dev meta = refl

@@ -1,4 +1,4 @@
--- Runs of steps: what is recorded in a workspace, behind the operations up to its base.
+-- Runs of steps: what is recorded in a workspace, after the operations up to its base.
 use Rattle.std.proofs.Common.{◌≡◌, ℕ, ◌-◌, List, [], ◌∷◌, ◌++◌, true, false, length, take, drop, take-append-drop, Option, None, Some, is_some, refl, sym, ◌∙◌, ap, subst, append-nil, append_assoc}
 use Rattle.std.specs.Prelude.{not, unwrap_or}
 use Rattle.std.specs.List.{AllByRecursion}
@@ -20,7 +20,7 @@ use Rattle.plain_repository.specs.Edits.{added, takes, can_follow}
 use Rattle.plain_repository.specs.Composites.{with_open, with_closed}
 use Rattle.plain_repository.specs.Local.{without_last}
 use Rattle.plain_repository.specs.Orderly.{IsRun, RunsTo, Runs, steps_to}
-use Rattle.plain_repository.proofs.Forms.{and_right}
+use Rattle.plain_repository.proofs.Encodings.{and_right}
 use Rattle.plain_repository.proofs.Places.{both, front}
 use Rattle.plain_repository.proofs.Recorded.{ByWay, by_way, steps_append, more_steps, opened_steps, closed_steps}
 

@@ -19,7 +19,7 @@ use Rattle.plain_repository.specs.Events.{play, playable, playable_with}
 use Rattle.plain_repository.specs.Repository.{decide_with, decide_command}
 use Rattle.plain_repository.specs.Laws.{IsThere, shown_as, LookAlike, ShownByOwn, ShownApart}
 use Rattle.plain_repository.proofs.Apart.{workspaces_stay_apart, effect_leaves}
-use Rattle.plain_repository.proofs.Forms.{and_right}
+use Rattle.plain_repository.proofs.Encodings.{and_right}
 use Rattle.plain_repository.proofs.Kept.{same_meta}
 use Rattle.plain_repository.proofs.Reached.{in_order}
 

@@ -9,15 +9,15 @@ use Rattle.commit_journal.proofs.Unique.{one_meaning, form_same, rest_same, behi
 use Rattle.commit_journal.proofs.Mounting.{length-new_file}
 use Rattle.command_runs.specs.Runs.{played}
 use Rattle.op_form.specs.declared.event.Event.{Event}
-use Rattle.op_form.specs.Events.{event_form}
+use Rattle.op_form.specs.Events.{event_encoding}
 use Rattle.plain_repository.specs.State.{State, empty}
 use Rattle.plain_repository.specs.Events.{play, playable, are_playable}
-use Rattle.plain_repository.specs.Store.{Stands, StandsForNoEvents, IsBroken, IsDamaged}
-use Rattle.plain_repository.proofs.Forms.{forms_are, and_left, and_right}
+use Rattle.plain_repository.specs.Store.{StandsForEvents, StandsForNoEvents, IsBroken, IsDamaged}
+use Rattle.plain_repository.proofs.Encodings.{forms_are, and_left, and_right}
 
 -- a file whose records end at a closed gate stands for their events alone
-pub one_store : (file : List ℕ) (first made : List Event) (end : ℕ) → Stands file first → EndsAt file (map event_form made) end → IsTrue (are_playable empty made) → first ≡ made
-one_store file first made end stood ends could = forms_are empty first made stood.playable could (one_meaning file (map event_form first) (map event_form made) end stood.forms ends)
+pub one_store : (file : List ℕ) (first made : List Event) (end : ℕ) → StandsForEvents file first → EndsAt file (map event_encoding made) end → IsTrue (are_playable empty made) → first ≡ made
+one_store file first made end stood ends could = forms_are empty first made stood.playable could (one_meaning file (map event_encoding first) (map event_encoding made) end stood.forms ends)
 
 first_of : (forms : List (List ℕ)) (f : List ℕ) → All IsShort (f ∷ forms) → IsShort f
 first_of forms f all = all 0 [] (omega arith)
@@ -43,29 +43,29 @@ pub reads_first : (file : List ℕ) (a b : List (List ℕ)) (p q : ℕ) → Read
 reads_first file a b p q reads ends = first_forms a b (drop p file) (drop q file) (sym (behind_header file a p reads) ∙ behind_header file b q ends.reads)
     (λ open_. ends.closed (ap (λ (n : ℕ). get_or file n 0) (let same : q ≡ q + 0 = omega arith in same) ∙ sym (get_or-drop q file 0 0) ∙ open_)) reads.sizes ends.reads.sizes
 
--- the events of a list of forms with one more
-pub split_last : (events : List Event) (forms : List (List ℕ)) (bytes : List ℕ) (more : List (List ℕ)) (s : State) → IsTrue (are_playable s events) → map event_form events ≡ (forms ++ bytes ∷ []) ++ more
-    → (first : List Event) × (event : Event) × (map event_form first ≡ forms) × (event_form event ≡ bytes) × IsTrue (are_playable s first) × IsTrue (playable (played play s first) event)
+-- the events of a list of encodings with one more
+pub split_last : (events : List Event) (forms : List (List ℕ)) (bytes : List ℕ) (more : List (List ℕ)) (s : State) → IsTrue (are_playable s events) → map event_encoding events ≡ (forms ++ bytes ∷ []) ++ more
+    → (first : List Event) × (event : Event) × (map event_encoding first ≡ forms) × (event_encoding event ≡ bytes) × IsTrue (are_playable s first) × IsTrue (playable (played play s first) event)
 split_last [] [] bytes more s could is = absurd cc
 split_last [] (f ∷ forms) bytes more s could is = absurd cc
-split_last (e ∷ events) [] bytes more s could is = let same : event_form e ≡ bytes = cc in ([], e, refl, same, refl, and_left _ _ could)
+split_last (e ∷ events) [] bytes more s could is = let same : event_encoding e ≡ bytes = cc in ([], e, refl, same, refl, and_left _ _ could)
 split_last (e ∷ events) (f ∷ forms) bytes more s could is =
-    let head : event_form e ≡ f = cc in
-    let tail : map event_form events ≡ (forms ++ bytes ∷ []) ++ more = cc in
+    let head : event_encoding e ≡ f = cc in
+    let tail : map event_encoding events ≡ (forms ++ bytes ∷ []) ++ more = cc in
     let rest = split_last events forms bytes more (play s e) (and_right _ _ could) tail in (
       e ∷ rest.0,
       rest.1,
-      ap (λ (l : List ℕ). l ∷ map event_form rest.0) head ∙ ap (λ (l : List (List ℕ)). f ∷ l) rest.2,
+      ap (λ (l : List ℕ). l ∷ map event_encoding rest.0) head ∙ ap (λ (l : List (List ℕ)). f ∷ l) rest.2,
       rest.3,
       subst (λ (b : Bool). IsTrue (b && are_playable (play s e) rest.0)) (sym (and_left _ _ could)) rest.4,
       rest.5,
     )
 
--- no events have these forms, where the bytes of the last are no event that can be made
-pub none_has : (made events : List Event) (bytes : List ℕ) (more : List (List ℕ)) → IsTrue (are_playable empty made) → ((event : Event) → IsTrue (playable (played play empty made) event) → bytes ≡ event_form event → ⊥)
-    → IsTrue (are_playable empty events) → map event_form events ≡ (map event_form made ++ bytes ∷ []) ++ more → ⊥
+-- no events have these encodings, where the bytes of the last are no event that can be made
+pub none_has : (made events : List Event) (bytes : List ℕ) (more : List (List ℕ)) → IsTrue (are_playable empty made) → ((event : Event) → IsTrue (playable (played play empty made) event) → bytes ≡ event_encoding event → ⊥)
+    → IsTrue (are_playable empty events) → map event_encoding events ≡ (map event_encoding made ++ bytes ∷ []) ++ more → ⊥
 none_has made events bytes more could none could_all is =
-    let split = split_last events (map event_form made) bytes more empty could_all is in
+    let split = split_last events (map event_encoding made) bytes more empty could_all is in
     let same : split.0 ≡ made = forms_are empty split.0 made split.4 could split.2 in
     none split.1 (subst (λ (l : List Event). IsTrue (playable (played play empty l) split.1)) same split.5) (sym split.3)
 
@@ -76,22 +76,22 @@ from_mounted old new forms (inr fresh) (inl few) = inl (fresh.0, few.1)
 from_mounted old new forms (inr fresh) (inr many) = absurd (omega (arith, many.0, ap length fresh.1, length-new_file))
 
 -- one event more
-pub map-more : (events : List Event) (event : Event) → map event_form (events ++ event ∷ []) ≡ map event_form events ++ event_form event ∷ []
+pub map-more : (events : List Event) (event : Event) → map event_encoding (events ++ event ∷ []) ≡ map event_encoding events ++ event_encoding event ∷ []
 map-more [] event = refl
-map-more (e ∷ events) event = ap (λ (l : List (List ℕ)). event_form e ∷ l) (map-more events event)
+map-more (e ∷ events) event = ap (λ (l : List (List ℕ)). event_encoding e ∷ l) (map-more events event)
 
 pub playable-more : (s : State) (events : List Event) (event : Event) → IsTrue (are_playable s events) → IsTrue (playable (played play s events) event) → IsTrue (are_playable s (events ++ event ∷ []))
 playable-more s [] event could can = subst (λ (b : Bool). IsTrue (b && true)) (sym can) refl
 playable-more s (e ∷ events) event could can = subst (λ (b : Bool). IsTrue (b && are_playable (play s e) (events ++ event ∷ []))) (sym (and_left _ _ could)) (playable-more (play s e) events event (and_right _ _ could) can)
 
 -- a file stands for one list of events
-pub same_events : (file : List ℕ) (first made : List Event) → Stands file first → Stands file made → first ≡ made
+pub same_events : (file : List ℕ) (first made : List Event) → StandsForEvents file first → StandsForEvents file made → first ≡ made
 same_events file first made one two = forms_are empty first made one.playable two.playable (elim two.forms [
   | inl few ↦ elim one.forms [ inl x ↦ x.1 ∙ sym few.1 | inr x ↦ absurd (omega (arith, few.0, x.0)) ]
-  | inr many ↦ one_meaning file (map event_form first) (map event_form made) many.1.0 one.forms many.1.1
+  | inr many ↦ one_meaning file (map event_encoding first) (map event_encoding made) many.1.0 one.forms many.1.1
 ])
 
--- the record that stands where shorter records end: its form, and the forms behind it
+-- the record that stands where shorter records end: its encoding, and the encodings after it
 pub record NextForm (a b : List (List ℕ)) (s t : List ℕ) : Type 0 where
   pub form : List ℕ
   pub more : List (List ℕ)
@@ -100,7 +100,7 @@ pub record NextForm (a b : List (List ℕ)) (s t : List ℕ) : Type 0 where
   pub stands : s ≡ record_of form ++ (records more ++ t)
   pub within : length (records a) + (5 + length form) ≤ length (records b)
 
--- so it is behind one form more
+-- so it is after one form more
 longer_form : (f h : List ℕ) (a b : List (List ℕ)) (s t : List ℕ) → f ≡ h → NextForm a b s t → NextForm (f ∷ a) (h ∷ b) s t
 longer_form f h a b s t one next =
     let within = next.within in
@@ -148,30 +148,30 @@ no_header_reads : (file : List ℕ) (forms : List (List ℕ)) (place at : ℕ) �
 no_header_reads file forms place at reads none =
     let within = none.within in
     let inside : at < place = omega (arith, within, reads.place_is) in
-    none.differs (sym (get_or-take place file at 0 inside) ∙ ap (λ (l : List ℕ). get_or l at 0) reads.front ∙ get_or_append_left header (records forms) 0 at (omega (arith, within, length-header)))
+    none.differs (sym (get_or-take place file at 0 inside) ∙ ap (λ (l : List ℕ). get_or l at 0) reads.prefix ∙ get_or_append_left header (records forms) 0 at (omega (arith, within, length-header)))
 
 -- of two places where the header differs neither is the earlier
 no_header_before : (file : List ℕ) (a b : ℕ) → IsNoHeader file a → IsNoHeader file b → a < b → ⊥
 no_header_before file a b one two before =
     one.differs (sym (get_or-take b file a 0 before) ∙ ap (λ (l : List ℕ). get_or l a 0) two.same ∙ get_or-take b header a 0 before)
 
--- events whose records go on behind those of others, by one form at least: these and one more have the first of these forms
-one_event_more : (events : List Event) (forms : List (List ℕ)) (form : List ℕ) (more : List (List ℕ)) → IsTrue (are_playable empty events) → map event_form events ≡ forms ++ form ∷ more
-    → (next : List Event) × IsTrue (are_playable empty next) × (map event_form next ≡ forms ++ form ∷ [])
+-- events whose records go on after those of others, by one encoding at least: these and one more have the first of these
+one_event_more : (events : List Event) (forms : List (List ℕ)) (form : List ℕ) (more : List (List ℕ)) → IsTrue (are_playable empty events) → map event_encoding events ≡ forms ++ form ∷ more
+    → (next : List Event) × IsTrue (are_playable empty next) × (map event_encoding next ≡ forms ++ form ∷ [])
 one_event_more events forms form more could is =
     let split = split_last events forms form more empty could (is ∙ sym (append_assoc forms (form ∷ []) more)) in (
       split.0 ++ split.1 ∷ [],
       playable-more empty split.0 split.1 split.4 split.5,
-      map-more split.0 split.1 ∙ ap (λ (l : List (List ℕ)). l ++ event_form split.1 ∷ []) split.2 ∙ ap (λ (l : List ℕ). forms ++ l ∷ []) split.3,
+      map-more split.0 split.1 ∙ ap (λ (l : List (List ℕ)). l ++ event_encoding split.1 ∷ []) split.2 ∙ ap (λ (l : List ℕ). forms ++ l ∷ []) split.3,
     )
 
 -- a reading of events goes on where another is broken
-module _ (file : List ℕ) (p q : ℕ) (events : List Event) (broken : IsBroken file p) (could : IsTrue (are_playable empty events)) (reads : ReadsTo file (map event_form events) q) (before : p < q) (low : q < 2 ^ 40) where
-  sizes : length (records (map event_form broken.events)) < length (records (map event_form events))
+module _ (file : List ℕ) (p q : ℕ) (events : List Event) (broken : IsBroken file p) (could : IsTrue (are_playable empty events)) (reads : ReadsTo file (map event_encoding events) q) (before : p < q) (low : q < 2 ^ 40) where
+  sizes : length (records (map event_encoding broken.events)) < length (records (map event_encoding events))
   sizes = let place_p = broken.reads.place_is in let place_q = reads.place_is in omega (arith, before, place_p, place_q)
 
-  next : NextForm (map event_form broken.events) (map event_form events) (drop p file) (drop q file)
-  next = next_form (map event_form broken.events) (map event_form events) (drop p file) (drop q file) (sym (behind_header file (map event_form broken.events) p broken.reads) ∙ behind_header file (map event_form events) q reads)
+  next : NextForm (map event_encoding broken.events) (map event_encoding events) (drop p file) (drop q file)
+  next = next_form (map event_encoding broken.events) (map event_encoding events) (drop p file) (drop q file) (sym (behind_header file (map event_encoding broken.events) p broken.reads) ∙ behind_header file (map event_encoding events) q reads)
       sizes broken.reads.sizes reads.sizes
 
   room : p + 5 + length next.form < 2 ^ 40
@@ -184,17 +184,17 @@ module _ (file : List ℕ) (p q : ℕ) (events : List Event) (broken : IsBroken 
   goes_on = elim broken.stuck [
     | inl stuck ↦ stuck.no_record next.form next.short room there
     | inr unplayable ↦
-        let longer : length (records (map event_form broken.events)) < length (records (map event_form broken.events ++ unplayable.bytes ∷ [])) =
+        let longer : length (records (map event_encoding broken.events)) < length (records (map event_encoding broken.events ++ unplayable.bytes ∷ [])) =
         (let place_p = broken.reads.place_is in let place_u = unplayable.reads.place_is in omega (arith, place_p, place_u)) in
-        let last = next_form (map event_form broken.events) (map event_form broken.events ++ unplayable.bytes ∷ []) (drop p file) (drop (p + 5 + length unplayable.bytes) file)
-        (sym (behind_header file (map event_form broken.events) p broken.reads) ∙ behind_header file (map event_form broken.events ++ unplayable.bytes ∷ []) (p + 5 + length unplayable.bytes) unplayable.reads)
+        let last = next_form (map event_encoding broken.events) (map event_encoding broken.events ++ unplayable.bytes ∷ []) (drop p file) (drop (p + 5 + length unplayable.bytes) file)
+        (sym (behind_header file (map event_encoding broken.events) p broken.reads) ∙ behind_header file (map event_encoding broken.events ++ unplayable.bytes ∷ []) (p + 5 + length unplayable.bytes) unplayable.reads)
         longer broken.reads.sizes unplayable.reads.sizes in
         let tails : (four_bytes (length last.form) ++ last.form) ++ (records last.more ++ drop (p + 5 + length unplayable.bytes) file) ≡ (four_bytes (length next.form) ++ next.form) ++ (records next.more ++ drop q file) =
         ap (λ (l : List ℕ). drop 1 l) (sym last.stands ∙ next.stands) in
-        let same : unplayable.bytes ≡ next.form = last_same (map event_form broken.events) last.more unplayable.bytes last.form last.is
+        let same : unplayable.bytes ≡ next.form = last_same (map event_encoding broken.events) last.more unplayable.bytes last.form last.is
         ∙ form_same last.form next.form (records last.more ++ drop (p + 5 + length unplayable.bytes) file) (records next.more ++ drop q file) last.short next.short tails in
-        let more = one_event_more events (map event_form broken.events) next.form next.more could next.is in
-        unplayable.no_event more.0 more.1 (more.2 ∙ ap (λ (l : List ℕ). map event_form broken.events ++ l ∷ []) (sym same))
+        let more = one_event_more events (map event_encoding broken.events) next.form next.more could next.is in
+        unplayable.no_event more.0 more.1 (more.2 ∙ ap (λ (l : List ℕ). map event_encoding broken.events ++ l ∷ []) (sym same))
   ]
 
 -- a file is damaged at one place
@@ -211,10 +211,10 @@ same_damage file first second one two = elim (cases_order first second) [
     earlier p q a b before = elim a.found [
       | inl none ↦ elim b.found [
         | inl other ↦ no_header_before file p q none other before
-        | inr broken ↦ no_header_reads file (map event_form broken.events) q p broken.reads none
+        | inr broken ↦ no_header_reads file (map event_encoding broken.events) q p broken.reads none
       ]
       | inr broken ↦ elim b.found [
-        | inl none ↦ no_header_reads file (map event_form broken.events) p q broken.reads none
+        | inl none ↦ no_header_reads file (map event_encoding broken.events) p q broken.reads none
         | inr other ↦ goes_on file p q other.events broken other.playable other.reads before other.low
       ]
     ]
@@ -224,12 +224,12 @@ pub damaged_for_none : (file : List ℕ) (at : ℕ) → IsDamaged file at → St
 damaged_for_none file at damaged events stood = elim stood.forms [
   | inl few ↦ let long = damaged.long in omega (arith, few.0, long)
   | inr many ↦ elim damaged.found [
-    | inl none ↦ no_header_reads file (map event_form events) many.1.0 at many.1.1.reads none
+    | inl none ↦ no_header_reads file (map event_encoding events) many.1.0 at many.1.1.reads none
     | inr broken ↦ elim broken.stuck [
-      | inl stuck ↦ stuck_for_all file (map event_form broken.events) (map event_form events) at many.1.0 broken.reads stuck many.1.1
+      | inl stuck ↦ stuck_for_all file (map event_encoding broken.events) (map event_encoding events) at many.1.0 broken.reads stuck many.1.1
       | inr unplayable ↦
-          let more = reads_first file (map event_form broken.events ++ unplayable.bytes ∷ []) (map event_form events) (at + 5 + length unplayable.bytes) many.1.0 unplayable.reads many.1.1 in
-          let first = one_event_more events (map event_form broken.events) unplayable.bytes more.0 stood.playable (more.1 ∙ append_assoc (map event_form broken.events) (unplayable.bytes ∷ []) more.0) in
+          let more = reads_first file (map event_encoding broken.events ++ unplayable.bytes ∷ []) (map event_encoding events) (at + 5 + length unplayable.bytes) many.1.0 unplayable.reads many.1.1 in
+          let first = one_event_more events (map event_encoding broken.events) unplayable.bytes more.0 stood.playable (more.1 ∙ append_assoc (map event_encoding broken.events) (unplayable.bytes ∷ []) more.0) in
           unplayable.no_event first.0 first.1 first.2
     ]
   ]

@@ -4,7 +4,7 @@ use Rattle.commit_journal.specs.Journal.{most_bytes, fit_of}
 use Rattle.commit_journal.specs.declared.fit.Fit.{Fit}
 use Rattle.commit_journal.specs.declared.fit.Fit.TheVariants.{Yes, TooLarge, Full}
 use Rattle.op_form.specs.declared.event.Event.{Event}
-use Rattle.op_form.specs.Events.{event_form}
+use Rattle.op_form.specs.Events.{event_encoding}
 use Rattle.op_form.specs.Formed.{is_event}
 use Rattle.script_lang.specs.declared.reply.Refusal.{Refusal}
 use Rattle.script_lang.specs.declared.reply.Refusal.TheVariants as refusals
@@ -38,9 +38,9 @@ accepted lines words event = record { reply = record { lines = lines; last = las
 abbrev pub most_events : ℕ
 most_events = 4294967295
 
--- the event has a form, of no more bytes than a record takes
+-- the event has an encoding, of no more bytes than a record takes
 abbrev pub fits_record : Event → Bool
-fits_record event = is_event event && nat_le (length (event_form event)) most_bytes
+fits_record event = is_event event && nat_le (length (event_encoding event)) most_bytes
 
 -- the event is made where the journal has room for its record
 abbrev pub by_fit : Fit → List (List ℕ) → List ℕ → Event → Decision
@@ -52,7 +52,7 @@ by_fit Full lines words event = refused refusals.JournalFull
 unfoldable pub with_room : State → List (List ℕ) → List ℕ → Event → Decision
 with_room s lines words event =
     if nat_le most_events s.events then refused refusals.HistoryFull
-    else by_fit (fit_of s.end (length (event_form event))) lines words event
+    else by_fit (fit_of s.end (length (event_encoding event))) lines words event
 
 -- the last line is a refusal
 abbrev pub ends_refused : Last → Bool

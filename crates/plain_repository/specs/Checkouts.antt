@@ -1,4 +1,4 @@
--- Workspaces come and go: the commands `checkout` and `drop`, and the events Checkout and Drop.
+-- Workspaces are made and dropped: the commands `checkout` and `drop`, and the events Checkout and Drop.
 use Rattle.std.specs.Prelude.{ℕ, ◌+◌, ◌&&◌, ◌||◌, ◌==◌, nat_lt, List, [], ◌∷◌, ◌++◌, Bool, false, length, slice_get, Option, Some, None, Result, Ok, Err}
 use Rattle.std.specs.Fmt.{decimal}
 use Rattle.std.specs.List.{join_with_byte}
@@ -27,7 +27,7 @@ can_check_out h version branch =
     nat_lt version (length h.versions) && nat_lt branch (length h.branches)
     && (option_map_or (λ v. v.branch == branch) (slice_get h.versions version) false || (head h branch == version))
 
--- the workspace goes, and its number is never used again
+-- the workspace is dropped, and its number is never used again
 abbrev pub dropped : ℕ → State → State
 dropped ws s = record s { workspaces = changed_by_number (λ workspace. None) s.workspaces ws }
 
@@ -40,15 +40,15 @@ abbrev pub checkout_of : State → Meta → Result Found FindFault → Decision
 checkout_of s meta (Err fault) = refused (unknown fault)
 checkout_of s meta (Ok found) = with_room s (text meta (state_of meta s.history found.version) ∷ []) (checkout_words s found) (events.Checkout found.version found.branch)
 
--- `checkout SPEC`: a workspace at the version, whose text is told
+-- `checkout SPEC`: a workspace at the version, whose text is printed
 unfoldable pub decide_checkout : State → Meta → Spec → Decision
 decide_checkout s meta spec = checkout_of s meta (named s.history spec)
 
--- the workspace goes, where it is there
+-- the workspace is dropped, where it is there
 abbrev pub drop_of : State → ℕ → Option Workspace → Decision
 drop_of s ws None = refused refusals.NoWorkspace
 drop_of s ws (Some workspace) = with_room s [] [] (events.Drop ws)
 
--- `drop WS`: the workspace goes
+-- `drop WS`: the workspace is dropped
 unfoldable pub decide_drop : State → ℕ → Decision
 decide_drop s ws = drop_of s ws (workspace_of s ws)

@@ -20,12 +20,12 @@ use Rattle.script_lang.specs.declared.reply.Refusal.TheVariants as refusals
 use Rattle.plain_repository.specs.State.{State, Workspace, Composite, workspace_of, model_of}
 use Rattle.plain_repository.specs.Answers.{Decision, refused, told, with_room}
 
--- operations come behind the others, or their steps into the composite that is open
+-- operations are added after the others, or their steps to the composite that is open
 abbrev pub added : List Operation → Option Composite → Workspace → Workspace
 added more None w = record w { operations = w.operations ++ more; composite = None }
 added more (Some composite) w = record w { composite = Some (record { name = composite.name; steps = composite.steps ++ steps_all more }) }
 
--- operations come behind those that are there; while a composite is open their steps join it
+-- operations are added after those that are there; while a composite is open their steps join it
 abbrev pub with_more : List Operation → Workspace → Workspace
 with_more more w = added more w.composite w
 
@@ -39,7 +39,7 @@ abbrev pub can_follow : Meta → History → Option Workspace → List Operation
 can_follow meta h (Some w) (o ∷ operations) = takes w.composite (o ∷ operations) && is_some (fold_package meta (model_of meta h w) (o ∷ operations))
 can_follow meta h w operations = false
 
--- the refusal of an edit; want of memory is never due
+-- the refusal of an edit; out of memory is never due
 abbrev pub refusal_of : EditFault → Refusal
 refusal_of faults.NoElement = refusals.NoElement
 refusal_of faults.IdInUse = refusals.IdInUse
@@ -80,7 +80,7 @@ edit_in s meta ws (Some w) edit = edited s ws (recorded meta (model_of meta s.hi
 unfoldable pub decide_edit : State → Meta → ℕ → edits.Edit → Decision
 decide_edit s meta ws edit = edit_in s meta ws (workspace_of s ws) edit
 
--- the answer to an import: how many elements came
+-- the answer to an import: how many elements are created
 abbrev pub imported : State → ℕ → List DocRow → Result (Option Operation) EditFault → Decision
 imported s ws rows (Err fault) = refused (refusal_of fault)
 imported s ws rows (Ok operation) = with_operation s ws (decimal (length rows)) operation
@@ -95,6 +95,6 @@ abbrev pub import_in : State → Meta → ℕ → Option Workspace → List ℕ 
 import_in s meta ws None text = refused refusals.NoWorkspace
 import_in s meta ws (Some w) text = import_read s meta ws w (doc_of meta text)
 
--- `import WS`: the elements that the block says come into the working model
+-- `import WS`: the elements that the block describes are created in the working model
 unfoldable pub decide_import : State → Meta → ℕ → List ℕ → Decision
 decide_import s meta ws text = import_in s meta ws (workspace_of s ws) text

@@ -6,7 +6,7 @@ use Rattle.model_state.specs.Names.{is_name}
 use Rattle.op_form.specs.declared.event.Event.{Event}
 use Rattle.op_form.specs.declared.event.Event.TheVariants.{Init, Checkout, Edit, Begin, End, Undo, Discard, Tidy, Commit, Branch, Tag, Update, Merge, Drop}
 use Rattle.history_tree.specs.History.{head}
-use Rattle.op_form.specs.Events.{event_form}
+use Rattle.op_form.specs.Events.{event_encoding}
 use Rattle.plain_repository.specs.State.{State, Workspace, workspace_of, with_changed, is_open, is_closed}
 use Rattle.plain_repository.specs.Answers.{most_events, fits_record}
 use Rattle.plain_repository.specs.Metamodels.{initialized, is_metamodel}
@@ -42,7 +42,7 @@ effect s (Drop ws) = dropped ws s
 
 -- the state that an event makes
 unfoldable pub play : State → Event → State
-play s event = record (effect s event) { events = s.events + 1; end = next_gate s.end (length (event_form event)) }
+play s event = record (effect s event) { events = s.events + 1; end = next_gate s.end (length (event_encoding event)) }
 
 -- what each event asks of the state, by the metamodel
 abbrev pub playable_with : State → Option Meta → Event → Bool

@@ -4,7 +4,7 @@ use Rattle.command_runs.specs.Runs.{played}
 use Rattle.ecore_meta.specs.Meta.{Meta}
 use Rattle.ecore_meta.specs.Sound.{Sound}
 use Rattle.model_state.specs.Ident.{is_id}
-use Rattle.model_state.specs.Keys.{Name}
+use Rattle.model_state.specs.Keys.{IdBytes}
 use Rattle.model_state.specs.State as models
 use Rattle.model_state.specs.State.{is_live}
 use Rattle.model_state.specs.declared.operation.Operation.{Operation}
@@ -21,7 +21,7 @@ use Rattle.script_lang.specs.declared.reply.Last.TheVariants as last
 use Rattle.script_lang.specs.Reply.{last_line}
 use Rattle.script_lang.specs.Words.{is_word}
 use Rattle.plain_repository.specs.State.{State, Workspace, empty, workspace_of, folded, model_of}
-use Rattle.plain_repository.specs.Orderly.{IsOrderly, Stands}
+use Rattle.plain_repository.specs.Orderly.{IsOrderly, StandsInHistory}
 use Rattle.plain_repository.specs.Answers.{Decision, is_refusal}
 use Rattle.plain_repository.specs.Events.{effect, play, playable, are_playable}
 use Rattle.plain_repository.specs.Repository.{decide_command, decide_line}
@@ -67,7 +67,7 @@ OfVersions Holds = (s : State) (meta : Meta) → HasMetamodel s meta → (v : �
 
 -- the id of each element has the form of an id
 abbrev pub HasIds : Meta → models.State → Type 0
-HasIds meta m = (e : Name) → is_live m e ≡ true → is_id e ≡ true
+HasIds meta m = (e : IdBytes) → is_live m e ≡ true → is_id e ≡ true
 
 -- the steps recorded in a workspace can be taken one by one from the state of its base, and lead to the working model
 abbrev pub ModelsAreDefined : Type 0
@@ -88,13 +88,13 @@ HistoriesAreWhole = (s : State) (meta : Meta) → HasMetamodel s meta → IsWhol
 
 -- each workspace stands in the history
 abbrev pub WorkspacesStand : Type 0
-WorkspacesStand = (s : State) (meta : Meta) (workspace : Workspace) → IsThere s meta workspace → Stands s.history workspace
+WorkspacesStand = (s : State) (meta : Meta) (workspace : Workspace) → IsThere s meta workspace → StandsInHistory s.history workspace
 
--- the list with some more behind it
+-- the list with some more after it
 abbrev pub Extends : {X : Type 0} → List X → List X → Type 0
 Extends before after = (more : List _) × (after ≡ before ++ more)
 
--- versions, branches and tags stay as they are, and may get more of them behind
+-- versions, branches and tags stay as they are, and there may be more of them after these
 pub record Grows (before after : History) : Type 0 where
   pub versions : Extends before.versions after.versions
   pub branches : Extends before.branches after.branches

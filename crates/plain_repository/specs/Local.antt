@@ -1,11 +1,11 @@
--- What is local goes: the commands `undo` and `discard`, and the events Undo and Discard.
+-- What is local is dropped: the commands `undo` and `discard`, and the events Undo and Discard.
 use Rattle.std.specs.Prelude.{ℕ, ◌-◌, ◌&&◌, ◌||◌, [], Bool, length, take, Option, Some, None, if◌then◌else◌}
 use Rattle.op_form.specs.declared.event.Event.TheVariants as events
 use Rattle.script_lang.specs.declared.reply.Refusal.TheVariants as refusals
 use Rattle.plain_repository.specs.State.{State, Workspace, untouched, workspace_of, is_open, is_closed, has_operations, has_local}
 use Rattle.plain_repository.specs.Answers.{Decision, refused, told, with_room}
 
--- the last operation goes
+-- the last operation is dropped
 abbrev pub without_last : Workspace → Workspace
 without_last w = record w { operations = take (length w.operations - 1) w.operations }
 
@@ -21,7 +21,7 @@ without_any w = untouched w.branch w.base
 abbrev pub can_discard : Option Workspace → Bool
 can_discard workspace = is_open workspace || has_local workspace
 
--- the last operation goes, where there is one and no composite is open
+-- the last operation is dropped, where there is one and no composite is open
 abbrev pub undone : State → ℕ → Option Workspace → Decision
 undone s ws None = refused refusals.NoWorkspace
 undone s ws (Some w) =
@@ -29,15 +29,15 @@ undone s ws (Some w) =
     else if has_operations (Some w) then with_room s [] [] (events.Undo ws)
     else refused refusals.NothingLocal
 
--- `undo WS`: the last operation goes
+-- `undo WS`: the last operation is dropped
 unfoldable pub decide_undo : State → ℕ → Decision
 decide_undo s ws = undone s ws (workspace_of s ws)
 
--- all that is local goes, and nothing changes where nothing is
+-- all that is local is dropped, and nothing changes where nothing is
 abbrev pub discarded : State → ℕ → Option Workspace → Decision
 discarded s ws None = refused refusals.NoWorkspace
 discarded s ws (Some w) = if can_discard (Some w) then with_room s [] [] (events.Discard ws) else told [] []
 
--- `discard WS`: all operations, the open composite and the pending merges go
+-- `discard WS`: all operations, the open composite and the pending merges are dropped
 unfoldable pub decide_discard : State → ℕ → Decision
 decide_discard s ws = discarded s ws (workspace_of s ws)

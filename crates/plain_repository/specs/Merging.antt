@@ -42,7 +42,7 @@ update_in s meta ws choices (Some w) =
     if is_open (Some w) then refused refusals.CompositeOpen
     else chosen (update_buckets meta s.history w) choices (update_to s ws w (unwrap_or choices []) (head s.history w.branch))
 
--- `update WS [CHOICES]`: the workspace stands at its branch's head, with its operations behind those that came
+-- `update WS [CHOICES]`: the workspace stands at its branch's head, with its operations after those that were brought in
 unfoldable pub decide_update : State → Meta → ℕ → Option (List ℕ) → Decision
 decide_update s meta ws choices = update_in s meta ws choices (workspace_of s ws)
 

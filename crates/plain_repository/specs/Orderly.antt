@@ -29,12 +29,12 @@ steps_to h v = steps_all (operations_to h v)
 abbrev pub RunsTo : Meta → History → ℕ → Type 0
 RunsTo meta h v = IsRun meta (steps_to h v)
 
--- the steps up to a workspace's base and all that is recorded behind it are a run
+-- the steps up to a workspace's base and all that is recorded after it are a run
 abbrev pub Runs : Meta → History → Workspace → Type 0
 Runs meta h w = IsRun meta (steps_to h w.base ++ recorded_steps w)
 
 -- the base of a workspace is on the path of its branch's head, and all that its numbers name is there
-pub record Stands (h : History) (workspace : Workspace) : Type 0 where
+pub record StandsInHistory (h : History) (workspace : Workspace) : Type 0 where
   pub branch : workspace.branch < length h.branches
   pub base : workspace.base < length h.versions
   pub on_path : Contains (path h (head h workspace.branch)) workspace.base
@@ -42,7 +42,7 @@ pub record Stands (h : History) (workspace : Workspace) : Type 0 where
 
 -- a workspace that stands in the history, and whose steps are a run
 pub record InOrder (meta : Meta) (h : History) (w : Workspace) : Type 0 where
-  pub stands : Stands h w
+  pub stands : StandsInHistory h w
   pub runs : Runs meta h w
 
 -- each version is on the path of its branch's head

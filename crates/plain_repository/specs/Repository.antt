@@ -64,7 +64,7 @@ decide_with s None block command = refused refusals.NotInit
 unfoldable pub decide_command : State → Option (List ℕ) → Command → Decision
 decide_command s block command = decide_with s s.meta block command
 
--- a line of no form is refused first
+-- a line that is no command is refused first
 abbrev pub decide_read : State → Option (List ℕ) → Result Command ℕ → Decision
 decide_read s block (Ok command) = decide_command s block command
 decide_read s block (Err column) = refused (refusals.BadLine column)

@@ -3,30 +3,30 @@ use Rattle.std.specs.Prelude.{◌≡◌, ◌⊎◌, ℕ, ◌^◌, ◌<◌, List,
 use Rattle.host_port.specs.Host.{Disk}
 use Rattle.commit_journal.specs.Journal.{StandsFor, ReadsTo, IsStuck, IsNoHeader, IsAtRest, next_gate}
 use Rattle.op_form.specs.declared.event.Event.{Event}
-use Rattle.op_form.specs.Events.{event_form}
+use Rattle.op_form.specs.Events.{event_encoding}
 use Rattle.plain_repository.specs.State.{empty}
 use Rattle.plain_repository.specs.Events.{are_playable}
 
 -- the events whose records the file has, each one that a command could make after those before it
-pub record Stands (file : List ℕ) (events : List Event) : Type 0 where
-  pub forms : StandsFor file (map event_form events)
+pub record StandsForEvents (file : List ℕ) (events : List Event) : Type 0 where
+  pub forms : StandsFor file (map event_encoding events)
   pub playable : IsTrue (are_playable empty events)
 
 -- the file stands for no list of events
 abbrev pub StandsForNoEvents : List ℕ → Type 0
-StandsForNoEvents file = (events : List Event) → ¬ Stands file events
+StandsForNoEvents file = (events : List Event) → ¬ StandsForEvents file events
 
--- the record that stands behind those of some events is whole, and its bytes are no event that could be made there
+-- the record that stands after those of some events is whole, and its bytes are no event that could be made there
 pub record IsUnplayable (file : List ℕ) (events : List Event) (at : ℕ) : Type 0 where
   pub bytes : List ℕ
-  pub reads : ReadsTo file (map event_form events ++ bytes ∷ []) (next_gate at (length bytes))
-  pub no_event : (more : List Event) → IsTrue (are_playable empty more) → map event_form more ≡ map event_form events ++ bytes ∷ [] → ⊥
+  pub reads : ReadsTo file (map event_encoding events ++ bytes ∷ []) (next_gate at (length bytes))
+  pub no_event : (more : List Event) → IsTrue (are_playable empty more) → map event_encoding more ≡ map event_encoding events ++ bytes ∷ [] → ⊥
 
 -- the records up to a place below 2^40 are those of events, and there neither a closed gate nor a record of an event stands
 pub record IsBroken (file : List ℕ) (at : ℕ) : Type 0 where
   pub events : List Event
   pub playable : IsTrue (are_playable empty events)
-  pub reads : ReadsTo file (map event_form events) at
+  pub reads : ReadsTo file (map event_encoding events) at
   pub low : at < 2 ^ 40
   pub stuck : IsStuck file at ⊎ IsUnplayable file events at
 
@@ -38,7 +38,7 @@ pub record IsDamaged (file : List ℕ) (at : ℕ) : Type 0 where
 
 -- a file stands for one list of events at most
 abbrev pub StandsForOne : Type 0
-StandsForOne = (file : List ℕ) (first second : List Event) → Stands file first → Stands file second → first ≡ second
+StandsForOne = (file : List ℕ) (first second : List Event) → StandsForEvents file first → StandsForEvents file second → first ≡ second
 
 -- a file is damaged at one place at most
 abbrev pub IsDamagedOnce : Type 0
@@ -50,5 +50,5 @@ DamagedStandsForNone = (file : List ℕ) (at : ℕ) → IsDamaged file at → St
 
 -- a store between two commands: all of it is stable, and it stands for the events up to the closed gate at end
 pub record Rests (disk : Disk) (end : ℕ) (events : List Event) : Type 0 where
-  pub journal : IsAtRest disk (map event_form events) end
+  pub journal : IsAtRest disk (map event_encoding events) end
   pub playable : IsTrue (are_playable empty events)

@@ -58,7 +58,7 @@ text_of meta h (Ok found) = told (text meta (state_of meta h found.version) ∷ 
 unfoldable pub decide_cat : State → Meta → Spec → Decision
 decide_cat s meta spec = text_of meta s.history (named s.history spec)
 
--- the lines of operations, where they have a form
+-- the lines of operations, where they have an encoding
 abbrev pub package_told : Meta → List Operation → Decision
 package_told meta operations = if is_package operations then told (package_lines meta operations) [] else refused refusals.TooLarge
 

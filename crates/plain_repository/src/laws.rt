@@ -3,7 +3,7 @@ ghost use Rattle.model_state.specs.Good.{Good};
 ghost use Rattle.plain_repository.specs.Laws.{StartsInOrder, StaysInOrder, AllIsInOrder, OfModels, OfVersions, HasIds, ModelsAreDefined, VersionsAreDefined, MetamodelsAreSound, HistoriesAreWhole, WorkspacesStand, HistoryOnlyGrows, WorkspacesStayApart, ModelsStayApart, NumbersOnlyGrow, DroppedStayDropped, RefusalsMakeNone, LastLinesLook, DataLinesAreApart, EventsChange, CommitsAreStale, UndoGivesBack, CommitsKeepModels, ShownByOwn, ShownApart};
 ghost use Rattle.plain_repository.specs.MergeLaws.{TidyingKeepsModels, UpdatesMerge, MergesMerge, MergesCount, RevertsTakeOut};
 
-/// The law of order: all is in order in the empty repository, and each event that could be made keeps it so. The other laws speak of such a state, so a
+/// The law of order: all is in order in the empty repository, and each event that could be made keeps it so. The other laws are about such a state, so a
 /// holder of one that keeps order has them all.
 pub fn law_of_order()
     ensures start { StartsInOrder }

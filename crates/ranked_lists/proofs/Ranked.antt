@@ -15,7 +15,7 @@ use Rattle.finite_maps.proofs.EqualLaws.{text_equality, nat_equality, and_first,
 use Rattle.finite_maps.proofs.MapLaws.{same_key, own_key}
 use Rattle.finite_maps.proofs.TableLaws.{lookup_all}
 use Rattle.model_state.specs.declared.entry.Entry.{Entry}
-use Rattle.model_state.specs.Keys.{Name, id_cmp}
+use Rattle.model_state.specs.Keys.{IdBytes, id_cmp}
 use Rattle.model_state.specs.Listing.{entry_cmp, last_rank}
 use Rattle.model_state.proofs.EntryLaws.{higher, highest, ranks_above, last_is_highest}
 use Rattle.model_state.proofs.Orders.{id_order, entry_order}
@@ -28,10 +28,10 @@ alike true c to from = sym (to refl)
 alike false true to from = from refl
 alike false false to from = refl
 
-abbrev entry : ℕ → Name → Entry
+abbrev entry : ℕ → IdBytes → Entry
 entry r e = record { rank = r; id = e }
 
-entry_at : (r : ℕ) (e : Name) (x : Entry) → is_at (entry_cmp (entry r e)) x ≡ nat_eq r x.rank && text_eq e x.id
+entry_at : (r : ℕ) (e : IdBytes) (x : Entry) → is_at (entry_cmp (entry r e)) x ≡ nat_eq r x.rank && text_eq e x.id
 entry_at r e x =
     alike (is_at (entry_cmp (entry r e)) x) (nat_eq r x.rank && text_eq e x.id)
     (λ at. let same : entry r e ≡ x = same_key entry_order (entry r e) x at in
@@ -42,15 +42,15 @@ entry_at r e x =
     let same : entry r e ≡ x = λ i. record { rank = rank i; id = id i } in
     subst (λ (y : Entry). is_at (entry_cmp (entry r e)) y ≡ true) same (own_key entry_order (entry r e)))
 
-id_at : (e q : Name) → is_at (id_cmp e) q ≡ text_eq e q
+id_at : (e q : IdBytes) → is_at (id_cmp e) q ≡ text_eq e q
 id_at e q =
     alike (is_at (id_cmp e) q) (text_eq e q)
     (λ at. subst (λ z. text_eq e z ≡ true) (same_key id_order e q at) (text_equality.own e))
     (λ same. subst (λ z. is_at (id_cmp e) z ≡ true) (text_equality.exact e q same) (own_key id_order e))
 
 -- ---- writes
-module _ (t n : BTreeMap Name ℕ) (s : BTreeSet Entry) (e : Name) (is : IsRanked t s) where
-  abbrev was : Name → ℕ → Bool
+module _ (t n : BTreeMap IdBytes ℕ) (s : BTreeSet Entry) (e : IdBytes) (is : IsRanked t s) where
+  abbrev was : IdBytes → ℕ → Bool
   was q k = option_eq nat_eq (tree.get id_cmp t q) (Some k)
 
   here : (x : Entry) → text_eq e x.id ≡ true → (o : Option ℕ) → tree.get id_cmp t e ≡ o → was x.id x.rank ≡ option_eq nat_eq o (Some x.rank)
@@ -66,12 +66,12 @@ module _ (t n : BTreeMap Name ℕ) (s : BTreeSet Entry) (e : Name) (is : IsRanke
   left true c d = refl
   left false c d = refl
 
-  module _ (w : Option ℕ) (wrote : (q : Name) → tree.get id_cmp n q ≡ cond (is_at (id_cmp e) q) w (tree.get id_cmp t q)) where
+  module _ (w : Option ℕ) (wrote : (q : IdBytes) → tree.get id_cmp n q ≡ cond (is_at (id_cmp e) q) w (tree.get id_cmp t q)) where
     reads : (x : Entry) → option_eq nat_eq (tree.get id_cmp n x.id) (Some x.rank) ≡ option_eq nat_eq (cond (text_eq e x.id) w (tree.get id_cmp t x.id)) (Some x.rank)
     reads x = ap (λ o. option_eq nat_eq o (Some x.rank)) (wrote x.id ∙ ap (λ b. cond b w (tree.get id_cmp t x.id)) (id_at e x.id))
 
   abbrev Wrote : Option ℕ → Type 0
-  Wrote w = (q : Name) → tree.get id_cmp n q ≡ cond (is_at (id_cmp e) q) w (tree.get id_cmp t q)
+  Wrote w = (q : IdBytes) → tree.get id_cmp n q ≡ cond (is_at (id_cmp e) q) w (tree.get id_cmp t q)
 
   abbrev Writes : BTreeSet Entry → BTreeSet Entry → ℕ → Bool → Type 0
   Writes s u r b = (x : Entry) → contains entry_cmp u x ≡ cond (is_at (entry_cmp (entry r e)) x) b (contains entry_cmp s x)

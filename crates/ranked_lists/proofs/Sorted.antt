@@ -23,7 +23,7 @@ use Rattle.spread_maps.specs.Spread.{tabulate}
 use Rattle.spread_maps.proofs.KeyLaws.{keys_in_order}
 use Rattle.spread_maps.proofs.TabulateLaws.{get-tabulate}
 use Rattle.model_state.specs.declared.entry.Entry.{Entry}
-use Rattle.model_state.specs.Keys.{Name, id_cmp}
+use Rattle.model_state.specs.Keys.{IdBytes, id_cmp}
 use Rattle.model_state.specs.Listing.{entry_cmp}
 use Rattle.model_state.proofs.Orders.{id_order, entry_order}
 use Rattle.ranked_lists.specs.Ranked.{IsRanked}
@@ -76,7 +76,7 @@ module _ {X : Type 0} {cmp : X → X → Ordering} (o : IsKeyOrder cmp) where
   )
 
 -- ---- the elements
-apart_entries : (e : Name × ℕ) (es : List (Name × ℕ)) → AllByRecursion (λ y. id_cmp e.0 y ≡ Less) (map {B = Name} (λ e. e.0) es) → AllByRecursion (λ y. eq_by_cmp entry_cmp (ranked_entry e) y ≡ false) (map ranked_entry es)
+apart_entries : (e : IdBytes × ℕ) (es : List (IdBytes × ℕ)) → AllByRecursion (λ y. id_cmp e.0 y ≡ Less) (map {B = IdBytes} (λ e. e.0) es) → AllByRecursion (λ y. eq_by_cmp entry_cmp (ranked_entry e) y ≡ false) (map ranked_entry es)
 apart_entries e [] below = tt
 apart_entries e (d ∷ ds) below = (
   not_so (eq_by_cmp entry_cmp (ranked_entry e) (ranked_entry d)) (λ one.
@@ -85,12 +85,12 @@ apart_entries e (d ∷ ds) below = (
   apart_entries e ds below.1,
 )
 
-distinct_entries : (es : List (Name × ℕ)) → IsStrictlySortedBy id_cmp (map {B = Name} (λ e. e.0) es) → IsDistinct (eq_by_cmp entry_cmp) (map ranked_entry es)
+distinct_entries : (es : List (IdBytes × ℕ)) → IsStrictlySortedBy id_cmp (map {B = IdBytes} (λ e. e.0) es) → IsDistinct (eq_by_cmp entry_cmp) (map ranked_entry es)
 unfolding IsStrictlySortedBy IsDistinct
 distinct_entries [] up = tt
 distinct_entries (e ∷ es) up = (apart_entries e es up.0, distinct_entries es up.1)
 
-not_listed : (q : Entry) (es : List (Name × ℕ)) → list_any (eq_by_cmp entry_cmp q) (map ranked_entry es) ≡ false → option_eq nat_eq (lookup (is_at (id_cmp q.id)) es) (Some q.rank) ≡ false
+not_listed : (q : Entry) (es : List (IdBytes × ℕ)) → list_any (eq_by_cmp entry_cmp q) (map ranked_entry es) ≡ false → option_eq nat_eq (lookup (is_at (id_cmp q.id)) es) (Some q.rank) ≡ false
 not_listed q [] none = refl
 not_listed q (e ∷ es) none =
     elim (is_at (id_cmp q.id) e.0) as (λ b. is_at (id_cmp q.id) e.0 ≡ b → option_eq nat_eq (cond b (Some e.1) (lookup (is_at (id_cmp q.id)) es)) (Some q.rank) ≡ false) [
@@ -102,14 +102,14 @@ not_listed q (e ∷ es) none =
       | false ↦ λ _. not_listed q es (or_right (eq_by_cmp entry_cmp q (ranked_entry e)) _ none)
     ] refl
 
-module _ (t : BTreeMap Name ℕ) (s : BTreeSet Entry) (is : IsRanked t s) (ordered : IsOrdered id_cmp t) (risen : tree_set.IsOrdered entry_cmp s) where
+module _ (t : BTreeMap IdBytes ℕ) (s : BTreeSet Entry) (is : IsRanked t s) (ordered : IsOrdered id_cmp t) (risen : tree_set.IsOrdered entry_cmp s) where
   abbrev found : Entry → Option (Unit {0})
   found x = cond (contains entry_cmp s x) (Some tt) None
 
   are_found : (xs : List Entry) → AllByRecursion (λ x. contains entry_cmp s x ≡ true) xs → AllByRecursion (λ x. is_some (found x) ≡ true) xs
   are_found = all_so (λ x. contains entry_cmp s x ≡ true) (λ x. is_some (found x) ≡ true) (λ x h. ap (λ b. is_some (cond b (Some tt) None)) h)
 
-  all_here : (es : List (Name × ℕ)) → AllByRecursion (λ (e : Name × ℕ). tree.get id_cmp t e.0 ≡ Some e.1) es → AllByRecursion (λ x. contains entry_cmp s x ≡ true) (map ranked_entry es)
+  all_here : (es : List (IdBytes × ℕ)) → AllByRecursion (λ (e : IdBytes × ℕ). tree.get id_cmp t e.0 ≡ Some e.1) es → AllByRecursion (λ x. contains entry_cmp s x ≡ true) (map ranked_entry es)
   all_here [] all = tt
   all_here (e ∷ es) all = (is (ranked_entry e) ∙ ap (λ o. option_eq nat_eq o (Some e.1)) all.0 ∙ nat_equality.own e.1, all_here es all.1)
 

@@ -4,11 +4,11 @@ use Rattle.std.specs.FinMap.{FinMap, code, entries}
 use Rattle.std.specs.Coded.{Coded, coded_ℕ, coded_list}
 use Rattle.finite_maps.specs.Sorts.{in_order}
 use Rattle.model_state.specs.declared.entry.Entry.{Entry}
-use Rattle.model_state.specs.Keys.{Name, id_cmp}
+use Rattle.model_state.specs.Keys.{IdBytes, id_cmp}
 use Rattle.model_state.specs.Listing.{entry_cmp}
 
 -- the code of an id
-abbrev pub coded_name : Coded Name
+abbrev pub coded_name : Coded IdBytes
 coded_name = coded_list coded_ℕ
 
 -- the elements of a list and their ranks
@@ -20,7 +20,7 @@ abbrev pub ranks_code : Coded Ranks
 ranks_code = code coded_name coded_ℕ
 
 -- the entry of an element with its rank
-abbrev pub ranked_entry : Name × ℕ → Entry
+abbrev pub ranked_entry : IdBytes × ℕ → Entry
 ranked_entry e = record { rank = e.1; id = e.0 }
 
 -- the list: its entries by rank and then by id

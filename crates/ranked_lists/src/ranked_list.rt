@@ -124,7 +124,7 @@ impl RankedList {
         }
     }
 
-    /// The entry at an index, `None` past the last. This goes over the entries before it, or over those behind it where
+    /// The entry at an index, `None` past the last. This goes over the entries before it, or over those after it where
     /// they are fewer.
     pub fn entry_at(&self, index: usize) -> Option<&Entry>
         ensures { option_copied result ≡ slice_get (entries_by_rank self.now) index }

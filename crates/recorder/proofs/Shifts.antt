@@ -1,4 +1,4 @@
--- A list stays the same where a value is put behind others that are the same as it, or in front of them.
+-- A list stays the same where a value is put after others that are the same as it, or before them.
 use Rattle.std.proofs.Common.{◌≡◌, ℕ, ◌+◌, ◌-◌, ◌≤◌, zero, suc, true, false, List, [], ◌∷◌, take, drop, refl, sym, ap, ◌∙◌, ◌&&◌, arith}
 use Rattle.std.specs.Prelude.{Option, None, Some, slice_get}
 use Rattle.std.specs.List.{insert, remove, list_all}
@@ -15,7 +15,7 @@ own vs = (list_equality value_eq value_equality).own vs
 some_same : (v w : Value) → Some v ≡ Some w → v ≡ w
 some_same v w e = cc
 
--- behind n others
+-- after n others
 put_behind : (vs : List Value) (n : ℕ) (w : Value) → list_eq value_eq (insert vs n w) (w ∷ vs) ≡ list_all (value_eq w) (take n vs)
 put_behind vs zero w = own (w ∷ vs)
 put_behind [] (suc n) w = own (w ∷ [])
@@ -28,7 +28,7 @@ put_behind (v ∷ vs) (suc n) w =
       | false ↦ λ differ. ap (λ x. x && list_eq value_eq (insert vs n w) (v ∷ vs)) (apart value_eq value_equality w v differ)
     ] refl
 
--- in front of n others
+-- before n others
 put_before : (vs : List Value) (n : ℕ) (w : Value) → slice_get vs n ≡ Some w → list_eq value_eq (w ∷ remove vs n) vs ≡ list_all (value_eq w) (take n vs)
 put_before [] n w is = cc
 put_before (v ∷ vs) zero w is = ap (λ x. list_eq value_eq (x ∷ vs) (v ∷ vs)) (sym (some_same v w is)) ∙ own (v ∷ vs)

@@ -6,17 +6,17 @@ use Rattle.edit_laws.specs.declared.fault.EditFault.{EditFault}
 use Rattle.edit_laws.specs.declared.fault.EditFault.TheVariants.{BadId, BadValue, Memory}
 use Rattle.recorder.specs.declared.feature.Named.{Named}
 
--- the feature that is due, or want of memory, or why there is none
+-- the feature that is due, or out of memory, or why there is none
 abbrev pub AnswersFeature : Result Named EditFault → Result ℕ EditFault → Type 0
 AnswersFeature (Ok named) due = due ≡ Ok named.feature
 AnswersFeature (Err fault) due = (fault ≡ Memory) ⊎ (due ≡ Err fault)
 
--- the value that is due, or want of memory, or BadValue where none is
+-- the value that is due, or out of memory, or BadValue where none is
 abbrev pub AnswersValue : Result Value EditFault → Option Value → Type 0
 AnswersValue (Ok v) due = due ≡ Some v
 AnswersValue (Err fault) due = (fault ≡ Memory) ⊎ ((fault ≡ BadValue) × (due ≡ None))
 
--- the id that is due and is of the form, or want of memory, or BadId where it is not of the form
+-- the id that is due and is of the form, or out of memory, or BadId where it is not of the form
 abbrev pub AnswersId : Result (List ℕ) EditFault → List ℕ → Type 0
 AnswersId (Ok id) due = (id ≡ due) × (is_id due ≡ true)
 AnswersId (Err fault) due = (fault ≡ Memory) ⊎ ((fault ≡ BadId) × (is_id due ≡ false))

@@ -2,7 +2,7 @@
 use Rattle.std.specs.Prelude.{◌≡◌, ◌↔◌, ℕ, None, Some, is_some, Ok}
 use Rattle.std.specs.FinMap.{get}
 use Rattle.ecore_meta.specs.Meta.{Meta}
-use Rattle.model_state.specs.Keys.{Name}
+use Rattle.model_state.specs.Keys.{IdBytes}
 use Rattle.model_state.specs.State.{State}
 use Rattle.model_state.specs.Steps.{fold}
 use Rattle.model_state.specs.Good.{Good, Sound}
@@ -28,7 +28,7 @@ RecordingLeads = (meta : Meta) → Sound meta → (m : State) → Good meta m �
 
 -- each row of a reference that has an opposite stands exactly where its mirror does
 abbrev pub Paired : Meta → State → Type 0
-Paired meta m = (a : Name) (f : ℕ) (b : Name) (g : ℕ) → opposite_of meta f ≡ Some g → is_some (get m.row (a, f, b)) ≡ is_some (get m.row (b, g, a))
+Paired meta m = (a : IdBytes) (f : ℕ) (b : IdBytes) (g : ℕ) → opposite_of meta f ≡ Some g → is_some (get m.row (a, f, b)) ≡ is_some (get m.row (b, g, a))
 
 -- the steps can be taken one by one, and leave a good model, in which each reference stands with its opposite
 pub record KeepsGood (meta : Meta) (m : State) (r : Recorded) : Type 0 where

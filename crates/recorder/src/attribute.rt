@@ -7,7 +7,7 @@ ghost use Rattle.model_state.specs.Steps.{class_has};
 ghost use Rattle.model_state.specs.Typing.{kind_of, value_eq};
 ghost use Rattle.model_state.specs.declared.operation.OpKind.TheVariants.{Attribute};
 ghost use Rattle.emfjson_io.specs.Values.{value_of};
-ghost use Rattle.edit_laws.specs.Attributes.{held, put_made, taken};
+ghost use Rattle.edit_laws.specs.Attributes.{single_value, put_made, taken};
 ghost use Rattle.edits.specs.Edits.{operation_of, recording_of, set_effect, unset_effect};
 ghost use Rattle.edits.specs.Answers.{Answers};
 
@@ -18,7 +18,7 @@ use ecore_meta::{Kind, List, Metamodel, Text, Value};
 use edit_laws::EditFault;
 use edits::Recorded;
 use model_state::{Id, Look, OpKind, Step, is_attr, is_default, is_many, is_plain, is_same_value};
-use opposites::is_one;
+use opposites::holds_one;
 use std::alloc::{AllocError, Global};
 
 /// Whether both are the same value, or none.
@@ -35,8 +35,13 @@ fn is_same(x: &Option<Value>, y: &Option<Value>) -> bool
 }
 
 /// The single value of an attribute, None where it isn't set.
-fn held<L: Look>(alloc: Global, look: &L, e: &Id, f: u32) -> Result<Option<Value>, AllocError>
-    ensures { IfOk result (λ v. v ≡ held (get (L.state look.now).attr (e.now, f))) }
+fn single_value<L: Look>(
+    alloc: Global,
+    look: &L,
+    e: &Id,
+    f: u32,
+) -> Result<Option<Value>, AllocError>
+    ensures { IfOk result (λ v. v ≡ single_value (get (L.state look.now).attr (e.now, f))) }
 {
     match look.attr(e, f).first() {
         None => Ok(None),
@@ -65,7 +70,7 @@ fn put_steps<L: Look>(
 ) -> Result<List<Step>, AllocError>
     ensures { IfOk result (λ steps. steps ≡ put_made (L.state look.now) e.now f new) }
 {
-    let old = held(alloc, look, e, f)?;
+    let old = single_value(alloc, look, e, f)?;
     let mut steps = List::new(alloc);
     if !is_same(&old, &new) {
         let e = e.copy(alloc)?;
@@ -113,7 +118,7 @@ pub fn set<L: Look>(
                 Ok(put(alloc, look, named, taken(meta, named.feature, value))?)
             }
             Kind::Bounded { .. } => {
-                if !is_one(meta, named.feature) {
+                if !holds_one(meta, named.feature) {
                     return Err(EditFault::WrongKind);
                 }
                 reference::set(alloc, look, meta, named, text)
@@ -123,7 +128,7 @@ pub fn set<L: Look>(
     }
 }
 
-/// Records that all values of an attribute go, or all targets of a plain reference. Refused with WrongKind.
+/// Records that all values of an attribute are removed, or all targets of a plain reference. Refused with WrongKind.
 pub fn unset<L: Look>(
     alloc: Global,
     look: &L,

@@ -54,7 +54,7 @@ fn new_element<L: Look>(
     requires rank { (end_spot (children (L.state look.now).place (L.state look.now).prank place)).rank ≡ Some spot.rank }
     ensures { Answers result (recording_of meta.now (L.state look.now) (new_effect (L.state look.now) class place (id_or_fresh (L.state look.now) ws id.now))) }
 {
-    // The contract alone speaks of it.
+    // Only the contract needs it.
     let _meta = meta;
     let e = id_or_fresh(alloc, look, ws, id)?;
     if look.class(&e).is_some() {

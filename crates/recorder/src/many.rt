@@ -40,7 +40,7 @@ fn count<L: Look>(look: &L, meta: &Metamodel, e: &Id, f: u32) -> u32
     requires many { is_many (kind_of meta.now f) ≡ true }
     ensures { result ≡ length (values_in (L.state look.now) e.now f) }
 {
-    // The contract alone speaks of it.
+    // Only the contract needs it.
     let _meta = meta;
     look.attr(e, f).len() as u32
 }
@@ -74,7 +74,7 @@ fn dels(alloc: Global, e: &Id, f: u32, values: &[Value]) -> Result<List<Step>, A
     Ok(steps)
 }
 
-/// Records that all values of a many-valued attribute go.
+/// Records that all values of a many-valued attribute are removed.
 pub fn clear<L: Look>(
     alloc: Global,
     look: &L,
@@ -85,7 +85,7 @@ pub fn clear<L: Look>(
     requires many { is_many (kind_of meta.now named.now.feature) ≡ true }
     ensures { IfOk result (λ r. r ≡ recording meta.now (L.state look.now) (Clears named.now.id named.now.feature)) }
 {
-    // The contract alone speaks of it.
+    // Only the contract needs it.
     let _meta = meta;
     let values = look.attr(&named.id, named.feature);
     let steps = dels(alloc, &named.id, named.feature, values)?;
@@ -95,7 +95,7 @@ pub fn clear<L: Look>(
     })
 }
 
-/// Records that a value comes into a many-valued attribute, at an index of its values or at their end. Refused with
+/// Records that a value is inserted into a many-valued attribute, at an index of its values or at their end. Refused with
 /// AlreadyThere before Bound.
 fn add_value<L: Look>(
     alloc: Global,
@@ -127,7 +127,7 @@ fn add_value<L: Look>(
     Ok(one(alloc, step)?)
 }
 
-/// Records that a value comes into a many-valued attribute, in front of the value at the index or last.
+/// Records that a value is inserted into a many-valued attribute, before the value at the index or last.
 ///
 /// Refused with WrongKind, NoEntry, BadValue, AlreadyThere and Bound, in this order.
 pub fn add<L: Look>(
@@ -158,7 +158,7 @@ pub fn add<L: Look>(
     }
 }
 
-/// Records that the value at an index of a many-valued attribute goes. Refused with WrongKind before NoEntry.
+/// Records that the value at an index of a many-valued attribute is removed. Refused with WrongKind before NoEntry.
 pub fn remove<L: Look>(
     alloc: Global,
     look: &L,

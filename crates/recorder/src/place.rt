@@ -62,7 +62,7 @@ fn moved<L: Look>(
     move_steps(alloc, look, meta, e, place, index)
 }
 
-/// Records that an element comes to stand in a place, at an index of the others there or last.
+/// Records that an element is put into a place, at an index of the others there or last.
 ///
 /// Refused with NoElement, with what the destination is refused with, and with WrongType, WouldCycle, NoEntry and Bound, in
 /// this order.
@@ -86,7 +86,7 @@ pub fn move_element<L: Look>(
     })
 }
 
-/// Records that an element goes, with all that it contains. Refused with NoElement.
+/// Records that an element is deleted, with all that it contains. Refused with NoElement.
 pub fn delete_element<L: Look>(
     alloc: Global,
     look: &L,

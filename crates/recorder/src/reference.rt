@@ -9,7 +9,7 @@ ghost use Rattle.model_state.specs.Typing.{is_plain, kind_of};
 ghost use Rattle.model_state.specs.declared.operation.OpKind.TheVariants.{Reference};
 ghost use Rattle.emfjson_io.specs.Values.{value_of};
 ghost use Rattle.edit_laws.specs.declared.fault.EditFault.TheVariants.{Memory, NoEntry};
-ghost use Rattle.edit_laws.specs.References.{is_one};
+ghost use Rattle.edit_laws.specs.References.{holds_one};
 ghost use Rattle.edits.specs.Edits.{Forgets, is_listed, link_effect, operation_of, recording, recording_of, refer_effect, reorder_effect, target_in, unlink_effect};
 ghost use Rattle.edits.specs.Answers.{Answers};
 
@@ -19,7 +19,9 @@ use ecore_meta::{List, Metamodel, Scalar, Text, Value};
 use edit_laws::EditFault;
 use edits::Recorded;
 use model_state::{Id, IdFault, Look, OpKind, Step, is_plain};
-use opposites::{is_one, link_steps, reorder_steps, set_ref_steps, unlink_steps, unset_ref_steps};
+use opposites::{
+    holds_one, link_steps, reorder_steps, set_ref_steps, unlink_steps, unset_ref_steps,
+};
 use std::alloc::{AllocError, Global};
 
 /// What is recorded of the steps of a reference.
@@ -36,7 +38,7 @@ fn recorded(steps: List<Step>) -> Recorded
 fn is_listed(meta: &Metamodel, f: u32) -> bool
     ensures { result ≡ is_listed meta.now f (kind_of meta.now f) }
 {
-    is_plain(meta, f) && !is_one(meta, f)
+    is_plain(meta, f) && !holds_one(meta, f)
 }
 
 /// The target of a list that a word names, where the word is an id.
@@ -65,7 +67,7 @@ pub fn set<L: Look>(
     requires good { Good meta.now (L.state look.now) }
     requires held { class_has meta.now (get (L.state look.now).kind named.now.id) named.now.feature ≡ true }
     requires plain { is_plain (kind_of meta.now named.now.feature) ≡ true }
-    requires one { is_one meta.now named.now.feature ≡ true }
+    requires one { holds_one meta.now named.now.feature ≡ true }
     ensures { Answers result (recording_of meta.now (L.state look.now) (refer_effect meta.now (L.state look.now) named.now.id named.now.feature (target_in (value_of meta.now types.Text text.now)))) }
 {
     meta.sound();
@@ -77,7 +79,7 @@ pub fn set<L: Look>(
     Ok(recorded(steps))
 }
 
-/// Records that all targets of a plain reference go, the last first, and their opposites with them.
+/// Records that all targets of a plain reference are removed, the last first, and their opposites with them.
 pub fn unset<L: Look>(
     alloc: Global,
     look: &L,
@@ -90,7 +92,7 @@ pub fn unset<L: Look>(
     Ok(recorded(steps))
 }
 
-/// Records that a target comes into a plain reference whose upper bound isn't 1, at an index of the others or last.
+/// Records that a target is inserted into a plain reference whose upper bound isn't 1, at an index of the others or last.
 ///
 /// Refused with WrongKind, NoElement, WrongType, AlreadyThere, NoEntry and Bound, in this order.
 pub fn link<L: Look>(
@@ -114,7 +116,7 @@ pub fn link<L: Look>(
     Ok(recorded(steps))
 }
 
-/// Records that a target of a plain reference whose upper bound isn't 1 goes, and its opposite with it. Refused with
+/// Records that a target of a plain reference whose upper bound isn't 1 is removed, and its opposite with it. Refused with
 /// WrongKind before NoEntry.
 pub fn unlink<L: Look>(
     alloc: Global,
@@ -136,7 +138,7 @@ pub fn unlink<L: Look>(
     Ok(recorded(steps))
 }
 
-/// Records that a target of a plain reference whose upper bound isn't 1 comes to stand at an index of its list.
+/// Records that a target of a plain reference whose upper bound isn't 1 is put at an index of its list.
 ///
 /// Refused with WrongKind, NoEntry and Bound, in this order.
 pub fn reorder<L: Look>(

@@ -21,7 +21,7 @@ use Rattle.repo_core.specs.Working.{IsWorkingModel}
 use Rattle.plain_repository.specs.State.{State, Workspace, workspace_of, there, folded, model_of}
 use Rattle.repo_core.specs.declared.repo.Begun.{Begun}
 use Rattle.repo_core.specs.declared.workspace.Workspace.{Workspace as Kept}
-use Rattle.repo_core.specs.Keeping.{FitsAny, Fits, AllFit, meta_of, history_of, plain_any, plain_of}
+use Rattle.repo_core.specs.Keeping.{FitsAny, ModelFits, AllFit, meta_of, history_of, plain_any, plain_of}
 
 pub below_is : (s : State) (ws : List (Option Kept)) (i : ℕ) → map plain_any ws ≡ s.workspaces → i < length s.workspaces → i < length ws
 below_is s ws i is below = subst (λ (n : ℕ). i < n) (sym (ap (λ (l : List (Option Workspace)). length l) is) ∙ length-map ws plain_any) below
@@ -91,12 +91,12 @@ working s k meta h w (Ok m) begun hist at model good = working_is s k meta h w m
 working s k meta h w (Err e) begun hist at model good = tt
 
 -- a working model that is kept fits
-pub kept_fits : (s : State) (k : ℕ) (meta : Meta) (h : History) (w new : Kept) (m : Plain) → s.meta ≡ Some meta → s.history ≡ h → IsThere s meta (plain_of w) → workspace_of s k ≡ Some (plain_of w) → IsWorkingModel s k m → plain_of new ≡ plain_of w → new.model ≡ Some m → Fits meta h new
+pub kept_fits : (s : State) (k : ℕ) (meta : Meta) (h : History) (w new : Kept) (m : Plain) → s.meta ≡ Some meta → s.history ≡ h → IsThere s meta (plain_of w) → workspace_of s k ≡ Some (plain_of w) → IsWorkingModel s k m → plain_of new ≡ plain_of w → new.model ≡ Some m → ModelFits meta h new
 kept_fits s k meta h w new m begun hist there at is same kept n now =
     let both = is meta (plain_of w) begun at in
     let folds : folded meta h (plain_of new) ≡ Some (plain_state m) = ap (λ (v : Workspace). folded meta h v) same ∙ ap (λ (g : History). folded meta g (plain_of w)) (sym hist) ∙ models_are_defined s meta (plain_of w) there ∙ ap Some (sym both.0) in
     subst (λ (x : Plain). (folded meta h (plain_of new) ≡ Some (plain_state x)) × Good meta (plain_state x)) (same_Some m n (sym kept ∙ now)) (folds, both.1)
 
 -- no model fits
-pub none_fits : (meta : Meta) (h : History) (w : Kept) → w.model ≡ None → Fits meta h w
+pub none_fits : (meta : Meta) (h : History) (w : Kept) → w.model ≡ None → ModelFits meta h w
 none_fits meta h w none m is = absurd cc

@@ -18,10 +18,10 @@ use Rattle.plain_repository.specs.Edits.{can_follow, takes, with_more}
 use Rattle.plain_repository.specs.Events.{playable_with}
 use Rattle.plain_repository.specs.Local.{can_discard, can_undo}
 use Rattle.plain_repository.specs.Orderly.{IsOrderly}
-use Rattle.plain_repository.proofs.Forms.{and_left, and_right}
+use Rattle.plain_repository.proofs.Encodings.{and_left, and_right}
 use Rattle.plain_repository.proofs.Reached.{models_are_defined, versions_are_good, workspaces_stand}
 use Rattle.repo_core.specs.declared.workspace.Workspace.{Workspace as Kept}
-use Rattle.repo_core.specs.Keeping.{Fits, plain_of}
+use Rattle.repo_core.specs.Keeping.{ModelFits, plain_of}
 use Rattle.repo_core.specs.Making.{LeadTo}
 use Rattle.repo_core.proofs.Effects.{could_with}
 use Rattle.repo_core.proofs.Models.{fits_now, more_leads}
@@ -46,12 +46,12 @@ pub base_good : (s : State) (meta : Meta) (h : History) (ws : ℕ) (w : Workspac
 base_good s meta h ws w begun hist there orderly sound =
     subst (λ (g : History). Good meta (state_of meta g w.base)) hist (versions_are_good s meta (record { orderly = orderly; begun = begun }) w.base (workspaces_stand s meta w (is_there s meta ws w orderly begun there)).base)
 
--- the model behind operations that are recorded fits
+-- the model after operations that are recorded fits
 pub installed_fits : (s : State) (meta : Meta) (h : History) (ws : ℕ) (w new : Kept) (os : List Operation) (m : Plain) → s.meta ≡ Some meta → s.history ≡ h → workspace_of s ws ≡ Some (plain_of w) → IsOrderly s → LeadTo s ws os m
-    → plain_of new ≡ with_more os (plain_of w) → new.model ≡ Some m → Fits meta h new
+    → plain_of new ≡ with_more os (plain_of w) → new.model ≡ Some m → ModelFits meta h new
 installed_fits s meta h ws w new os m begun hist there orderly leads is kept =
     let lead = leads meta (plain_of w) begun there in
-    subst (λ (g : History). Fits meta g new) hist
+    subst (λ (g : History). ModelFits meta g new) hist
     (fits_now meta s.history new m kept
     (ap (folded meta s.history) is ∙ more_leads meta s.history os (plain_of w) (model_of meta s.history (plain_of w)) (plain_state m) (models_are_defined s meta (plain_of w) (is_there s meta ws (plain_of w) orderly begun there)) lead.0) lead.1)
 

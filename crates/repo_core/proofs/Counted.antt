@@ -16,7 +16,7 @@ use Rattle.plain_repository.specs.Local.{without_last, without_any}
 use Rattle.plain_repository.specs.Tidying.{tidied}
 use Rattle.plain_repository.specs.Merging.{updated, merged_with}
 use Rattle.plain_repository.specs.Events.{by_meta, effect, play, playable, playable_with, are_playable}
-use Rattle.plain_repository.proofs.Forms.{and_left, and_right}
+use Rattle.plain_repository.proofs.Encodings.{and_left, and_right}
 use Rattle.repo_core.specs.Counting.{WorkspacesAreFew}
 
 same : (ws : List (Option Workspace)) → length ws ≤ length ws + 1

@@ -16,7 +16,7 @@ use Rattle.plain_repository.specs.Events.{effect, playable_with}
 use Rattle.plain_repository.proofs.Kept.{event_kept, same_meta}
 use Rattle.repo_core.specs.declared.repo.Begun.{Begun}
 use Rattle.repo_core.specs.declared.workspace.Workspace.{Workspace as Kept}
-use Rattle.repo_core.specs.Keeping.{AllFit, Fits, FitsAny, history_of, meta_of, plain_any, plain_of}
+use Rattle.repo_core.specs.Keeping.{AllFit, ModelFits, FitsAny, history_of, meta_of, plain_any, plain_of}
 use Rattle.repo_core.proofs.Changing.{at_is, below_is, fit_at, held, none_fits, set_same}
 
 -- ---- what a call gives by its result
@@ -93,7 +93,7 @@ module _ {b : Option Begun} {ws : List (Option Kept)} {events end : ℕ} {s : St
   pub placed_there : workspace_of s k ≡ Some (plain_of w)
   placed_there = at_is s ws k i (Some w) d (ap (λ (s : State). s.workspaces) p.view) p.number p.below (sym p.at)
 
-  pub fit_before : (begun : Begun) → b ≡ Some begun → AllFit b ws → Fits begun.meta begun.history.history w
+  pub fit_before : (begun : Begun) → b ≡ Some begun → AllFit b ws → ModelFits begun.meta begun.history.history w
   fit_before begun is all = subst (FitsAny begun.meta begun.history.history) p.at (fit_at b begun ws i (get_or ws i d) d is within refl all)
 
 -- ---- all is in order
@@ -101,7 +101,7 @@ module _ {b : Option Begun} {ws : List (Option Kept)} {events end : ℕ} {s : St
 pub could_with : (s : State) (meta : Meta) (e : Event) → s.meta ≡ Some meta → playable_with s s.meta e ≡ true → playable_with s (Some meta) e ≡ true
 could_with s meta e begun could = subst (λ (m : Option Meta). playable_with s m e ≡ true) begun could
 
--- behind an event that could be made
+-- after an event that could be made
 pub effect_orderly : (s new : State) (meta : Meta) (e : Event) → s.meta ≡ Some meta → playable_with s s.meta e ≡ true → IsEvent e → IsOrderly s → new ≡ effect s e → IsOrderly new
 effect_orderly s new meta e begun could spelled orderly is =
     let can = could_with s meta e begun could in

@@ -41,7 +41,7 @@ fold_none meta m (s ∷ ss) e is = by (fault meta m s) (fold_none meta (apply me
     by None below h = below h
     by (Some f) below h = refl
 
--- nor do they with more behind them
+-- nor do they with more after them
 fold_append_none : (meta : Meta) (m : State) (ss ts : List Step) → fold meta m ss ≡ None → fold meta m (ss ++ ts) ≡ None
 fold_append_none meta m [] ts is = cc
 fold_append_none meta m (s ∷ ss) ts is = by (fault meta m s) (fold_append_none meta (apply meta m s) ss ts) is
@@ -97,13 +97,13 @@ version_none meta m vs us i d below is =
     ∙ fold_append_none meta m (steps_all (package_at vs (get_or us i d))) (steps_all (operations_of vs (drop (suc i) us))) is
 
 -- ---- workspaces
--- operations that can't all be taken lead nowhere, with steps behind them too
+-- operations that can't all be taken lead nowhere, with steps after them too
 pub first_none : (meta : Meta) (m : State) (os : List Operation) (ss : List Step) (e : StepFault) (r : Result (Unit {0}) StepFault) → IsErr r → IsErrAnd r (λ f. f ≡ e) → (e ≢ Memory → fold_package meta m os ≡ None)
     → IfErr r (λ f. f ≢ Memory → fold meta m (steps_all os ++ ss) ≡ None)
 first_none meta m os ss e (Ok x) is_err is cannot = absurd cc
 first_none meta m os ss e (Err f) is_err is cannot = λ not_memory. fold_append_none meta m (steps_all os) ss (cannot (λ memory. not_memory (is ∙ memory)))
 
--- steps behind operations that were taken
+-- steps after operations that were taken
 pub both_done : (meta : Meta) (m n k : State) (os : List Operation) (ss ts : List Step) (r : Result (Unit {0}) StepFault) → ss ≡ ts → fold_package meta m os ≡ Some n → OnOk r (fold meta n ts ≡ Some k) → OnOk r (fold meta m (steps_all os ++ ss) ≡ Some k)
 both_done meta m n k os ss ts (Ok x) same first done = ap (λ (l : List Step). fold meta m (steps_all os ++ l)) same ∙ fold_append meta m n (steps_all os) ts first ∙ done
 both_done meta m n k os ss ts (Err f) same first done = tt

@@ -14,20 +14,20 @@ use Rattle.op_form.specs.declared.event.Event.TheVariants.{Branch, Commit, Tag}
 use Rattle.plain_repository.specs.State.{State, Workspace, folded, is_closed, has_local, with_changed, workspace_of}
 use Rattle.plain_repository.specs.Commits.{can_commit, committed, is_new_branch, moved_onto, version_of, with_commit, with_new_branch}
 use Rattle.plain_repository.specs.Events.{effect, playable_with}
-use Rattle.plain_repository.specs.Orderly.{InOrder, IfThere, IsOrderly, Stands}
-use Rattle.plain_repository.proofs.Forms.{and_left, and_right}
+use Rattle.plain_repository.specs.Orderly.{InOrder, IfThere, IsOrderly, StandsInHistory}
+use Rattle.plain_repository.proofs.Encodings.{and_left, and_right}
 use Rattle.plain_repository.proofs.Reached.{kept, workspaces_stand}
 use Rattle.repo_core.specs.declared.repo.Begun.{Begun}
 use Rattle.repo_core.specs.declared.workspace.Workspace.{Workspace as Kept}
-use Rattle.repo_core.specs.Keeping.{AllFit, Fits, FitsAny, plain_any, plain_of}
+use Rattle.repo_core.specs.Keeping.{AllFit, ModelFits, FitsAny, plain_any, plain_of}
 use Rattle.repo_core.proofs.Changing.{held}
 use Rattle.repo_core.proofs.Effects.{Placed, begun_is, changed_view, could_with, fit_before, grown, grown_fit, history_is, placed_there, unchanged_view}
 use Rattle.repo_core.proofs.Models.{all_fit, commit_folded, fits_same}
 use Rattle.repo_core.proofs.Ordered.{is_there}
 
 -- ---- what was tested
-pub stands_in : (s : State) (meta : Meta) (h : History) (ws : ℕ) (w : Workspace) → IsOrderly s → s.meta ≡ Some meta → s.history ≡ h → workspace_of s ws ≡ Some w → Stands h w
-stands_in s meta h ws w orderly begun hist there = subst (λ (g : History). Stands g w) hist (workspaces_stand s meta w (is_there s meta ws w orderly begun there))
+pub stands_in : (s : State) (meta : Meta) (h : History) (ws : ℕ) (w : Workspace) → IsOrderly s → s.meta ≡ Some meta → s.history ≡ h → workspace_of s ws ≡ Some w → StandsInHistory h w
+stands_in s meta h ws w orderly begun hist there = subst (λ (g : History). StandsInHistory g w) hist (workspaces_stand s meta w (is_there s meta ws w orderly begun there))
 
 pub commit_can : (s : State) (meta : Meta) (ws : ℕ) (w : Workspace) (message : List ℕ) → s.meta ≡ Some meta → workspace_of s ws ≡ Some w → playable_with s s.meta (Commit ws message) ≡ true → can_commit s.history (Some w) ≡ true
 commit_can s meta ws w message begun there could = subst (λ (o : Option Workspace). can_commit s.history o ≡ true) there (could_with s meta (Commit ws message) begun could)
@@ -90,8 +90,8 @@ module _ (b : Option Begun) (begun new : Begun) (ws : List (Option Kept)) (event
 
   -- a version or a branch more, and one workspace changed
   module _ {k i : ℕ} {d : Option Kept} {w : Kept} (p : Placed b ws events end s k i d w) (w' : Kept) (model : w'.model ≡ w.model) where
-    before : Fits begun.meta s.history w
-    before = subst (λ (h : History). Fits begun.meta h w) (sym hist) (fit_before p begun is fit)
+    before : ModelFits begun.meta s.history w
+    before = subst (λ (h : History). ModelFits begun.meta h w) (sym hist) (fit_before p begun is fit)
 
     pub commit_done : (message : List ℕ) → new.history.history ≡ with_version begun.history.history (version_of (plain_of w) message) → plain_of w' ≡ committed (length begun.history.history.versions) (plain_of w)
         → held (Some new) (map plain_any (set ws i (Some w'))) events end ≡ effect s (Commit k message)

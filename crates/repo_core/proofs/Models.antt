@@ -24,21 +24,21 @@ use Rattle.plain_repository.specs.Commits.{version_of, committed, can_commit}
 use Rattle.plain_repository.specs.Composites.{with_open, with_closed}
 use Rattle.plain_repository.specs.Edits.{added, with_more}
 use Rattle.plain_repository.specs.Local.{can_undo}
-use Rattle.plain_repository.proofs.Forms.{and_left}
+use Rattle.plain_repository.proofs.Encodings.{and_left}
 use Rattle.plain_repository.specs.Orderly.{Orderly, InOrder, IfThere}
 use Rattle.plain_repository.proofs.Commits as commits
 use Rattle.plain_repository.proofs.Kept.{commit_itself}
 use Rattle.plain_repository.proofs.Recorded.{ByWay, by_way, steps_append, more_steps, opened_steps, closed_steps}
 use Rattle.plain_repository.proofs.Runs.{closed_steps_are, not_open, workspace_folded, workspace_model}
 use Rattle.repo_core.specs.declared.workspace.Workspace.{Workspace as Kept}
-use Rattle.repo_core.specs.Keeping.{Fits, FitsAny, plain_any, plain_of}
+use Rattle.repo_core.specs.Keeping.{ModelFits, FitsAny, plain_any, plain_of}
 
 -- a model that is kept stays the working model where the same is folded
-pub fits_same : (meta : Meta) (h g : History) (w new : Kept) → folded meta g (plain_of new) ≡ folded meta h (plain_of w) → new.model ≡ w.model → Fits meta h w → Fits meta g new
+pub fits_same : (meta : Meta) (h g : History) (w new : Kept) → folded meta g (plain_of new) ≡ folded meta h (plain_of w) → new.model ≡ w.model → ModelFits meta h w → ModelFits meta g new
 fits_same meta h g w new same model fits m is = let old = fits m (sym model ∙ is) in (same ∙ old.0, old.1)
 
 -- a model that is put into the workspace
-pub fits_now : (meta : Meta) (h : History) (new : Kept) (m : Plain) → new.model ≡ Some m → folded meta h (plain_of new) ≡ Some (plain_state m) → Good meta (plain_state m) → Fits meta h new
+pub fits_now : (meta : Meta) (h : History) (new : Kept) (m : Plain) → new.model ≡ Some m → folded meta h (plain_of new) ≡ Some (plain_state m) → Good meta (plain_state m) → ModelFits meta h new
 fits_now meta h new m kept folds good n is = subst (λ (x : Plain). (folded meta h (plain_of new) ≡ Some (plain_state x)) × Good meta (plain_state x)) (same_Some m n (sym kept ∙ is)) (folds, good)
 
 -- ---- Edit
@@ -75,7 +75,7 @@ undone_leads meta sound h w front o m n closed is good folds back =
 
 -- what the workspace keeps then
 pub undone_fits : (meta : Meta) → Sound meta → (h : History) (w : Kept) (front : List Operation) (o : Operation) (m : Plain) (r : Option Plain) (n : Plain) → r ≡ Some n → IfSome r (λ n. fold meta (plain_state m) (steps_of (rev_op o)) ≡ Some (plain_state n))
-    → IfSome r (λ n. Good meta (plain_state n)) → can_undo (Some (plain_of w)) ≡ true → w.operations.items ≡ front ++ o ∷ [] → Good meta (state_of meta h w.base) → Fits meta h w → w.model ≡ Some m
+    → IfSome r (λ n. Good meta (plain_state n)) → can_undo (Some (plain_of w)) ≡ true → w.operations.items ≡ front ++ o ∷ [] → Good meta (state_of meta h w.base) → ModelFits meta h w → w.model ≡ Some m
     → (folded meta h (record (plain_of w) { operations = front }) ≡ Some (plain_state n)) × Good meta (plain_state n)
 undone_fits meta sound h w front o m None n is back good can items base fits model = absurd cc
 undone_fits meta sound h w front o m (Some x) n is back good can items base fits model =

@@ -46,7 +46,7 @@ base_leads s meta w there = version_leads s meta there.in_state.orderly there.in
 pub model_leads : (s : State) (meta : Meta) (w : Workspace) → IsThere s meta w → is_some (folded meta s.history w) ≡ true
 model_leads s meta w there = ap is_some (models_are_defined s meta w there)
 
--- what is recorded, taken behind the base's state
+-- what is recorded, taken after the base's state
 record Parts (meta : Meta) (w : Workspace) : Type 0 where
   base : models.State
   model : models.State

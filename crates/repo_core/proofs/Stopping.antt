@@ -25,7 +25,7 @@ further_sum a b (Some x) = ap (λ k. Some (record { at = k; fault = x.fault })) 
     sums : (a b k : ℕ) → a + (b + k) ≡ (a + b) + k
     sums a b k = omega arith
 
--- behind steps that can be taken a stop is as many places further on
+-- after steps that can be taken a stop is as many places further on
 pub first_append : (meta : Meta) (m n : State) (ss ts : List Step) → fold meta m ss ≡ Some n → first_stop meta m (ss ++ ts) ≡ further_on (length ss) (first_stop meta n ts)
 first_append meta m n [] ts run = ap (λ (x : State). first_stop meta x ts) (same_Some m n run) ∙ sym (further_none (first_stop meta n ts))
 first_append meta m n (s ∷ ss) ts run =

@@ -1,8 +1,8 @@
 -- A decision of the repository in memory, beside the plain repository's.
 use Rattle.std.specs.Prelude.{◌≡◌, ℕ, ◌<◌, ◌-◌, ◌^◌, List, length, Option, Some, None, IsTrue}
-use Rattle.commit_journal.specs.Journal.{Fits}
+use Rattle.commit_journal.specs.Journal.{RecordFits}
 use Rattle.op_form.specs.declared.event.Event.{Event}
-use Rattle.op_form.specs.Events.{event_form}
+use Rattle.op_form.specs.Events.{event_encoding}
 use Rattle.plain_repository.specs.State.{State}
 use Rattle.plain_repository.specs.Events.{playable}
 use Rattle.plain_repository.specs.Answers as plain
@@ -20,9 +20,9 @@ seen decision = record { reply = decision.reply; event = event_of decision.made 
 
 -- an event that can be made on a state has its bytes beside it, and the journal has room for them
 pub record CanMake (state : State) (made : Made) : Type 0 where
-  pub form_is : made.form.items ≡ event_form made.event
+  pub form_is : made.form.items ≡ event_encoding made.event
   pub playable : IsTrue (playable state made.event)
-  pub fits : Fits state.end (length (event_form made.event))
+  pub fits : RecordFits state.end (length (event_encoding made.event))
 
 -- such an event, or none
 abbrev pub CanMakeIt : State → Option Made → Type 0

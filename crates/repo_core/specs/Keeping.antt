@@ -25,13 +25,13 @@ abbrev pub plain_any : Option Workspace → Option plain.Workspace
 plain_any w = option_map plain_of w
 
 -- the model that is kept, where one is, is the working model, and good
-abbrev pub Fits : Meta → History → Workspace → Type 0
-Fits meta h w = (m : Plain) → w.model ≡ Some m → (folded meta h (plain_of w) ≡ Some (plain_state m)) × Good meta (plain_state m)
+abbrev pub ModelFits : Meta → History → Workspace → Type 0
+ModelFits meta h w = (m : Plain) → w.model ≡ Some m → (folded meta h (plain_of w) ≡ Some (plain_state m)) × Good meta (plain_state m)
 
 -- so it is, where the workspace is there
 abbrev pub FitsAny : Meta → History → Option Workspace → Type 0
 FitsAny meta h None = Unit {0}
-FitsAny meta h (Some w) = Fits meta h w
+FitsAny meta h (Some w) = ModelFits meta h w
 
 -- the metamodel, where there is one
 abbrev pub meta_of : Option Begun → Option Meta

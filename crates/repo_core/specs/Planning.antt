@@ -31,6 +31,6 @@ pub record IsMergePlan (meta : Meta) (h : History) (w : Workspace) (other : ℕ)
 abbrev pub restarted : ℕ → List Operation → Workspace → Workspace
 restarted base operations w = record w { base = base; operations = operations }
 
--- further operations come last, and the version is pending
+-- further operations are added last, and the version is pending
 abbrev pub taken_up : List Operation → ℕ → Workspace → Workspace
 taken_up more version w = record w { operations = w.operations ++ more; pending = w.pending ++ version ∷ [] }

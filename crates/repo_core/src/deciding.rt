@@ -43,7 +43,7 @@ fn block_text(block: &Option<Text>) -> &str
 }
 
 impl Repo {
-    /// The answer to a line that gets one, and to the block behind it. Contracts see no change of the repository.
+    /// The answer to a line that gets one, and to the block after it. Contracts see no change of the repository.
     #[tactic(auto, unfolding(plain_repository::specs::Repository::decide_line))]
     pub fn decide(
         &mut self,

@@ -19,7 +19,7 @@ pub(crate) fn items_of<T: Drop>(alloc: Global, list: List<T>) -> Result<Vec<T>, 
     Ok(items)
 }
 
-/// Moves the items of a list behind others. When out of memory the others stay as they are.
+/// Moves the items of a list after others. When out of memory the others stay as they are.
 pub(crate) fn append<T: Drop>(
     alloc: Global,
     items: &mut Vec<T>,

@@ -121,7 +121,7 @@ impl Repo {
         }
     }
 
-    /// Records operations in a workspace, with the model behind them.
+    /// Records operations in a workspace, with the model after them.
     fn install(
         &mut self,
         alloc: Global,
@@ -187,7 +187,7 @@ impl Repo {
         workspace.close_composite()
     }
 
-    /// Lets the last operation of a workspace go.
+    /// Drops the last operation of a workspace.
     pub(crate) fn undo(&mut self, alloc: Global, ws: u32)
         requires there { is_some (workspace_of self.old ws) ≡ true }
         requires could { playable_with self.old self.old.meta (Undo ws) ≡ true }
@@ -207,7 +207,7 @@ impl Repo {
         workspace.undo(alloc, &begun.meta, &begun.history);
     }
 
-    /// Lets all that is local in a workspace go.
+    /// Drops all that is local in a workspace.
     pub(crate) fn discard(&mut self, alloc: Global, ws: u32)
         requires there { is_some (workspace_of self.old ws) ≡ true }
         requires could { playable_with self.old self.old.meta (Discard ws) ≡ true }
@@ -279,7 +279,7 @@ impl Repo {
         begun.tag(name, version)
     }
 
-    /// Lets a workspace go, and its number is never used again.
+    /// Drops a workspace, whose number is never used again.
     pub(crate) fn drop_workspace(&mut self, ws: u32)
         requires there { is_some (workspace_of self.old ws) ≡ true }
         requires could { playable_with self.old self.old.meta (Drop ws) ≡ true }

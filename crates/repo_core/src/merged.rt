@@ -137,7 +137,7 @@ impl Repo {
         workspace.restart(local);
     }
 
-    /// Further operations come into a workspace, of a version that is merged.
+    /// Further operations are added to a workspace, of a version that is merged.
     fn take_up(&mut self, alloc: Global, ws: u32, merged: Merged) -> Result<(), AllocError>
         requires there { is_some (workspace_of self.old ws) ≡ true }
         requires orderly { IsOrderly (with_changed (taken_up merged.more merged.version) ws self.old) }

@@ -3,7 +3,7 @@ ghost use Rattle.std.specs.Prelude.{◌≡◌, ◌≢◌, ◌+◌, ◌<◌, ◌�
 ghost use Rattle.commit_journal.specs.Journal.{most_bytes, next_gate};
 ghost use Rattle.op_form.specs.declared.event.Event.{Event};
 ghost use Rattle.op_form.specs.declared.event.Event.TheVariants.{Begin, Branch, Checkout, Commit, Drop, End, Tag, Undo, Discard};
-ghost use Rattle.op_form.specs.Events.{event_form};
+ghost use Rattle.op_form.specs.Events.{event_encoding};
 ghost use Rattle.op_form.specs.Formed.{is_event};
 ghost use Rattle.op_form.specs.Laws.{IsEvent};
 ghost use Rattle.plain_repository.specs.State.{workspace_of, is_closed, is_open, has_operations, has_local};
@@ -95,14 +95,14 @@ impl Repo {
         self.begun.is_some() && self.is_open(ws)
     }
 
-    /// Whether a command could let the last operation of a workspace go.
+    /// Whether a command could drop the last operation of a workspace.
     fn could_undo(&self, ws: u32) -> bool
         ensures { result ≡ playable_with self.now self.now.meta (Undo ws) }
     {
         self.begun.is_some() && self.is_closed(ws) && self.has_operations(ws)
     }
 
-    /// Whether a command could let all that is local in a workspace go.
+    /// Whether a command could drop all that is local in a workspace.
     fn could_discard(&self, ws: u32) -> bool
         ensures { result ≡ playable_with self.now self.now.meta (Discard ws) }
     {
@@ -156,14 +156,14 @@ impl Repo {
             && version < begun.history.version_count()
     }
 
-    /// Whether a command could let a workspace go.
+    /// Whether a command could drop a workspace.
     fn could_drop(&self, ws: u32) -> bool
         ensures { result ≡ playable_with self.now self.now.meta (Drop ws) }
     {
         self.begun.is_some() && self.workspace(ws).is_some()
     }
 
-    /// Whether a command could make an event, as far as this is told without making it.
+    /// Whether a command could make an event, as far as this is known without making it.
     fn could(&self, event: &Event) -> bool
         ensures { result ≡ (is_tested_late event.now || playable_with self.now self.now.meta event.now) }
     {
@@ -189,7 +189,7 @@ impl Repo {
     fn change(&mut self, alloc: Global, event: Event) -> Result<(), ReplayFault>
         requires tested { (is_tested_late event || playable_with self.old self.old.meta event) ≡ true }
         requires spelled { IsEvent event }
-        requires short { length (event_form event) ≤ most_bytes }
+        requires short { length (event_encoding event) ≤ most_bytes }
         ensures could { OnOk result (playable_with self.old self.old.meta event ≡ true) }
         ensures done { OnOk result (self.new ≡ effect self.old event) }
         ensures same { OnErr result (self.new ≡ self.old) }
@@ -233,7 +233,7 @@ impl Repo {
     #[tactic(auto, unfolding(plain_repository::specs::Events::play, plain_repository::specs::Events::playable))]
     fn make(&mut self, alloc: Global, event: Event, size: usize) -> Result<(), ReplayFault>
         requires event { is_event event ≡ true }
-        requires size { size ≡ length (event_form event) }
+        requires size { size ≡ length (event_encoding event) }
         requires room { next_gate self.old.end size < 2 ^ 40 }
         ensures could { OnOk result (IsTrue (playable self.old event)) }
         ensures made { OnOk result (self.new ≡ play self.old event) }
@@ -258,7 +258,7 @@ impl Repo {
     /// the repository stays as it is.
     pub fn play(&mut self, alloc: Global, event: Event, size: usize) -> Result<(), AllocError>
         requires can { IsTrue (playable self.old event) }
-        requires size { size ≡ length (event_form event) }
+        requires size { size ≡ length (event_encoding event) }
         requires room { next_gate self.old.end size < 2 ^ 40 }
         ensures played { OnOk result (self.new ≡ play self.old event) }
         ensures same { OnErr result (self.new ≡ self.old) }
@@ -277,8 +277,8 @@ impl Repo {
     /// `NotPlayable` where they are no event that a command could make here, and out of memory. The repository stays as it is.
     pub fn replay(&mut self, alloc: Global, bytes: &[u8]) -> Result<(), ReplayFault>
         requires room { next_gate self.old.end (length bytes.now) < 2 ^ 40 }
-        ensures played { OnOk result ((event : Event) × IsTrue (playable self.old event) × (bytes.now ≡ event_form event) × (self.new ≡ play self.old event)) }
-        ensures refused { IsErrOf result ReplayFault.NotPlayable → (event : Event) → IsTrue (playable self.old event) → bytes.now ≢ event_form event }
+        ensures played { OnOk result ((event : Event) × IsTrue (playable self.old event) × (bytes.now ≡ event_encoding event) × (self.new ≡ play self.old event)) }
+        ensures refused { IsErrOf result ReplayFault.NotPlayable → (event : Event) → IsTrue (playable self.old event) → bytes.now ≢ event_encoding event }
         ensures same { OnErr result (self.new ≡ self.old) }
     {
         let event = match decode_event(alloc, bytes) {

@@ -48,7 +48,7 @@ impl Model for Repo {
 }
 
 impl Repo {
-    /// The repository before its first event: without a metamodel, over a journal that ends behind its header of 16 bytes.
+    /// The repository before its first event: without a metamodel, over a journal that ends after its header of 16 bytes.
     pub fn new(alloc: Global) -> Repo
         ensures { result ≡ empty }
     {

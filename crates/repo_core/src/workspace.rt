@@ -12,7 +12,7 @@ ghost use Rattle.plain_repository.specs.Commits.{version_of, committed};
 ghost use Rattle.plain_repository.specs.Composites.{with_open, with_closed};
 ghost use Rattle.plain_repository.specs.Edits.{takes, with_more};
 ghost use Rattle.plain_repository.specs.Local.{can_discard, can_undo, without_any, without_last};
-ghost use Rattle.repo_core.specs.Keeping.{plain_of, Fits};
+ghost use Rattle.repo_core.specs.Keeping.{plain_of, ModelFits};
 ghost use Rattle.repo_core.specs.Planning.{restarted, taken_up};
 
 use crate::lists::{append, items_of, steps_out};
@@ -135,7 +135,7 @@ impl Workspace {
         requires there { self.old.base < length history.now.history.versions }
         requires base { is_some (state_folded meta.now history.now.history self.old.base) ≡ true }
         requires leads { is_some (folded meta.now history.now.history (plain_of self.old)) ≡ true }
-        requires fits { Fits meta.now history.now.history self.old }
+        requires fits { ModelFits meta.now history.now.history self.old }
         ensures same { plain_of self.new ≡ plain_of self.old }
         ensures taken { self.new.model ≡ None }
         ensures model { IfOk result (λ m. plain_state m ≡ model_of meta.now history.now.history (plain_of self.old)) }
@@ -147,8 +147,8 @@ impl Workspace {
         }
     }
 
-    /// Operations come behind the others, or the steps of one join the composite that is open. When out of memory the workspace stays as it is, but for
-    /// its model, which is given: the one behind the operations.
+    /// Operations are added after the others, or the steps of one join the composite that is open. When out of memory the workspace stays as it is, but for
+    /// its model, which is given: the one after the operations.
     pub(crate) fn install(
         &mut self,
         alloc: Global,
@@ -209,14 +209,14 @@ impl Workspace {
         Ok(())
     }
 
-    /// Lets the last operation go. A model that is kept takes it back, or is not kept when out of memory.
+    /// Drops the last operation. A model that is kept takes it back, or is not kept when out of memory.
     pub(crate) fn undo(&mut self, alloc: Global, meta: &Metamodel, _history: &History)
         requires sound { Sound meta.now }
         requires can { can_undo (Some (plain_of self.old)) ≡ true }
         requires base { Good meta.now (state_of meta.now _history.now.history self.old.base) }
-        requires fits { Fits meta.now _history.now.history self.old }
+        requires fits { ModelFits meta.now _history.now.history self.old }
         ensures undone { plain_of self.new ≡ without_last (plain_of self.old) }
-        ensures fits { Fits meta.now _history.now.history self.new }
+        ensures fits { ModelFits meta.now _history.now.history self.new }
     {
         let Some(operation) = self.operations.pop() else {
             unreachable!()
@@ -227,7 +227,7 @@ impl Workspace {
         };
     }
 
-    /// Lets all that is local go. The model is not kept.
+    /// Drops all that is local. The model is not kept.
     pub(crate) fn discard(&mut self, alloc: Global)
         ensures discarded { plain_of self.new ≡ without_any (plain_of self.old) }
         ensures gone { self.new.model ≡ None }

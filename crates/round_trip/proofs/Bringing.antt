@@ -1,4 +1,4 @@
--- What rows that tell a model leave in the empty project is alike to the model, so it has the same text.
+-- What rows that describe a model leave in the empty project is alike to the model, so it has the same text.
 use Rattle.std.proofs.Common.{◌≡◌, ◌∙◌, ℕ, ◌+◌, ◌<◌, ◌≤◌, true, List, [], ◌∷◌, length, refl, sym, ap, arith}
 use Rattle.std.specs.Prelude.{Option, None, Some, is_some, slice_get, unwrap_or}
 use Rattle.std.specs.FinMap.{empty, get}
@@ -10,24 +10,24 @@ use Rattle.ecore_meta.specs.declared.meta.Value.{Value}
 use Rattle.model_state.specs.declared.step.Place.{Place}
 use Rattle.model_state.specs.declared.step.Place.TheVariants.{Root}
 use Rattle.model_state.specs.Good.{AttrOk, Good, PlaceOk, ValuesOk}
-use Rattle.model_state.specs.Keys.{AttrKey, Name, attr_cmp, id_cmp}
+use Rattle.model_state.specs.Keys.{AttrKey, IdBytes, attr_cmp, id_cmp}
 use Rattle.model_state.specs.Listing.{children, rank_at, values_at}
 use Rattle.model_state.specs.State.{State, is_live, nothing}
 use Rattle.model_state.specs.Typing.{kind_of, upper_of}
 use Rattle.model_state.proofs.Orders.{id_order}
 use Rattle.emfjson_model.specs.declared.doc.DocAttr.{DocAttr}
 use Rattle.emfjson_model.specs.declared.doc.DocRow.{DocRow}
-use Rattle.emfjson_model.specs.Fits.{Fits}
+use Rattle.emfjson_model.specs.Fits.{DocumentFits}
 use Rattle.emfjson_text.specs.Laws.{Alike}
 use Rattle.emfjson_text.specs.Tree.{child_ids, entry_ids}
 use Rattle.emfjson_text.proofs.Alike.{text_is_of_lists}
 use Rattle.model_import.specs.After.{attrs_from, import_after, kinds_from, places_from, ranks_from}
-use Rattle.model_import.specs.Laws.{are_apart}
+use Rattle.model_import.specs.Laws.{ids_differ}
 use Rattle.model_import.specs.Names.{name_at}
 use Rattle.model_import.specs.News.{place_of, rank_of}
 use Rattle.model_import.proofs.Indexed.{drop_none}
-use Rattle.round_trip.specs.Laws.{TellingsAreShown}
-use Rattle.round_trip.specs.Tells.{Tells}
+use Rattle.round_trip.specs.Laws.{DescriptionsAreShown}
+use Rattle.round_trip.specs.Describes.{Describes}
 use Rattle.round_trip.proofs.BringingMaps.{from_has, kinds_are, none_within, places_are, set_from, values_are, values_have, within_from, within_is, within_values}
 use Rattle.round_trip.proofs.BringingNames.{HasRow, before, child_few, child_stands, live_row, names_apart, told_at}
 use Rattle.round_trip.proofs.BringingRanks.{ranks_are}
@@ -54,17 +54,17 @@ set_values : (o : Option (List Value)) (v : Value) (vs : List Value) → unwrap_
 set_values None v vs is = cc
 set_values (Some ws) v vs is = ap (λ xs. Some xs) is
 
-module _ (meta : Meta) (m : State) (good : Good meta m) (names : List Name) (rows : List DocRow) (fit : Fits meta rows) (tells : Tells m names rows) (few : length rows < 4294967295) where
-  differ : are_apart names ≡ true
+module _ (meta : Meta) (m : State) (good : Good meta m) (names : List IdBytes) (rows : List DocRow) (fit : DocumentFits meta rows) (tells : Describes m names rows) (few : length rows < 4294967295) where
+  differ : ids_differ names ≡ true
   differ = names_apart m names rows tells fit.ids_apart
 
-  has_row : (e : Name) → is_live m e ≡ true → HasRow names rows e
+  has_row : (e : IdBytes) → is_live m e ≡ true → HasRow names rows e
   has_row e live = live_row m names rows tells meta good e live
 
   -- ---- classes and places
   -- an entry at each row's name
-  at_row : {X : Type 0} (value : DocRow → X) (told : Name → Option X) → ((i : ℕ) (r : DocRow) → slice_get rows i ≡ Some r → told (name_at names i) ≡ Some (value r)) → ((e : Name) → is_some (told e) ≡ true → HasRow names rows e)
-      → (e : Name) → get (set_from names value 0 empty rows) e ≡ told e
+  at_row : {X : Type 0} (value : DocRow → X) (told : IdBytes → Option X) → ((i : ℕ) (r : DocRow) → slice_get rows i ≡ Some r → told (name_at names i) ≡ Some (value r)) → ((e : IdBytes) → is_some (told e) ≡ true → HasRow names rows e)
+      → (e : IdBytes) → get (set_from names value 0 empty rows) e ≡ told e
   at_row value told each rowed e =
       within_is told (set_from names value 0 empty rows) (within_from names value told rows each rows 0 empty (drop_none rows) (none_within id_cmp told)) e
       (λ there. let row = rowed e there in ap (λ z. is_some (get (set_from names value 0 empty rows) z)) row.named ∙ from_has names value rows 0 empty row.row row.r row.is_row row.row (own row.row))
@@ -98,7 +98,7 @@ module _ (meta : Meta) (m : State) (good : Good meta m) (names : List Name) (row
       set_values (get m.attr (name_at names i, a.feature)) some.first some.more (sym ((told_at m names rows tells i r is).values a.feature) ∙ values_are r.attrs k a row.attrs_apart at ∙ some.is)
       ∙ ap (λ vs. Some vs) (sym some.is)
 
-  attr_there : (e : Name) (f : ℕ) (c : Option ℕ) (o : Option (List Value)) → get m.kind e ≡ c → get m.attr (e, f) ≡ o → AttrOk meta c f o → is_some o ≡ true → is_some (get (attrs_from names 0 empty rows) (e, f)) ≡ true
+  attr_there : (e : IdBytes) (f : ℕ) (c : Option ℕ) (o : Option (List Value)) → get m.kind e ≡ c → get m.attr (e, f) ≡ o → AttrOk meta c f o → is_some o ≡ true → is_some (get (attrs_from names 0 empty rows) (e, f)) ≡ true
   attr_there e f c None live is ok there = cc
   attr_there e f None (Some vs) live is ok there = absurd ok
   attr_there e f (Some c) (Some vs) live is ok there =
@@ -111,7 +111,7 @@ module _ (meta : Meta) (m : State) (good : Good meta m) (names : List Name) (row
       own : (i : ℕ) → i ≡ 0 + i
       own i = omega arith
 
-  attrs_same : (e : Name) (f : ℕ) → get (attrs_from names 0 empty rows) (e, f) ≡ get m.attr (e, f)
+  attrs_same : (e : IdBytes) (f : ℕ) → get (attrs_from names 0 empty rows) (e, f) ≡ get m.attr (e, f)
   attrs_same e f =
       within_is (λ (q : AttrKey). get m.attr q) (attrs_from names 0 empty rows) (within_values names (λ (q : AttrKey). get m.attr q) rows attr_told rows 0 empty (drop_none rows) (none_within attr_cmp (λ (q : AttrKey). get m.attr q))) (e, f)
       (attr_there e f (get m.kind e) (get m.attr (e, f)) refl refl (good.attrs.typed e f))
@@ -139,6 +139,6 @@ module _ (meta : Meta) (m : State) (good : Good meta m) (names : List Name) (row
     children = children_same;
   }
 
-pub tellings_are_shown : TellingsAreShown
+pub tellings_are_shown : DescriptionsAreShown
 tellings_are_shown meta sound m good names rows fit tells few =
     text_is_of_lists meta (import_after nothing names rows) m (brought_alike meta m good names rows fit tells (omega (arith, few)))

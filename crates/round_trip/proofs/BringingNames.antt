@@ -1,4 +1,4 @@
--- The names of rows that tell a model: no two are the same, each element has one, and they stand in the order of the lists.
+-- The names of rows that describe a model: no two are the same, each element has one, and they stand in the order of the lists.
 use Rattle.std.proofs.Common.{◌≡◌, ◌∙◌, ℕ, zero, suc, ◌+◌, ◌<◌, ◌≤◌, Bool, true, false, cond, ◌&&◌, not, List, [], ◌∷◌, ◌++◌, drop, length, take, nat_eq, refl, sym, ap, subst, arith, rules}
 use Rattle.std.specs.Prelude.{Option, None, Some, is_some, slice_get}
 use Rattle.std.specs.List.{count_by, list_any}
@@ -13,7 +13,7 @@ use Rattle.model_state.specs.declared.entry.Entry.{Entry}
 use Rattle.model_state.specs.declared.step.Place.{Place}
 use Rattle.model_state.specs.declared.step.Place.TheVariants.{Root, Inside}
 use Rattle.model_state.specs.Good.{Good, PlaceOk}
-use Rattle.model_state.specs.Keys.{Name}
+use Rattle.model_state.specs.Keys.{IdBytes}
 use Rattle.model_state.specs.Listing.{children, entry_cmp, rank_at}
 use Rattle.model_state.specs.State.{State, is_live, place_eq}
 use Rattle.model_state.proofs.Orders.{id_order}
@@ -22,20 +22,20 @@ use Rattle.model_laws.proofs.Inserts.{or_none}
 use Rattle.edit_laws.proofs.Lists.{any-in_order, any-map, picked_has}
 use Rattle.emfjson_model.specs.declared.doc.DocParent.{DocParent}
 use Rattle.emfjson_model.specs.declared.doc.DocRow.{DocRow}
-use Rattle.emfjson_model.specs.Fits.{Fits, StandsFit, standing}
+use Rattle.emfjson_model.specs.Fits.{DocumentFits, StandsFit, standing}
 use Rattle.emfjson_model.specs.Laws.{gives_id, ids_repeat, is_given}
 use Rattle.emfjson_model.specs.References.{parent_eq}
 use Rattle.emfjson_text.specs.Tree.{child_ids}
-use Rattle.model_import.specs.Laws.{are_apart}
+use Rattle.model_import.specs.Laws.{ids_differ}
 use Rattle.model_import.specs.Names.{name_at}
 use Rattle.model_import.specs.News.{inside, place_of}
 use Rattle.model_import.proofs.Indexed.{at_less, drop_at, drop_next, drop_none, named, same_at, take_next}
-use Rattle.round_trip.specs.Tells.{Tells, TellsElement, standing_in}
+use Rattle.round_trip.specs.Describes.{Describes, DescribesElement, standing_in}
 use Rattle.round_trip.proofs.ListsInOrder.{any_id, any_index}
 
 -- ---- no two names are the same
 -- a name that none of the rows gives is none of theirs
-none_gives : (e : Name) (rest : List DocRow) (es : List Name) → length es ≡ length rest → ((n : ℕ) (r : DocRow) (x : Name) → slice_get rest n ≡ Some r → slice_get es n ≡ Some x → r.id ≡ Some x) → list_any (gives_id e) rest ≡ false
+none_gives : (e : IdBytes) (rest : List DocRow) (es : List IdBytes) → length es ≡ length rest → ((n : ℕ) (r : DocRow) (x : IdBytes) → slice_get rest n ≡ Some r → slice_get es n ≡ Some x → r.id ≡ Some x) → list_any (gives_id e) rest ≡ false
     → list_any (text_eq e) es ≡ false
 none_gives e rest [] many each h = refl
 none_gives e [] (x ∷ es) many each h = absurd (omega (arith, many))
@@ -43,25 +43,25 @@ none_gives e (r ∷ rest) (x ∷ es) many each h =
     or_none (text_eq e x) _ (sym (ap (option_eq text_eq (Some e)) (each 0 r x refl refl)) ∙ or_first (gives_id e r) _ h)
     (none_gives e rest es (omega (arith, many)) (λ n. each (suc n)) (or_second (gives_id e r) _ h))
 
-names_differ : (rest : List DocRow) (es : List Name) → length es ≡ length rest → ((n : ℕ) (r : DocRow) (x : Name) → slice_get rest n ≡ Some r → slice_get es n ≡ Some x → r.id ≡ Some x) → ids_repeat rest ≡ false → are_apart es ≡ true
+names_differ : (rest : List DocRow) (es : List IdBytes) → length es ≡ length rest → ((n : ℕ) (r : DocRow) (x : IdBytes) → slice_get rest n ≡ Some r → slice_get es n ≡ Some x → r.id ≡ Some x) → ids_repeat rest ≡ false → ids_differ es ≡ true
 names_differ rest [] many each h = refl
 names_differ [] (x ∷ es) many each h = absurd (omega (arith, many))
 names_differ (r ∷ rest) (x ∷ es) many each h =
-    and_both (not (list_any (text_eq x) es)) (are_apart es)
+    and_both (not (list_any (text_eq x) es)) (ids_differ es)
     (not_false _ (none_gives x rest es (omega (arith, many)) (λ n. each (suc n)) (ap (λ o. is_given o rest) (sym (each 0 r x refl refl)) ∙ or_first (is_given r.id rest) _ h)))
     (names_differ rest es (omega (arith, many)) (λ n. each (suc n)) (or_second (is_given r.id rest) _ h))
 
 -- where a name stands among the names
-abbrev pub index_of : Name → List Name → ℕ
+abbrev pub index_of : IdBytes → List IdBytes → ℕ
 index_of e [] = 0
 index_of e (x ∷ xs) = cond (text_eq e x) 0 (suc (index_of e xs))
 
-pub index_named : (names : List Name) → are_apart names ≡ true → (i : ℕ) → i < length names → index_of (name_at names i) names ≡ i
+pub index_named : (names : List IdBytes) → ids_differ names ≡ true → (i : ℕ) → i < length names → index_of (name_at names i) names ≡ i
 index_named [] ok i less = absurd (omega arith)
 index_named (x ∷ xs) ok zero less = ap (λ b. cond b 0 (suc (index_of x xs))) (text_equality.own x)
 index_named (x ∷ xs) ok (suc i) less =
     ap (λ b. cond b 0 (suc (index_of (name_at xs i) xs))) (same_at (x ∷ xs) ok (suc i) 0 less (omega arith) ∙ not_zero i)
-    ∙ ap suc (index_named xs (second (not (list_any (text_eq x) xs)) (are_apart xs) ok) i (omega arith))
+    ∙ ap suc (index_named xs (second (not (list_any (text_eq x) xs)) (ids_differ xs) ok) i (omega arith))
   where
     not_zero : (i : ℕ) → nat_eq (suc i) 0 ≡ false
     not_zero i = search rules
@@ -97,7 +97,7 @@ take_in (suc n) (y ∷ ys) zero x is = is
 take_in (suc n) (y ∷ ys) (suc j) x is = take_in n ys j x is
 
 -- ---- the rows by their places
-module _ (names : List Name) (rows : List DocRow) where
+module _ (names : List IdBytes) (rows : List DocRow) where
   -- how many of the first n rows stand in a place
   abbrev pub before : Place → ℕ → ℕ
   before p n = tally (λ (r : DocRow). place_eq (place_of names r.parent) p) (take n rows)
@@ -115,8 +115,8 @@ module _ (names : List Name) (rows : List DocRow) where
   pub before_few : (p : Place) (n : ℕ) → before p n ≤ n
   before_few p n = tally_first (λ (r : DocRow). place_eq (place_of names r.parent) p) n rows
 
-  -- a name is that of a row in the place, behind k others there
-  pub record StandsAs (p : Place) (k : ℕ) (x : Name) : Type 0 where
+  -- a name is that of a row in the place, after k others there
+  pub record StandsAs (p : Place) (k : ℕ) (x : IdBytes) : Type 0 where
     pub row : ℕ
     pub r : DocRow
     pub is_row : slice_get rows row ≡ Some r
@@ -125,8 +125,8 @@ module _ (names : List Name) (rows : List DocRow) where
     pub behind : before p row ≡ k
 
   stands_first : (p : Place) (r : DocRow) (rest : List DocRow) (n : ℕ) → drop n rows ≡ r ∷ rest → place_eq (place_of names r.parent) p ≡ true
-      → ((j : ℕ) (x : Name) → slice_get (standing_in names p (suc n) rest) j ≡ Some x → (k : ℕ) → k ≡ before p (suc n) + j → StandsAs p k x)
-      → (j : ℕ) (x : Name) → slice_get (name_at names n ∷ standing_in names p (suc n) rest) j ≡ Some x → (k : ℕ) → k ≡ before p n + j → StandsAs p k x
+      → ((j : ℕ) (x : IdBytes) → slice_get (standing_in names p (suc n) rest) j ≡ Some x → (k : ℕ) → k ≡ before p (suc n) + j → StandsAs p k x)
+      → (j : ℕ) (x : IdBytes) → slice_get (name_at names n ∷ standing_in names p (suc n) rest) j ≡ Some x → (k : ℕ) → k ≡ before p n + j → StandsAs p k x
   stands_first p r rest n left here later zero x is k at = record {
     row = n;
     r = r;
@@ -136,7 +136,7 @@ module _ (names : List Name) (rows : List DocRow) where
     behind = sym (at ∙ none (before p n));
   }
     where
-      same_name : (x y : Name) → ◌≡◌ {A = Option Name} (Some y) (Some x) → x ≡ y
+      same_name : (x y : IdBytes) → ◌≡◌ {A = Option IdBytes} (Some y) (Some x) → x ≡ y
       same_name x y is = cc
 
       none : (k : ℕ) → k + 0 ≡ k
@@ -146,7 +146,7 @@ module _ (names : List Name) (rows : List DocRow) where
       next : (k b c j : ℕ) → k ≡ b + suc j → c ≡ b + 1 → k ≡ c + j
       next k b c j h g = omega arith
 
-  pub stands_as : (p : Place) (rest : List DocRow) (n : ℕ) → drop n rows ≡ rest → (j : ℕ) (x : Name) → slice_get (standing_in names p n rest) j ≡ Some x → (k : ℕ) → k ≡ before p n + j → StandsAs p k x
+  pub stands_as : (p : Place) (rest : List DocRow) (n : ℕ) → drop n rows ≡ rest → (j : ℕ) (x : IdBytes) → slice_get (standing_in names p n rest) j ≡ Some x → (k : ℕ) → k ≡ before p n + j → StandsAs p k x
   stands_as p [] n left j x is k at = cc
   stands_as p (r ∷ rest) n left j x is k at =
       elim (place_eq (place_of names r.parent) p) as (λ b. place_eq (place_of names r.parent) p ≡ b → slice_get (cond b (name_at names n ∷ standing_in names p (suc n) rest) (standing_in names p (suc n) rest)) j ≡ Some x → StandsAs p k x) [
@@ -168,7 +168,7 @@ module _ (names : List Name) (rows : List DocRow) where
       ]
 
 -- ---- rows that fit stand in one place where they have one parent
-module _ (names : List Name) (differ : are_apart names ≡ true) where
+module _ (names : List IdBytes) (differ : ids_differ names ≡ true) where
   -- the parent is the root or one of the rows
   abbrev InRange : Option DocParent → Type 0
   InRange None = Unit {0}
@@ -183,7 +183,7 @@ module _ (names : List Name) (differ : are_apart names ≡ true) where
       ∙ ap (λ o. place_eq (Inside (name_at names p.row) p.feature) (inside o q.feature)) (named names q.row h)
       ∙ ap (λ b. b && nat_eq p.feature q.feature) (same_at names differ p.row q.row g h))
 
-  module _ (meta : Meta) (rows : List DocRow) (fit : Fits meta rows) (as_many : length names ≡ length rows) where
+  module _ (meta : Meta) (rows : List DocRow) (fit : DocumentFits meta rows) (as_many : length names ≡ length rows) where
     in_range : (c : ℕ) (o : Option DocParent) → StandsFit meta rows c o → InRange o
     in_range c None stands = tt
     in_range c (Some p) stands = let less = at_less rows p.row stands.0 stands.1 in omega (arith, less, as_many)
@@ -196,33 +196,33 @@ module _ (names : List Name) (differ : are_apart names ≡ true) where
         counted (λ (x : DocRow). option_eq parent_eq x.parent r.parent) (λ (x : DocRow). place_eq (place_of names x.parent) (place_of names r.parent)) (take n rows)
         (λ j x at. same_parents x.parent r.parent (row_in_range j x (take_in n rows j x at)) (row_in_range i r is))
 
--- ---- each row tells its element, and each element has a row
+-- ---- each row describes its element, and each element has a row
 -- a row has the name
-pub record HasRow (names : List Name) (rows : List DocRow) (e : Name) : Type 0 where
+pub record HasRow (names : List IdBytes) (rows : List DocRow) (e : IdBytes) : Type 0 where
   pub row : ℕ
   pub r : DocRow
   pub is_row : slice_get rows row ≡ Some r
   pub named : e ≡ name_at names row
 
-module _ (m : State) (names : List Name) (rows : List DocRow) (tells : Tells m names rows) where
+module _ (m : State) (names : List IdBytes) (rows : List DocRow) (tells : Describes m names rows) where
   pub row_small : (i : ℕ) (r : DocRow) → slice_get rows i ≡ Some r → i < length names
   row_small i r is = let less = at_less rows i r is in let many = tells.as_many in omega (arith, less, many)
 
-  pub told_at : (i : ℕ) (r : DocRow) → slice_get rows i ≡ Some r → TellsElement m names (name_at names i) r
+  pub told_at : (i : ℕ) (r : DocRow) → slice_get rows i ≡ Some r → DescribesElement m names (name_at names i) r
   told_at i r is = tells.each i r (name_at names i) is (named names i (row_small i r is))
 
-  pub names_apart : ids_repeat rows ≡ false → are_apart names ≡ true
+  pub names_apart : ids_repeat rows ≡ false → ids_differ names ≡ true
   names_apart apart = names_differ rows names tells.as_many (λ n r x is at. (tells.each n r x is at).id) apart
 
-  pub child_at : (e : Name) (p : Place) → get m.place e ≡ Some p → (j : ℕ) × (slice_get (child_ids m p) j ≡ Some e)
+  pub child_at : (e : IdBytes) (p : Place) → get m.place e ≡ Some p → (j : ℕ) × (slice_get (child_ids m p) j ≡ Some e)
   child_at e p is =
       any_index e (child_ids m p)
       (sym (any_id e (children m.place m.prank p))
       ∙ any-in_order entry_cmp (λ (x : Entry). text_eq e x.id) _
-      ∙ any-map (λ (x : Entry). text_eq e x.id) (λ (s : Name × Place). record { rank = rank_at m.prank s.0; id = s.0 }) _
-      ∙ picked_has id_order (λ (s : Name × Place). place_eq p s.1) m.place (λ (s : Name × Place). text_eq e s.0) e p is (place_equality.own p) (text_equality.own e))
+      ∙ any-map (λ (x : Entry). text_eq e x.id) (λ (s : IdBytes × Place). record { rank = rank_at m.prank s.0; id = s.0 }) _
+      ∙ picked_has id_order (λ (s : IdBytes × Place). place_eq p s.1) m.place (λ (s : IdBytes × Place). text_eq e s.0) e p is (place_equality.own p) (text_equality.own e))
 
-  pub child_stands : (p : Place) (j : ℕ) (e : Name) → slice_get (child_ids m p) j ≡ Some e → StandsAs names rows p j e
+  pub child_stands : (p : Place) (j : ℕ) (e : IdBytes) → slice_get (child_ids m p) j ≡ Some e → StandsAs names rows p j e
   child_stands p j e is = stands_as names rows p rows 0 (drop_none rows) j e (ap (λ xs. slice_get xs j) (tells.lists p) ∙ is) j (none (before names rows p 0) j (before_few names rows p 0))
     where
       none : (b j : ℕ) → b ≤ 0 → j ≡ b + j
@@ -231,13 +231,13 @@ module _ (m : State) (names : List Name) (rows : List DocRow) (tells : Tells m n
   pub child_few : (p : Place) → length (child_ids m p) ≤ length rows
   child_few p = subst (λ xs. length xs ≤ length rows) (tells.lists p) (standing_few names rows p rows 0)
 
-  placed_row : (e : Name) (p : Place) → get m.place e ≡ Some p → HasRow names rows e
+  placed_row : (e : IdBytes) (p : Place) → get m.place e ≡ Some p → HasRow names rows e
   placed_row e p is =
       let child = child_at e p is in
       let stands = child_stands p child.0 e child.1 in
       record { row = stands.row; r = stands.r; is_row = stands.is_row; named = stands.named }
 
-  pub live_row : (meta : Meta) → Good meta m → (e : Name) → is_live m e ≡ true → HasRow names rows e
+  pub live_row : (meta : Meta) → Good meta m → (e : IdBytes) → is_live m e ≡ true → HasRow names rows e
   live_row meta good e live = by_place (get m.kind e) (get m.place e) (get m.prank e) refl (good.places.stands e) live
     where
       by_place : (c : Option ℕ) (o : Option Place) (r : Option ℕ) → get m.place e ≡ o → PlaceOk meta m.kind c o r → is_some c ≡ true → HasRow names rows e

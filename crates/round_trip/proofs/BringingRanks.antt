@@ -11,7 +11,7 @@ use Rattle.model_state.specs.declared.entry.Entry.{Entry}
 use Rattle.model_state.specs.declared.step.Place.{Place}
 use Rattle.model_state.specs.declared.step.Place.TheVariants.{Root, Inside}
 use Rattle.model_state.specs.declared.step.Step.{Step}
-use Rattle.model_state.specs.Keys.{Name, id_cmp}
+use Rattle.model_state.specs.Keys.{IdBytes, id_cmp}
 use Rattle.model_state.specs.Listing.{children, entry_cmp, rank_at}
 use Rattle.model_state.specs.State.{place_eq}
 use Rattle.model_state.proofs.Orders.{id_order}
@@ -20,9 +20,9 @@ use Rattle.edit_laws.specs.Spot.{Spot, end_spot, evened, rank_for, ranks_of}
 use Rattle.edit_laws.specs.declared.fault.EditFault.TheVariants.{Bound}
 use Rattle.edit_laws.proofs.Lists.{entries_held}
 use Rattle.emfjson_model.specs.declared.doc.DocRow.{DocRow}
-use Rattle.emfjson_model.specs.Fits.{Fits, standing}
+use Rattle.emfjson_model.specs.Fits.{DocumentFits, standing}
 use Rattle.model_import.specs.After.{ranks_after, ranks_from}
-use Rattle.model_import.specs.Laws.{are_apart}
+use Rattle.model_import.specs.Laws.{ids_differ}
 use Rattle.model_import.specs.Names.{name_at}
 use Rattle.model_import.specs.News.{element_made, has_room, news_from, news_made, place_of, rank_of, roots_after}
 use Rattle.model_import.proofs.Ends.{after_kept, even_end, kept_end}
@@ -58,8 +58,8 @@ all_last : {X : Type 0} (P : X → Type 0) (xs : List X) (y : X) → AllByRecurs
 all_last P [] y all here = (here, tt)
 all_last P (x ∷ xs) y all here = (all.0, all_last P xs y all.1 here)
 
-module _ (told : Name → Option ℕ) where
-  -- the entry's rank is the one that is told
+module _ (told : IdBytes → Option ℕ) where
+  -- the entry's rank is the one that is given
   abbrev ToldAt : Entry → Type 0
   ToldAt x = told x.id ≡ Some x.rank
 
@@ -67,17 +67,17 @@ module _ (told : Name → Option ℕ) where
   ranked_within [] prank inside all = inside
   ranked_within (x ∷ xs) prank inside all = ranked_within xs (set prank x.id (Some x.rank)) (within_set id_order told prank x.id x.rank inside all.0) all.1
 
-ranked_grow : (xs : List Entry) (prank : Ranks) (q : Name) → is_some (get prank q) ≡ true → is_some (get (ranked_places xs (ranks_of xs) prank) q) ≡ true
+ranked_grow : (xs : List Entry) (prank : Ranks) (q : IdBytes) → is_some (get prank q) ≡ true → is_some (get (ranked_places xs (ranks_of xs) prank) q) ≡ true
 ranked_grow [] prank q there = there
 ranked_grow (x ∷ xs) prank q there = ranked_grow xs (set prank x.id (Some x.rank)) q (set_grows id_order prank x.id x.rank q there)
 
-module _ (meta : Meta) (names : List Name) (rows : List DocRow) (fit : Fits meta rows) (as_many : length names ≡ length rows) (differ : are_apart names ≡ true) (few : length rows < 4294967295) where
+module _ (meta : Meta) (names : List IdBytes) (rows : List DocRow) (fit : DocumentFits meta rows) (as_many : length names ≡ length rows) (differ : ids_differ names ≡ true) (few : length rows < 4294967295) where
   -- the rank of the i-th row, by how many stand before it in its place
   abbrev pub rank_at_row : ℕ → Option ℕ
   rank_at_row i = option_map (λ (r : DocRow). rank_of (before names rows (place_of names r.parent) i)) (slice_get rows i)
 
   -- that of an element, by its name
-  abbrev pub rank_told : Name → Option ℕ
+  abbrev pub rank_told : IdBytes → Option ℕ
   rank_told e = rank_at_row (index_of e names)
 
   pub rank_named : (i : ℕ) (r : DocRow) → slice_get rows i ≡ Some r → rank_told (name_at names i) ≡ Some (rank_of (before names rows (place_of names r.parent) i))
@@ -86,24 +86,24 @@ module _ (meta : Meta) (names : List Name) (rows : List DocRow) (fit : Fits meta
       ap rank_at_row (index_named names differ i (omega (arith, less, as_many)))
       ∙ ap (option_map (λ (x : DocRow). rank_of (before names rows (place_of names x.parent) i))) is
 
-  -- the root's elements once the first n rows have come
+  -- the root's elements once those of the first n rows are created
   record Roots (n : ℕ) (xs : List Entry) : Type 0 where
     even : ranks_of xs ≡ evened 1 xs
     many : length xs ≡ before names rows Root n
     each : AllByRecursion (λ (x : Entry). rank_told x.id ≡ Some x.rank) xs
 
-  -- one element has come
-  record Came (n : ℕ) (xs : List Entry) (e : Name) (old new : Ranks) : Type 0 where
+  -- one element is created
+  record Came (n : ℕ) (xs : List Entry) (e : IdBytes) (old new : Ranks) : Type 0 where
     roots : Roots n xs
     inside : Within rank_told old → Within rank_told new
-    grows : (q : Name) → is_some (get old q) ≡ true → is_some (get new q) ≡ true
+    grows : (q : IdBytes) → is_some (get old q) ≡ true → is_some (get new q) ≡ true
     here : is_some (get new e) ≡ true
 
   module _ (n : ℕ) (r : DocRow) (rest : List DocRow) (left : drop n rows ≡ r ∷ rest) where
     at : slice_get rows n ≡ Some r
     at = drop_at n rows r rest left
 
-    abbrev e : Name
+    abbrev e : IdBytes
     e = name_at names n
 
     root_came : (xs : List Entry) (prank : Ranks) (k : ℕ) → place_of names r.parent ≡ Root → Roots n xs → Came (suc n) (roots_after xs Root e) e prank (ranks_after xs Root e k prank)
@@ -139,7 +139,7 @@ module _ (meta : Meta) (names : List Name) (rows : List DocRow) (fit : Fits meta
         turned : (k : ℕ) → k + 1 ≡ 1 + k
         turned k = omega arith
 
-    inside_came : (a : Name) (f : ℕ) (xs : List Entry) (prank : Ranks) (k : ℕ) → place_of names r.parent ≡ Inside a f → k ≡ before names rows (Inside a f) n → Roots n xs
+    inside_came : (a : IdBytes) (f : ℕ) (xs : List Entry) (prank : Ranks) (k : ℕ) → place_of names r.parent ≡ Inside a f → k ≡ before names rows (Inside a f) n → Roots n xs
         → Came (suc n) (roots_after xs (Inside a f) e) e prank (ranks_after xs (Inside a f) e k prank)
     inside_came a f xs prank k is stand roots =
         let next = before_next names rows Root n r rest left false (ap (λ p. place_eq p Root) is) in
@@ -181,10 +181,10 @@ module _ (meta : Meta) (names : List Name) (rows : List DocRow) (fit : Fits meta
       room true is = refl
       room false is = cc
 
-  -- all have come
+  -- all are created
   record AllCame (n : ℕ) (rest : List DocRow) (old new : Ranks) : Type 0 where
     inside : Within rank_told old → Within rank_told new
-    grows : (q : Name) → is_some (get old q) ≡ true → is_some (get new q) ≡ true
+    grows : (q : IdBytes) → is_some (get old q) ≡ true → is_some (get new q) ≡ true
     has : (i : ℕ) (r : DocRow) → slice_get rest i ≡ Some r → (k : ℕ) → k ≡ n + i → is_some (get new (name_at names k)) ≡ true
 
   all_came : (rest : List DocRow) (n : ℕ) (xs : List Entry) (prank : Ranks) → drop n rows ≡ rest → Roots n xs → AllCame n rest prank (ranks_from names rows n xs prank rest)
@@ -201,7 +201,7 @@ module _ (meta : Meta) (names : List Name) (rows : List DocRow) (fit : Fits meta
         has = has_row (ranks_after xs p e k prank) (ranks_from names rows (suc n) (roots_after xs p e) (ranks_after xs p e k prank) rest) one.here more.grows more.has;
       }
     where
-      has_row : (new last : Ranks) → is_some (get new (name_at names n)) ≡ true → ((q : Name) → is_some (get new q) ≡ true → is_some (get last q) ≡ true)
+      has_row : (new last : Ranks) → is_some (get new (name_at names n)) ≡ true → ((q : IdBytes) → is_some (get new q) ≡ true → is_some (get last q) ≡ true)
           → ((i : ℕ) (x : DocRow) → slice_get rest i ≡ Some x → (k : ℕ) → k ≡ suc n + i → is_some (get last (name_at names k)) ≡ true)
           → (i : ℕ) (x : DocRow) → slice_get (r ∷ rest) i ≡ Some x → (k : ℕ) → k ≡ n + i → is_some (get last (name_at names k)) ≡ true
       has_row new last here grows later zero x is k at = ap (λ j. is_some (get last (name_at names j))) (at ∙ first n) ∙ grows (name_at names n) here
@@ -216,10 +216,10 @@ module _ (meta : Meta) (names : List Name) (rows : List DocRow) (fit : Fits meta
   -- ---- from the empty project on
   no_children : children empty empty Root ≡ []
   no_children =
-      ap (λ es. in_order entry_cmp (map (λ (e : Name × Place). record { rank = rank_at empty e.0; id = e.0 }) (filter (λ (e : Name × Place). place_eq Root e.1) es)))
+      ap (λ es. in_order entry_cmp (map (λ (e : IdBytes × Place). record { rank = rank_at empty e.0; id = e.0 }) (filter (λ (e : IdBytes × Place). place_eq Root e.1) es)))
       (no_entries (entries empty) (entries_held id_order empty))
     where
-      no_entries : (es : List (Name × Place)) → AllByRecursion (λ (e : Name × Place). get {R = id_cmp} empty e.0 ≡ Some e.1) es → es ≡ []
+      no_entries : (es : List (IdBytes × Place)) → AllByRecursion (λ (e : IdBytes × Place). get {R = id_cmp} empty e.0 ≡ Some e.1) es → es ≡ []
       no_entries [] all = refl
       no_entries (e ∷ es) all = absurd (some_none (get {R = id_cmp} empty e.0) e.1 all.0 (get-empty id_cmp e.0))
 
@@ -240,6 +240,6 @@ module _ (meta : Meta) (names : List Name) (rows : List DocRow) (fit : Fits meta
       own : (i : ℕ) → i ≡ 0 + i
       own i = omega arith
 
-  -- each element comes, as there is room for all
+  -- each element is created, as there is room for all
   pub all_come : (all : List Step) × (news_made (children empty empty Root) names rows ≡ Ok all)
   all_come = let come = news_come rows 0 [] [] (drop_none rows) no_roots in (come.0, ap (λ xs. news_made xs names rows) no_children ∙ come.1)

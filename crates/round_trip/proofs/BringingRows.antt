@@ -1,4 +1,4 @@
--- The references of rows that tell a model, brought into the empty project: the same rows, ranked as new lists.
+-- The references of rows that describe a model, brought into the empty project: the same rows, ranked as new lists.
 use Rattle.std.proofs.Common.{◌≡◌, ◌∙◌, ℕ, zero, suc, ◌+◌, ◌<◌, ◌≤◌, Bool, true, false, not, List, [], ◌∷◌, length, map, nat_eq, refl, sym, ap, subst, arith}
 use Rattle.std.specs.Prelude.{Option, None, Some, is_some, slice_get}
 use Rattle.std.specs.List.{AllByRecursion, IsDistinct, list_any}
@@ -10,7 +10,7 @@ use Rattle.finite_maps.proofs.EqualLaws.{and_first, and_second}
 use Rattle.ecore_meta.specs.Meta.{Meta}
 use Rattle.model_state.specs.declared.entry.Entry.{Entry}
 use Rattle.model_state.specs.Good.{Good, RowOk}
-use Rattle.model_state.specs.Keys.{Name, RowKey, row_cmp}
+use Rattle.model_state.specs.Keys.{IdBytes, RowKey, row_cmp}
 use Rattle.model_state.specs.Listing.{targets}
 use Rattle.model_state.specs.State.{State}
 use Rattle.edit_laws.specs.Rows.{Rows}
@@ -18,11 +18,11 @@ use Rattle.edit_laws.proofs.Lists.{targets_has, targets_held}
 use Rattle.emfjson_model.specs.declared.doc.DocRefs.{DocRefs}
 use Rattle.emfjson_model.specs.declared.doc.DocRow.{DocRow}
 use Rattle.emfjson_model.specs.Fits as fits
-use Rattle.emfjson_model.specs.Fits.{Fits}
+use Rattle.emfjson_model.specs.Fits.{DocumentFits}
 use Rattle.emfjson_model.specs.Merged.{targets_at}
 use Rattle.emfjson_text.specs.Tree.{entry_ids, target_ids}
 use Rattle.model_import.specs.After.{rows_from}
-use Rattle.model_import.specs.Laws.{are_apart}
+use Rattle.model_import.specs.Laws.{ids_differ}
 use Rattle.model_import.specs.Links.{refs_at}
 use Rattle.model_import.specs.Names.{name_at}
 use Rattle.model_import.specs.News.{rank_of}
@@ -30,7 +30,7 @@ use Rattle.model_import.proofs.Indexed.{at_less}
 use Rattle.model_import.proofs.Linking.{covered, turns_held}
 use Rattle.model_import.proofs.LinksLead.{Sits, all_alone, all_sit, any_at, index_is, list_apart}
 use Rattle.model_import.proofs.Turns.{Each, Turn, each_both, each_map, found_from, key_of, rows_are, turns_from, turns_set}
-use Rattle.round_trip.specs.Tells.{Tells}
+use Rattle.round_trip.specs.Describes.{Describes}
 use Rattle.round_trip.proofs.BringingNames.{HasRow, live_row, row_small, told_at}
 use Rattle.round_trip.proofs.ListsInOrder.{any_id, any_index, targets_shown}
 
@@ -56,7 +56,7 @@ length_map h [] = refl
 length_map h (x ∷ xs) = ap suc (length_map h xs)
 
 -- numbers of rows, each once, are not more than the rows
-distinct : (bs : List ℕ) → fits.are_apart bs ≡ true → IsDistinct nat_eq bs
+distinct : (bs : List ℕ) → fits.numbers_differ bs ≡ true → IsDistinct nat_eq bs
 unfolding IsDistinct
 distinct [] ok = tt
 distinct (b ∷ bs) ok = (none bs (not_true (list_any (nat_eq b) bs) (and_first _ _ ok)), distinct bs (and_second (not (list_any (nat_eq b) bs)) _ ok))
@@ -66,11 +66,11 @@ distinct (b ∷ bs) ok = (none bs (not_true (list_any (nat_eq b) bs) (and_first 
     none (c ∷ cs) h = (or_first (nat_eq b c) _ h, none cs (or_second (nat_eq b c) _ h))
 
 -- ---- what stands among the targets
-held_there : (row : Rows) (a : Name) (f : ℕ) (xs : List Entry) → AllByRecursion (λ (x : Entry). get row (a, f, x.id) ≡ Some x.rank) xs → (j : ℕ) (b : Name) → slice_get (entry_ids xs) j ≡ Some b → is_some (get row (a, f, b)) ≡ true
+held_there : (row : Rows) (a : IdBytes) (f : ℕ) (xs : List Entry) → AllByRecursion (λ (x : Entry). get row (a, f, x.id) ≡ Some x.rank) xs → (j : ℕ) (b : IdBytes) → slice_get (entry_ids xs) j ≡ Some b → is_some (get row (a, f, b)) ≡ true
 held_there row a f [] all j b is = cc
 held_there row a f (x ∷ xs) all zero b is = subst (λ z. is_some (get row (a, f, z)) ≡ true) (same_item x.id b is) (ap is_some all.0)
   where
-    same_item : (x b : Name) → ◌≡◌ {A = Option Name} (Some x) (Some b) → x ≡ b
+    same_item : (x b : IdBytes) → ◌≡◌ {A = Option IdBytes} (Some x) (Some b) → x ≡ b
     same_item x b is = cc
 held_there row a f (x ∷ xs) all (suc j) b is = held_there row a f xs all.1 j b is
 
@@ -85,7 +85,7 @@ both_so true b h k = sym (h refl)
 both_so false true h k = k refl
 both_so false false h k = refl
 
-module _ (meta : Meta) (m : State) (good : Good meta m) (names : List Name) (rows : List DocRow) (fit : Fits meta rows) (tells : Tells m names rows) (differ : are_apart names ≡ true) where
+module _ (meta : Meta) (m : State) (good : Good meta m) (names : List IdBytes) (rows : List DocRow) (fit : DocumentFits meta rows) (tells : Describes m names rows) (differ : ids_differ names ≡ true) where
   abbrev ts : List Turn
   ts = turns_from 0 rows
 
@@ -124,10 +124,10 @@ module _ (meta : Meta) (m : State) (good : Good meta m) (names : List Name) (row
       (λ t h. (t.index, ap (λ refs. slice_get (targets_at t.feature refs) t.index) (refs_are t.row h.0.source h.0.is_source) ∙ h.0.among, h.1)) ts
       (each_both (Sits meta rows) (λ t. get whole (key_of names t) ≡ Some (rank_of t.index)) ts (all_sit meta rows fit) all_held)
 
-  live_row_of : (a : Name) (f : ℕ) (b : Name) → is_some (get m.row (a, f, b)) ≡ true → HasRow names rows a
+  live_row_of : (a : IdBytes) (f : ℕ) (b : IdBytes) → is_some (get m.row (a, f, b)) ≡ true → HasRow names rows a
   live_row_of a f b there = live_row m names rows tells meta good a (live_source meta f (get m.kind a) (get m.kind b) (get m.row (a, f, b)) (good.rows.typed a f b) there)
 
-  target_there : (a : Name) (f j : ℕ) (b : Name) → slice_get (target_ids m a f) j ≡ Some b → is_some (get m.row (a, f, b)) ≡ true
+  target_there : (a : IdBytes) (f j : ℕ) (b : IdBytes) → slice_get (target_ids m a f) j ≡ Some b → is_some (get m.row (a, f, b)) ≡ true
   target_there a f j b is = held_there m.row a f (targets m.row a f) (targets_held m.row a f) j b is
 
   row_ranked : (i : ℕ) (r : DocRow) → slice_get rows i ≡ Some r → (f j n : ℕ) → slice_get (targets_at f r.refs) j ≡ Some n → get whole (name_at names i, f, name_at names n) ≡ Some (rank_of j)
@@ -141,7 +141,7 @@ module _ (meta : Meta) (m : State) (good : Good meta m) (names : List Name) (row
       own : (i : ℕ) → i ≡ 0 + i
       own i = omega arith
 
-  rows_ranked : (a : Name) (f j : ℕ) (b : Name) → slice_get (target_ids m a f) j ≡ Some b → get whole (a, f, b) ≡ Some (rank_of j)
+  rows_ranked : (a : IdBytes) (f j : ℕ) (b : IdBytes) → slice_get (target_ids m a f) j ≡ Some b → get whole (a, f, b) ≡ Some (rank_of j)
   rows_ranked a f j b is =
       let row = live_row_of a f b (target_there a f j b is) in
       let told = (told_at m names rows tells row.row row.r row.is_row).targets f in
@@ -174,10 +174,10 @@ module _ (meta : Meta) (m : State) (good : Good meta m) (names : List Name) (row
       own : (i : ℕ) → i ≡ 0 + i
       own i = omega arith
 
-  targets_few : (a : Name) (f : ℕ) → length (target_ids m a f) ≤ length rows
+  targets_few : (a : IdBytes) (f : ℕ) → length (target_ids m a f) ≤ length rows
   targets_few a f = by_list (target_ids m a f) refl
     where
-      by_list : (xs : List Name) → target_ids m a f ≡ xs → length xs ≤ length rows
+      by_list : (xs : List IdBytes) → target_ids m a f ≡ xs → length xs ≤ length rows
       by_list [] is = omega arith
       by_list (x ∷ xs) is =
           let row = live_row_of a f x (target_there a f 0 x (ap (λ ys. slice_get ys 0) is)) in
@@ -185,7 +185,7 @@ module _ (meta : Meta) (m : State) (good : Good meta m) (names : List Name) (row
           subst (λ ys. length ys ≤ length rows) (told ∙ ap (λ z. target_ids m z f) (sym row.named) ∙ is)
           (subst (λ n. n ≤ length rows) (sym (length_map (name_at names) (targets_at f row.r.refs))) (row_few row.row row.r row.is_row f))
 
-  pub targets_same : length rows < 4294967295 → (a : Name) (f : ℕ) → entry_ids (targets (rows_from names 0 empty rows) a f) ≡ target_ids m a f
+  pub targets_same : length rows < 4294967295 → (a : IdBytes) (f : ℕ) → entry_ids (targets (rows_from names 0 empty rows) a f) ≡ target_ids m a f
   targets_same few a f =
       ap (λ row. entry_ids (targets row a f)) (rows_are names 0 empty rows)
       ∙ targets_shown m.row whole a f (λ q. both_so (is_some (get whole q)) (is_some (get m.row q)) (rows_inside q) (rows_cover q)) (within (length (target_ids m a f)) (length rows) (targets_few a f) few) (rows_ranked a f)

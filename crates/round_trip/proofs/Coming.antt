@@ -4,7 +4,7 @@ use Rattle.std.specs.Prelude.{◌||◌, is_some, Option, None, Some, Result, Ok,
 use Rattle.std.specs.FinMap.{empty, get-empty}
 use Rattle.ecore_meta.specs.Meta.{Meta}
 use Rattle.model_state.specs.Good.{Good, Sound}
-use Rattle.model_state.specs.Keys.{Name, id_cmp}
+use Rattle.model_state.specs.Keys.{IdBytes, id_cmp}
 use Rattle.model_state.specs.Listing.{children}
 use Rattle.model_state.specs.State.{State, nothing}
 use Rattle.model_state.specs.declared.operation.Operation.{Operation}
@@ -26,15 +26,15 @@ use Rattle.model_import.specs.Values.{values_made}
 use Rattle.model_import.proofs.ImportLead.{imports_lead}
 use Rattle.model_import.proofs.NameLists.{names_are}
 use Rattle.round_trip.specs.Laws.{ComesBack, TextsComeBack}
-use Rattle.round_trip.specs.Tells.{Tells}
+use Rattle.round_trip.specs.Describes.{Describes}
 use Rattle.round_trip.proofs.Bringing.{tellings_are_shown}
 use Rattle.round_trip.proofs.BringingNames.{names_apart}
 use Rattle.round_trip.proofs.BringingRanks.{all_come}
 use Rattle.round_trip.proofs.ReadingTold.{texts_are_told}
 
 -- ids that are all given are those that the elements get
-given_names : (m : State) (all : List DocRow) (ws k : ℕ) (rest : List DocRow) (names : List Name) → length names ≡ length rest
-    → ((n : ℕ) (r : DocRow) (e : Name) → slice_get rest n ≡ Some r → slice_get names n ≡ Some e → r.id ≡ Some e) → AreNames m all ws k rest names
+given_names : (m : State) (all : List DocRow) (ws k : ℕ) (rest : List DocRow) (names : List IdBytes) → length names ≡ length rest
+    → ((n : ℕ) (r : DocRow) (e : IdBytes) → slice_get rest n ≡ Some r → slice_get names n ≡ Some e → r.id ≡ Some e) → AreNames m all ws k rest names
 given_names m all ws k [] [] as_many given = tt
 given_names m all ws k [] (x ∷ xs) as_many given = absurd cc
 given_names m all ws k (r ∷ rest) [] as_many given = absurd cc
@@ -44,10 +44,10 @@ given_names m all ws k (r ∷ rest) (x ∷ xs) as_many given =
     one_less : (a b : ℕ) → suc a ≡ suc b → a ≡ b
     one_less a b h = omega arith
 
-    same : (a b : Name) → ◌≡◌ {A = Option Name} (Some a) (Some b) → b ≡ a
+    same : (a b : IdBytes) → ◌≡◌ {A = Option IdBytes} (Some a) (Some b) → b ≡ a
     same a b h = cc
 
-    named : (id : Option Name) → id ≡ Some x → AreNames m all ws k rest xs → (next : ℕ) × IsName m all ws k id x next × AreNames m all ws next rest xs
+    named : (id : Option IdBytes) → id ≡ Some x → AreNames m all ws k rest xs → (next : ℕ) × IsName m all ws k id x next × AreNames m all ws next rest xs
     named None is later = absurd cc
     named (Some id) is later = (k, (same id x is, refl), later)
 
@@ -56,7 +56,7 @@ none_in_use : (rows : List DocRow) → any_in_use nothing rows ≡ false
 none_in_use [] = refl
 none_in_use (r ∷ rows) = ap (λ b. b || any_in_use nothing rows) (none r.id) ∙ none_in_use rows
   where
-    none : (id : Option Name) → in_use nothing id ≡ false
+    none : (id : Option IdBytes) → in_use nothing id ≡ false
     none None = refl
     none (Some id) = ap is_some (get-empty id_cmp id)
 
@@ -64,7 +64,7 @@ not_refused : (b : Bool) (r : Result (Option Operation) EditFault) → b ≡ fal
 not_refused true r is = absurd cc
 not_refused false r is = refl
 
-module _ (meta : Meta) (names : List Name) (rows : List DocRow) (all : List Step) (come : news_made (children empty empty Root) names rows ≡ Ok all) where
+module _ (meta : Meta) (names : List IdBytes) (rows : List DocRow) (all : List Step) (come : news_made (children empty empty Root) names rows ≡ Ok all) where
   abbrev steps : List Step
   steps = all ++ (values_made meta names rows ++ links_made meta names rows)
 
@@ -73,8 +73,8 @@ module _ (meta : Meta) (names : List Name) (rows : List DocRow) (all : List Step
       not_refused (any_in_use nothing rows) (of_steps rows (steps_made meta nothing names rows)) (none_in_use rows)
       ∙ ap (λ (r : Result (List Step) EditFault). of_steps rows (and_then r (values_made meta names rows ++ links_made meta names rows))) come
 
--- what rows that tell a model leave in the empty project is shown as that model
-comes : (meta : Meta) → Sound meta → (m : State) → Good meta m → (ws : ℕ) (names : List Name) (rows : List DocRow) → doc_of meta (text meta m) ≡ Ok rows → Tells m names rows → length rows < 4294967295 → ComesBack meta ws (text meta m)
+-- what rows that describe a model leave in the empty project is shown as that model
+comes : (meta : Meta) → Sound meta → (m : State) → Good meta m → (ws : ℕ) (names : List IdBytes) (rows : List DocRow) → doc_of meta (text meta m) ≡ Ok rows → Describes m names rows → length rows < 4294967295 → ComesBack meta ws (text meta m)
 comes meta sound m good ws names rows read tells few =
     let fit = documents_fit meta sound (text meta m) rows read in
     let differ = names_apart m names rows tells fit.ids_apart in
@@ -88,7 +88,7 @@ comes meta sound m good ws names rows read tells few =
       operation = operation;
       left = import_after nothing names rows;
       read = read;
-      recorded = ap (λ (l : List Name). import_of meta nothing l rows) (sym (names_are nothing rows ws 1 rows names are)) ∙ imported;
+      recorded = ap (λ (l : List IdBytes). import_of meta nothing l rows) (sym (names_are nothing rows ws 1 rows names are)) ∙ imported;
       run = leads.run;
       shown = tellings_are_shown meta sound m good names rows fit tells (omega (arith, few));
     }

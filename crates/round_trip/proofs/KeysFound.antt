@@ -14,11 +14,11 @@ use Rattle.std.proofs.lemmas.Bool.{or_parts}
 use Rattle.finite_maps.specs.Sorts.{put_in, in_order}
 use Rattle.serde_json.specs.Data.{Data, Members}
 use Rattle.serde_json.specs.Find.{get_member}
-use Rattle.ecore_json.specs.References.{behind, or_else}
+use Rattle.ecore_json.specs.References.{after_prefix, or_else}
 use Rattle.ecore_meta.specs.Meta.{Meta, class_named, feature_named, features_of, first_named, name_at}
 use Rattle.ecore_meta.specs.Names.{Name, has_repeat, number_of}
 use Rattle.ecore_meta.specs.declared.meta.Class.{Class as ClassOf}
-use Rattle.emfjson_model.specs.Classes.{class_behind, class_spelt}
+use Rattle.emfjson_model.specs.Classes.{class_after, class_spelt}
 use Rattle.emfjson_text.specs.Keys.{key_cmp, key_name, keys_of}
 use Rattle.emfjson_text.specs.Tree.{class_text, members, with_member}
 use Rattle.round_trip.specs.Named.{IsNamed}
@@ -151,9 +151,9 @@ none_named q (x ∷ xs) h all = by_test (bytes_eq q x) refl (none_named q xs h a
     by_test true e more = let same = bytes_same q x e in let no = all.0 in let yes : has_slash x ≡ true = subst (λ z. has_slash z ≡ true) same h in cc
     by_test false e more = ap (option_map (λ n. suc n)) more
 
-behind_own : (ps xs : Name) → behind ps (ps ++ xs) ≡ Some xs
+behind_own : (ps xs : Name) → after_prefix ps (ps ++ xs) ≡ Some xs
 behind_own [] xs = refl
-behind_own (p ∷ ps) xs = ap (λ b. cond b (behind ps (ps ++ xs)) None) (eq-eqb p p refl) ∙ behind_own ps xs
+behind_own (p ∷ ps) xs = ap (λ b. cond b (after_prefix ps (ps ++ xs)) None) (eq-eqb p p refl) ∙ behind_own ps xs
 
 module _ (meta : Meta) (named : IsNamed meta) where
   mapped_all : (xs : List ClassOf) → AllByRecursion (λ (x : ClassOf). has_slash x.name ≡ false) xs → AllByRecursion (λ x. has_slash x ≡ false) (map (λ (x : ClassOf). x.name) xs)
@@ -171,32 +171,32 @@ module _ (meta : Meta) (named : IsNamed meta) where
   either_none true o h = h
   either_none false o h = refl
 
-  -- the name behind `#//`
+  -- the name after `#//`
   abbrev hashed : Name → Name
   hashed name = 35 ∷ 47 ∷ 47 ∷ name
 
-  -- what is spelt with a slash in front, or with the number sign, is no class behind another text
-  slashed : (a b : ℕ) (u name : Name) → class_behind meta (codes "//") (a ∷ b ∷ (u ++ hashed name)) ≡ None
+  -- what is spelt with a slash first, or with the number sign, is no class after another text
+  slashed : (a b : ℕ) (u name : Name) → class_after meta (codes "//") (a ∷ b ∷ (u ++ hashed name)) ≡ None
   slashed a b u name = either_none (47 == a) (cond (47 == b) (Some (u ++ hashed name)) None) (dropped (47 == b) (u ++ hashed name) (not_named (u ++ hashed name) (slash_behind u (47 ∷ name))))
 
-  signed : (a b : ℕ) (u name : Name) → class_behind meta (codes "#//") (a ∷ b ∷ (u ++ hashed name)) ≡ None
+  signed : (a b : ℕ) (u name : Name) → class_after meta (codes "#//") (a ∷ b ∷ (u ++ hashed name)) ≡ None
   signed a b [] name = either_none (35 == a) (cond (47 == b) None None) (either_none (47 == b) None refl)
   signed a b (x ∷ u) name =
       either_none (35 == a) (cond (47 == b) (cond (47 == x) (Some (u ++ hashed name)) None) None)
       (either_none (47 == b) (cond (47 == x) (Some (u ++ hashed name)) None) (dropped (47 == x) (u ++ hashed name) (not_named (u ++ hashed name) (slash_behind u (47 ∷ name)))))
 
   spelt : (u name : Name) (c : ℕ) → class_named meta name ≡ Some c
-      → or_else (class_behind meta (codes "//") (u ++ hashed name)) (or_else (class_behind meta (codes "#//") (u ++ hashed name)) (option_and_then (class_behind meta (codes "#//")) (behind u (u ++ hashed name)))) ≡ Some c
-  spelt [] name c is = ap (λ o. or_else o (option_and_then (class_behind meta (codes "#//")) (Some (hashed name)))) is
+      → or_else (class_after meta (codes "//") (u ++ hashed name)) (or_else (class_after meta (codes "#//") (u ++ hashed name)) (option_and_then (class_after meta (codes "#//")) (after_prefix u (u ++ hashed name)))) ≡ Some c
+  spelt [] name c is = ap (λ o. or_else o (option_and_then (class_after meta (codes "#//")) (Some (hashed name)))) is
   spelt (a ∷ []) name c is =
-      ap (λ o. or_else o (or_else (class_behind meta (codes "#//") (a ∷ hashed name)) (option_and_then (class_behind meta (codes "#//")) (behind (a ∷ []) (a ∷ hashed name))))) (either_none (47 == a) None refl)
-      ∙ ap (λ o. or_else o (option_and_then (class_behind meta (codes "#//")) (behind (a ∷ []) (a ∷ hashed name)))) (either_none (35 == a) None refl)
-      ∙ ap (option_and_then (class_behind meta (codes "#//"))) (behind_own (a ∷ []) (hashed name)) ∙ is
+      ap (λ o. or_else o (or_else (class_after meta (codes "#//") (a ∷ hashed name)) (option_and_then (class_after meta (codes "#//")) (after_prefix (a ∷ []) (a ∷ hashed name))))) (either_none (47 == a) None refl)
+      ∙ ap (λ o. or_else o (option_and_then (class_after meta (codes "#//")) (after_prefix (a ∷ []) (a ∷ hashed name)))) (either_none (35 == a) None refl)
+      ∙ ap (option_and_then (class_after meta (codes "#//"))) (behind_own (a ∷ []) (hashed name)) ∙ is
   spelt (a ∷ b ∷ u) name c is =
       let t = a ∷ b ∷ (u ++ hashed name) in
-      ap (λ o. or_else o (or_else (class_behind meta (codes "#//") t) (option_and_then (class_behind meta (codes "#//")) (behind (a ∷ b ∷ u) t)))) (slashed a b u name)
-      ∙ ap (λ o. or_else o (option_and_then (class_behind meta (codes "#//")) (behind (a ∷ b ∷ u) t))) (signed a b u name)
-      ∙ ap (option_and_then (class_behind meta (codes "#//"))) (behind_own (a ∷ b ∷ u) (hashed name)) ∙ is
+      ap (λ o. or_else o (or_else (class_after meta (codes "#//") t) (option_and_then (class_after meta (codes "#//")) (after_prefix (a ∷ b ∷ u) t)))) (slashed a b u name)
+      ∙ ap (λ o. or_else o (option_and_then (class_after meta (codes "#//")) (after_prefix (a ∷ b ∷ u) t))) (signed a b u name)
+      ∙ ap (option_and_then (class_after meta (codes "#//"))) (behind_own (a ∷ b ∷ u) (hashed name)) ∙ is
 
   name_of_place : (xs : List ClassOf) (n : ℕ) (x : ClassOf) → slice_get xs n ≡ Some x → slice_get (map (λ (x : ClassOf). x.name) xs) n ≡ Some x.name
   name_of_place [] n x is = cc

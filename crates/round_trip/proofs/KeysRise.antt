@@ -23,11 +23,11 @@ module _ (meta : Meta) where
   abbrev Differ : Key → Key → Type 0
   Differ k l = key_name meta k ≡ key_name meta l → ⊥
 
-  -- the name stands behind the other
+  -- the name stands after the other
   abbrev pub IsAfter : Key → Key → Type 0
   IsAfter k l = slice_cmp nat_cmp (key_name meta l) (key_name meta k) ≡ Greater
 
-  -- each key's name stands before those of the keys behind it
+  -- each key's name stands before those of the keys after it
   abbrev pub InOrder : List Key → Type 0
   InOrder ks = Pairs IsAfter ks
 
@@ -62,7 +62,7 @@ module _ (meta : Meta) where
       (all_features Class not_class (features_of meta c), features_differ (features_of meta c) (named.features c)),
     )
 
-    -- what stands behind and differs is above
+    -- what stands after and differs is above
     is_above : (k l : Key) (r : Ordering) → slice_cmp nat_cmp (key_name meta l) (key_name meta k) ≡ r → is_lt (ordering_then r (nat_cmp (key_number l) (key_number k))) ≡ false → Differ k l → r ≡ Greater
     is_above k l Less is h d = cc
     is_above k l Equal is h d = absurd (d (sym (exact_bytes (key_name meta l) (key_name meta k) is)))

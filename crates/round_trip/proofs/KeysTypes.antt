@@ -39,7 +39,7 @@ abbrev head : {A : Type 0} (xs : List A) → IsFull xs → A
 head [] full = absurd full
 head (x ∷ xs) full = x
 
--- the items behind it
+-- the items after it
 abbrev tail : {A : Type 0} → List A → List A
 tail [] = []
 tail (x ∷ xs) = xs

@@ -14,7 +14,7 @@ use Rattle.finite_maps.proofs.EqualLaws.{text_equality}
 use Rattle.finite_maps.proofs.SortLaws.{Rises, rises-in_order, same_risen, tally-in_order, tally-map}
 use Rattle.model_state.specs.declared.entry.Entry.{Entry}
 use Rattle.model_state.specs.declared.step.Place.{Place}
-use Rattle.model_state.specs.Keys.{Name, RowKey, id_cmp}
+use Rattle.model_state.specs.Keys.{IdBytes, RowKey, id_cmp}
 use Rattle.model_state.specs.Listing.{children, entry_cmp, is_of, rank_at, row_entry, targets}
 use Rattle.model_state.specs.State.{place_eq}
 use Rattle.model_state.proofs.Orders.{entry_order, row_order}
@@ -27,7 +27,7 @@ use Rattle.model_import.specs.News.{rank_of}
 
 -- ---- names by index
 -- a name that is in a list stands at an index
-pub any_index : (e : Name) (xs : List Name) → list_any (text_eq e) xs ≡ true → (j : ℕ) × (slice_get xs j ≡ Some e)
+pub any_index : (e : IdBytes) (xs : List IdBytes) → list_any (text_eq e) xs ≡ true → (j : ℕ) × (slice_get xs j ≡ Some e)
 any_index e [] h = cc
 any_index e (x ∷ xs) h =
     elim (text_eq e x) as (λ b. text_eq e x ≡ b → b || list_any (text_eq e) xs ≡ true → (j : ℕ) × (slice_get (x ∷ xs) j ≡ Some e)) [
@@ -35,7 +35,7 @@ any_index e (x ∷ xs) h =
       | false ↦ λ _ later. let rest = any_index e xs later in (suc rest.0, rest.1)
     ] refl h
 
-pub any_id : (e : Name) (xs : List Entry) → list_any (λ (x : Entry). text_eq e x.id) xs ≡ list_any (text_eq e) (entry_ids xs)
+pub any_id : (e : IdBytes) (xs : List Entry) → list_any (λ (x : Entry). text_eq e x.id) xs ≡ list_any (text_eq e) (entry_ids xs)
 any_id e [] = refl
 any_id e (x ∷ xs) = ap (λ b. text_eq e x.id || b) (any_id e xs)
 
@@ -43,17 +43,17 @@ any_id e (x ∷ xs) = ap (λ b. text_eq e x.id || b) (any_id e xs)
 rank_less : (n k : ℕ) → n < k → k < 4294967295 → rank_of n < rank_of k
 rank_less n k less small = omega arith
 
-module _ (rank : Name → ℕ) where
+module _ (rank : IdBytes → ℕ) where
   -- an entry by its id
-  abbrev pub entry_at : Name → Entry
+  abbrev pub entry_at : IdBytes → Entry
   entry_at e = record { rank = rank e; id = e }
 
   -- the ranks of some names are those of a new list from the k-th on
-  abbrev pub Ranked : ℕ → List Name → Type 0
+  abbrev pub Ranked : ℕ → List IdBytes → Type 0
   Ranked k [] = Unit {0}
   Ranked k (x ∷ xs) = (rank x ≡ rank_of k) × Ranked (suc k) xs
 
-  pub ranked_from : (xs : List Name) (k : ℕ) → ((j : ℕ) (x : Name) → slice_get xs j ≡ Some x → rank x ≡ rank_of (k + j)) → Ranked k xs
+  pub ranked_from : (xs : List IdBytes) (k : ℕ) → ((j : ℕ) (x : IdBytes) → slice_get xs j ≡ Some x → rank x ≡ rank_of (k + j)) → Ranked k xs
   ranked_from [] k each = tt
   ranked_from (x ∷ xs) k each = (each 0 x refl ∙ ap rank_of (first k), ranked_from xs (suc k) (λ j y is. each (suc j) y is ∙ ap rank_of (further k j)))
     where
@@ -63,10 +63,10 @@ module _ (rank : Name → ℕ) where
       further : (k j : ℕ) → k + suc j ≡ suc k + j
       further k j = omega arith
 
-  later : (x y : Name) → rank x < rank y → is_lt (entry_cmp (entry_at y) (entry_at x)) ≡ false
+  later : (x y : IdBytes) → rank x < rank y → is_lt (entry_cmp (entry_at y) (entry_at x)) ≡ false
   later x y less = ap (λ o. is_lt (ordering_then o (id_cmp y x))) (sym (nat_cmp_is (rank y) (rank x) Greater less))
 
-  behind : (x : Name) (n k : ℕ) → n < k → (xs : List Name) → k + length xs ≤ 4294967295 → rank x ≡ rank_of n → Ranked k xs → AllByRecursion (λ (y : Entry). is_lt (entry_cmp y (entry_at x)) ≡ false) (map entry_at xs)
+  behind : (x : IdBytes) (n k : ℕ) → n < k → (xs : List IdBytes) → k + length xs ≤ 4294967295 → rank x ≡ rank_of n → Ranked k xs → AllByRecursion (λ (y : Entry). is_lt (entry_cmp y (entry_at x)) ≡ false) (map entry_at xs)
   behind x n k less [] few here all = tt
   behind x n k less (y ∷ ys) few here all =
       let up = rank_less n k less (within k (length ys) few) in
@@ -79,7 +79,7 @@ module _ (rank : Name → ℕ) where
       moved : (k n : ℕ) → k + suc n ≤ 4294967295 → suc k + n ≤ 4294967295
       moved k n h = omega arith
 
-  pub rises_ranked : (xs : List Name) (k : ℕ) → k + length xs ≤ 4294967295 → Ranked k xs → Rises entry_cmp (map entry_at xs)
+  pub rises_ranked : (xs : List IdBytes) (k : ℕ) → k + length xs ≤ 4294967295 → Ranked k xs → Rises entry_cmp (map entry_at xs)
   rises_ranked [] k few all = tt
   rises_ranked (x ∷ xs) k few all = (behind x k (suc k) (omega arith) xs (moved k (length xs) few) all.0 all.1, rises_ranked xs (suc k) (moved k (length xs) few) all.1)
     where
@@ -91,39 +91,39 @@ module _ (rank : Name → ℕ) where
   by_id p [] all = refl
   by_id p (x ∷ xs) all = λ i. cond (p (record { rank = all.0 i; id = x.id })) 1 0 + by_id p xs all.1 i
 
-  ids_at : (xs : List Name) → entry_ids (map entry_at xs) ≡ xs
+  ids_at : (xs : List IdBytes) → entry_ids (map entry_at xs) ≡ xs
   ids_at [] = refl
   ids_at (x ∷ xs) = ap (λ ys. x ∷ ys) (ids_at xs)
 
-  pub shown : (xs : List Entry) (ns : List Name) → Rises entry_cmp xs → AllByRecursion (λ (x : Entry). x.rank ≡ rank x.id) xs → Rises entry_cmp (map entry_at ns) → ((p : Name → Bool) → tally (λ (x : Entry). p x.id) xs ≡ tally p ns) → entry_ids xs ≡ ns
+  pub shown : (xs : List Entry) (ns : List IdBytes) → Rises entry_cmp xs → AllByRecursion (λ (x : Entry). x.rank ≡ rank x.id) xs → Rises entry_cmp (map entry_at ns) → ((p : IdBytes → Bool) → tally (λ (x : Entry). p x.id) xs ≡ tally p ns) → entry_ids xs ≡ ns
   shown xs ns up ranks up' same =
       ap entry_ids (same_risen entry_order xs (map entry_at ns) up up' (λ p. by_id p xs ranks ∙ same (λ e. p (entry_at e)) ∙ sym (tally-map p entry_at ns)))
       ∙ ids_at ns
 
-tally_ids : (p : Name → Bool) (xs : List Entry) → tally p (entry_ids xs) ≡ tally (λ (x : Entry). p x.id) xs
+tally_ids : (p : IdBytes → Bool) (xs : List Entry) → tally p (entry_ids xs) ≡ tally (λ (x : Entry). p x.id) xs
 tally_ids p xs = tally-map p (λ (x : Entry). x.id) xs
 
 -- ---- the elements of a place
-abbrev spot_of : Ranks → Name × Place → Entry
+abbrev spot_of : Ranks → IdBytes × Place → Entry
 spot_of prank e = record { rank = rank_at prank e.0; id = e.0 }
 
-spots_ranked : (prank : Ranks) (es : List (Name × Place)) → AllByRecursion (λ (x : Entry). x.rank ≡ rank_at prank x.id) (map (spot_of prank) es)
+spots_ranked : (prank : Ranks) (es : List (IdBytes × Place)) → AllByRecursion (λ (x : Entry). x.rank ≡ rank_at prank x.id) (map (spot_of prank) es)
 spots_ranked prank [] = tt
 spots_ranked prank (e ∷ es) = (refl, spots_ranked prank es)
 
-tally_children : (place : Places) (prank : Ranks) (p : Place) (q : Name → Bool) → tally (λ (x : Entry). q x.id) (children place prank p) ≡ tally (λ (e : Name × Place). q e.0) (picked (λ (e : Name × Place). place_eq p e.1) place)
+tally_children : (place : Places) (prank : Ranks) (p : Place) (q : IdBytes → Bool) → tally (λ (x : Entry). q x.id) (children place prank p) ≡ tally (λ (e : IdBytes × Place). q e.0) (picked (λ (e : IdBytes × Place). place_eq p e.1) place)
 tally_children place prank p q =
-    tally-in_order entry_cmp (λ (x : Entry). q x.id) (map (spot_of prank) (picked (λ (e : Name × Place). place_eq p e.1) place))
-    ∙ tally-map (λ (x : Entry). q x.id) (spot_of prank) (picked (λ (e : Name × Place). place_eq p e.1) place)
+    tally-in_order entry_cmp (λ (x : Entry). q x.id) (map (spot_of prank) (picked (λ (e : IdBytes × Place). place_eq p e.1) place))
+    ∙ tally-map (λ (x : Entry). q x.id) (spot_of prank) (picked (λ (e : IdBytes × Place). place_eq p e.1) place)
 
 -- other ranks that are those of a new list show the same elements in the same order
 pub children_shown : (place : Places) (old new : Ranks) (p : Place) → length (entry_ids (children place old p)) ≤ 4294967295
-    → ((j : ℕ) (e : Name) → slice_get (entry_ids (children place old p)) j ≡ Some e → rank_at new e ≡ rank_of j) → entry_ids (children place new p) ≡ entry_ids (children place old p)
+    → ((j : ℕ) (e : IdBytes) → slice_get (entry_ids (children place old p)) j ≡ Some e → rank_at new e ≡ rank_of j) → entry_ids (children place new p) ≡ entry_ids (children place old p)
 children_shown place old new p few each =
     let ns = entry_ids (children place old p) in
     shown (rank_at new) (children place new p) ns
-    (rises-in_order entry_order (map (spot_of new) (picked (λ (e : Name × Place). place_eq p e.1) place)))
-    (all-in_order entry_cmp (λ (x : Entry). x.rank ≡ rank_at new x.id) _ (spots_ranked new (picked (λ (e : Name × Place). place_eq p e.1) place)))
+    (rises-in_order entry_order (map (spot_of new) (picked (λ (e : IdBytes × Place). place_eq p e.1) place)))
+    (all-in_order entry_cmp (λ (x : Entry). x.rank ≡ rank_at new x.id) _ (spots_ranked new (picked (λ (e : IdBytes × Place). place_eq p e.1) place)))
     (rises_ranked (rank_at new) ns 0 (few' (length ns) few) (ranked_from (rank_at new) ns 0 (λ j e is. each j e is ∙ ap rank_of (none j))))
     (λ q. tally_children place new p q ∙ sym (tally_children place old p q) ∙ sym (tally_ids q (children place old p)))
   where
@@ -134,7 +134,7 @@ children_shown place old new p few each =
     none j = omega arith
 
 -- ---- the targets of a feature
-tally_targets : (row : Rows) (a : Name) (f : ℕ) (q : Name → Bool) → tally (λ (x : Entry). q x.id) (targets row a f) ≡ count (λ (e : RowKey × ℕ). is_of a f e.0 && q e.0.2) row
+tally_targets : (row : Rows) (a : IdBytes) (f : ℕ) (q : IdBytes → Bool) → tally (λ (x : Entry). q x.id) (targets row a f) ≡ count (λ (e : RowKey × ℕ). is_of a f e.0 && q e.0.2) row
 tally_targets row a f q =
     tally-in_order entry_cmp (λ (x : Entry). q x.id) (map row_entry (picked (λ (e : RowKey × ℕ). is_of a f e.0) row))
     ∙ tally-map (λ (x : Entry). q x.id) row_entry (picked (λ (e : RowKey × ℕ). is_of a f e.0) row)
@@ -146,16 +146,16 @@ same_passes p k None (Some w) h = cc
 same_passes p k (Some o) None h = cc
 same_passes p k (Some o) (Some w) h = refl
 
-held_ranked : (row : Rows) (a : Name) (f : ℕ) (xs : List Entry) → AllByRecursion (λ (x : Entry). get row (a, f, x.id) ≡ Some x.rank) xs → AllByRecursion (λ (x : Entry). x.rank ≡ unwrap_or (get row (a, f, x.id)) 0) xs
+held_ranked : (row : Rows) (a : IdBytes) (f : ℕ) (xs : List Entry) → AllByRecursion (λ (x : Entry). get row (a, f, x.id) ≡ Some x.rank) xs → AllByRecursion (λ (x : Entry). x.rank ≡ unwrap_or (get row (a, f, x.id)) 0) xs
 held_ranked row a f [] all = tt
 held_ranked row a f (x ∷ xs) all = (ap (λ o. unwrap_or o 0) (sym all.0), held_ranked row a f xs all.1)
 
 -- rows to the same targets with the ranks of a new list show them in the same order
-pub targets_shown : (old new : Rows) (a : Name) (f : ℕ) → ((k : RowKey) → is_some (get new k) ≡ is_some (get old k)) → length (entry_ids (targets old a f)) ≤ 4294967295
-    → ((j : ℕ) (b : Name) → slice_get (entry_ids (targets old a f)) j ≡ Some b → get new (a, f, b) ≡ Some (rank_of j)) → entry_ids (targets new a f) ≡ entry_ids (targets old a f)
+pub targets_shown : (old new : Rows) (a : IdBytes) (f : ℕ) → ((k : RowKey) → is_some (get new k) ≡ is_some (get old k)) → length (entry_ids (targets old a f)) ≤ 4294967295
+    → ((j : ℕ) (b : IdBytes) → slice_get (entry_ids (targets old a f)) j ≡ Some b → get new (a, f, b) ≡ Some (rank_of j)) → entry_ids (targets new a f) ≡ entry_ids (targets old a f)
 targets_shown old new a f alike few each =
     let ns = entry_ids (targets old a f) in
-    let rank = λ (b : Name). unwrap_or (get new (a, f, b)) 0 in
+    let rank = λ (b : IdBytes). unwrap_or (get new (a, f, b)) 0 in
     shown rank (targets new a f) ns
     (rises-in_order entry_order (map row_entry (picked (λ (e : RowKey × ℕ). is_of a f e.0) new)))
     (held_ranked new a f (targets new a f) (targets_held new a f))

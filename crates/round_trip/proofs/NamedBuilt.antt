@@ -7,7 +7,7 @@ use Rattle.std.specs.Ordering.{int_eq}
 use Rattle.std.specs.Str.{bytes_eq}
 use Rattle.std.proofs.lemmas.Bool.{or_parts}
 use Rattle.ecore_meta.specs.Build.{attribute, classes_from, container, default_in, end_number, feature_from, kind_in, meta_of, natural, reference, upper_from}
-use Rattle.ecore_meta.specs.Document.{Rows, classifier_name, classifier_named, feature_number, numbered, supers_in}
+use Rattle.ecore_meta.specs.Document.{ClassifierRows, classifier_name, classifier_named, feature_number, numbered, supers_in}
 use Rattle.ecore_meta.specs.Drafts.{class_target, draft, drafts, drafts_from, ecore_scalar, end_at, named_end, own_class, own_scalar, target_of, value_target}
 use Rattle.ecore_meta.specs.Faults.{clash, contains_back, draft_name, dup_name, fault, features_of, is_skipped, literals_in, no_type, own_of, repeats_within, super_cycle, unsupported}
 use Rattle.ecore_meta.specs.Meta.{name_at}
@@ -38,7 +38,7 @@ passed true e rest h = cc
 passed false e rest h = (refl, h)
 
 -- ---- names of classes
-none_named : (q : Name) (n : ℕ) (fs : List (List ℕ)) (rows : Rows) → list_any (bytes_eq q) (map classifier_name rows) ≡ false → list_any (bytes_eq q) (map (λ (c : ClassOf). c.name) (classes_from n fs rows)) ≡ false
+none_named : (q : Name) (n : ℕ) (fs : List (List ℕ)) (rows : ClassifierRows) → list_any (bytes_eq q) (map classifier_name rows) ≡ false → list_any (bytes_eq q) (map (λ (c : ClassOf). c.name) (classes_from n fs rows)) ≡ false
 none_named q n fs [] h = refl
 none_named q n fs (Class c ∷ rows) h =
     let parts = or_parts (bytes_eq q c.name) (list_any (bytes_eq q) (map classifier_name rows)) h in
@@ -46,7 +46,7 @@ none_named q n fs (Class c ∷ rows) h =
 none_named q n fs (Enum e ∷ rows) h = none_named q n fs rows (or_parts (bytes_eq q e.name) (list_any (bytes_eq q) (map classifier_name rows)) h).1
 none_named q n fs (Plain t ∷ rows) h = none_named q n fs rows (or_parts (bytes_eq q t) (list_any (bytes_eq q) (map classifier_name rows)) h).1
 
-names_apart : (n : ℕ) (fs : List (List ℕ)) (rows : Rows) → has_repeat (map classifier_name rows) ≡ false → has_repeat (map (λ (c : ClassOf). c.name) (classes_from n fs rows)) ≡ false
+names_apart : (n : ℕ) (fs : List (List ℕ)) (rows : ClassifierRows) → has_repeat (map classifier_name rows) ≡ false → has_repeat (map (λ (c : ClassOf). c.name) (classes_from n fs rows)) ≡ false
 names_apart n fs [] h = refl
 names_apart n fs (Class c ∷ rows) h =
     let parts = or_parts (list_any (bytes_eq c.name) (map classifier_name rows)) (has_repeat (map classifier_name rows)) h in
@@ -54,7 +54,7 @@ names_apart n fs (Class c ∷ rows) h =
 names_apart n fs (Enum e ∷ rows) h = names_apart n fs rows (or_parts (list_any (bytes_eq e.name) (map classifier_name rows)) (has_repeat (map classifier_name rows)) h).1
 names_apart n fs (Plain t ∷ rows) h = names_apart n fs rows (or_parts (list_any (bytes_eq t) (map classifier_name rows)) (has_repeat (map classifier_name rows)) h).1
 
-no_slashes : (n : ℕ) (fs : List (List ℕ)) (rows : Rows) → NamesFit rows → (k : ℕ) (class : ClassOf) → slice_get (classes_from n fs rows) k ≡ Some class → list_any (λ b. b == 47) class.name ≡ false
+no_slashes : (n : ℕ) (fs : List (List ℕ)) (rows : ClassifierRows) → NamesFit rows → (k : ℕ) (class : ClassOf) → slice_get (classes_from n fs rows) k ≡ Some class → list_any (λ b. b == 47) class.name ≡ false
 no_slashes n fs [] fit k class is = cc
 no_slashes n fs (Class c ∷ rows) fit zero class is =
     let own : Some (record { name = c.name; is_abstract = c.is_abstract; features = own_of fs n }) ≡ Some class = is in
@@ -69,7 +69,7 @@ no_slashes n fs (Plain t ∷ rows) fit k class is = no_slashes n fs rows fit k c
 -- ---- the features of a class
 -- what holds of the features of each class, and of none
 module _ (P : List ℕ → Type 0) (none : P []) (fs : List (List ℕ)) (each : (k : ℕ) → P (own_of fs k)) where
-  class_features : (n : ℕ) (rows : Rows) (c : ℕ) → P (option_map_or (λ (x : ClassOf). x.features) (slice_get (classes_from n fs rows) c) [])
+  class_features : (n : ℕ) (rows : ClassifierRows) (c : ℕ) → P (option_map_or (λ (x : ClassOf). x.features) (slice_get (classes_from n fs rows) c) [])
   class_features n [] c = none
   class_features n (Class r ∷ rows) zero = each n
   class_features n (Class r ∷ rows) (suc c) = class_features (suc n) rows c
@@ -101,12 +101,12 @@ module _ (literals : List (List EnumLiteral)) (all : List Draft) where
   upper_none (d ∷ ds) h zero t o is = h.0 t o is
   upper_none (d ∷ ds) h (suc f) t o is = upper_none ds h.1 f t o is
 
-all_drafts : (P : Draft → Type 0) (Q : FeatureRow → Type 0) (all : Rows) → ((n : ℕ) (f : FeatureRow) → Q f → P (draft all n f)) → (n : ℕ) (fs : List FeatureRow) → AllByRecursion Q fs → AllByRecursion P (map (draft all n) fs)
+all_drafts : (P : Draft → Type 0) (Q : FeatureRow → Type 0) (all : ClassifierRows) → ((n : ℕ) (f : FeatureRow) → Q f → P (draft all n f)) → (n : ℕ) (fs : List FeatureRow) → AllByRecursion Q fs → AllByRecursion P (map (draft all n) fs)
 all_drafts P Q all h n [] q = tt
 all_drafts P Q all h n (f ∷ fs) q = (h n f q.0, all_drafts P Q all h n fs q.1)
 
 -- ---- no draft has the name of a reserved key
-drafts_named : (all : Rows) (n : ℕ) (rows : Rows) → NamesFit rows → AllByRecursion (λ (d : Draft). is_reserved d.name ≡ false) (drafts_from all n rows)
+drafts_named : (all : ClassifierRows) (n : ℕ) (rows : ClassifierRows) → NamesFit rows → AllByRecursion (λ (d : Draft). is_reserved d.name ≡ false) (drafts_from all n rows)
 drafts_named all n [] fit = tt
 drafts_named all n (Class c ∷ rows) fit =
     all_append (λ (d : Draft). is_reserved d.name ≡ false) (map (draft all n) c.features) (drafts_from all (suc n) rows)
@@ -168,7 +168,7 @@ module _ (literals : List (List EnumLiteral)) (ds : List Draft) (d : Draft) wher
     enum_both c f e name [] = ((other _ (λ t o h. cc), other _ (λ t o h. cc)), tt)
     enum_both c f e name (l ∷ ls) = ((other _ (λ t o h. cc), other _ (λ t o h. attribute_other literals d _ t o h)), tt)
 
-    all_both : (c f e : ℕ) (rows : Rows) → AllByRecursion Both (numbered c f e rows)
+    all_both : (c f e : ℕ) (rows : ClassifierRows) → AllByRecursion Both (numbered c f e rows)
     all_both c f e [] = tt
     all_both c f e (Class row ∷ rows) = ((record { only = λ t o h. (refl, elements_only c t o h) }, other _ (λ t o h. cc)), all_both (suc c) (f + length row.features) e rows)
     all_both c f e (Enum row ∷ rows) = ((enum_both c f e row.name row.literals).0, all_both c f (suc e) rows)
@@ -186,23 +186,23 @@ module _ (literals : List (List EnumLiteral)) (ds : List Draft) (d : Draft) wher
         either (bytes_eq t (codes "EString")) _ _ (other _ (values _)) (either (bytes_eq t (codes "EBoolean")) _ _ (other _ (values _)) (either (bytes_eq t (codes "EByte")) _ _ (other _ (values _))
         (either (bytes_eq t (codes "EShort")) _ _ (other _ (values _)) (either (bytes_eq t (codes "EInt")) _ _ (other _ (values _)) (either (bytes_eq t (codes "ELong")) _ _ (other _ (values _)) (other _ (λ t o h. cc)))))))
 
-    named_both : (all : Rows) (t : Name) → IsUnbounded (own_class (classifier_named all t)) × IsUnbounded (own_scalar (classifier_named all t))
+    named_both : (all : ClassifierRows) (t : Name) → IsUnbounded (own_class (classifier_named all t)) × IsUnbounded (own_scalar (classifier_named all t))
     unfolding classifier_named
     named_both all t = both_at (numbered 0 0 0 all) (all_both 0 0 0 all) (number_of t (map classifier_name all))
 
-    class_fits : (all : Rows) (t : TypeName) → IsUnbounded (class_target all t)
+    class_fits : (all : ClassifierRows) (t : TypeName) → IsUnbounded (class_target all t)
     class_fits all (Own t) = (named_both all t).0
     class_fits all (Ecore t) = other _ (λ t o h. cc)
 
-    value_fits : (all : Rows) (t : TypeName) → IsUnbounded (value_target all t)
+    value_fits : (all : ClassifierRows) (t : TypeName) → IsUnbounded (value_target all t)
     value_fits all (Own t) = (named_both all t).1
     value_fits all (Ecore t) = ecore_fits t
 
-    target_fits : (all : Rows) (f : FeatureRow) → IsUnbounded (target_of all f)
+    target_fits : (all : ClassifierRows) (f : FeatureRow) → IsUnbounded (target_of all f)
     target_fits all f = either f.skipped _ _ (other _ (λ t o h. cc)) (either f.is_reference _ _ (class_fits all f.target) (value_fits all f.target))
 
--- what is around is no such reference
-container_other : (b c : Bool) (all : Rows) (oo : Option OppositeRow) (n t : ℕ) (o : Option ℕ) → container n (cond b (named_end all None) (cond c (named_end all oo) (named_end all None))) ≡ Free t o → ⊥
+-- a reference to the container is no such reference
+container_other : (b c : Bool) (all : ClassifierRows) (oo : Option OppositeRow) (n t : ℕ) (o : Option ℕ) → container n (cond b (named_end all None) (cond c (named_end all oo) (named_end all None))) ≡ Free t o → ⊥
 container_other true c all oo n t o h = cc
 container_other false false all oo n t o h = cc
 container_other false true all None n t o h = cc
@@ -212,14 +212,14 @@ container_other false true all (Some opposite) n t o h = by_number (feature_numb
     by_number None h = cc
     by_number (Some k) h = cc
 
-draft_unbounded : (literals : List (List EnumLiteral)) (ds : List Draft) (all : Rows) (n : ℕ) (f : FeatureRow) (t : ℕ) (o : Option ℕ) → kind_in literals ds (draft all n f) (target_of all f) ≡ Free t o → upper_from (draft all n f) ≡ None
+draft_unbounded : (literals : List (List EnumLiteral)) (ds : List Draft) (all : ClassifierRows) (n : ℕ) (f : FeatureRow) (t : ℕ) (o : Option ℕ) → kind_in literals ds (draft all n f) (target_of all f) ≡ Free t o → upper_from (draft all n f) ≡ None
 draft_unbounded literals ds all n f t o h =
     let d = draft all n f in
     let fits = target_fits literals ds d (λ k t o h. container_other f.skipped f.is_reference all f.opposite k t o h) all f in
     let only = fits.only t o h in
     ap (λ b. cond b (Some 1) (cond (int_eq f.upper (negsuc 0)) None (Some (natural f.upper)))) only.0 ∙ ap (λ b. cond b None (Some (natural f.upper))) only.1
 
-drafts_unbounded : (literals : List (List EnumLiteral)) (ds : List Draft) (all : Rows) (n : ℕ) (rows : Rows) → AllByRecursion (λ (d : Draft). (t : ℕ) (o : Option ℕ) → kind_in literals ds d d.target ≡ Free t o → upper_from d ≡ None) (drafts_from all n rows)
+drafts_unbounded : (literals : List (List EnumLiteral)) (ds : List Draft) (all : ClassifierRows) (n : ℕ) (rows : ClassifierRows) → AllByRecursion (λ (d : Draft). (t : ℕ) (o : Option ℕ) → kind_in literals ds d d.target ≡ Free t o → upper_from d ≡ None) (drafts_from all n rows)
 drafts_unbounded literals ds all n [] = tt
 drafts_unbounded literals ds all n (Class c ∷ rows) =
     all_append (λ (d : Draft). (t : ℕ) (o : Option ℕ) → kind_in literals ds d d.target ≡ Free t o → upper_from d ≡ None) (map (draft all n) c.features) (drafts_from all (suc n) rows)

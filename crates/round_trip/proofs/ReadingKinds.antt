@@ -14,7 +14,7 @@ use Rattle.ecore_meta.specs.declared.meta.Kind.TheVariants.{Attr, AttrMany, Boun
 use Rattle.ecore_meta.specs.declared.meta.Scalar.{Scalar}
 use Rattle.ecore_meta.specs.declared.meta.Value.{Value}
 use Rattle.model_state.specs.declared.step.Place.TheVariants.{Inside}
-use Rattle.model_state.specs.Keys.{Name}
+use Rattle.model_state.specs.Keys.{IdBytes}
 use Rattle.model_state.specs.State.{State}
 use Rattle.model_state.specs.Typing.{is_default}
 use Rattle.emfjson_io.specs.Values.{data_of}
@@ -44,11 +44,11 @@ few : (n : ℕ) → n ≤ 4294967295 → nat_le n 4294967295 ≡ true
 few n h = grind (arith, nat_tests)
 
 -- ---- links
-entries_again : (bs : List Name) → map entry_of (map reference bs) ≡ map (λ b. Some b) bs
+entries_again : (bs : List IdBytes) → map entry_of (map reference bs) ≡ map (λ b. Some b) bs
 entries_again [] = refl
 entries_again (b ∷ bs) = ap (λ xs. Some b ∷ xs) (entries_again bs)
 
-links_again : (f : ℕ) (single : Bool) (b : Name) (bs : List Name) → (single ≡ true → length (b ∷ bs) ≤ 1)
+links_again : (f : ℕ) (single : Bool) (b : IdBytes) (bs : List IdBytes) → (single ≡ true → length (b ∷ bs) ≤ 1)
     → links_part f single (one_or_all single (reference b) (map reference bs)) ≡ record no_part { links = record { feature = f; entries = map (λ x. Some x) (b ∷ bs) } ∷ [] }
 links_again f true b [] h = refl
 links_again f true b (d ∷ bs) h = let l = h refl in absurd (omega arith)
@@ -62,11 +62,11 @@ held_object : (meta : Meta) (ids : Ids) (p : DocParent) (target : ℕ) (d : Data
 unfolding element_rows held_rows
 held_object meta ids p target d o within = subst (λ x. held_rows meta ids p target x ≡ element_rows meta ids (Some p) (Some target) x) (sym o.1) (ap (λ b. unless b Bound (element_rows meta ids (Some p) (Some target) (object o.0))) within)
 
-module _ (meta : Meta) (below : ℕ → Option DocParent → Name → List Draft) (whole : Name → Data) (objects : (c : Name) → IsObject (whole c)) where
-  alone : (k : ℕ) (parent : Option DocParent) (c : Name) → below k parent c ≡ forest below k parent (c ∷ [])
+module _ (meta : Meta) (below : ℕ → Option DocParent → IdBytes → List Draft) (whole : IdBytes → Data) (objects : (c : IdBytes) → IsObject (whole c)) where
+  alone : (k : ℕ) (parent : Option DocParent) (c : IdBytes) → below k parent c ≡ forest below k parent (c ∷ [])
   alone k parent c = sym (append-nil (below k parent c))
 
-  held_again : (p : DocParent) (target : ℕ) (single : Bool) (c : Name) (cs : List Name) → is_one (upper_of meta p.feature) ≡ single → is_within (length (c ∷ cs)) (upper_of meta p.feature) ≡ true
+  held_again : (p : DocParent) (target : ℕ) (single : Bool) (c : IdBytes) (cs : List IdBytes) → is_one (upper_of meta p.feature) ≡ single → is_within (length (c ∷ cs)) (upper_of meta p.feature) ≡ true
       → AllByRecursion (Walked meta below whole (Some p) (Some target)) (c ∷ cs) → (ids : Ids) → Come ids (ids_of (forest below (length ids) (Some p) (c ∷ cs)))
       → held_rows meta ids p target (one_or_all single (whole c) (map whole cs)) ≡ Ok (forest below (length ids) (Some p) (c ∷ cs))
   unfolding held_rows
@@ -84,12 +84,12 @@ module _ (meta : Meta) (below : ℕ → Option DocParent → Name → List Draft
       ∙ items_walk meta below whole (Some p) (Some target) ids (c ∷ cs) [] (length ids) (ap length (sym (append-nil ids))) all (subst (λ zs. Come zs (ids_of (forest below (length ids) (Some p) (c ∷ cs)))) (sym (append-nil ids)) come)
 
 -- ---- each kind of feature
-module _ (meta : Meta) (named : IsNamed meta) (m : State) (below : ℕ → Option DocParent → Name → List Draft) (whole : Name → Data) (objects : (c : Name) → IsObject (whole c)) (own : ℕ) (e : Name) (f : ℕ) where
+module _ (meta : Meta) (named : IsNamed meta) (m : State) (below : ℕ → Option DocParent → IdBytes → List Draft) (whole : IdBytes → Data) (objects : (c : IdBytes) → IsObject (whole c)) (own : ℕ) (e : IdBytes) (f : ℕ) where
   -- the parent of the elements in the feature
   abbrev here : DocParent
   here = record { row = own; feature = f }
 
-  -- the content of a feature gives what it is to give, behind whatever ids have come
+  -- the content of a feature gives what it is to give, after whatever ids have come
   abbrev pub FeatureOk : Kind → Option Data → Type 0
   FeatureOk k None = (kind_attrs m e f k ≡ []) × (kind_links m e f k ≡ []) × ((n : ℕ) → kind_rows m e f below own n k ≡ [])
   FeatureOk k (Some d) =
@@ -120,26 +120,26 @@ module _ (meta : Meta) (named : IsNamed meta) (m : State) (below : ℕ → Optio
       (values_again meta named s unique [] (v ∷ vs) (all_from (fits meta s) (v ∷ vs) ok.0) (held_once unique (v ∷ vs) ok.3)) (both (is_within (length (v ∷ vs)) (upper_of meta f)) (nat_le (length (v ∷ vs)) 4294967295) ok.1 (few (length (v ∷ vs)) ok.2))
       ∙ ap (λ xs. Ok (record { attrs = set_attr f xs; links = []; rows = [] })) (sym at)
 
-  links_told : List Name → Part
+  links_told : List IdBytes → Part
   links_told bs = record { attrs = []; links = set_links f bs; rows = [] }
 
-  links_ok : (bs : List Name) → (is_single meta f ≡ true → length bs ≤ 1) → (b : Name) (rest : List Name) → bs ≡ b ∷ rest → links_part f (is_one (upper_of meta f)) (one_or_all (is_single meta f) (reference b) (map reference rest)) ≡ links_told bs
+  links_ok : (bs : List IdBytes) → (is_single meta f ≡ true → length bs ≤ 1) → (b : IdBytes) (rest : List IdBytes) → bs ≡ b ∷ rest → links_part f (is_one (upper_of meta f)) (one_or_all (is_single meta f) (reference b) (map reference rest)) ≡ links_told bs
   unfolding links_told
   links_ok bs few b rest is =
       links_again f (is_single meta f) b rest (subst (λ xs. is_single meta f ≡ true → length xs ≤ 1) is few)
       ∙ ap (λ xs. record { attrs = []; links = set_links f xs; rows = [] }) (sym is)
 
-  bounded_ok : (target : ℕ) (opposite : Option ℕ) (bs : List Name) → target_ids m e f ≡ bs → (is_single meta f ≡ true → length bs ≤ 1) → FeatureOk (Bounded target opposite) (listed (is_single meta f) (map reference bs))
+  bounded_ok : (target : ℕ) (opposite : Option ℕ) (bs : List IdBytes) → target_ids m e f ≡ bs → (is_single meta f ≡ true → length bs ≤ 1) → FeatureOk (Bounded target opposite) (listed (is_single meta f) (map reference bs))
   unfolding links_told
   bounded_ok target opposite [] at few = (refl, ap (λ xs. set_links f xs) at, λ n. refl)
   bounded_ok target opposite (b ∷ bs) at few = λ ids come. ap (λ (q : Part). Ok q) (links_ok (b ∷ bs) few b bs refl) ∙ ap (λ xs. Ok (record { attrs = []; links = set_links f xs; rows = [] })) (sym at)
 
-  free_ok : (target : ℕ) (opposite : Option ℕ) (bs : List Name) → target_ids m e f ≡ bs → (is_single meta f ≡ true → length bs ≤ 1) → FeatureOk (Free target opposite) (listed (is_single meta f) (map reference bs))
+  free_ok : (target : ℕ) (opposite : Option ℕ) (bs : List IdBytes) → target_ids m e f ≡ bs → (is_single meta f ≡ true → length bs ≤ 1) → FeatureOk (Free target opposite) (listed (is_single meta f) (map reference bs))
   unfolding links_told
   free_ok target opposite [] at few = (refl, ap (λ xs. set_links f xs) at, λ n. refl)
   free_ok target opposite (b ∷ bs) at few = λ ids come. ap (λ (q : Part). Ok q) (links_ok (b ∷ bs) few b bs refl) ∙ ap (λ xs. Ok (record { attrs = []; links = set_links f xs; rows = [] })) (sym at)
 
-  contains_ok : (target : ℕ) (opposite : Option ℕ) (cs : List Name) → child_ids m (Inside e f) ≡ cs → is_within (length cs) (upper_of meta f) ≡ true → AllByRecursion (Walked meta below whole (Some here) (Some target)) cs
+  contains_ok : (target : ℕ) (opposite : Option ℕ) (cs : List IdBytes) → child_ids m (Inside e f) ≡ cs → is_within (length cs) (upper_of meta f) ≡ true → AllByRecursion (Walked meta below whole (Some here) (Some target)) cs
       → FeatureOk (Contains target opposite) (listed (is_single meta f) (map whole cs))
   contains_ok target opposite [] at within all = (refl, refl, λ n. ap (λ xs. forest below n (Some here) xs) at)
   contains_ok target opposite (c ∷ cs) at within all = λ ids come.

@@ -10,7 +10,7 @@ use Rattle.ecore_meta.specs.declared.meta.Kind.{Kind}
 use Rattle.ecore_meta.specs.declared.meta.Kind.TheVariants.{Attr, AttrMany, Bounded, Free, Contains, Container, Skip}
 use Rattle.model_state.specs.declared.entry.Entry.{Entry}
 use Rattle.model_state.specs.Good.{Good, RowOk as StateRowOk}
-use Rattle.model_state.specs.Keys.{Name}
+use Rattle.model_state.specs.Keys.{IdBytes}
 use Rattle.model_state.specs.Listing.{targets}
 use Rattle.model_state.specs.State.{State}
 use Rattle.model_state.specs.Steps.{may_link}
@@ -47,9 +47,9 @@ has_second : (f : ℕ) (xs ys : List Links) → Has f ys → Has f (xs ++ ys)
 has_second f [] ys h = h
 has_second f (x ∷ xs) ys h = inr (has_second f xs ys h)
 
-module _ (meta : Meta) (m : State) (e : Name) where
+module _ (meta : Meta) (m : State) (e : IdBytes) where
   -- the targets of a reference, as entries
-  abbrev ids_at : ℕ → List (Option Name)
+  abbrev ids_at : ℕ → List (Option IdBytes)
   ids_at f = map (λ x. Some x) (target_ids m e f)
 
   -- the entries are the targets of the feature
@@ -67,7 +67,7 @@ module _ (meta : Meta) (m : State) (e : Name) where
       by_test false is more (inr (inl same)) = let yes : nat_eq f l.feature ≡ true = subst (λ x. nat_eq f x ≡ true) same (nat_equality.own f) in cc
       by_test false is more (inr (inr h)) = more (inr h)
 
-  set_told : (f : ℕ) (bs : List Name) → target_ids m e f ≡ bs → AllByRecursion IsTold (set_links f bs)
+  set_told : (f : ℕ) (bs : List IdBytes) → target_ids m e f ≡ bs → AllByRecursion IsTold (set_links f bs)
   set_told f [] is = tt
   set_told f (b ∷ bs) is = (ap (map (λ x. Some x)) (sym is), tt)
 
@@ -89,7 +89,7 @@ module _ (meta : Meta) (m : State) (e : Name) where
   keys_told [] = tt
   keys_told (key ∷ keys) = all_append IsTold (key_links meta m e key) (keys_links meta m e keys) (number_told (key_number key)) (keys_told keys)
 
-  set_has : (f : ℕ) (bs : List Name) → target_ids m e f ≡ bs → (target_ids m e f ≡ []) ⊎ Has f (set_links f bs)
+  set_has : (f : ℕ) (bs : List IdBytes) → target_ids m e f ≡ bs → (target_ids m e f ≡ []) ⊎ Has f (set_links f bs)
   set_has f [] is = inl is
   set_has f (b ∷ bs) is = inr (inl refl)
 
@@ -179,7 +179,7 @@ plain_kind meta Skip d h = cc
 
 -- ---- the targets of a good state
 -- a link goes from a feature of the source's class to an element of its type
-pub record IsLink (meta : Meta) (m : State) (a : Name) (f : ℕ) (b : Name) : Type 0 where
+pub record IsLink (meta : Meta) (m : State) (a : IdBytes) (f : ℕ) (b : IdBytes) : Type 0 where
   pub row : is_some (get m.row (a, f, b)) ≡ true
   pub source : get m.kind a ≡ Some (class_at meta m a)
   pub target : get m.kind b ≡ Some (class_at meta m b)
@@ -188,7 +188,7 @@ pub record IsLink (meta : Meta) (m : State) (a : Name) (f : ℕ) (b : Name) : Ty
   pub plain : is_plain (kind_of meta f) ≡ true
 
 module _ (meta : Meta) (m : State) (good : Good meta m) where
-  link_of : (a : Name) (f : ℕ) (b : Name) (o : Option ℕ) → get m.row (a, f, b) ≡ o → is_some o ≡ true → IsLink meta m a f b
+  link_of : (a : IdBytes) (f : ℕ) (b : IdBytes) (o : Option ℕ) → get m.row (a, f, b) ≡ o → is_some o ≡ true → IsLink meta m a f b
   link_of a f b None is h = cc
   link_of a f b (Some rank) is h = by_classes (get m.kind a) (get m.kind b) refl refl (subst (StateRowOk meta (get m.kind a) f (get m.kind b)) is (good.rows.typed a f b))
     where
@@ -208,21 +208,21 @@ module _ (meta : Meta) (m : State) (good : Good meta m) where
             plain = plain_kind meta (kind_of meta f) d type;
           }
 
-  pub linked : (a : Name) (f : ℕ) (b : Name) → is_some (get m.row (a, f, b)) ≡ true → IsLink meta m a f b
+  pub linked : (a : IdBytes) (f : ℕ) (b : IdBytes) → is_some (get m.row (a, f, b)) ≡ true → IsLink meta m a f b
   linked a f b h = link_of a f b (get m.row (a, f, b)) refl h
 
-  entries_linked : (a : Name) (f : ℕ) (xs : List Entry) → AllByRecursion (λ (x : Entry). get m.row (a, f, x.id) ≡ Some x.rank) xs → AllByRecursion (IsLink meta m a f) (map (λ (x : Entry). x.id) xs)
+  entries_linked : (a : IdBytes) (f : ℕ) (xs : List Entry) → AllByRecursion (λ (x : Entry). get m.row (a, f, x.id) ≡ Some x.rank) xs → AllByRecursion (IsLink meta m a f) (map (λ (x : Entry). x.id) xs)
   entries_linked a f [] all = tt
   entries_linked a f (x ∷ xs) all = (linked a f x.id (ap is_some all.0), entries_linked a f xs all.1)
 
-  pub targets_linked : (a : Name) (f : ℕ) → AllByRecursion (IsLink meta m a f) (target_ids m a f)
+  pub targets_linked : (a : IdBytes) (f : ℕ) → AllByRecursion (IsLink meta m a f) (target_ids m a f)
   targets_linked a f = entries_linked a f (targets m.row a f) (targets_held m.row a f)
 
   -- the targets are none, or the reference is a plain one of the class
-  pub targets_held_by : (a : Name) (f : ℕ) → (target_ids m a f ≡ []) ⊎ Stands f (plain_features meta [] (features_of meta (class_at meta m a)))
+  pub targets_held_by : (a : IdBytes) (f : ℕ) → (target_ids m a f ≡ []) ⊎ Stands f (plain_features meta [] (features_of meta (class_at meta m a)))
   targets_held_by a f = by_targets (target_ids m a f) refl (targets_linked a f)
     where
-      by_targets : (bs : List Name) → target_ids m a f ≡ bs → AllByRecursion (IsLink meta m a f) bs → (target_ids m a f ≡ []) ⊎ Stands f (plain_features meta [] (features_of meta (class_at meta m a)))
+      by_targets : (bs : List IdBytes) → target_ids m a f ≡ bs → AllByRecursion (IsLink meta m a f) bs → (target_ids m a f ≡ []) ⊎ Stands f (plain_features meta [] (features_of meta (class_at meta m a)))
       by_targets [] is all = inl is
       by_targets (b ∷ bs) is all = inr (plain_stands meta f [] (features_of meta (class_at meta m a)) all.0.plain all.0.held)
 

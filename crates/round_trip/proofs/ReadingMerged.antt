@@ -14,7 +14,7 @@ use Rattle.ecore_meta.specs.Typing.{kind_of, opposite_of}
 use Rattle.model_state.specs.declared.entry.Entry.{Entry}
 use Rattle.model_state.specs.Good.{Good}
 use Rattle.model_state.specs.Ident.{is_id}
-use Rattle.model_state.specs.Keys.{Name}
+use Rattle.model_state.specs.Keys.{IdBytes}
 use Rattle.model_state.specs.Listing.{targets}
 use Rattle.model_state.specs.State.{State, is_live}
 use Rattle.model_state.specs.Typing.{is_plain, row_upper}
@@ -49,18 +49,18 @@ all_map : {A B : Type 0} (P : B → Type 0) (h : A → B) (xs : List A) → AllB
 all_map P h [] all = tt
 all_map P h (x ∷ xs) all = (all.0, all_map P h xs all.1)
 
-module _ (meta : Meta) (m : State) (good : Good meta m) (forms : (e : Name) → is_live m e ≡ true → is_id e ≡ true) (names : List Name) (apart : Pairs Differ names) (covered : (x : Name) (c : ℕ) → get m.kind x ≡ Some c → Stands x names)
+module _ (meta : Meta) (m : State) (good : Good meta m) (forms : (e : IdBytes) → is_live m e ≡ true → is_id e ≡ true) (names : List IdBytes) (apart : Pairs Differ names) (covered : (x : IdBytes) (c : ℕ) → get m.kind x ≡ Some c → Stands x names)
     (rows : List Draft) (ids : ids_of rows ≡ map (λ x. Some x) names) (all : AllByRecursion (RowOk meta m names) rows) where
   -- the targets of a reference, by number
-  abbrev spots : Name → ℕ → List ℕ
+  abbrev spots : IdBytes → ℕ → List ℕ
   spots e f = map (spot names) (target_ids m e f)
 
   -- the list of a reference
-  abbrev list_told : Name → ℕ → DocRefs
+  abbrev list_told : IdBytes → ℕ → DocRefs
   list_told e f = record { feature = f; targets = spots e f }
 
   -- what an element gives of its references
-  abbrev pub refs_told : Name → List DocRefs
+  abbrev pub refs_told : IdBytes → List DocRefs
   refs_told e = map (list_told e) (plain_features meta [] (features_of meta (class_at meta m e)))
 
   -- what the element of a row gives
@@ -72,17 +72,17 @@ module _ (meta : Meta) (m : State) (good : Good meta m) (forms : (e : Name) → 
   final r = row_of meta r (refs_of_row r)
 
   -- ---- what the elements give
-  ready : (a : Name) (f : ℕ) (b : Name) → IsLink meta m a f b → IsReady meta m names rows ids all f b
+  ready : (a : IdBytes) (f : ℕ) (b : IdBytes) → IsLink meta m a f b → IsReady meta m names rows ids all f b
   ready a f b link = record { there = covered b (class_at meta m b) link.target; form = forms b (ap is_some link.target); type = link.type }
 
   entries_apart : (xs : List Entry) → Apart xs → Pairs Differ (map (λ (y : Entry). y.id) xs)
   entries_apart [] h = tt
   entries_apart (x ∷ xs) h = (entry_differs meta m good x xs h.0, entries_apart xs h.1)
 
-  targets_differ : (a : Name) (f : ℕ) → Pairs Differ (target_ids m a f)
+  targets_differ : (a : IdBytes) (f : ℕ) → Pairs Differ (target_ids m a f)
   targets_differ a f = entries_apart (targets m.row a f) (targets_apart m.row a f)
 
-  refs_ok : (r : Draft) (e : Name) → IsRow meta m names r e → (before : List (List DocRefs)) → refs_of meta rows before r ≡ Ok (refs_of_row r)
+  refs_ok : (r : Draft) (e : IdBytes) → IsRow meta m names r e → (before : List (List DocRefs)) → refs_of meta rows before r ≡ Ok (refs_of_row r)
   refs_ok r e row before =
       subst (λ q. refs_of meta rows before q ≡ Ok (refs_of_row q)) (sym row.is)
       (collected_map (refs_at meta rows (own_row meta m row.parent e).links) (list_told e) [] (plain_features meta [] (features_of meta (class_at meta m e)))
@@ -98,14 +98,14 @@ module _ (meta : Meta) (m : State) (good : Good meta m) (forms : (e : Name) → 
   given_ok = collected_map (refs_of meta rows) refs_of_row [] rows (all_so (RowOk meta m names) (λ r. (bs : List (List DocRefs)) → refs_of meta rows bs r ≡ Ok (refs_of_row r)) (λ r h bs. refs_ok r h.0 h.1 bs) rows all)
 
   -- ---- the other side gives nothing more
-  pub told_at : (x : Name) (g : ℕ) → targets_at g (refs_told x) ≡ spots x g
+  pub told_at : (x : IdBytes) (g : ℕ) → targets_at g (refs_told x) ≡ spots x g
   told_at x g = targets_at_map (spots x) g (plain_features meta [] (features_of meta (class_at meta m x))) (by_targets (targets_held_by meta m good x g))
     where
       by_targets : (target_ids m x g ≡ []) ⊎ Stands g (plain_features meta [] (features_of meta (class_at meta m x))) → (spots x g ≡ []) ⊎ Stands g (plain_features meta [] (features_of meta (class_at meta m x)))
       by_targets (inl none) = inl (ap (map (spot names)) none)
       by_targets (inr s) = inr s
 
-  any_spot : (e : Name) (bs : List Name) → Stands e names → AllByRecursion (λ b. Stands b names) bs → list_any (nat_eq (spot names e)) (map (spot names) bs) ≡ true → Stands e bs
+  any_spot : (e : IdBytes) (bs : List IdBytes) → Stands e names → AllByRecursion (λ b. Stands b names) bs → list_any (nat_eq (spot names e)) (map (spot names) bs) ≡ true → Stands e bs
   any_spot e [] s there h = cc
   any_spot e (b ∷ bs) s there h = by_test (nat_eq (spot names e) (spot names b)) refl (any_spot e bs s there.1) h
     where
@@ -113,16 +113,16 @@ module _ (meta : Meta) (m : State) (good : Good meta m) (forms : (e : Name) → 
       by_test true is more h = inl (spot_same e b names s there.0 (nat_equality.exact (spot names e) (spot names b) is))
       by_test false is more h = inr (more h)
 
-  spot_any : (x : Name) (bs : List Name) → Stands x bs → list_any (nat_eq (spot names x)) (map (spot names) bs) ≡ true
+  spot_any : (x : IdBytes) (bs : List IdBytes) → Stands x bs → list_any (nat_eq (spot names x)) (map (spot names) bs) ≡ true
   spot_any x [] s = absurd s
   spot_any x (b ∷ bs) (inl e) = ap (λ t. t || list_any (nat_eq (spot names x)) (map (spot names) bs)) (subst (λ z. nat_eq (spot names x) (spot names z) ≡ true) e (nat_equality.own (spot names x)))
   spot_any x (b ∷ bs) (inr s) = ap (λ t. nat_eq (spot names x) (spot names b) || t) (spot_any x bs s) ∙ or-true (nat_eq (spot names x) (spot names b))
 
-  row_target : (a : Name) (f : ℕ) (b : Name) (o : Option ℕ) → get m.row (a, f, b) ≡ o → is_some o ≡ true → Stands b (target_ids m a f)
+  row_target : (a : IdBytes) (f : ℕ) (b : IdBytes) (o : Option ℕ) → get m.row (a, f, b) ≡ o → is_some o ≡ true → Stands b (target_ids m a f)
   row_target a f b None is h = cc
   row_target a f b (Some rank) is h = entry_stands b (targets m.row a f) (targets_has m.row a f b rank is)
 
-  mirror_false : (e : Name) (f g : ℕ) (x : Name) → opposite_of meta f ≡ Some g → Stands e names → list_any (nat_eq (spot names e)) (targets_at g (refs_told x)) && not (list_any (nat_eq (spot names x)) (spots e f)) ≡ false
+  mirror_false : (e : IdBytes) (f g : ℕ) (x : IdBytes) → opposite_of meta f ≡ Some g → Stands e names → list_any (nat_eq (spot names e)) (targets_at g (refs_told x)) && not (list_any (nat_eq (spot names x)) (spots e f)) ≡ false
   mirror_false e f g x opposite s = by_test (list_any (nat_eq (spot names e)) (targets_at g (refs_told x))) refl
     where
       named : AllByRecursion (λ b. Stands b names) (target_ids m x g)
@@ -136,7 +136,7 @@ module _ (meta : Meta) (m : State) (good : Good meta m) (forms : (e : Name) → 
           let back : is_some (get m.row (e, f, x)) ≡ true = good.rows.mirrored e f x g opposite ∙ link.row in
           ap not (spot_any x (target_ids m e f) (row_target e f x (get m.row (e, f, x)) refl back))
 
-  naming_none : (e : Name) (f g : ℕ) → opposite_of meta f ≡ Some g → Stands e names → (qs : List Draft) (xs : List Name) (n : ℕ) → ids_of qs ≡ map (λ x. Some x) xs → ((i : ℕ) (x : Name) → slice_get xs i ≡ Some x → spot names x ≡ n + i)
+  naming_none : (e : IdBytes) (f g : ℕ) → opposite_of meta f ≡ Some g → Stands e names → (qs : List Draft) (xs : List IdBytes) (n : ℕ) → ids_of qs ≡ map (λ x. Some x) xs → ((i : ℕ) (x : IdBytes) → slice_get xs i ≡ Some x → spot names x ≡ n + i)
       → naming g (spot names e) (spots e f) n (map refs_of_row qs) ≡ []
   naming_none e f g opposite s [] xs n is at = refl
   naming_none e f g opposite s (q ∷ qs) [] n is at = cc
@@ -160,26 +160,26 @@ module _ (meta : Meta) (m : State) (good : Good meta m) (forms : (e : Name) → 
   abbrev given : List (List DocRefs)
   given = map refs_of_row rows
 
-  no_others : (e : Name) (f : ℕ) → Stands e names → (o : Option ℕ) → opposite_of meta f ≡ o → others o (spot names e) (spots e f) given ≡ []
+  no_others : (e : IdBytes) (f : ℕ) → Stands e names → (o : Option ℕ) → opposite_of meta f ≡ o → others o (spot names e) (spots e f) given ≡ []
   no_others e f s None is = refl
   no_others e f s (Some g) is = naming_none e f g is s rows names 0 ids (λ i x there. spot_at names i x apart there ∙ none i)
     where
       none : (i : ℕ) → i ≡ 0 + i
       none i = omega arith
 
-  merged_same : (e : Name) (f : ℕ) → Stands e names → merged meta given (spot names e) (list_told e f) ≡ spots e f
+  merged_same : (e : IdBytes) (f : ℕ) → Stands e names → merged meta given (spot names e) (list_told e f) ≡ spots e f
   merged_same e f s = ap (λ xs. spots e f ++ xs) (no_others e f s (opposite_of meta f) refl) ∙ append-nil (spots e f)
 
-  spots_within : (e : Name) (f : ℕ) → is_within (length (spots e f)) (row_upper meta f) ≡ true
+  spots_within : (e : IdBytes) (f : ℕ) → is_within (length (spots e f)) (row_upper meta f) ≡ true
   spots_within e f =
       subst (λ n. is_within n (row_upper meta f) ≡ true) (sym (length-map (target_ids m e f) (spot names) ∙ target_count m e f)) (good.rows.bound e f)
 
-  merged_list : (e : Name) (f : ℕ) → Stands e names → (before : List DocRefs) → merged_at meta given (spot names e) before (list_told e f) ≡ Ok (list_told e f)
+  merged_list : (e : IdBytes) (f : ℕ) → Stands e names → (before : List DocRefs) → merged_at meta given (spot names e) before (list_told e f) ≡ Ok (list_told e f)
   merged_list e f s before =
       ap (λ ts. «then» (unless (is_within (length ts) (row_upper meta f)) Bound (Ok ts)) (λ ts. Ok (record { feature = f; targets = ts }))) (merged_same e f s)
       ∙ ap (λ b. «then» (unless b Bound (Ok (spots e f))) (λ ts. Ok (record { feature = f; targets = ts }))) (spots_within e f)
 
-  merged_ok : (e : Name) → Stands e names → merged_all meta given (spot names e) (refs_told e) ≡ Ok (refs_told e)
+  merged_ok : (e : IdBytes) → Stands e names → merged_all meta given (spot names e) (refs_told e) ≡ Ok (refs_told e)
   merged_ok e s =
       let fs = plain_features meta [] (features_of meta (class_at meta m e)) in
       collected_same (merged_at meta given (spot names e)) [] (refs_told e) (all_map (λ r. (bs : List DocRefs) → merged_at meta given (spot names e) bs r ≡ Ok r) (list_told e) fs (all_of (λ f. (bs : List DocRefs) → merged_at meta given (spot names e) bs (list_told e f) ≡ Ok (list_told e f)) (λ f bs. merged_list e f s bs) fs))
@@ -201,7 +201,7 @@ module _ (meta : Meta) (m : State) (good : Good meta m) (forms : (e : Name) → 
       later : (n i : ℕ) → n + suc i ≡ (n + 1) + i
       later n i = omega arith
 
-  ids_at : (qs : List Draft) (xs : List Name) (n : ℕ) (r : Draft) → ids_of qs ≡ map (λ x. Some x) xs → slice_get qs n ≡ Some r → (x : Name) × (r.id ≡ Some x) × (slice_get xs n ≡ Some x)
+  ids_at : (qs : List Draft) (xs : List IdBytes) (n : ℕ) (r : Draft) → ids_of qs ≡ map (λ x. Some x) xs → slice_get qs n ≡ Some r → (x : IdBytes) × (r.id ≡ Some x) × (slice_get xs n ≡ Some x)
   ids_at [] xs n r is at = cc
   ids_at (q ∷ qs) [] n r is at = cc
   ids_at (q ∷ qs) (x ∷ xs) zero r is at = let head : q.id ≡ Some x = cc in let same : q ≡ r = cc in (x, ap (λ (z : Draft). z.id) (sym same) ∙ head, refl)

@@ -46,7 +46,7 @@ not_null meta s (Flag b) = refl
 not_null meta s (Whole n) = refl
 not_null meta s (Literal n) = refl
 
--- each value is new behind those before, where each is to be held once
+-- each value is new after those before, where each is to be held once
 abbrev New : Bool → List Value → List Value → Type 0
 New unique done [] = Unit {0}
 New unique done (v ∷ vs) = (unique && list_any (value_eq v) done ≡ false) × New unique (done ++ v ∷ []) vs

@@ -1,4 +1,4 @@
--- The rows of the document that a good model's text is tell the model.
+-- The rows of the document that a good model's text is describe the model.
 use Rattle.std.proofs.Common.{◌≡◌, ℕ, suc, ◌+◌, ◌≤◌, true, cond, List, [], ◌∷◌, length, map, refl, sym, ap, subst, ◌∙◌, arith}
 use Rattle.std.specs.Prelude.{None, Some, Ok, slice_get, unwrap_or}
 use Rattle.std.specs.FinMap.{get}
@@ -13,7 +13,7 @@ use Rattle.model_state.specs.declared.step.Place.{Place}
 use Rattle.model_state.specs.declared.step.Place.TheVariants.{Root}
 use Rattle.model_state.specs.Good.{Good}
 use Rattle.model_state.specs.Ident.{is_id}
-use Rattle.model_state.specs.Keys.{Name}
+use Rattle.model_state.specs.Keys.{IdBytes}
 use Rattle.model_state.specs.State.{State, is_live, place_eq}
 use Rattle.model_import.specs.Names.{name_at}
 use Rattle.model_import.specs.News.{place_of}
@@ -25,7 +25,7 @@ use Rattle.emfjson_text.specs.Laws.{IsNested}
 use Rattle.emfjson_text.specs.Tree.{child_ids, target_ids, text, tree, whole}
 use Rattle.emfjson_text.proofs.Nested.{text_is_whole}
 use Rattle.round_trip.specs.Named.{IsNamed}
-use Rattle.round_trip.specs.Tells.{Tells, TellsElement, standing_in}
+use Rattle.round_trip.specs.Describes.{Describes, DescribesElement, standing_in}
 use Rattle.round_trip.proofs.KeysFound.{Stands}
 use Rattle.round_trip.proofs.KeysPairs.{Pairs}
 use Rattle.round_trip.proofs.KeysTypes.{Draft}
@@ -43,23 +43,23 @@ use Rattle.round_trip.proofs.WalksRows.{class_at, tree_rows}
 use Rattle.round_trip.proofs.WalksShort.{walked_short}
 use Rattle.round_trip.proofs.WalksWhole.{listed_depths}
 
-module _ (meta : Meta) (m : State) (good : Good meta m) (forms : (e : Name) → is_live m e ≡ true → is_id e ≡ true) (names : List Name) (apart : Pairs Differ names) (covered : (x : Name) (c : ℕ) → get m.kind x ≡ Some c → Stands x names)
+module _ (meta : Meta) (m : State) (good : Good meta m) (forms : (e : IdBytes) → is_live m e ≡ true → is_id e ≡ true) (names : List IdBytes) (apart : Pairs Differ names) (covered : (x : IdBytes) (c : ℕ) → get m.kind x ≡ Some c → Stands x names)
     (rows : List Draft) (ids : ids_of rows ≡ map (λ x. Some x) names) (all : AllByRecursion (RowOk meta m names) rows) where
   -- the row of a document
   abbrev shown : Draft → DocRow
   shown = final meta m good forms names apart covered rows ids all
 
   -- ---- each element
-  named_back : (bs : List Name) → AllByRecursion (λ b. Stands b names) bs → map (name_at names) (map (spot names) bs) ≡ bs
+  named_back : (bs : List IdBytes) → AllByRecursion (λ b. Stands b names) bs → map (name_at names) (map (spot names) bs) ≡ bs
   named_back [] there = refl
   named_back (b ∷ bs) there = λ i. unwrap_or (spot_there b names there.0 i) [] ∷ named_back bs there.1 i
 
-  targets_told : (e : Name) (f : ℕ) → map (name_at names) (map (spot names) (target_ids m e f)) ≡ target_ids m e f
+  targets_told : (e : IdBytes) (f : ℕ) → map (name_at names) (map (spot names) (target_ids m e f)) ≡ target_ids m e f
   targets_told e f = named_back (target_ids m e f) (all_so (IsLink meta m e f) (λ b. Stands b names) (λ b link. covered b (class_at meta m b) link.target) (target_ids m e f) (targets_linked meta m good e f))
 
-  element_told : (r : Draft) (e : Name) → IsRow meta m names r e → TellsElement m names e (shown r)
+  element_told : (r : Draft) (e : IdBytes) → IsRow meta m names r e → DescribesElement m names e (shown r)
   element_told r e row =
-      subst (λ q. TellsElement m names e (shown q)) (sym row.is) (record {
+      subst (λ q. DescribesElement m names e (shown q)) (sym row.is) (record {
         id = refl;
         class = row.class;
         place = row.place;
@@ -67,17 +67,17 @@ module _ (meta : Meta) (m : State) (good : Good meta m) (forms : (e : Name) → 
         targets = λ f. ap (map (name_at names)) (told_at meta m good forms names apart covered rows ids all e f) ∙ targets_told e f;
       })
 
-  each_told : (n : ℕ) (r : DocRow) (e : Name) → slice_get (map shown rows) n ≡ Some r → slice_get names n ≡ Some e → TellsElement m names e r
+  each_told : (n : ℕ) (r : DocRow) (e : IdBytes) → slice_get (map shown rows) n ≡ Some r → slice_get names n ≡ Some e → DescribesElement m names e r
   each_told n r e at named =
       let d = row_at meta m names rows names n e ids all named in
       let same : Some (shown d.0) ≡ Some r = sym (slice_get-map shown rows n ∙ ap (option_map shown) d.1) ∙ at in
-      subst (TellsElement m names e) (some_same (shown d.0) r same) (element_told d.0 e d.2)
+      subst (DescribesElement m names e) (some_same (shown d.0) r same) (element_told d.0 e d.2)
     where
       some_same : (x y : DocRow) → Some x ≡ Some y → x ≡ y
       some_same x y h = cc
 
   -- ---- each list
-  standing_kept : (p : Place) (qs : List Draft) (xs : List Name) (n : ℕ) → ids_of qs ≡ map (λ x. Some x) xs → AllByRecursion (RowOk meta m names) qs → ((i : ℕ) (x : Name) → slice_get xs i ≡ Some x → slice_get names (n + i) ≡ Some x)
+  standing_kept : (p : Place) (qs : List Draft) (xs : List IdBytes) (n : ℕ) → ids_of qs ≡ map (λ x. Some x) xs → AllByRecursion (RowOk meta m names) qs → ((i : ℕ) (x : IdBytes) → slice_get xs i ≡ Some x → slice_get names (n + i) ≡ Some x)
       → standing_in names p n (map shown qs) ≡ kept m p xs
   standing_kept p [] [] n is ok at = refl
   standing_kept p [] (x ∷ xs) n is ok at = cc
@@ -105,7 +105,7 @@ module _ (meta : Meta) (m : State) (good : Good meta m) (forms : (e : Name) → 
   as_many : length names ≡ length (map shown rows)
   as_many = sym (length-map names (λ x. Some x)) ∙ ap length (sym ids) ∙ length-map rows (λ (r : Draft). r.id) ∙ sym (length-map rows shown)
 
-  pub model_told : ((p : Place) → kept m p names ≡ child_ids m p) → Tells m names (map shown rows)
+  pub model_told : ((p : Place) → kept m p names ≡ child_ids m p) → Describes m names (map shown rows)
   model_told lists = record {
     as_many = as_many;
     each = each_told;
@@ -116,8 +116,8 @@ module _ (meta : Meta) (m : State) (good : Good meta m) (forms : (e : Name) → 
       none i = omega arith
 
 -- ---- put together
-pub texts_are_told : (meta : Meta) → IsNamed meta → (m : State) → Good meta m → ((e : Name) → is_live m e ≡ true → is_id e ≡ true) → depth (tree meta m) ≤ max_depth
-    → (names : List Name) × (rows : List DocRow) × (doc_of meta (text meta m) ≡ Ok rows) × Tells m names rows × (length rows ≤ length (text meta m))
+pub texts_are_told : (meta : Meta) → IsNamed meta → (m : State) → Good meta m → ((e : IdBytes) → is_live m e ≡ true → is_id e ≡ true) → depth (tree meta m) ≤ max_depth
+    → (names : List IdBytes) × (rows : List DocRow) × (doc_of meta (text meta m) ≡ Ok rows) × Describes m names rows × (length rows ≤ length (text meta m))
 unfolding doc_of
 texts_are_told meta named m good forms shallow =
     let n = depth (tree meta m) in

@@ -22,7 +22,7 @@ use Rattle.ecore_meta.specs.declared.meta.Value.{Value}
 use Rattle.ecore_meta.specs.declared.meta.Value.TheVariants.{Text, Flag, Whole, Literal}
 use Rattle.model_state.specs.declared.step.Place.TheVariants.{Root, Inside}
 use Rattle.model_state.specs.Good.{AttrOk, Good, ValuesOk}
-use Rattle.model_state.specs.Keys.{Name}
+use Rattle.model_state.specs.Keys.{IdBytes}
 use Rattle.model_state.specs.State.{State}
 use Rattle.emfjson_io.specs.Values.{data_of}
 use Rattle.edit_laws.proofs.Lists.{all-in_order}
@@ -77,7 +77,7 @@ entry_ok meta (Some c) f (Some []) h = tt
 entry_ok meta (Some c) f (Some (v ∷ vs)) h = h.1
 
 -- so are those of every attribute of a good state
-pub values_ok : (meta : Meta) (m : State) → Good meta m → (e : Name) (f : ℕ) → AreOk meta (kind_of meta f) (upper_of meta f) (values_at m e f)
+pub values_ok : (meta : Meta) (m : State) → Good meta m → (e : IdBytes) (f : ℕ) → AreOk meta (kind_of meta f) (upper_of meta f) (values_at m e f)
 values_ok meta m good e f = entry_ok meta (get m.kind e) f (get m.attr (e, f)) (good.attrs.typed e f)
 
 -- ---- lists
@@ -120,8 +120,8 @@ module _ (meta : Meta) where
   plain_many scalar unique upper (v ∷ vs) ok =
       plain_listed (data_of meta scalar) false (v ∷ vs) (all_so (λ v. fits meta scalar v ≡ true) (λ v. IsPlain (data_of meta scalar v)) (λ v h. plain_value meta scalar v h) (v ∷ vs) (all_from (fits meta scalar) (v ∷ vs) ok.0))
 
-module _ (meta : Meta) (m : State) (good : Good meta m) (below : Name → Data) (plain : (e : Name) → IsPlain (below e)) where
-  plain_content : (e : Name) (f : ℕ) (k : Kind) (upper : Option ℕ) → AreOk meta k upper (values_at m e f) → IsPlainIf (content meta m below e f k)
+module _ (meta : Meta) (m : State) (good : Good meta m) (below : IdBytes → Data) (plain : (e : IdBytes) → IsPlain (below e)) where
+  plain_content : (e : IdBytes) (f : ℕ) (k : Kind) (upper : Option ℕ) → AreOk meta k upper (values_at m e f) → IsPlainIf (content meta m below e f k)
   plain_content e f (Attr scalar default) upper ok = plain_first meta scalar default upper (values_at m e f) ok
   plain_content e f (AttrMany scalar unique) upper ok = plain_many meta scalar unique upper (values_at m e f) ok
   plain_content e f (Bounded target opposite) upper ok = plain_listed reference (is_single meta f) (target_ids m e f) (all_of (λ b. IsPlain (reference b)) (λ b. (tt, tt, tt)) (target_ids m e f))
@@ -130,18 +130,18 @@ module _ (meta : Meta) (m : State) (good : Good meta m) (below : Name → Data) 
   plain_content e f (Container target opposite) upper ok = tt
   plain_content e f Skip upper ok = tt
 
-  plain_features : (e : Name) (c : ℕ) (fs : List ℕ) → AllByRecursion (λ k. IsPlainIf (part meta m below e c k)) (map Feature fs)
+  plain_features : (e : IdBytes) (c : ℕ) (fs : List ℕ) → AllByRecursion (λ k. IsPlainIf (part meta m below e c k)) (map Feature fs)
   unfolding keys_of Feature
   plain_features e c [] = tt
   plain_features e c (f ∷ fs) = (plain_content e f (kind_of meta f) (upper_of meta f) (values_ok meta m good e f), plain_features e c fs)
 
-  plain_parts : (e : Name) (c : ℕ) → AllByRecursion (λ k. IsPlainIf (part meta m below e c k)) (keys_of meta c)
+  plain_parts : (e : IdBytes) (c : ℕ) → AllByRecursion (λ k. IsPlainIf (part meta m below e c k)) (keys_of meta c)
   unfolding keys_of Ident Class Feature
   plain_parts e c = all-in_order _ (λ k. IsPlainIf (part meta m below e c k)) (Ident ∷ Class ∷ map Feature (features_of meta c)) (tt, (tt, plain_features e c (features_of meta c)))
 
 -- ---- objects
 module _ (meta : Meta) (p : Key → Option Data) where
-  below_with : (a b : Name) (o : Option Data) (ms : Members) → slice_cmp nat_cmp b a ≡ Greater → IsBelow a ms → IsBelow a (with_member b o ms)
+  below_with : (a b : IdBytes) (o : Option Data) (ms : Members) → slice_cmp nat_cmp b a ≡ Greater → IsBelow a ms → IsBelow a (with_member b o ms)
   below_with a b None ms g h = h
   below_with a b (Some d) ms g h = (g, h)
 
@@ -149,7 +149,7 @@ module _ (meta : Meta) (p : Key → Option Data) where
   below_members k [] h = tt
   below_members k (l ∷ ks) h = below_with (key_name meta k) (key_name meta l) (p l) (members (key_name meta) p ks) h.0 (below_members k ks h.1)
 
-  rise_with : (a : Name) (o : Option Data) (ms : Members) → IsPlainIf o → IsBelow a ms → Rise ms → Rise (with_member a o ms)
+  rise_with : (a : IdBytes) (o : Option Data) (ms : Members) → IsPlainIf o → IsBelow a ms → Rise ms → Rise (with_member a o ms)
   rise_with a None ms p b r = r
   rise_with a (Some d) ms p b r = (p, b, r)
 
@@ -158,16 +158,16 @@ module _ (meta : Meta) (p : Key → Option Data) where
   rising (k ∷ ks) plain h = rise_with (key_name meta k) (p k) (members (key_name meta) p ks) plain.0 (below_members k ks h.0) (rising ks plain.1 h.1)
 
 module _ (meta : Meta) (named : IsNamed meta) (m : State) (good : Good meta m) where
-  plain_object : (below : Name → Data) → ((e : Name) → IsPlain (below e)) → (e : Name) (o : Option ℕ) → IsPlain (object_of meta m below e o)
+  plain_object : (below : IdBytes → Data) → ((e : IdBytes) → IsPlain (below e)) → (e : IdBytes) (o : Option ℕ) → IsPlain (object_of meta m below e o)
   plain_object below plain e None = tt
   plain_object below plain e (Some c) = rising meta (part meta m below e c) (keys_of meta c) (plain_parts meta m good below plain e c) (keys_rise meta named c)
 
-  plain_element : (n : ℕ) (e : Name) → IsPlain (element meta m n e)
+  plain_element : (n : ℕ) (e : IdBytes) → IsPlain (element meta m n e)
   unfolding element
   plain_element zero e = tt
   plain_element (suc n) e = plain_object (element meta m n) (plain_element n) e (get m.kind e)
 
-  plain_whole : (e : Name) → IsPlain (whole meta m e)
+  plain_whole : (e : IdBytes) → IsPlain (whole meta m e)
   unfolding whole
   plain_whole e = plain_element (len m.kind) e
 

@@ -1,4 +1,4 @@
--- The row of an element tells its values.
+-- The row of an element gives its values.
 use Rattle.std.proofs.Common.{◌≡◌, ℕ, zero, suc, Bool, true, false, cond, ◌||◌, List, [], ◌∷◌, ◌++◌, refl, sym, ap, subst, ◌∙◌, nat_eq, ◌⊎◌, inl, inr}
 use Rattle.std.specs.Prelude.{Option, None, Some, slice_get, unwrap_or}
 use Rattle.std.specs.FinMap.{get}
@@ -12,14 +12,14 @@ use Rattle.ecore_meta.specs.declared.meta.Kind.{Kind}
 use Rattle.ecore_meta.specs.declared.meta.Kind.TheVariants.{Attr, AttrMany, Bounded, Free, Contains, Container, Skip}
 use Rattle.ecore_meta.specs.declared.meta.Value.{Value}
 use Rattle.model_state.specs.Good.{AttrOk, Good, ValuesOk}
-use Rattle.model_state.specs.Keys.{Name}
+use Rattle.model_state.specs.Keys.{IdBytes}
 use Rattle.model_state.specs.State.{State}
 use Rattle.emfjson_model.specs.declared.doc.DocAttr.{DocAttr}
 use Rattle.emfjson_model.specs.Merged.{attr_at, attrs_by, attrs_more, is_set}
 use Rattle.emfjson_model.proofs.SetAttrs.{by_keeps}
 use Rattle.emfjson_text.specs.Keys.{key_number, keys_of}
 use Rattle.model_state.specs.Listing.{values_at}
-use Rattle.round_trip.specs.Tells.{first_values, values_told}
+use Rattle.round_trip.specs.Describes.{first_values, values_given}
 use Rattle.round_trip.proofs.KeysFound.{Stands, feature_stands}
 use Rattle.round_trip.proofs.KeysTypes.{Key, Feature}
 use Rattle.round_trip.proofs.WalksNames.{all_append}
@@ -64,7 +64,7 @@ has_at f (a ∷ attrs) h = by_test (nat_eq f a.feature) refl (has_at f attrs) h
     by_test false e more (inl same) = let yes : nat_eq f a.feature ≡ true = subst (λ x. nat_eq f x ≡ true) same (nat_equality.own f) in cc
     by_test false e more (inr h) = more h
 
--- one that is there stays, whatever comes behind it
+-- one that is there stays, whatever comes after it
 has_kept : (f : ℕ) (attrs all : List DocAttr) (fs : List ℕ) → Has f all → Has f (attrs_by attrs all fs)
 has_kept f attrs all [] h = h
 has_kept f attrs all (g ∷ fs) h = has_kept f attrs (attrs_more attrs all g) fs (kept (is_set g all))
@@ -91,17 +91,17 @@ has_by f attrs all (g ∷ fs) (inl e) h = has_kept f attrs (attrs_more attrs all
 has_by f attrs all (g ∷ fs) (inr s) h = has_by f attrs (attrs_more attrs all g) fs s h
 
 -- ---- the values of an element
-module _ (meta : Meta) (m : State) (e : Name) where
+module _ (meta : Meta) (m : State) (e : IdBytes) where
   -- the values are those of the feature
   abbrev IsTold : DocAttr → Type 0
   IsTold a = a.values ≡ values_at m e a.feature
 
-  first_told : (f : ℕ) (attrs : List DocAttr) → AllByRecursion IsTold attrs → (values_at m e f ≡ []) ⊎ Has f attrs → values_told f attrs ≡ values_at m e f
+  first_told : (f : ℕ) (attrs : List DocAttr) → AllByRecursion IsTold attrs → (values_at m e f ≡ []) ⊎ Has f attrs → values_given f attrs ≡ values_at m e f
   first_told f [] all (inl none) = sym none
   first_told f [] all (inr h) = absurd h
   first_told f (a ∷ attrs) all h = by_test (nat_eq f a.feature) refl (first_told f attrs all.1) h
     where
-      by_test : (b : Bool) → nat_eq f a.feature ≡ b → ((values_at m e f ≡ []) ⊎ Has f attrs → values_told f attrs ≡ values_at m e f) → (values_at m e f ≡ []) ⊎ ((f ≡ a.feature) ⊎ Has f attrs)
+      by_test : (b : Bool) → nat_eq f a.feature ≡ b → ((values_at m e f ≡ []) ⊎ Has f attrs → values_given f attrs ≡ values_at m e f) → (values_at m e f ≡ []) ⊎ ((f ≡ a.feature) ⊎ Has f attrs)
           → first_values (cond b (a ∷ []) (attr_at f attrs)) ≡ values_at m e f
       by_test true is more h = all.0 ∙ ap (values_at m e) (sym (nat_equality.exact f a.feature is))
       by_test false is more (inl none) = more (inl none)
@@ -130,7 +130,7 @@ module _ (meta : Meta) (m : State) (e : Name) where
   keys_told [] = tt
   keys_told (key ∷ keys) = all_append IsTold (key_attrs meta m e key) (keys_attrs meta m e keys) (number_told (key_number key)) (keys_told keys)
 
-  -- ---- an attribute that is set is told
+  -- ---- an attribute that is set is given
   set_has : (f : ℕ) (v : Value) (vs xs : List Value) → xs ≡ v ∷ vs → Has f (set_attr f xs)
   set_has f v vs xs is = subst (λ ys. Has f (set_attr f ys)) (sym is) (inl refl)
 
@@ -149,13 +149,13 @@ module _ (meta : Meta) (m : State) (e : Name) where
   key_has f h (key ∷ keys) (inl same) = has_first f (key_attrs meta m e key) (keys_attrs meta m e keys) (subst (λ k. Has f (key_attrs meta m e k)) same h)
   key_has f h (key ∷ keys) (inr s) = has_second f (key_attrs meta m e key) (keys_attrs meta m e keys) (key_has f h keys s)
 
-  -- the values are none, or the attribute is one of the class, and is told
+  -- the values are none, or the attribute is one of the class, and is given
   entry_has : (c f : ℕ) (o : Option (List Value)) → AttrOk meta (Some c) f o → get m.attr (e, f) ≡ o → (values_at m e f ≡ []) ⊎ (Stands f (features_of meta c) × Has f (kind_attrs m e f (kind_of meta f)))
   entry_has c f None ok is = inl (ap (λ o. unwrap_or o []) is)
   entry_has c f (Some []) ok is = inl (ap (λ o. unwrap_or o []) is)
   entry_has c f (Some (v ∷ vs)) ok is = inr (in_class meta c f ok.0, kind_has f (kind_of meta f) (upper_of meta f) v vs ok.1 (ap (λ o. unwrap_or o []) is))
 
-  pub values_are_told : Good meta m → (c : ℕ) → get m.kind e ≡ Some c → (f : ℕ) → values_told f (attrs_by (keys_attrs meta m e (keys_of meta c)) [] (features_of meta c)) ≡ values_at m e f
+  pub values_are_told : Good meta m → (c : ℕ) → get m.kind e ≡ Some c → (f : ℕ) → values_given f (attrs_by (keys_attrs meta m e (keys_of meta c)) [] (features_of meta c)) ≡ values_at m e f
   values_are_told good c kind f =
       let attrs = keys_attrs meta m e (keys_of meta c) in
       let ok : AttrOk meta (Some c) f (get m.attr (e, f)) = subst (λ k. AttrOk meta k f (get m.attr (e, f))) kind (good.attrs.typed e f) in

@@ -16,7 +16,7 @@ use Rattle.model_state.specs.declared.entry.Entry.{Entry}
 use Rattle.model_state.specs.declared.step.Place.{Place}
 use Rattle.model_state.specs.declared.step.Place.TheVariants.{Root, Inside}
 use Rattle.model_state.specs.Good.{Good}
-use Rattle.model_state.specs.Keys.{Name}
+use Rattle.model_state.specs.Keys.{IdBytes}
 use Rattle.model_state.specs.Listing.{children}
 use Rattle.model_state.specs.State.{State}
 use Rattle.edit_laws.proofs.Creates.{Stand, children_stand}
@@ -34,10 +34,10 @@ use Rattle.round_trip.proofs.WalksNames.{all_flat, flat, forest_names, key_names
 use Rattle.round_trip.proofs.WalksRows.{Come, among, by_number, class_at, forest, tree_rows}
 
 -- different names
-abbrev pub Differ : Name → Name → Type 0
+abbrev pub Differ : IdBytes → IdBytes → Type 0
 Differ x y = x ≡ y → ⊥
 
-text_differ : (x y : Name) → text_eq x y ≡ false → Differ x y
+text_differ : (x y : IdBytes) → text_eq x y ≡ false → Differ x y
 text_differ x y h e = let own : text_eq x y ≡ true = subst (λ z. text_eq x z ≡ true) e (text_equality.own x) in cc
 
 -- ---- the elements of a place are there once
@@ -58,14 +58,14 @@ module _ (meta : Meta) (m : State) (good : Good meta m) where
 -- ---- what is in a tree is under its element
 module _ (meta : Meta) (m : State) where
   -- an element under one in a feature
-  abbrev pub InChild : Name → ℕ → Name → Type 0
-  InChild e f x = (c : Name) × (get m.place c ≡ Some (Inside e f)) × Under m c x
+  abbrev pub InChild : IdBytes → ℕ → IdBytes → Type 0
+  InChild e f x = (c : IdBytes) × (get m.place c ≡ Some (Inside e f)) × Under m c x
 
   -- an element under one in the feature of the key of that number
-  abbrev pub InKey : Name → ℕ → Name → Type 0
+  abbrev pub InKey : IdBytes → ℕ → IdBytes → Type 0
   InKey e n x = (f : ℕ) × (n ≡ suc (suc f)) × InChild e f x
 
-  module _ (below : Name → List Name) (under : (c : Name) → AllByRecursion (Under m c) (below c)) (e : Name) where
+  module _ (below : IdBytes → List IdBytes) (under : (c : IdBytes) → AllByRecursion (Under m c) (below c)) (e : IdBytes) where
     kind_in : (f : ℕ) (k : Kind) → AllByRecursion (InChild e f) (kind_names m below e f k)
     kind_in f (Attr scalar default) = tt
     kind_in f (AttrMany scalar unique) = tt
@@ -85,10 +85,10 @@ module _ (meta : Meta) (m : State) where
     pub key_in : (key : Key) → AllByRecursion (InKey e (key_number key)) (key_names meta m below e key)
     key_in key = number_in (key_number key)
 
-  in_under : (e : Name) (n : ℕ) (x : Name) → InKey e n x → Under m e x
+  in_under : (e : IdBytes) (n : ℕ) (x : IdBytes) → InKey e n x → Under m e x
   in_under e n x i = under_up m e i.2.0 x (inside_up m e i.2.0 i.0 i.2.1) i.2.2
 
-  pub under_tree : (n : ℕ) (e : Name) → AllByRecursion (Under m e) (tree_names meta m n e)
+  pub under_tree : (n : ℕ) (e : IdBytes) → AllByRecursion (Under m e) (tree_names meta m n e)
   unfolding tree_names
   under_tree zero e = tt
   under_tree (suc n) e = (
@@ -101,17 +101,17 @@ module _ (meta : Meta) (m : State) where
 -- ---- no name twice
 module _ (meta : Meta) (named : IsNamed meta) (m : State) (good : Good meta m) where
   -- two under different elements of a place differ
-  siblings_apart : (j : ℕ) (p : Place) → ((c : Name) → get m.place c ≡ Some p → Level m c j) → (c d : Name) → Differ c d → (x y : Name) → Under m c x × (get m.place c ≡ Some p) → Under m d y × (get m.place d ≡ Some p) → Differ x y
+  siblings_apart : (j : ℕ) (p : Place) → ((c : IdBytes) → get m.place c ≡ Some p → Level m c j) → (c d : IdBytes) → Differ c d → (x y : IdBytes) → Under m c x × (get m.place c ≡ Some p) → Under m d y × (get m.place d ≡ Some p) → Differ x y
   siblings_apart j p level c d differ x y u v e = differ (same_above m x c d j u.0 (subst (Under m d) (sym e) v.0) (level c u.1) (level d v.1))
 
-  place_apart : (below : Name → List Name) → ((c : Name) → AllByRecursion (Under m c) (below c)) → (j : ℕ) (p : Place) → ((c : Name) → get m.place c ≡ Some p → Level m c j)
-      → ((c : Name) → get m.place c ≡ Some p → Pairs Differ (below c)) → Pairs Differ (flat below (child_ids m p))
+  place_apart : (below : IdBytes → List IdBytes) → ((c : IdBytes) → AllByRecursion (Under m c) (below c)) → (j : ℕ) (p : Place) → ((c : IdBytes) → get m.place c ≡ Some p → Level m c j)
+      → ((c : IdBytes) → get m.place c ≡ Some p → Pairs Differ (below c)) → Pairs Differ (flat below (child_ids m p))
   place_apart below under j p level apart =
       pairs_flat below Differ Differ (λ c x. Under m c x × (get m.place c ≡ Some p)) (siblings_apart j p level) (child_ids m p) (children_differ meta m good p)
       (all_so (λ c. get m.place c ≡ Some p) (λ c. Pairs Differ (below c)) apart (child_ids m p) (each_child m p))
       (all_so (λ c. get m.place c ≡ Some p) (λ c. AllByRecursion (λ x. Under m c x × (get m.place c ≡ Some p)) (below c)) (λ c at. all_so (Under m c) (λ x. Under m c x × (get m.place c ≡ Some p)) (λ x u. (u, at)) (below c) (under c)) (child_ids m p) (each_child m p))
 
-  module _ (below : Name → List Name) (under : (c : Name) → AllByRecursion (Under m c) (below c)) (e : Name) (j : ℕ) (level : Level m e j) (apart : (c : Name) (f : ℕ) → get m.place c ≡ Some (Inside e f) → Pairs Differ (below c)) where
+  module _ (below : IdBytes → List IdBytes) (under : (c : IdBytes) → AllByRecursion (Under m c) (below c)) (e : IdBytes) (j : ℕ) (level : Level m e j) (apart : (c : IdBytes) (f : ℕ) → get m.place c ≡ Some (Inside e f) → Pairs Differ (below c)) where
     kind_apart : (f : ℕ) (k : Kind) → Pairs Differ (kind_names m below e f k)
     kind_apart f (Attr scalar default) = tt
     kind_apart f (AttrMany scalar unique) = tt
@@ -126,16 +126,16 @@ module _ (meta : Meta) (named : IsNamed meta) (m : State) (good : Good meta m) w
     number_apart (suc zero) = tt
     number_apart (suc (suc f)) = kind_apart f (kind_of meta f)
 
-    same_feature : (c d : Name) (f g : ℕ) → c ≡ d → get m.place c ≡ Some (Inside e f) → get m.place d ≡ Some (Inside e g) → f ≡ g
+    same_feature : (c d : IdBytes) (f g : ℕ) → c ≡ d → get m.place c ≡ Some (Inside e f) → get m.place d ≡ Some (Inside e g) → f ≡ g
     same_feature c d f g is at there = let same : ◌≡◌ {A = Option Place} (Some (Inside e f)) (Some (Inside e g)) = sym at ∙ ap (get m.place) is ∙ there in cc
 
-    keys_cross : (k l : Key) → NumbersApart k l → (x y : Name) → InKey meta m e (key_number k) x → InKey meta m e (key_number l) y → Differ x y
+    keys_cross : (k l : Key) → NumbersApart k l → (x y : IdBytes) → InKey meta m e (key_number k) x → InKey meta m e (key_number l) y → Differ x y
     keys_cross k l numbers x y u v is =
         let same = same_above m x u.2.0 v.2.0 (suc j) u.2.2 (subst (Under m v.2.0) (sym is) v.2.2) (inside_level m e u.2.0 u.0 j u.2.1 level) (inside_level m e v.2.0 v.0 j v.2.1 level) in
         let feature = same_feature u.2.0 v.2.0 u.0 v.0 same u.2.1 v.2.1 in
         numbers u.0 u.1 (v.1 ∙ ap (λ f. suc (suc f)) (sym feature))
 
-    not_own : (n : ℕ) (x : Name) → InKey meta m e n x → Differ e x
+    not_own : (n : ℕ) (x : IdBytes) → InKey meta m e n x → Differ e x
     not_own n x i is =
         not_inside m e j i.2.2.0 level (subst (λ z. above m (suc i.2.2.0) z ≡ Some e) (sym is) (above_up m e i.2.0 x i.2.2.0 (inside_up m e i.2.0 i.0 i.2.1) i.2.2.1))
 
@@ -147,7 +147,7 @@ module _ (meta : Meta) (named : IsNamed meta) (m : State) (good : Good meta m) w
           (all_of (λ key. AllByRecursion (InKey meta m e (key_number key)) (key_names meta m below e key)) (key_in meta m below under e) keys),
     )
 
-  pub tree_apart : (n : ℕ) (e : Name) (j : ℕ) → Level m e j → Pairs Differ (tree_names meta m n e)
+  pub tree_apart : (n : ℕ) (e : IdBytes) (j : ℕ) → Level m e j → Pairs Differ (tree_names meta m n e)
   unfolding tree_names
   tree_apart zero e j level = tt
   tree_apart (suc n) e j level =
@@ -157,16 +157,16 @@ module _ (meta : Meta) (named : IsNamed meta) (m : State) (good : Good meta m) w
   roots_apart n = place_apart (tree_names meta m n) (under_tree meta m n) 0 Root (λ c at. root_level m c at) (λ c at. tree_apart n c 0 (root_level m c at))
 
 -- ---- names that differ come one after another
-came : (x y : Name) (ids : Ids) → among (Some y) ids ≡ false → Differ x y → among (Some y) (ids ++ Some x ∷ []) ≡ false
+came : (x y : IdBytes) (ids : Ids) → among (Some y) ids ≡ false → Differ x y → among (Some y) (ids ++ Some x ∷ []) ≡ false
 came x y ids h d =
     list_any-append (option_eq text_eq (Some y)) ids (Some x ∷ []) ∙ ap (λ b. b || (text_eq y x || false)) h
     ∙ ap (λ b. b || false) (not_so (text_eq y x) (λ e. d (sym (text_equality.exact y x e))))
 
-all_came : (x : Name) (ids : Ids) (ys : List Name) → AllByRecursion (λ y. among (Some y) ids ≡ false) ys → AllByRecursion (Differ x) ys → AllByRecursion (λ y. among (Some y) (ids ++ Some x ∷ []) ≡ false) ys
+all_came : (x : IdBytes) (ids : Ids) (ys : List IdBytes) → AllByRecursion (λ y. among (Some y) ids ≡ false) ys → AllByRecursion (Differ x) ys → AllByRecursion (λ y. among (Some y) (ids ++ Some x ∷ []) ≡ false) ys
 all_came x ids [] h d = tt
 all_came x ids (y ∷ ys) h d = (came x y ids h.0 d.0, all_came x ids ys h.1 d.1)
 
-come_apart : (ids : Ids) (xs : List Name) → AllByRecursion (λ x. among (Some x) ids ≡ false) xs → Pairs Differ xs → Come ids (map (λ x. Some x) xs)
+come_apart : (ids : Ids) (xs : List IdBytes) → AllByRecursion (λ x. among (Some x) ids ≡ false) xs → Pairs Differ xs → Come ids (map (λ x. Some x) xs)
 come_apart ids [] h d = tt
 come_apart ids (x ∷ xs) h d = (h.0, come_apart (ids ++ Some x ∷ []) xs (all_came x ids xs h.1 d.0) d.1)
 

@@ -18,7 +18,7 @@ use Rattle.model_state.specs.declared.entry.Entry.{Entry}
 use Rattle.model_state.specs.declared.step.Place.{Place}
 use Rattle.model_state.specs.declared.step.Place.TheVariants.{Inside}
 use Rattle.model_state.specs.Good.{Good}
-use Rattle.model_state.specs.Keys.{Name}
+use Rattle.model_state.specs.Keys.{IdBytes}
 use Rattle.model_state.specs.Listing.{children, targets, entry_cmp, rank_at, row_entry, is_of}
 use Rattle.model_state.specs.State.{State, place_eq}
 use Rattle.model_state.specs.Typing.{bounded_kind, contains_kind, child_upper, row_upper}
@@ -52,7 +52,7 @@ module _ {A : Type 0} where
       none : (n : ℕ) → n ≡ 0 + n
       none n = omega arith
 
-pub target_count : (m : State) (a : Name) (f : ℕ) → length (target_ids m a f) ≡ count (λ e. text_eq a e.0.0 && nat_eq f e.0.1) m.row
+pub target_count : (m : State) (a : IdBytes) (f : ℕ) → length (target_ids m a f) ≡ count (λ e. text_eq a e.0.0 && nat_eq f e.0.1) m.row
 target_count m a f =
     length-map (targets m.row a f) (λ (e : Entry). e.id)
     ∙ length-in_order entry_cmp (map row_entry (picked (λ e. is_of a f e.0) m.row))
@@ -62,9 +62,9 @@ target_count m a f =
 pub child_count : (m : State) (p : Place) → length (child_ids m p) ≡ count (λ e. place_eq p e.1) m.place
 child_count m p =
     length-map (children m.place m.prank p) (λ (e : Entry). e.id)
-    ∙ length-in_order entry_cmp (map (λ (e : Name × Place). record { rank = rank_at m.prank e.0; id = e.0 }) (picked (λ e. place_eq p e.1) m.place))
-    ∙ length-map (picked (λ e. place_eq p e.1) m.place) (λ (e : Name × Place). record { rank = rank_at m.prank e.0; id = e.0 })
-    ∙ length-filter (λ (e : Name × Place). place_eq p e.1) (entries m.place)
+    ∙ length-in_order entry_cmp (map (λ (e : IdBytes × Place). record { rank = rank_at m.prank e.0; id = e.0 }) (picked (λ e. place_eq p e.1) m.place))
+    ∙ length-map (picked (λ e. place_eq p e.1) m.place) (λ (e : IdBytes × Place). record { rank = rank_at m.prank e.0; id = e.0 })
+    ∙ length-filter (λ (e : IdBytes × Place). place_eq p e.1) (entries m.place)
 
 -- a list within a bound of one has at most one
 few : (n : ℕ) (upper : Option ℕ) → is_one upper ≡ true → is_within n upper ≡ true → n ≤ 1
@@ -75,19 +75,19 @@ few n (Some u) h k = let e : u ≡ 1 = nat_equality.exact u 1 h in by_le (subst 
     by_le k = grind (arith, nat_tests)
 
 module _ (meta : Meta) (m : State) (good : Good meta m) where
-  pub bounded_few : (a : Name) (f target : ℕ) (opposite : Option ℕ) → kind_of meta f ≡ Bounded target opposite → is_single meta f ≡ true → length (target_ids m a f) ≤ 1
+  pub bounded_few : (a : IdBytes) (f target : ℕ) (opposite : Option ℕ) → kind_of meta f ≡ Bounded target opposite → is_single meta f ≡ true → length (target_ids m a f) ≤ 1
   bounded_few a f target opposite kind single =
       let upper : row_upper meta f ≡ upper_of meta f = ap (λ k. cond (bounded_kind k) (upper_of meta f) None) kind in
       subst (λ n. n ≤ 1) (sym (target_count m a f)) (few _ (upper_of meta f) single (subst (λ u. is_within (count (λ e. text_eq a e.0.0 && nat_eq f e.0.1) m.row) u ≡ true) upper (good.rows.bound a f)))
 
-  pub free_few : IsNamed meta → (a : Name) (f target : ℕ) (opposite : Option ℕ) → kind_of meta f ≡ Free target opposite → is_single meta f ≡ true → length (target_ids m a f) ≤ 1
+  pub free_few : IsNamed meta → (a : IdBytes) (f target : ℕ) (opposite : Option ℕ) → kind_of meta f ≡ Free target opposite → is_single meta f ≡ true → length (target_ids m a f) ≤ 1
   free_few named a f target opposite kind single = absurd (none_one (upper_of meta f) (named.unbounded f target opposite kind) single)
     where
       none_one : (u : Option ℕ) → u ≡ None → is_one u ≡ true → ⊥
       none_one None h k = cc
       none_one (Some n) h k = cc
 
-  pub children_within : (a : Name) (f target : ℕ) (opposite : Option ℕ) → kind_of meta f ≡ Contains target opposite → is_within (length (child_ids m (Inside a f))) (upper_of meta f) ≡ true
+  pub children_within : (a : IdBytes) (f target : ℕ) (opposite : Option ℕ) → kind_of meta f ≡ Contains target opposite → is_within (length (child_ids m (Inside a f))) (upper_of meta f) ≡ true
   children_within a f target opposite kind =
       let upper : child_upper meta f ≡ upper_of meta f = ap (λ k. cond (contains_kind k) (upper_of meta f) None) kind in
       subst (λ n. is_within n (upper_of meta f) ≡ true) (sym (child_count m (Inside a f))) (subst (λ u. is_within (count (λ e. place_eq (Inside a f) e.1) m.place) u ≡ true) upper (good.places.bound a f))

@@ -1,4 +1,4 @@
--- Each element stands in the tree of each that is around it.
+-- Each element stands in the tree of each of its containers.
 use Rattle.std.proofs.Common.{◌≡◌, ℕ, zero, suc, ◌≤◌, Bool, true, false, ◌||◌, List, [], ◌∷◌, ◌++◌, map, refl, sym, ap, subst, ◌∙◌, arith, ◌⊎◌, inl, inr}
 use Rattle.std.specs.Prelude.{Option, None, Some, option_and_then, unwrap_or}
 use Rattle.std.specs.FinMap.{get}
@@ -16,7 +16,7 @@ use Rattle.model_state.specs.declared.step.Place.{Place}
 use Rattle.model_state.specs.declared.step.Place.TheVariants.{Root, Inside}
 use Rattle.model_state.specs.Chains.{parent_of}
 use Rattle.model_state.specs.Good.{Good}
-use Rattle.model_state.specs.Keys.{Name}
+use Rattle.model_state.specs.Keys.{IdBytes}
 use Rattle.model_state.specs.Listing.{children, entry_cmp, rank_at}
 use Rattle.model_state.specs.State.{State, place_eq}
 use Rattle.model_state.specs.Steps.{class_has}
@@ -36,7 +36,7 @@ use Rattle.round_trip.proofs.WalksRows.{class_at}
 use Rattle.round_trip.proofs.WalksWhole.{IsWithinIf, depths, listed_depths, placed}
 
 -- ---- the elements of a place are all that stand in it
-pub entry_stands : (d : Name) (xs : List Entry) → list_any (λ (x : Entry). text_eq d x.id) xs ≡ true → Stands d (map (λ (x : Entry). x.id) xs)
+pub entry_stands : (d : IdBytes) (xs : List Entry) → list_any (λ (x : Entry). text_eq d x.id) xs ≡ true → Stands d (map (λ (x : Entry). x.id) xs)
 entry_stands d [] h = cc
 entry_stands d (x ∷ xs) h = by_test (text_eq d x.id) refl (entry_stands d xs) h
   where
@@ -45,12 +45,12 @@ entry_stands d (x ∷ xs) h = by_test (text_eq d x.id) refl (entry_stands d xs) 
     by_test true e more h = inl (text_equality.exact d x.id e)
     by_test false e more h = inr (more h)
 
-pub child_stands : (m : State) (d : Name) (p : Place) → get m.place d ≡ Some p → Stands d (child_ids m p)
+pub child_stands : (m : State) (d : IdBytes) (p : Place) → get m.place d ≡ Some p → Stands d (child_ids m p)
 child_stands m d p at =
     entry_stands d (children m.place m.prank p)
-    (any-in_order entry_cmp (λ (x : Entry). text_eq d x.id) (map (λ (e : Name × Place). record { rank = rank_at m.prank e.0; id = e.0 }) (picked (λ (e : Name × Place). place_eq p e.1) m.place))
-    ∙ any-map (λ (x : Entry). text_eq d x.id) (λ (e : Name × Place). record { rank = rank_at m.prank e.0; id = e.0 }) (picked (λ (e : Name × Place). place_eq p e.1) m.place)
-    ∙ picked_has id_order (λ (e : Name × Place). place_eq p e.1) m.place (λ (e : Name × Place). text_eq d e.0) d p at (place_equality.own p) (text_equality.own d))
+    (any-in_order entry_cmp (λ (x : Entry). text_eq d x.id) (map (λ (e : IdBytes × Place). record { rank = rank_at m.prank e.0; id = e.0 }) (picked (λ (e : IdBytes × Place). place_eq p e.1) m.place))
+    ∙ any-map (λ (x : Entry). text_eq d x.id) (λ (e : IdBytes × Place). record { rank = rank_at m.prank e.0; id = e.0 }) (picked (λ (e : IdBytes × Place). place_eq p e.1) m.place)
+    ∙ picked_has id_order (λ (e : IdBytes × Place). place_eq p e.1) m.place (λ (e : IdBytes × Place). text_eq d e.0) d p at (place_equality.own p) (text_equality.own d))
 
 -- ---- lists one after another
 stands_first : {A : Type 0} (x : A) (xs ys : List A) → Stands x xs → Stands x (xs ++ ys)
@@ -68,15 +68,15 @@ stands_flat g a b (x ∷ xs) (inl e) h = stands_first b (g x) (flat g xs) (subst
 stands_flat g a b (x ∷ xs) (inr s) h = stands_second b (g x) (flat g xs) (stands_flat g a b xs s h)
 
 -- ---- one level down
-pub inside_of : (o : Option Place) (e : Name) → option_and_then parent_of o ≡ Some e → (g : ℕ) × (o ≡ Some (Inside e g))
+pub inside_of : (o : Option Place) (e : IdBytes) → option_and_then parent_of o ≡ Some e → (g : ℕ) × (o ≡ Some (Inside e g))
 inside_of None e is = cc
 inside_of (Some Root) e is = cc
-inside_of (Some (Inside a f)) e is = let same : a ≡ e = cc in (f, ap (λ (z : Name). Some (Inside z f)) same)
+inside_of (Some (Inside a f)) e is = let same : a ≡ e = cc in (f, ap (λ (z : IdBytes). Some (Inside z f)) same)
 
-pub down : (m : State) (k : ℕ) (x e : Name) → above m (suc k) x ≡ Some e → (d : Name) × (g : ℕ) × (above m k x ≡ Some d) × (get m.place d ≡ Some (Inside e g))
+pub down : (m : State) (k : ℕ) (x e : IdBytes) → above m (suc k) x ≡ Some e → (d : IdBytes) × (g : ℕ) × (above m k x ≡ Some d) × (get m.place d ≡ Some (Inside e g))
 down m k x e is = by_above (above m k x) refl is
   where
-    by_above : (o : Option Name) → above m k x ≡ o → option_and_then (up m) o ≡ Some e → (d : Name) × (g : ℕ) × (above m k x ≡ Some d) × (get m.place d ≡ Some (Inside e g))
+    by_above : (o : Option IdBytes) → above m k x ≡ o → option_and_then (up m) o ≡ Some e → (d : IdBytes) × (g : ℕ) × (above m k x ≡ Some d) × (get m.place d ≡ Some (Inside e g))
     by_above None at is = cc
     by_above (Some d) at is = let p = inside_of (get m.place d) e is in (d, p.0, at, p.1)
 
@@ -94,13 +94,13 @@ contains_is meta (Container target opposite) c h = cc
 contains_is meta Skip c h = cc
 
 -- an element with children is live, and they stand in a containment of its class
-pub record Holds (meta : Meta) (m : State) (e : Name) (g : ℕ) : Type 0 where
+pub record Holds (meta : Meta) (m : State) (e : IdBytes) (g : ℕ) : Type 0 where
   pub class : get m.kind e ≡ Some (class_at meta m e)
   pub feature : Stands g (features_of meta (class_at meta m e))
   pub kind : IsContains (kind_of meta g)
 
 module _ (meta : Meta) (m : State) (good : Good meta m) where
-  pub holds : (e d : Name) (g : ℕ) → get m.place d ≡ Some (Inside e g) → Holds meta m e g
+  pub holds : (e d : IdBytes) (g : ℕ) → get m.place d ≡ Some (Inside e g) → Holds meta m e g
   holds e d g at =
       let p = placed meta m.kind (get m.kind d) (get m.place d) (Inside e g) (get m.prank d) (good.places.stands d) at in
       by_class (get m.kind e) refl p.3.0 (contains_is meta (kind_of meta g) p.0 p.3.1)
@@ -112,18 +112,18 @@ module _ (meta : Meta) (m : State) (good : Good meta m) where
           record { class = is ∙ ap (λ x. Some x) same; feature = subst (λ x. Stands g (features_of meta x)) same (in_class meta c g has); kind = kind }
 
   -- the children of an element in a containment are among the names of its keys
-  pub key_is : (below : Name → List Name) (e : Name) (g : ℕ) → IsContains (kind_of meta g) → key_names meta m below e (Feature g) ≡ flat below (child_ids m (Inside e g))
+  pub key_is : (below : IdBytes → List IdBytes) (e : IdBytes) (g : ℕ) → IsContains (kind_of meta g) → key_names meta m below e (Feature g) ≡ flat below (child_ids m (Inside e g))
   unfolding keys_of Feature
   key_is below e g k = ap (kind_names m below e g) k.2
 
   module _ (nested : IsNested meta m) where
-    shape : (e : Name) (c : ℕ) → get m.kind e ≡ Some c → whole meta m e ≡ object (members (key_name meta) (part meta m (whole meta m) e c) (keys_of meta c))
+    shape : (e : IdBytes) (c : ℕ) → get m.kind e ≡ Some c → whole meta m e ≡ object (members (key_name meta) (part meta m (whole meta m) e c) (keys_of meta c))
     shape e c kind = nested e ∙ ap (object_of meta m (whole meta m) e) kind
 
-    pub some_depth : (e : Name) (c : ℕ) → get m.kind e ≡ Some c → depth (whole meta m e) ≤ 0 → ⊥
+    pub some_depth : (e : IdBytes) (c : ℕ) → get m.kind e ≡ Some c → depth (whole meta m e) ≤ 0 → ⊥
     some_depth e c kind h = let l = ap depth (shape e c kind) in omega arith
 
-    content_depth : (e : Name) (n g : ℕ) → Holds meta m e g → depth (whole meta m e) ≤ suc n → IsWithinIf n (listed (is_single meta g) (map (whole meta m) (child_ids m (Inside e g))))
+    content_depth : (e : IdBytes) (n g : ℕ) → Holds meta m e g → depth (whole meta m e) ≤ suc n → IsWithinIf n (listed (is_single meta g) (map (whole meta m) (child_ids m (Inside e g))))
     unfolding keys_of Feature
     content_depth e n g h deep =
         let c = class_at meta m e in
@@ -132,12 +132,12 @@ module _ (meta : Meta) (m : State) (good : Good meta m) where
         subst (λ k. IsWithinIf n (content meta m (whole meta m) e g k)) h.kind.2
         (all_stand (λ k. IsWithinIf n (p k)) (keys_of meta c) (depths (key_name meta) p n (keys_of meta c) shallow) (Feature g) (feature_stands meta c g h.feature))
 
-    pub child_depth : (e d : Name) (n g : ℕ) → get m.place d ≡ Some (Inside e g) → depth (whole meta m e) ≤ suc n → depth (whole meta m d) ≤ n
+    pub child_depth : (e d : IdBytes) (n g : ℕ) → get m.place d ≡ Some (Inside e g) → depth (whole meta m e) ≤ suc n → depth (whole meta m d) ≤ n
     child_depth e d n g at deep =
         all_stand (λ c. depth (whole meta m c) ≤ n) (child_ids m (Inside e g)) (listed_depths (whole meta m) n (is_single meta g) (child_ids m (Inside e g)) (content_depth e n g (holds e d g at) deep)) d (child_stands m d (Inside e g) at)
 
-    -- an element stands in the tree of each around it
-    pub covered : (k n : ℕ) (x e : Name) (c : ℕ) → above m k x ≡ Some e → get m.kind e ≡ Some c → depth (whole meta m e) ≤ n → Stands x (tree_names meta m n e)
+    -- an element stands in the tree of each of its containers
+    pub covered : (k n : ℕ) (x e : IdBytes) (c : ℕ) → above m k x ≡ Some e → get m.kind e ≡ Some c → depth (whole meta m e) ≤ n → Stands x (tree_names meta m n e)
     covered k zero x e c is kind deep = absurd (some_depth e c kind deep)
     covered zero (suc n) x e c is kind deep = let same : x ≡ e = cc in subst (Stands x) (sym (names_step meta m n e)) (inl same)
     covered (suc k) (suc n) x e c is kind deep =

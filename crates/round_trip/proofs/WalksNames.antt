@@ -8,7 +8,7 @@ use Rattle.ecore_meta.specs.Typing.{kind_of}
 use Rattle.ecore_meta.specs.declared.meta.Kind.{Kind}
 use Rattle.ecore_meta.specs.declared.meta.Kind.TheVariants.{Attr, AttrMany, Bounded, Free, Contains, Container, Skip}
 use Rattle.model_state.specs.declared.step.Place.TheVariants.{Inside}
-use Rattle.model_state.specs.Keys.{Name}
+use Rattle.model_state.specs.Keys.{IdBytes}
 use Rattle.model_state.specs.State.{State}
 use Rattle.emfjson_model.specs.declared.doc.DocParent.{DocParent}
 use Rattle.emfjson_model.specs.Parts.{ids_of}
@@ -51,15 +51,15 @@ module _ {A B : Type 0} (g : A → List B) where
     apart_from_all a [] q bs r all = tt
     apart_from_all a (x ∷ xs) q bs r all = (apart_from_one a x q.0 bs r all, apart_from_all a xs q.1 bs r all)
 
-    -- lists that are apart, and whose items are, make one whose items are
+    -- lists that have nothing in common, and no item twice, make one that has none twice
     pub pairs_flat : (rest : List A) → Pairs R rest → AllByRecursion (λ a. Pairs P (g a)) rest → AllByRecursion (λ a. AllByRecursion (Q a) (g a)) rest → Pairs P (flat g rest)
     pairs_flat [] r p q = tt
     pairs_flat (a ∷ rest) r p q = pairs_append P (g a) (flat g rest) p.0 (pairs_flat rest r.1 p.1 q.1) (apart_from_all a (g a) q.0 rest r.0 q.1)
 
 -- ---- the names
-module _ (m : State) (below : Name → List Name) (e : Name) (f : ℕ) where
+module _ (m : State) (below : IdBytes → List IdBytes) (e : IdBytes) (f : ℕ) where
   -- the names under a feature
-  abbrev pub kind_names : Kind → List Name
+  abbrev pub kind_names : Kind → List IdBytes
   kind_names (Attr scalar default) = []
   kind_names (AttrMany scalar unique) = []
   kind_names (Bounded target opposite) = []
@@ -70,34 +70,34 @@ module _ (m : State) (below : Name → List Name) (e : Name) (f : ℕ) where
 
 module _ (meta : Meta) (m : State) where
   -- the names under a key
-  abbrev pub key_names : (Name → List Name) → Name → Key → List Name
+  abbrev pub key_names : (IdBytes → List IdBytes) → IdBytes → Key → List IdBytes
   key_names below e key = by_number (λ f. kind_names m below e f (kind_of meta f)) (key_number key)
 
   -- the names of an element and of those inside, down to a depth
-  unfoldable pub tree_names : ℕ → Name → List Name
+  unfoldable pub tree_names : ℕ → IdBytes → List IdBytes
   tree_names zero e = []
   tree_names (suc n) e = e ∷ flat (key_names (tree_names n) e) (keys_of meta (class_at meta m e))
 
-  pub names_step : (n : ℕ) (e : Name) → tree_names (suc n) e ≡ e ∷ flat (key_names (tree_names n) e) (keys_of meta (class_at meta m e))
+  pub names_step : (n : ℕ) (e : IdBytes) → tree_names (suc n) e ≡ e ∷ flat (key_names (tree_names n) e) (keys_of meta (class_at meta m e))
   unfolding tree_names
   names_step n e = refl
 
 -- ---- the rows have these names
-abbrev some : Name → Option Name
+abbrev some : IdBytes → Option IdBytes
 some x = Some x
 
 -- rows that have the names, wherever they stand
-abbrev Names : (ℕ → Option DocParent → Name → List Draft) → (Name → List Name) → Type 0
-Names rows names = (k : ℕ) (parent : Option DocParent) (e : Name) → ids_of (rows k parent e) ≡ map some (names e)
+abbrev Names : (ℕ → Option DocParent → IdBytes → List Draft) → (IdBytes → List IdBytes) → Type 0
+Names rows names = (k : ℕ) (parent : Option DocParent) (e : IdBytes) → ids_of (rows k parent e) ≡ map some (names e)
 
-pub forest_names : (rows : ℕ → Option DocParent → Name → List Draft) (names : Name → List Name) → Names rows names → (k : ℕ) (parent : Option DocParent) (cs : List Name) → ids_of (forest rows k parent cs) ≡ map some (flat names cs)
+pub forest_names : (rows : ℕ → Option DocParent → IdBytes → List Draft) (names : IdBytes → List IdBytes) → Names rows names → (k : ℕ) (parent : Option DocParent) (cs : List IdBytes) → ids_of (forest rows k parent cs) ≡ map some (flat names cs)
 forest_names rows names h k parent [] = refl
 forest_names rows names h k parent (c ∷ cs) =
     ids_append (rows k parent c) (forest rows (k + length (rows k parent c)) parent cs)
     ∙ ap₂ (λ xs ys. xs ++ ys) (h k parent c) (forest_names rows names h (k + length (rows k parent c)) parent cs)
     ∙ sym (map-append some (names c) (flat names cs))
 
-module _ (meta : Meta) (m : State) (rows : ℕ → Option DocParent → Name → List Draft) (names : Name → List Name) (h : Names rows names) (own : ℕ) (e : Name) where
+module _ (meta : Meta) (m : State) (rows : ℕ → Option DocParent → IdBytes → List Draft) (names : IdBytes → List IdBytes) (h : Names rows names) (own : ℕ) (e : IdBytes) where
   kind_named : (f k : ℕ) (kind : Kind) → ids_of (kind_rows m e f rows own k kind) ≡ map some (kind_names m names e f kind)
   kind_named f k (Attr scalar default) = refl
   kind_named f k (AttrMany scalar unique) = refl

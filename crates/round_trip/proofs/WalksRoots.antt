@@ -8,7 +8,7 @@ use Rattle.ecore_meta.specs.Meta.{Meta}
 use Rattle.model_state.specs.declared.step.Place.TheVariants.{Root}
 use Rattle.model_state.specs.Good.{Good}
 use Rattle.model_state.specs.Ident.{is_id}
-use Rattle.model_state.specs.Keys.{Name}
+use Rattle.model_state.specs.Keys.{IdBytes}
 use Rattle.model_state.specs.State.{State, is_live}
 use Rattle.emfjson_model.specs.declared.doc.DocParent.{DocParent}
 use Rattle.emfjson_model.specs.Parts.{ids_of}
@@ -25,11 +25,11 @@ use Rattle.round_trip.proofs.WalksRows.{Come, forest, tree_rows}
 use Rattle.round_trip.proofs.WalksSteps.{Walked, items_walk}
 use Rattle.round_trip.proofs.WalksWhole.{all_both, listed_depths, objects, placed, walk, IsWithinIf}
 
-module _ (meta : Meta) (below : ℕ → Option DocParent → Name → List Draft) (shown : Name → Data) (objects : (c : Name) → IsObject (shown c)) where
+module _ (meta : Meta) (below : ℕ → Option DocParent → IdBytes → List Draft) (shown : IdBytes → Data) (objects : (c : IdBytes) → IsObject (shown c)) where
   walked_object : (d : Data) → IsObject d → walked meta d ≡ element_rows meta [] None None d
   walked_object d o = subst (λ x. walked meta x ≡ element_rows meta [] None None x) (sym o.1) refl
 
-  list_walked : (cs : List Name) → AllByRecursion (Walked meta below shown None None) cs → Come [] (ids_of (forest below 0 None cs)) → walked meta (one_or_list true (map shown cs)) ≡ Ok (forest below 0 None cs)
+  list_walked : (cs : List IdBytes) → AllByRecursion (Walked meta below shown None None) cs → Come [] (ids_of (forest below 0 None cs)) → walked meta (one_or_list true (map shown cs)) ≡ Ok (forest below 0 None cs)
   unfolding items_rows
   list_walked [] all come = refl
   list_walked (c ∷ []) all come =
@@ -41,7 +41,7 @@ pub one_or_list_within : (n : ℕ) (ds : List Data) → depth (one_or_list true 
 one_or_list_within n [] h = tt
 one_or_list_within n (d ∷ ds) h = h
 
-module _ (meta : Meta) (named : IsNamed meta) (m : State) (good : Good meta m) (forms : (e : Name) → is_live m e ≡ true → is_id e ≡ true) where
+module _ (meta : Meta) (named : IsNamed meta) (m : State) (good : Good meta m) (forms : (e : IdBytes) → is_live m e ≡ true → is_id e ≡ true) where
   -- the rows that the walk gives
   abbrev pub model_rows : List Draft
   model_rows = forest (tree_rows meta m (depth (tree meta m))) 0 None (child_ids m Root)

@@ -10,7 +10,7 @@ use Rattle.ecore_meta.specs.declared.meta.Kind.{Kind}
 use Rattle.ecore_meta.specs.declared.meta.Kind.TheVariants.{Attr, AttrMany, Bounded, Free, Contains, Container, Skip}
 use Rattle.ecore_meta.specs.declared.meta.Value.{Value}
 use Rattle.model_state.specs.declared.step.Place.TheVariants.{Inside}
-use Rattle.model_state.specs.Keys.{Name}
+use Rattle.model_state.specs.Keys.{IdBytes}
 use Rattle.model_state.specs.State.{State}
 use Rattle.emfjson_model.specs.declared.doc.DocAttr.{DocAttr}
 use Rattle.emfjson_model.specs.declared.doc.DocParent.{DocParent}
@@ -27,7 +27,7 @@ set_attr f [] = []
 set_attr f (v ∷ vs) = record { feature = f; values = v ∷ vs } ∷ []
 
 -- the entries of a reference, where it has some
-abbrev pub set_links : ℕ → List Name → List Links
+abbrev pub set_links : ℕ → List IdBytes → List Links
 set_links f [] = []
 set_links f (b ∷ bs) = record { feature = f; entries = map (λ x. Some x) (b ∷ bs) } ∷ []
 
@@ -37,12 +37,12 @@ by_number g zero = []
 by_number g (suc zero) = []
 by_number g (suc (suc f)) = g f
 
--- the rows of some elements in a place, where below gives those of one behind so many rows
-abbrev pub forest : (ℕ → Option DocParent → Name → List Draft) → ℕ → Option DocParent → List Name → List Draft
+-- the rows of some elements in a place, where below gives those of one after so many rows
+abbrev pub forest : (ℕ → Option DocParent → IdBytes → List Draft) → ℕ → Option DocParent → List IdBytes → List Draft
 forest below k parent [] = []
 forest below k parent (c ∷ cs) = below k parent c ++ forest below (k + length (below k parent c)) parent cs
 
-module _ (m : State) (e : Name) (f : ℕ) where
+module _ (m : State) (e : IdBytes) (f : ℕ) where
   -- the values of a feature of the kind
   abbrev pub kind_attrs : Kind → List DocAttr
   kind_attrs (Attr scalar default) = set_attr f (values_at m e f)
@@ -63,8 +63,8 @@ module _ (m : State) (e : Name) (f : ℕ) where
   kind_links (Container target opposite) = []
   kind_links Skip = []
 
-  -- the rows of the elements in it, behind so many rows
-  abbrev pub kind_rows : (ℕ → Option DocParent → Name → List Draft) → ℕ → ℕ → Kind → List Draft
+  -- the rows of the elements in it, after so many rows
+  abbrev pub kind_rows : (ℕ → Option DocParent → IdBytes → List Draft) → ℕ → ℕ → Kind → List Draft
   kind_rows below own k (Attr scalar default) = []
   kind_rows below own k (AttrMany scalar unique) = []
   kind_rows below own k (Bounded target opposite) = []
@@ -74,7 +74,7 @@ module _ (m : State) (e : Name) (f : ℕ) where
   kind_rows below own k Skip = []
 
 -- ---- what stands under the keys of an object
-module _ (meta : Meta) (m : State) (e : Name) where
+module _ (meta : Meta) (m : State) (e : IdBytes) where
   -- the values under a key
   abbrev pub key_attrs : Key → List DocAttr
   key_attrs key = by_number (λ f. kind_attrs m e f (kind_of meta f)) (key_number key)
@@ -93,12 +93,12 @@ module _ (meta : Meta) (m : State) (e : Name) where
   keys_links [] = []
   keys_links (key ∷ keys) = key_links key ++ keys_links keys
 
-  module _ (below : ℕ → Option DocParent → Name → List Draft) (own : ℕ) where
-    -- the rows of the elements under a key, behind so many rows
+  module _ (below : ℕ → Option DocParent → IdBytes → List Draft) (own : ℕ) where
+    -- the rows of the elements under a key, after so many rows
     abbrev pub key_rows : ℕ → Key → List Draft
     key_rows k key = by_number (λ f. kind_rows m e f below own k (kind_of meta f)) (key_number key)
 
-    -- behind so many rows
+    -- after so many rows
     abbrev pub keys_rows : ℕ → List Key → List Draft
     keys_rows k [] = []
     keys_rows k (key ∷ keys) = key_rows k key ++ keys_rows (k + length (key_rows k key)) keys
@@ -114,11 +114,11 @@ module _ (meta : Meta) (m : State) (e : Name) where
 -- ---- elements
 module _ (meta : Meta) (m : State) where
   -- the class of an element
-  abbrev pub class_at : Name → ℕ
+  abbrev pub class_at : IdBytes → ℕ
   class_at e = unwrap_or (get m.kind e) 0
 
   -- the row of an element
-  abbrev pub own_row : Option DocParent → Name → Draft
+  abbrev pub own_row : Option DocParent → IdBytes → Draft
   own_row parent e = record {
     id = Some e;
     class = class_at e;
@@ -127,17 +127,17 @@ module _ (meta : Meta) (m : State) where
     links = keys_links meta m e (keys_of meta (class_at e));
   }
 
-  -- the rows of an element behind so many rows, down to a depth
-  unfoldable pub tree_rows : ℕ → ℕ → Option DocParent → Name → List Draft
+  -- the rows of an element after so many rows, down to a depth
+  unfoldable pub tree_rows : ℕ → ℕ → Option DocParent → IdBytes → List Draft
   tree_rows zero k parent e = []
   tree_rows (suc n) k parent e = own_row parent e ∷ keys_rows meta m e (tree_rows n) k (suc k) (keys_of meta (class_at e))
 
 -- ---- ids
-abbrev pub among : Option Name → Ids → Bool
+abbrev pub among : Option IdBytes → Ids → Bool
 among None ids = false
 among (Some id) ids = list_any (option_eq text_eq (Some id)) ids
 
--- the ids come one after another behind others, and none has been there
+-- the ids come one by one after others, and none has been there
 abbrev pub Come : Ids → Ids → Type 0
 Come ids [] = Unit {0}
 Come ids (x ∷ xs) = (among x ids ≡ false) × Come (ids ++ x ∷ []) xs

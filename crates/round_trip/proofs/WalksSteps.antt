@@ -6,7 +6,7 @@ use Rattle.std.proofs.lemmas.List.{length-map}
 use Rattle.serde_json.specs.Data.{Data}
 use Rattle.serde_json.specs.View.{items_of}
 use Rattle.ecore_meta.specs.Meta.{Meta}
-use Rattle.model_state.specs.Keys.{Name}
+use Rattle.model_state.specs.Keys.{IdBytes}
 use Rattle.model_state.specs.State.{State}
 use Rattle.emfjson_model.specs.declared.doc.DocParent.{DocParent}
 use Rattle.emfjson_model.specs.Parts.{Part, no_part, joined, Ids, ids_of}
@@ -30,7 +30,7 @@ come_second ids (x ∷ xs) ys h = subst (λ zs. Come zs ys) (append_assoc ids (x
 pub ids_length : (ids : Ids) (rows : List Draft) → length (ids ++ ids_of rows) ≡ length ids + length rows
 ids_length ids rows = length-append ids (ids_of rows) ∙ ap (λ n. length ids + n) (length-map rows (λ (r : Draft). r.id))
 
--- behind the rows so far
+-- after the rows so far
 pub behind_rows : (ids : Ids) (rows more : List Draft) → (ids ++ ids_of rows) ++ ids_of more ≡ ids ++ ids_of (rows ++ more)
 behind_rows ids rows more = append_assoc ids (ids_of rows) (ids_of more) ∙ ap (λ xs. ids ++ xs) (sym (ids_append rows more))
 
@@ -43,12 +43,12 @@ counted : (ids : Ids) (rows here : List Draft) → length (ids ++ ids_of rows) +
 counted ids rows here = sym (ids_length (ids ++ ids_of rows) here) ∙ ap length (behind_rows ids rows here)
 
 -- ---- elements in a list
-module _ (meta : Meta) (below : ℕ → Option DocParent → Name → List Draft) (whole : Name → Data) (parent : Option DocParent) (default : Option ℕ) where
-  -- the walk of an element gives its rows, behind whatever ids have come
-  abbrev pub Walked : Name → Type 0
+module _ (meta : Meta) (below : ℕ → Option DocParent → IdBytes → List Draft) (whole : IdBytes → Data) (parent : Option DocParent) (default : Option ℕ) where
+  -- the walk of an element gives its rows, after whatever ids have come
+  abbrev pub Walked : IdBytes → Type 0
   Walked c = (ids : Ids) → Come ids (ids_of (below (length ids) parent c)) → element_rows meta ids parent default (whole c) ≡ Ok (below (length ids) parent c)
 
-  pub items_walk : (ids : Ids) (cs : List Name) (rows : List Draft) (k : ℕ) → k ≡ length (ids ++ ids_of rows) → AllByRecursion Walked cs → Come (ids ++ ids_of rows) (ids_of (forest below k parent cs))
+  pub items_walk : (ids : Ids) (cs : List IdBytes) (rows : List Draft) (k : ℕ) → k ≡ length (ids ++ ids_of rows) → AllByRecursion Walked cs → Come (ids ++ ids_of rows) (ids_of (forest below k parent cs))
       → items_rows meta ids parent default rows (items_of (map whole cs)) ≡ Ok (rows ++ forest below k parent cs)
   unfolding items_rows
   items_walk ids [] rows k at all come = ap (λ rs. Ok rs) (sym (append-nil rows))
@@ -69,12 +69,12 @@ no_part_joined part = λ i. record { attrs = append-nil part.attrs i; links = ap
 joined_assoc : (p q r : Part) → joined (joined p q) r ≡ joined p (joined q r)
 joined_assoc p q r = λ i. record { attrs = append_assoc p.attrs q.attrs r.attrs i; links = append_assoc p.links q.links r.links i; rows = append_assoc p.rows q.rows r.rows i }
 
-module _ (meta : Meta) (m : State) (e : Name) (below : ℕ → Option DocParent → Name → List Draft) (own c : ℕ) (p : Key → Option Data) where
+module _ (meta : Meta) (m : State) (e : IdBytes) (below : ℕ → Option DocParent → IdBytes → List Draft) (own c : ℕ) (p : Key → Option Data) where
   -- what the value at a key gives
   abbrev at_key : Ids → List ℕ → Data → Read Part
   at_key ids name d = key_part meta (key_named meta c name) d (λ f target. held_rows meta ids (record { row = own; feature = f }) target d)
 
-  -- what stands under a key gives what it is to give, behind whatever ids have come
+  -- what stands under a key gives what it is to give, after whatever ids have come
   abbrev pub KeyOk : Key → Option Data → Type 0
   KeyOk key None = (key_attrs meta m e key ≡ []) × (key_links meta m e key ≡ []) × ((k : ℕ) → key_rows meta m e below own k key ≡ [])
   KeyOk key (Some d) = (ids : Ids) → Come ids (ids_of (key_rows meta m e below own (length ids) key)) → at_key ids (key_name meta key) d ≡ Ok (key_part_told meta m e below own (length ids) key)
@@ -89,7 +89,7 @@ module _ (meta : Meta) (m : State) (e : Name) (below : ℕ → Option DocParent 
       none_more : (k : ℕ) (xs : List Draft) → xs ≡ [] → k ≡ k + length xs
       none_more k xs h = let l = ap length h in omega arith
 
-  -- the walk over the keys, behind what the keys before gave
+  -- the walk over the keys, after what the keys before gave
   abbrev Goes : Ids → List Key → Type 0
   Goes ids keys =
       (sofar : Part) (k : ℕ) → k ≡ length (ids ++ ids_of sofar.rows) → Come (ids ++ ids_of sofar.rows) (ids_of (keys_rows meta m e below own k keys))

@@ -16,7 +16,7 @@ use Rattle.model_state.specs.declared.step.Place.{Place}
 use Rattle.model_state.specs.declared.step.Place.TheVariants.{Inside}
 use Rattle.model_state.specs.Good.{Good, PlaceOk, StandsOk}
 use Rattle.model_state.specs.Ident.{is_id}
-use Rattle.model_state.specs.Keys.{Name, id_cmp}
+use Rattle.model_state.specs.Keys.{IdBytes, id_cmp}
 use Rattle.model_state.specs.State.{State, is_live}
 use Rattle.model_state.specs.Typing.{is_concrete, contains_to}
 use Rattle.emfjson_model.specs.declared.doc.DocParent.{DocParent}
@@ -60,11 +60,11 @@ depths name p n (k ∷ ks) h = by_part (p k) (depths name p n ks) h
     by_part None more h = (tt, more h)
     by_part (Some d) more h = (max_first (depth d) _ n h, more (max_second (depth d) _ n h))
 
-items_depths : (f : Name → Data) (n : ℕ) (cs : List Name) → items_depth (items_of (map f cs)) ≤ n → AllByRecursion (λ c. depth (f c) ≤ n) cs
+items_depths : (f : IdBytes → Data) (n : ℕ) (cs : List IdBytes) → items_depth (items_of (map f cs)) ≤ n → AllByRecursion (λ c. depth (f c) ≤ n) cs
 items_depths f n [] h = tt
 items_depths f n (c ∷ cs) h = (max_first (depth (f c)) _ n h, items_depths f n cs (max_second (depth (f c)) _ n h))
 
-pub listed_depths : (f : Name → Data) (n : ℕ) (single : Bool) (cs : List Name) → IsWithinIf n (listed single (map f cs)) → AllByRecursion (λ c. depth (f c) ≤ n) cs
+pub listed_depths : (f : IdBytes → Data) (n : ℕ) (single : Bool) (cs : List IdBytes) → IsWithinIf n (listed single (map f cs)) → AllByRecursion (λ c. depth (f c) ≤ n) cs
 listed_depths f n single [] h = tt
 listed_depths f n true (c ∷ []) h = (h, tt)
 listed_depths f n true (c ∷ d ∷ cs) h = items_depths f n (c ∷ d ∷ cs) (omega arith)
@@ -103,12 +103,12 @@ class_read meta named default c concrete may =
     ∙ ap (λ b. unless b Abstract (unless (may_stand meta default c) WrongType (Ok c))) concrete
     ∙ ap (λ b. unless b WrongType (Ok c)) may
 
-id_read : (ids : Ids) (e : Name) → among (Some e) ids ≡ false → is_id e ≡ true → id_of ids (Some (string e)) ≡ Ok (Some e)
+id_read : (ids : Ids) (e : IdBytes) → among (Some e) ids ≡ false → is_id e ≡ true → id_of ids (Some (string e)) ≡ Ok (Some e)
 id_read ids e new form = ap (λ b. unless (not b) DupId (unless (is_id e) BadId (Ok (Some e)))) new ∙ ap (λ b. unless b BadId (Ok (Some e))) form
 
 -- ---- the walk
-module _ (meta : Meta) (named : IsNamed meta) (m : State) (good : Good meta m) (forms : (e : Name) → is_live m e ≡ true → is_id e ≡ true) (nested : IsNested meta m) where
-  pub objects : (c : Name) → IsObject (whole meta m c)
+module _ (meta : Meta) (named : IsNamed meta) (m : State) (good : Good meta m) (forms : (e : IdBytes) → is_live m e ≡ true → is_id e ≡ true) (nested : IsNested meta m) where
+  pub objects : (c : IdBytes) → IsObject (whole meta m c)
   objects c = by_kind (get m.kind c) (nested c)
     where
       by_kind : (k : Option ℕ) → whole meta m c ≡ object_of meta m (whole meta m) c k → IsObject (whole meta m c)
@@ -117,10 +117,10 @@ module _ (meta : Meta) (named : IsNamed meta) (m : State) (good : Good meta m) (
 
   -- an element of a class that may stand there, down to a depth
   abbrev Below : ℕ → Type 0
-  Below n = (parent : Option DocParent) (default : Option ℕ) (e : Name) (c : ℕ) → get m.kind e ≡ Some c → may_stand meta default c ≡ true → depth (whole meta m e) ≤ n → Walked meta (tree_rows meta m n) (whole meta m) parent default e
+  Below n = (parent : Option DocParent) (default : Option ℕ) (e : IdBytes) (c : ℕ) → get m.kind e ≡ Some c → may_stand meta default c ≡ true → depth (whole meta m e) ≤ n → Walked meta (tree_rows meta m n) (whole meta m) parent default e
 
-  module _ (n : ℕ) (below : Below n) (own : ℕ) (e : Name) (c : ℕ) where
-    child_walked : (f target : ℕ) (opposite : Option ℕ) → kind_of meta f ≡ Contains target opposite → (x : Name) → get m.place x ≡ Some (Inside e f) → depth (whole meta m x) ≤ n
+  module _ (n : ℕ) (below : Below n) (own : ℕ) (e : IdBytes) (c : ℕ) where
+    child_walked : (f target : ℕ) (opposite : Option ℕ) → kind_of meta f ≡ Contains target opposite → (x : IdBytes) → get m.place x ≡ Some (Inside e f) → depth (whole meta m x) ≤ n
         → Walked meta (tree_rows meta m n) (whole meta m) (Some (record { row = own; feature = f })) (Some target) x
     child_walked f target opposite kind x at deep =
         let p = placed meta m.kind (get m.kind x) (get m.place x) (Inside e f) (get m.prank x) (good.places.stands x) at in
@@ -167,16 +167,16 @@ module _ (meta : Meta) (named : IsNamed meta) (m : State) (good : Good meta m) (
     keys_due deep = all-in_order (key_cmp meta) Due (Ident ∷ Class ∷ map Feature (features_of meta c)) ((λ ids come. refl), ((λ ids come. refl), features_due (features_of meta c) (λ f s. s) deep))
 
   -- the row of an element of a class, and the rows inside
-  abbrev rows_of : ℕ → ℕ → Option DocParent → Name → ℕ → List Draft
+  abbrev rows_of : ℕ → ℕ → Option DocParent → IdBytes → ℕ → List Draft
   rows_of n k parent e c =
       record { id = Some e; class = c; parent = parent; attrs = keys_attrs meta m e (keys_of meta c); links = keys_links meta m e (keys_of meta c) }
       ∷ keys_rows meta m e (tree_rows meta m n) k (suc k) (keys_of meta c)
 
-  tree_step : (n k : ℕ) (parent : Option DocParent) (e : Name) (c : ℕ) → class_at meta m e ≡ c → tree_rows meta m (suc n) k parent e ≡ rows_of n k parent e c
+  tree_step : (n k : ℕ) (parent : Option DocParent) (e : IdBytes) (c : ℕ) → class_at meta m e ≡ c → tree_rows meta m (suc n) k parent e ≡ rows_of n k parent e c
   unfolding tree_rows
   tree_step n k parent e c is = ap (λ x. rows_of n k parent e x) is
 
-  object_walk : (n : ℕ) → Below n → (parent : Option DocParent) (default : Option ℕ) (e : Name) (c : ℕ) → get m.kind e ≡ Some c → may_stand meta default c ≡ true
+  object_walk : (n : ℕ) → Below n → (parent : Option DocParent) (default : Option ℕ) (e : IdBytes) (c : ℕ) → get m.kind e ≡ Some c → may_stand meta default c ≡ true
       → members_depth (members (key_name meta) (part meta m (whole meta m) e c) (keys_of meta c)) ≤ n
       → (ids : Ids) → Come ids (ids_of (rows_of n (length ids) parent e c))
       → element_rows meta ids parent default (object (members (key_name meta) (part meta m (whole meta m) e c) (keys_of meta c))) ≡ Ok (rows_of n (length ids) parent e c)
@@ -198,7 +198,7 @@ module _ (meta : Meta) (named : IsNamed meta) (m : State) (good : Good meta m) (
       ∙ ap (λ r. «then» r (λ id. own_rows parent id c (members_rows meta c own (ids ++ id ∷ []) no_part ms))) (ap (id_of ids) id_there ∙ id_read ids e come.0 (forms e (ap is_some kind)))
       ∙ ap (own_rows parent (Some e) c) keys_read
     where
-      counted : (ids : Ids) (id : Option Name) → suc (length ids) ≡ length ((ids ++ id ∷ []) ++ ids_of [])
+      counted : (ids : Ids) (id : Option IdBytes) → suc (length ids) ≡ length ((ids ++ id ∷ []) ++ ids_of [])
       counted ids id = let l = length-append ids (id ∷ []) in let k = ap length (append-nil (ids ++ id ∷ [])) in omega arith
 
   pub walk : (n : ℕ) → Below n

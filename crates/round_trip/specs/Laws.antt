@@ -5,33 +5,33 @@ use Rattle.serde_json.specs.Read.{read, max_depth}
 use Rattle.ecore_json.specs.Metamodel.{metamodel_of}
 use Rattle.ecore_meta.specs.Meta.{Meta}
 use Rattle.model_state.specs.Good.{Good, Sound}
-use Rattle.model_state.specs.Keys.{Name}
+use Rattle.model_state.specs.Keys.{IdBytes}
 use Rattle.model_state.specs.State.{State, nothing}
 use Rattle.model_state.specs.Steps.{fold}
 use Rattle.model_state.specs.declared.operation.Operation.{Operation}
 use Rattle.emfjson_model.specs.declared.doc.DocRow.{DocRow}
 use Rattle.emfjson_model.specs.Document.{doc_of}
-use Rattle.emfjson_model.specs.Fits.{Fits}
+use Rattle.emfjson_model.specs.Fits.{DocumentFits}
 use Rattle.emfjson_text.specs.Tree.{text, tree}
 use Rattle.model_import.specs.After.{import_after}
 use Rattle.model_import.specs.Import.{recorded_import}
 use Rattle.round_trip.specs.Named.{HasIds, IsNamed}
-use Rattle.round_trip.specs.Tells.{Tells}
+use Rattle.round_trip.specs.Describes.{Describes}
 use Rattle.edits.specs.Answers.{steps_in}
 
--- what rows that tell a good model leave in the empty project has the text of that model
-abbrev pub TellingsAreShown : Type 0
-TellingsAreShown = (meta : Meta) → Sound meta → (m : State) → Good meta m → (names : List Name) (rows : List DocRow) → Fits meta rows → Tells m names rows → length rows < 2 ^ 32 - 1
+-- what rows that describe a good model leave in the empty project has the text of that model
+abbrev pub DescriptionsAreShown : Type 0
+DescriptionsAreShown = (meta : Meta) → Sound meta → (m : State) → Good meta m → (names : List IdBytes) (rows : List DocRow) → DocumentFits meta rows → Describes m names rows → length rows < 2 ^ 32 - 1
     → text meta (import_after nothing names rows) ≡ text meta m
 
 -- the text of a good model reads as its tree, where that nests no deeper than JSON is read
 abbrev pub TextsReadBack : Type 0
 TextsReadBack = (meta : Meta) → IsNamed meta → (m : State) → Good meta m → depth (tree meta m) ≤ max_depth → read (text meta m) ≡ Some (tree meta m)
 
--- a good model of elements with ids has a text that says rows, which tell the model, and are no more than the text has bytes
-abbrev pub TextsAreTold : Type 0
-TextsAreTold = (meta : Meta) → IsNamed meta → (m : State) → Good meta m → HasIds m → depth (tree meta m) ≤ max_depth
-    → (names : List Name) × (rows : List DocRow) × (doc_of meta (text meta m) ≡ Ok rows) × Tells m names rows × (length rows ≤ length (text meta m))
+-- a good model of elements with ids has a text that stands for rows, which describe the model, and are no more than the text has bytes
+abbrev pub TextsDescribe : Type 0
+TextsDescribe = (meta : Meta) → IsNamed meta → (m : State) → Good meta m → HasIds m → depth (tree meta m) ≤ max_depth
+    → (names : List IdBytes) × (rows : List DocRow) × (doc_of meta (text meta m) ≡ Ok rows) × Describes m names rows × (length rows ≤ length (text meta m))
 
 -- a text brought into the empty project: it is read, it is recorded without a refusal, its steps can be taken, and the model that they leave has that text
 pub record ComesBack (meta : Meta) (ws : ℕ) (text_in : List ℕ) : Type 0 where

@@ -1,3 +1,3 @@
-pub mod Tells
+pub mod Describes
 pub mod Named
 pub mod Laws

@@ -11,12 +11,12 @@ use Rattle.ecore_meta.specs.declared.rows.ClassifierRow.{ClassifierRow}
 use Rattle.ecore_meta.specs.declared.rows.ClassifierRow.TheVariants.{Class, Enum, Plain}
 use Rattle.ecore_meta.specs.declared.rows.FeatureRow.{FeatureRow}
 use Rattle.model_state.specs.Ident.{is_id}
-use Rattle.model_state.specs.Keys.{Name}
+use Rattle.model_state.specs.Keys.{IdBytes}
 use Rattle.model_state.specs.State.{State, is_live}
 use Rattle.emfjson_io.specs.Laws.{TextsAreApart}
 
 -- a key of an object that is no feature's
-abbrev pub is_reserved : Name → Bool
+abbrev pub is_reserved : IdBytes → Bool
 is_reserved t = bytes_eq t (codes "eClass") || bytes_eq t (codes "_id")
 
 -- names of classes without a slash, and features that are not named as the class or the id
@@ -28,7 +28,7 @@ NamesFit (Plain t ∷ rows) = NamesFit rows
 
 -- each element's name has the form of an id; so it is in each working model of the repository, by the law of working models
 abbrev pub HasIds : State → Type 0
-HasIds m = (e : Name) → is_live m e ≡ true → is_id e ≡ true
+HasIds m = (e : IdBytes) → is_live m e ≡ true → is_id e ≡ true
 
 -- names of classes differ and have no slash; the features of a class differ by name, and none is named as the class or the id; the literals of an enum
 -- differ by text; references of the kind that has no bound have none

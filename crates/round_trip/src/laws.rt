@@ -1,5 +1,5 @@
 //! The laws of the round trip from a model to its text and back, by the parts that make it up.
-ghost use Rattle.round_trip.specs.Laws.{MetamodelsAreNamed, TellingsAreShown, TextsAreTold, TextsComeBack, TextsReadBack};
+ghost use Rattle.round_trip.specs.Laws.{MetamodelsAreNamed, DescriptionsAreShown, TextsDescribe, TextsComeBack, TextsReadBack};
 
 use emfjson_io::law_of_values;
 
@@ -15,14 +15,14 @@ pub fn law_of_reading_back()
     ensures { TextsReadBack }
 {}
 
-/// The law of reading: the document that the text of a good model says tells the model.
+/// The law of reading: the document that the text of a good model stands for describes the model.
 pub fn law_of_reading()
-    ensures { TextsAreTold }
+    ensures { TextsDescribe }
 {}
 
-/// What rows that tell a good model leave in the empty project has the text of that model.
-pub fn law_of_tellings()
-    ensures { TellingsAreShown }
+/// What rows that describe a good model leave in the empty project has the text of that model.
+pub fn law_of_descriptions()
+    ensures { DescriptionsAreShown }
 {}
 
 /// The law of round trips: the text of a good model whose elements have ids of the form of ids, brought into the empty project,

@@ -5,5 +5,5 @@
 mod laws;
 
 pub use laws::{
-    law_of_metamodels, law_of_reading, law_of_reading_back, law_of_round_trips, law_of_tellings,
+    law_of_descriptions, law_of_metamodels, law_of_reading, law_of_reading_back, law_of_round_trips,
 };

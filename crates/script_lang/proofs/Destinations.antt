@@ -1,4 +1,4 @@
--- The words of a place: read where they stand in front, and standing in front where a place was read.
+-- The words of a place: read where they stand first, and standing first where a place was read.
 use Rattle.std.proofs.Common.{◌≡◌, ◌≢◌, ℕ, List, ◌∷◌, ◌++◌, refl, ap, subst, ◌∙◌, true, false, Bool, cond, Result, Ok, Err, arith, codes}
 use Rattle.edits.specs.declared.edit.Destination.{Destination}
 use Rattle.edits.specs.declared.edit.Destination.TheVariants.{Root, Inside}
@@ -24,7 +24,7 @@ apart word true other is = absurd (other (same_word word (codes "/") is))
 not_slash : (word : List ℕ) → is_word word (codes "/") ≡ false → word ≢ codes "/"
 not_slash word other same = let e : is_word (codes "/") (codes "/") ≡ false = subst (λ w. is_word w (codes "/") ≡ false) same other in cc
 
--- reading goes on behind the words of a place
+-- reading goes on after the words of a place
 pub destination_reads : {B : Type 0} (place : Destination) → IsDestination place → (words : List (List ℕ)) (column : ℕ) (f : Destination × Left → Result B ℕ) (y : B)
     → ((past : ℕ) → f (place, record { rest = joined words; column = past }) ≡ Ok y)
     → (destination_at (record { rest = joined (destination_words place ++ words); column = column }) >>= f) ≡ Ok y
@@ -39,7 +39,7 @@ destination_reads (Inside parent feature) is words column f y on =
     (in_order (word_at (record { rest = joined (feature ∷ words); column = a })) (λ next. Ok (Inside parent next.0, next.1)) f
     ∙ reads word_kind feature is.2 words a (λ next. Ok (Inside parent next.0, next.1) >>= f) y on))
 
--- the words that are left are those of the place and those behind them
+-- the words that are left are those of the place and those after them
 abbrev pub Stands : Left → Destination → Left → Type 0
 Stands left place next = (words : List (List ℕ)) → next.rest ≡ joined words → left.rest ≡ joined (destination_words place ++ words)
 
@@ -61,7 +61,7 @@ destination_told left place next e =
     tells word_kind left (λ first. destination_from first.0 first.1) (place, next) e (λ first a is_first at_first e1.
     first_told left first a is_first at_first place next (is_word first (codes "/")) refl e1)
 
--- where reading went on, the words of a place stand in front
+-- where reading went on, the words of a place stand first
 pub destination_tells : {B G : Type 0} (left : Left) (f : Destination × Left → Result B ℕ) (y : B) → (destination_at left >>= f) ≡ Ok y
     → ((place : Destination) (next : Left) → IsDestination place → Stands left place next → f (place, next) ≡ Ok y → G) → G
 destination_tells left f y e on =

@@ -1,4 +1,4 @@
--- Each kind of word: read where it stands in front, and standing in front where it was read.
+-- Each kind of word: read where it stands first, and standing first where it was read.
 use Rattle.std.proofs.Common.{◌≡◌, ℕ, ◌+◌, ◌≤◌, List, [], ◌∷◌, ◌++◌, length, refl, sym, ap, subst, ◌∙◌, true, false, Bool, cond, Option, None, Some, Result, Ok, arith, nat_eq, nat_le, codes}
 use Rattle.std.specs.Fmt.{decimal}
 use Rattle.std.proofs.lemmas.Bool.{leb-true, le-leb, eqb-true}

@@ -24,7 +24,7 @@ use Rattle.script_lang.proofs.WorkspaceLines.{init_read, init_spelled, import_re
 use Rattle.script_lang.proofs.MergingLines.{tidy_read, tidy_spelled, apply_read, apply_spelled, update_read, update_spelled, merge_read, merge_spelled, revert_read, revert_spelled}
 use Rattle.script_lang.proofs.VersionLines.{commit_read, commit_spelled, branch_read, branch_spelled, tag_read, tag_spelled, log_read, log_spelled, package_read, package_spelled, drop_read, drop_spelled}
 
--- a line is what is left of it in front of its first word
+-- a line is what is left of it before its first word
 pub line_joined : (line first : List ℕ) (words : List (List ℕ)) → line ≡ spaced (first ∷ words) → Some line ≡ joined (first ∷ words)
 line_joined line first words is = ap Some is ∙ spaced_joined first words
 
@@ -119,7 +119,7 @@ chosen_or : (first word : List ℕ) (left : Left) (command : Command) (read next
 chosen_or first word left command read next true is this other e = subst (λ w. Tells w left command) (sym (same_word first word is)) (this e)
 chosen_or first word left command read next false is this other e = other e
 
--- a word, how what stands behind it is read, and that what is read so is spelled behind the word
+-- a word, how what stands after it is read, and that what is read so is spelled after the word
 record Row : Type 0 where
   word : List ℕ
   read : Left → Result Command ℕ
@@ -131,7 +131,7 @@ known word read spelled = record { word = word; read = read; spelled = spelled }
 abbrev plain : Row → List ℕ × (Left → Result Command ℕ)
 plain row = (row.word, row.read)
 
--- what the first word chooses is spelled behind it
+-- what the first word chooses is spelled after it
 chosen_spelled : (rows : List Row) (first : List ℕ) (left : Left) (command : Command) → chosen (map plain rows) first left ≡ Ok command → Tells first left command
 chosen_spelled [] first left command e = cc
 chosen_spelled (row ∷ rows) first left command e =

@@ -1,4 +1,4 @@
--- The lines of packages that come into a workspace or go from it: what stands behind the first word is read as the command, and is the command's words where it is read.
+-- The lines of commands that bring packages into a workspace or take them out: what stands after the first word is read as the command, and is the command's words where it is read.
 use Rattle.std.proofs.Common.{ap, ◌≡◌, ◌∙◌, ℕ, ◌+◌, List, [], ◌∷◌, length, refl, Option, Some, None, Result, Ok, Err, codes, true, arith}
 use Rattle.std.specs.Fmt.{decimal}
 use Rattle.hex.specs.Hex.{decode_of}
@@ -44,7 +44,7 @@ some_bytes digits bytes is decoded =
     let ok = decode_of-ok digits bytes decoded in
     (omega (arith, is.0, ok.2), ok.3)
 
--- where bytes were read a word of their digits stands in front
+-- where bytes were read a word of their digits stands first
 bytes_tell : {B G : Type 0} (left : Left) (f : List ℕ × Left → Result B ℕ) (y : B) → (bytes_at left >>= f) ≡ Ok y
     → ((digits bytes : List ℕ) (next : Left) → IsWord digits → decode_of digits ≡ Ok bytes → Front left digits next → f (bytes, next) ≡ Ok y → G) → G
 unfolding bytes_at

@@ -60,7 +60,7 @@ number_decimal n small =
     let fits : nat_lt (digits_value 10 (decimal n)) (2 ^ 32) ≡ true = le-leb (suc (digits_value 10 (decimal n))) (2 ^ 32) (omega (arith, value)) in
     rw numeral (rw fits (ap Some value))
 
--- no zero in front of others
+-- no zero before others
 lone_zero : (a b : ℕ) → (nat_eq a 1 || not (nat_eq b 48)) ≡ true → b ≡ 48 → a ≡ 1
 lone_zero a b e is = grind (arith, e, is)
 

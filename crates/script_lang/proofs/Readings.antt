@@ -27,23 +27,23 @@ pub spaced_joined : (word : List ℕ) (words : List (List ℕ)) → Some (spaced
 spaced_joined word [] = ap Some (sym (append-nil word))
 spaced_joined word (next ∷ words) = ap (λ r. Some (word ++ behind r)) (spaced_joined next words)
 
--- a kind of word: a value of it is read where its word stands in front, and where a value is read its word stands in front
+-- a kind of word: a value of it is read where its word stands first, and where a value is read its word stands first
 pub record Kind {X : Type 0} (at : Left → Result (X × Left) ℕ) (Is : X → Type 0) (word : X → List ℕ) : Type 0 where
   pub read : (x : X) → Is x → (rest : Option (List ℕ)) (column : ℕ)
       → (past : ℕ) × (at (record { rest = Some (word x ++ behind rest); column = column }) ≡ Ok (x, record { rest = rest; column = past }))
   pub told : (left : Left) (x : X) (next : Left) → at left ≡ Ok (x, next) → Is x × (left.rest ≡ Some (word x ++ behind next.rest))
 
--- the words that are left are this one and those behind it
+-- the words that are left are this one and those after it
 abbrev pub Front : Left → List ℕ → Left → Type 0
 Front left word next = (words : List (List ℕ)) → next.rest ≡ joined words → left.rest ≡ joined (word ∷ words)
 
 module _ {X B : Type 0} {at : Left → Result (X × Left) ℕ} {Is : X → Type 0} {word : X → List ℕ} (kind : Kind at Is word) where
-  -- reading goes on behind a value's word
+  -- reading goes on after a value's word
   pub reads : (x : X) → Is x → (words : List (List ℕ)) (column : ℕ) (f : X × Left → Result B ℕ) (y : B)
       → ((past : ℕ) → f (x, record { rest = joined words; column = past }) ≡ Ok y) → (at (record { rest = joined (word x ∷ words); column = column }) >>= f) ≡ Ok y
   reads x is words column f y on = let k = kind.read x is (joined words) column in rw k.1 (on k.0)
 
-  -- where reading went on, a value's word stands in front
+  -- where reading went on, a value's word stands first
   pub tells : {G : Type 0} (left : Left) (f : X × Left → Result B ℕ) (y : B) → (at left >>= f) ≡ Ok y
       → ((x : X) (next : Left) → Is x → Front left (word x) next → f (x, next) ≡ Ok y → G) → G
   tells left f y e on =
@@ -86,7 +86,7 @@ module _ {X : Type 0} (named : List ℕ → Option X) (Is : X → Type 0) (word 
   pub named_kind : Kind (λ left. word_at left >>= λ w. found_at left.column (named w.0) w.1) Is word
   named_kind = record { read = named_read; told = named_told }
 
--- a first word and what stands behind it are the line of a command
+-- a first word and what stands after it are the line of a command
 abbrev pub Tells : List ℕ → Left → Command → Type 0
 Tells first left command = IsCommand command × ((line : List ℕ) → Some line ≡ Some (first ++ behind left.rest) → IsLineOf line command)
 

@@ -1,4 +1,4 @@
--- Reading a word that stands in front, and what stands in front where a word was read.
+-- Reading a word that stands first, and what stands first where a word was read.
 use Rattle.std.proofs.Common.{◌≡◌, ℕ, suc, ◌+◌, ◌<◌, ◌≤◌, List, [], ◌∷◌, ◌++◌, length, refl, sym, ap, subst, ◌∙◌, true, false, Bool, ◌||◌, cond, Option, None, Some, Ok, Err, arith, nat_eq, nat_lt, length-append, length-take}
 use Rattle.std.specs.List.{list_any, before_first, after_first, position_or_len}
 use Rattle.std.proofs.lemmas.Bool.{leb-true}
@@ -9,7 +9,7 @@ use Rattle.script_lang.specs.Left.{Left}
 use Rattle.script_lang.specs.Words.{is_space, word_at, word_from}
 use Rattle.script_lang.specs.Spelling.{IsWord}
 
--- what stands behind a word: nothing, or a space and the rest
+-- what stands after a word: nothing, or a space and the rest
 abbrev pub behind : Option (List ℕ) → List ℕ
 behind None = []
 behind (Some rest) = 32 ∷ rest
@@ -22,7 +22,7 @@ none_first : (next : Option (List ℕ)) → position_or_len is_space (behind nex
 none_first None = refl
 none_first (Some rest) = refl
 
--- the first space stands right behind the word
+-- the first space stands right after the word
 space_behind : (word : List ℕ) → list_any is_space word ≡ false → (next : Option (List ℕ)) → position_or_len is_space (word ++ behind next) ≡ length word
 space_behind [] none next = none_first next
 space_behind (c ∷ cs) none next =
@@ -74,7 +74,7 @@ le_from n m e = grind (arith, e)
 is_32 : (c : ℕ) → is_space c ≡ true → c ≡ 32
 is_32 c e = grind (arith, e)
 
--- a line is its first word and what stands behind it
+-- a line is its first word and what stands after it
 parts : (rest : List ℕ) (t : Bool) → nat_lt (length (before_first is_space rest)) (length rest) ≡ t
     → rest ≡ before_first is_space rest ++ behind (cond t (Some (after_first is_space rest)) None)
 parts rest true less =
@@ -109,7 +109,7 @@ word_back_from (Some rest) column word next e =
       ap Some (parts rest (nat_lt (length w) (length rest)) refl ∙ (λ i. same i ++ behind (more i))),
     )
 
--- where a word was read, it stands in front
+-- where a word was read, it stands first
 pub word_back : (left : Left) (word : List ℕ) (next : Left) → word_at left ≡ Ok (word, next) → IsWord word × (left.rest ≡ Some (word ++ behind next.rest))
 unfolding word_at
 word_back left word next e = word_back_from left.rest left.column word next e

@@ -19,7 +19,7 @@ abbrev pub tag_of : List ℕ → Option Spec
 tag_of [] = None
 tag_of (b ∷ bs) = if (b == 64) && is_name bs then Some (Tag bs) else None
 
--- a name is a branch's, and else a tag's behind `@`
+-- a name is a branch's, and else a tag's after `@`
 abbrev pub name_or_tag : List ℕ → Option Spec
 name_or_tag word = if is_name word then Some (Branch word) else tag_of word
 
@@ -38,27 +38,27 @@ spec_at left = do
   word ← word_at left
   found_at left.column (spec_of word.0) word.1
 
--- behind `init`: nothing
+-- after `init`: nothing
 unfoldable pub init_at : Left → Result Command ℕ
 init_at left = do
   end ← end_at left
   Ok commands.Init
 
--- behind `import`: WS
+-- after `import`: WS
 unfoldable pub import_at : Left → Result Command ℕ
 import_at left = do
   ws ← number_at 1 left
   end ← end_at ws.1
   Ok (commands.Import ws.0)
 
--- behind `checkout`: SPEC
+-- after `checkout`: SPEC
 unfoldable pub checkout_at : Left → Result Command ℕ
 checkout_at left = do
   spec ← spec_at left
   end ← end_at spec.1
   Ok (commands.Checkout spec.0)
 
--- behind the first word of a place: nothing where that is `/`, else FEATURE
+-- after the first word of a place: nothing where that is `/`, else FEATURE
 abbrev pub destination_from : List ℕ → Left → Result (Destination × Left) ℕ
 destination_from first left = if is_word first (codes "/") then Ok (Root, left) else word_at left >>= λ feature. Ok (Inside first feature.0, feature.1)
 
@@ -68,7 +68,7 @@ destination_at left = do
   first ← word_at left
   destination_from first.0 first.1
 
--- behind `create`: WS CLASS DESTINATION [ID]
+-- after `create`: WS CLASS DESTINATION [ID]
 unfoldable pub create_at : Left → Result Command ℕ
 create_at left = do
   ws ← number_at 1 left
@@ -78,7 +78,7 @@ create_at left = do
   end ← end_at id.1
   Ok (commands.Edit ws.0 (Create class.0 destination.0 id.0))
 
--- behind `delete`: WS ID
+-- after `delete`: WS ID
 unfoldable pub delete_at : Left → Result Command ℕ
 delete_at left = do
   ws ← number_at 1 left
@@ -86,7 +86,7 @@ delete_at left = do
   end ← end_at id.1
   Ok (commands.Edit ws.0 (Delete id.0))
 
--- behind `move`: WS ID DESTINATION [INDEX]
+-- after `move`: WS ID DESTINATION [INDEX]
 unfoldable pub move_at : Left → Result Command ℕ
 move_at left = do
   ws ← number_at 1 left
@@ -96,7 +96,7 @@ move_at left = do
   end ← end_at index.1
   Ok (commands.Edit ws.0 (Move id.0 destination.0 index.0))
 
--- behind `set`: WS ID FEATURE VALUE
+-- after `set`: WS ID FEATURE VALUE
 unfoldable pub set_at : Left → Result Command ℕ
 set_at left = do
   ws ← number_at 1 left
@@ -105,7 +105,7 @@ set_at left = do
   value ← rest_at feature.1
   Ok (commands.Edit ws.0 (Set id.0 feature.0 value))
 
--- behind `unset`: WS ID FEATURE
+-- after `unset`: WS ID FEATURE
 unfoldable pub unset_at : Left → Result Command ℕ
 unset_at left = do
   ws ← number_at 1 left
@@ -114,7 +114,7 @@ unset_at left = do
   end ← end_at feature.1
   Ok (commands.Edit ws.0 (Unset id.0 feature.0))
 
--- behind `add`: WS ID FEATURE AT VALUE
+-- after `add`: WS ID FEATURE AT VALUE
 unfoldable pub add_at : Left → Result Command ℕ
 add_at left = do
   ws ← number_at 1 left
@@ -124,7 +124,7 @@ add_at left = do
   value ← rest_at at.1
   Ok (commands.Edit ws.0 (Add id.0 feature.0 at.0 value))
 
--- behind `remove`: WS ID FEATURE INDEX
+-- after `remove`: WS ID FEATURE INDEX
 unfoldable pub remove_at : Left → Result Command ℕ
 remove_at left = do
   ws ← number_at 1 left
@@ -134,7 +134,7 @@ remove_at left = do
   end ← end_at index.1
   Ok (commands.Edit ws.0 (Remove id.0 feature.0 index.0))
 
--- behind `shift`: WS ID FEATURE FROM TO
+-- after `shift`: WS ID FEATURE FROM TO
 unfoldable pub shift_at : Left → Result Command ℕ
 shift_at left = do
   ws ← number_at 1 left
@@ -145,7 +145,7 @@ shift_at left = do
   end ← end_at to.1
   Ok (commands.Edit ws.0 (Shift id.0 feature.0 from.0 to.0))
 
--- behind `link`: WS ID FEATURE TARGET [INDEX]
+-- after `link`: WS ID FEATURE TARGET [INDEX]
 unfoldable pub link_at : Left → Result Command ℕ
 link_at left = do
   ws ← number_at 1 left
@@ -156,7 +156,7 @@ link_at left = do
   end ← end_at index.1
   Ok (commands.Edit ws.0 (Link id.0 feature.0 target.0 index.0))
 
--- behind `unlink`: WS ID FEATURE TARGET
+-- after `unlink`: WS ID FEATURE TARGET
 unfoldable pub unlink_at : Left → Result Command ℕ
 unlink_at left = do
   ws ← number_at 1 left
@@ -166,7 +166,7 @@ unlink_at left = do
   end ← end_at target.1
   Ok (commands.Edit ws.0 (Unlink id.0 feature.0 target.0))
 
--- behind `reorder`: WS ID FEATURE TARGET INDEX
+-- after `reorder`: WS ID FEATURE TARGET INDEX
 unfoldable pub reorder_at : Left → Result Command ℕ
 reorder_at left = do
   ws ← number_at 1 left
@@ -177,7 +177,7 @@ reorder_at left = do
   end ← end_at index.1
   Ok (commands.Edit ws.0 (Reorder id.0 feature.0 target.0 index.0))
 
--- behind `begin`: WS NAME
+-- after `begin`: WS NAME
 unfoldable pub begin_at : Left → Result Command ℕ
 begin_at left = do
   ws ← number_at 1 left
@@ -185,28 +185,28 @@ begin_at left = do
   end ← end_at name.1
   Ok (commands.Begin ws.0 name.0)
 
--- behind `end`: WS
+-- after `end`: WS
 unfoldable pub end_line_at : Left → Result Command ℕ
 end_line_at left = do
   ws ← number_at 1 left
   end ← end_at ws.1
   Ok (commands.End ws.0)
 
--- behind `undo`: WS
+-- after `undo`: WS
 unfoldable pub undo_at : Left → Result Command ℕ
 undo_at left = do
   ws ← number_at 1 left
   end ← end_at ws.1
   Ok (commands.Undo ws.0)
 
--- behind `discard`: WS
+-- after `discard`: WS
 unfoldable pub discard_at : Left → Result Command ℕ
 discard_at left = do
   ws ← number_at 1 left
   end ← end_at ws.1
   Ok (commands.Discard ws.0)
 
--- behind `tidy`: WS
+-- after `tidy`: WS
 unfoldable pub tidy_at : Left → Result Command ℕ
 tidy_at left = do
   ws ← number_at 1 left
@@ -224,7 +224,7 @@ bytes_at left = do
   word ← word_at left
   found_at left.column (if_decoded (decode_of word.0)) word.1
 
--- behind `apply`: WS HEX
+-- after `apply`: WS HEX
 unfoldable pub apply_at : Left → Result Command ℕ
 apply_at left = do
   ws ← number_at 1 left
@@ -232,42 +232,42 @@ apply_at left = do
   end ← end_at bytes.1
   Ok (commands.Apply ws.0 bytes.0)
 
--- behind `changes`: WS
+-- after `changes`: WS
 unfoldable pub changes_at : Left → Result Command ℕ
 changes_at left = do
   ws ← number_at 1 left
   end ← end_at ws.1
   Ok (commands.Changes ws.0)
 
--- behind `show`: WS
+-- after `show`: WS
 unfoldable pub show_at : Left → Result Command ℕ
 show_at left = do
   ws ← number_at 1 left
   end ← end_at ws.1
   Ok (commands.Show ws.0)
 
--- behind `cat`: SPEC
+-- after `cat`: SPEC
 unfoldable pub cat_at : Left → Result Command ℕ
 cat_at left = do
   spec ← spec_at left
   end ← end_at spec.1
   Ok (commands.Cat spec.0)
 
--- behind `validate`: WS
+-- after `validate`: WS
 unfoldable pub validate_at : Left → Result Command ℕ
 validate_at left = do
   ws ← number_at 1 left
   end ← end_at ws.1
   Ok (commands.Validate ws.0)
 
--- behind `commit`: WS [MESSAGE]
+-- after `commit`: WS [MESSAGE]
 unfoldable pub commit_at : Left → Result Command ℕ
 commit_at left = do
   ws ← number_at 1 left
   message ← optional_rest_at ws.1
   Ok (commands.Commit ws.0 message)
 
--- behind `branch`: WS NAME
+-- after `branch`: WS NAME
 unfoldable pub branch_at : Left → Result Command ℕ
 branch_at left = do
   ws ← number_at 1 left
@@ -275,7 +275,7 @@ branch_at left = do
   end ← end_at name.1
   Ok (commands.Branch ws.0 name.0)
 
--- behind `tag`: NAME SPEC
+-- after `tag`: NAME SPEC
 unfoldable pub tag_at : Left → Result Command ℕ
 tag_at left = do
   name ← name_at left
@@ -283,20 +283,20 @@ tag_at left = do
   end ← end_at spec.1
   Ok (commands.Tag name.0 spec.0)
 
--- behind `log`: nothing
+-- after `log`: nothing
 unfoldable pub log_at : Left → Result Command ℕ
 log_at left = do
   end ← end_at left
   Ok commands.Log
 
--- behind `package`: SPEC
+-- after `package`: SPEC
 unfoldable pub package_at : Left → Result Command ℕ
 package_at left = do
   spec ← spec_at left
   end ← end_at spec.1
   Ok (commands.Package spec.0)
 
--- behind `update`: WS [CHOICES]
+-- after `update`: WS [CHOICES]
 unfoldable pub update_at : Left → Result Command ℕ
 update_at left = do
   ws ← number_at 1 left
@@ -304,7 +304,7 @@ update_at left = do
   end ← end_at choices.1
   Ok (commands.Update ws.0 choices.0)
 
--- behind `merge`: WS BRANCH [CHOICES]
+-- after `merge`: WS BRANCH [CHOICES]
 unfoldable pub merge_at : Left → Result Command ℕ
 merge_at left = do
   ws ← number_at 1 left
@@ -313,7 +313,7 @@ merge_at left = do
   end ← end_at choices.1
   Ok (commands.Merge ws.0 branch.0 choices.0)
 
--- behind `revert`: WS VERSION
+-- after `revert`: WS VERSION
 unfoldable pub revert_at : Left → Result Command ℕ
 revert_at left = do
   ws ← number_at 1 left
@@ -321,14 +321,14 @@ revert_at left = do
   end ← end_at version.1
   Ok (commands.Revert ws.0 version.0)
 
--- behind `drop`: WS
+-- after `drop`: WS
 unfoldable pub drop_at : Left → Result Command ℕ
 drop_at left = do
   ws ← number_at 1 left
   end ← end_at ws.1
   Ok (commands.Drop ws.0)
 
--- each command: its word, and how what stands behind it is read
+-- each command: its word, and how what stands after it is read
 abbrev pub commands_by_word : List (List ℕ × (Left → Result Command ℕ))
 commands_by_word =
     (codes "init", init_at) ∷
@@ -381,7 +381,7 @@ abbrev pub GivesCommand : Result Command ParseFault → Result Command ℕ → T
 GivesCommand (Ok c) read = read ≡ Ok c
 GivesCommand (Err e) read = IsBad e read
 
--- a call gave the version that reading gives, and stands behind it, or its column
+-- a call gave the version that reading gives, and stands after it, or its column
 abbrev pub GivesSpec : Left → Result Spec ParseFault → Result (Spec × Left) ℕ → Type 0
 GivesSpec new (Ok spec) read = read ≡ Ok (spec, new)
 GivesSpec new (Err e) read = IsBad e read

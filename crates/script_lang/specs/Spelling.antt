@@ -149,7 +149,7 @@ edit_word (Link id feature target index) = codes "link"
 edit_word (Unlink id feature target) = codes "unlink"
 edit_word (Reorder id feature target index) = codes "reorder"
 
--- the words of an edit behind the workspace's number; a value is the last
+-- the words of an edit after the workspace's number; a value is the last
 abbrev pub edit_fields : Edit → List (List ℕ)
 edit_fields (Create class destination id) = class ∷ (destination_words destination ++ optional_word id)
 edit_fields (Delete id) = id ∷ []

@@ -20,7 +20,7 @@ abbrev pub ◌>>=◌ : {A B : Type 0} → Result A ℕ → (A → Result B ℕ) 
 abbrev pub is_space : ℕ → Bool
 is_space b = b == 32
 
--- the word at the front of the rest of a line, and what is left behind it; an empty word does not fit
+-- the first word of the rest of a line, and what is left after it; an empty word does not fit
 abbrev pub word_of : ℕ → List ℕ → Result (List ℕ × Left) ℕ
 word_of column rest =
     let word = before_first is_space rest in
@@ -42,7 +42,7 @@ word_from (Some rest) column = word_of column rest
 unfoldable pub word_at : Left → Result (List ℕ × Left) ℕ
 word_at left = word_from left.rest left.column
 
--- digits, at least one, and no zero in front of others
+-- digits, at least one, and no zero before others
 abbrev pub is_numeral : List ℕ → Bool
 is_numeral word = nat_lt 0 (length word) && ((length word == 1) || not (slice_index word 0 == 48)) && list_all is_ascii_digit word
 
@@ -137,12 +137,12 @@ index_or_end_at left = do
   word ← word_at left
   found_at left.column (index_or_end word.0) word.1
 
--- the fault names the column that reading gives; want of memory says nothing of the line
+-- the fault names the column that reading gives; out of memory says nothing of the line
 abbrev pub IsBad : {X : Type 0} → ParseFault → Result X ℕ → Type 0
 IsBad Memory read = Unit {0}
 IsBad (BadLine column) read = read ≡ Err column
 
--- a call gave what reading gives, and stands behind it
+-- a call gave what reading gives, and stands after it
 abbrev pub Gives : {X : Type 0} → Left → Result X ParseFault → Result (X × Left) ℕ → Type 0
 Gives new (Ok x) read = read ≡ Ok (x, new)
 Gives new (Err e) read = IsBad e read

@@ -10,16 +10,16 @@ pub enum Spec {
     Number(u32),
     /// A branch's name, for the version at its head.
     Branch(Text),
-    /// A tag's name, written behind `@`.
+    /// A tag's name, written after `@`.
     Tag(Text),
 }
 
-/// A command, with a field for each word behind the first, in the order in which they stand.
+/// A command, with a field for each word after the first, in the order in which they stand.
 #[derive(Debug, PartialEq, Drop)]
 pub enum Command {
-    /// `init`: the block behind the line is the metamodel.
+    /// `init`: the block after the line is the metamodel.
     Init,
-    /// `import WS`: the elements of the document in the block behind the line come into the workspace's model.
+    /// `import WS`: the elements of the document in the block after the line are created in the workspace's model.
     Import {
         ws: u32,
     },
@@ -44,11 +44,11 @@ pub enum Command {
     End {
         ws: u32,
     },
-    /// `undo WS`: the last local operation goes.
+    /// `undo WS`: the last local operation is dropped.
     Undo {
         ws: u32,
     },
-    /// `discard WS`: all that is local goes.
+    /// `discard WS`: all that is local is dropped.
     Discard {
         ws: u32,
     },
@@ -115,7 +115,7 @@ pub enum Command {
         ws: u32,
         version: u32,
     },
-    /// `drop WS`: the workspace goes.
+    /// `drop WS`: the workspace is dropped.
     Drop {
         ws: u32,
     },

@@ -1,4 +1,4 @@
-//! The script: a line as the command that it spells, and a reply as the bytes that are said.
+//! The script: a line as the command that it spells, and a reply as the bytes that are printed.
 //!
 //! A line is words separated by exactly one space. What a line means is one command of this project's profile of EMFStore's client operations; a line that
 //! spells none is refused with the column of the first word that does not fit.

@@ -570,7 +570,7 @@ fn spec_of(alloc: Global, word: &str) -> Result<Option<Spec>, AllocError>
     }
 }
 
-/// The name behind `@`, if the word is a tag's.
+/// The name after `@`, if the word is a tag's.
 fn tag_name(word: &str) -> Option<&str>
     ensures none { IfNone result (tag_of word.now ≡ None) }
     ensures some { IfSome result (λ name. tag_of word.now ≡ Some (Tag name.now)) }

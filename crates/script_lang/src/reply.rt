@@ -1,4 +1,4 @@
-//! A reply, and the bytes that are said of it.
+//! A reply, and the bytes that are printed of it.
 ghost use Rattle.std.specs.Prelude.{◌≡◌, ◌++◌, ◌∷◌, [], IfOk, OnOk, string_bytes};
 ghost use Rattle.script_lang.specs.Reply.{printed, printed_lines, last_line, ok_line};
 
@@ -45,13 +45,13 @@ pub enum Refusal {
     BadValue,
     /// 18: the class of what would be linked or contained is not the feature's type, nor below it.
     WrongType,
-    /// 19: a list that would get an entry more is full, or a list or place must be ranked anew and is too long.
+    /// 19: a list that would get an entry more is full, or a list or place must be renumbered and is too long.
     Bound,
     /// 20: the feature holds each value once, and holds that one already.
     AlreadyThere,
     /// 21: the list or place has no such index, or the list no such target.
     NoEntry,
-    /// 22: the element would come to lie in itself.
+    /// 22: the element would stand inside itself.
     WouldCycle,
     /// 23: the workspace has no local operation.
     NothingLocal,
@@ -141,13 +141,13 @@ impl fmt::Display for Refusal {
 /// The last line of a reply.
 #[derive(Debug, PartialEq, Drop)]
 pub enum Last {
-    /// The command is accepted: the words behind `ok`, or none.
+    /// The command is accepted: the words after `ok`, or none.
     Ok(Text),
     /// The command is refused.
     No(Refusal),
 }
 
-/// What is said to one command: data lines, and a last line.
+/// What one command is answered: data lines, and a last line.
 #[derive(Debug, Drop)]
 pub struct Reply {
     pub lines: List<Text>,

@@ -11,13 +11,13 @@ use Rattle.ecore_meta.specs.Meta.{Meta, has_feature}
 use Rattle.ecore_meta.specs.declared.meta.Kind.{Kind}
 use Rattle.ecore_meta.specs.declared.meta.Kind.TheVariants.{Attr, AttrMany, Bounded, Free, Contains, Container, Skip}
 use Rattle.model_state.specs.declared.entry.Entry.{Entry}
-use Rattle.model_state.specs.Keys.{Name, AttrKey, RowKey}
+use Rattle.model_state.specs.Keys.{IdBytes, AttrKey, RowKey}
 use Rattle.model_state.specs.Listing.{targets}
 use Rattle.model_state.specs.State.{State, is_live}
 use Rattle.model_state.specs.Steps.{class_has, may_link}
 use Rattle.model_state.specs.Typing.{opposite_of, is_plain, kind_of, plain_to}
 use Rattle.model_state.specs.Good.{Good, Sound, RowOk}
-use Rattle.edit_laws.specs.Rows.{Rows, around, is_mirror, unlinks}
+use Rattle.edit_laws.specs.Rows.{Rows, is_row_or_mirror, is_mirror, unlinks}
 use Rattle.containment.specs.Deletes.{is_touched, targets_left, outgoing_made, slots_of}
 use Rattle.containment.proofs.Members.{In, Distinct, in_left, in_right, in_either, in_filter, kept_in}
 use Rattle.containment.proofs.Slots.{slot_in, touched_by, touched_near}
@@ -51,7 +51,7 @@ not_less_both f g h k = grind (arith, nat_tests)
 
 module _ (meta : Meta) (sound : Sound meta) where
   -- no row of one such reference is near another
-  apart : (s t : AttrKey) (x : Name) → leads meta s ≡ true → leads meta t ≡ true → (s ≡ t → ⊥) → around (opposite_of meta t.1) t.0 t.1 (s.0, s.1, x) ≡ false
+  apart : (s t : AttrKey) (x : IdBytes) → leads meta s ≡ true → leads meta t ≡ true → (s ≡ t → ⊥) → is_row_or_mirror (opposite_of meta t.1) t.0 t.1 (s.0, s.1, x) ≡ false
   apart s t x first second differ =
       either (text_eq t.0 s.0 && nat_eq t.1 s.1) (is_mirror (opposite_of meta t.1) t.0 (s.0, s.1, x))
       (λ same. differ (λ i. (sym (text_equality.exact t.0 s.0 (and_first _ _ same)) i, sym (nat_equality.exact t.1 s.1 (and_second _ _ same)) i)))
@@ -67,7 +67,7 @@ module _ (meta : Meta) (sound : Sound meta) where
           let other : opposite_of meta t.1 ≡ Some s.1 = is ∙ ap Some (nat_equality.exact g s.1 (and_first _ _ h)) in
           not_less_both t.1 s.1 (sym (ap (is_less t.1) other) ∙ second) (sym (ap (is_less s.1) (sound.both t.1 s.1 other)) ∙ first)
 
-  untouched : (before : List AttrKey) (s : AttrKey) (x : Name) → AllLead meta before → leads meta s ≡ true → (In s before → ⊥) → is_touched meta before (s.0, s.1, x) ≡ false
+  untouched : (before : List AttrKey) (s : AttrKey) (x : IdBytes) → AllLead meta before → leads meta s ≡ true → (In s before → ⊥) → is_touched meta before (s.0, s.1, x) ≡ false
   untouched [] s x all first far = refl
   untouched (t ∷ ts) s x all first far =
       ap (λ b. b || is_touched meta ts (s.0, s.1, x)) (apart s t x first all.0 (λ e. far (inl e))) ∙ untouched ts s x all.1 first (λ h. far (inr h))
@@ -94,7 +94,7 @@ module _ (meta : Meta) (sound : Sound meta) where
     | false ↦ λ _. lead_filtered ss
   ] refl
 
-  module _ (m : State) (good : Good meta m) (xs : List Name) (all : (y : Name) → is_live m y ≡ true → In y xs) where
+  module _ (m : State) (good : Good meta m) (xs : List IdBytes) (all : (y : IdBytes) → is_live m y ≡ true → In y xs) where
     some_rank : (o : Option ℕ) → is_some o ≡ true → (r : ℕ) × (o ≡ Some r)
     some_rank None h = cc
     some_rank (Some r) h = (r, refl)
@@ -132,4 +132,4 @@ module _ (meta : Meta) (sound : Sound meta) where
             let other : opposite_of meta g ≡ Some k.1 = sound.both k.1 g at in
             let first : leads meta (k.2, g) ≡ true = ap (is_less g) other ∙ turned k.1 g (sym (ap (is_less k.1) at) ∙ second) (sound.other k.1 g at) in
             touched_by meta (links_of meta m xs) (k.2, g) k (led (k.2, g, k.0) back.0 back.1 first)
-            (ap (λ o. around o k.2 g k) other ∙ ap (λ b. (text_eq k.2 k.0 && nat_eq g k.1) || b) (and_both _ _ (nat_equality.own k.1) (text_equality.own k.2)) ∙ or_true _)
+            (ap (λ o. is_row_or_mirror o k.2 g k) other ∙ ap (λ b. (text_eq k.2 k.0 && nat_eq g k.1) || b) (and_both _ _ (nat_equality.own k.1) (text_equality.own k.2)) ∙ or_true _)

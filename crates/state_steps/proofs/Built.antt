@@ -9,7 +9,7 @@ use Rattle.finite_maps.proofs.MapLaws.{IsKeyOrder, same}
 use Rattle.finite_maps.proofs.NestedLaws.{get-without}
 use Rattle.std.specs.declared.cmp.Ordering.{Ordering}
 use Rattle.model_state.specs.declared.step.Place.{Place}
-use Rattle.model_state.specs.Keys.{Name, AttrKey, RowKey, id_cmp, attr_cmp, row_cmp}
+use Rattle.model_state.specs.Keys.{IdBytes, AttrKey, RowKey, id_cmp, attr_cmp, row_cmp}
 use Rattle.model_state.specs.Good.{Good, Sound, AttrOk, PlaceOk}
 use Rattle.model_state.specs.State.{State, nothing, is_live}
 use Rattle.model_state.specs.Steps.{fold, rev_all}
@@ -66,7 +66,7 @@ rank_live meta kind None (Some p) r ok = absurd ok
 rank_live meta kind (Some c) p r ok = refl
 
 module _ (meta : Meta) (sound : Sound meta) (m : State) (good : Good meta m) where
-  abbrev xs : List Name
+  abbrev xs : List IdBytes
   xs = elements_of meta m
 
   abbrev links : List AttrKey

@@ -8,24 +8,24 @@ use Rattle.model_state.specs.declared.entry.Entry.{Entry}
 use Rattle.model_state.specs.declared.step.Place.TheVariants.{Root}
 use Rattle.model_state.specs.declared.step.Step.{Step}
 use Rattle.model_state.specs.declared.step.Step.TheVariants.{Put, Ins, New}
-use Rattle.model_state.specs.Keys.{Name, AttrKey}
+use Rattle.model_state.specs.Keys.{IdBytes, AttrKey}
 use Rattle.model_state.specs.Good.{Good, Sound}
 use Rattle.model_state.specs.Listing.{targets, children, rank_at}
 use Rattle.model_state.specs.State.{State, nothing}
 use Rattle.model_state.specs.Steps.{fold}
 use Rattle.model_state.specs.Typing.{opposite_of, is_plain, is_attr, kind_of}
-use Rattle.edit_laws.specs.Attributes.{held}
+use Rattle.edit_laws.specs.Attributes.{single_value}
 use Rattle.edit_laws.specs.ManyValues.{values_in}
 use Rattle.edit_laws.specs.Rows.{Rows, unlinks, link_step, mirror_rank}
 use Rattle.containment.specs.Deletes.{slots_of, values_made, gone_made, is_attribute}
 use Rattle.containment.specs.Subtree.{each, ids_of, subtree_of}
 
 -- the elements at the root, in order
-abbrev pub roots_of : State → List Name
+abbrev pub roots_of : State → List IdBytes
 roots_of m = ids_of (children m.place m.prank Root)
 
 -- all elements, each before those inside it
-abbrev pub elements_of : Meta → State → List Name
+abbrev pub elements_of : Meta → State → List IdBytes
 elements_of meta m = each (subtree_of meta m) (roots_of m)
 
 -- the number is less, where there is another
@@ -38,7 +38,7 @@ abbrev pub leads : Meta → AttrKey → Bool
 leads meta s = is_less s.1 (opposite_of meta s.1)
 
 -- the references of elements that lead their pairs
-abbrev pub links_of : Meta → State → List Name → List AttrKey
+abbrev pub links_of : Meta → State → List IdBytes → List AttrKey
 links_of meta m xs = filter (leads meta) (slots_of meta m is_plain xs)
 
 -- the targets of each of these are unlinked
@@ -54,11 +54,11 @@ unmade meta m =
 
 -- ---- the steps that build a state
 -- an element comes where it stands
-abbrev pub birth : State → Name → Step
+abbrev pub birth : State → IdBytes → Step
 birth m x = New x (unwrap_or (get m.kind x) 0) (unwrap_or (get m.place x) Root) (rank_at m.prank x)
 
 -- one step for each element
-abbrev pub births : State → List Name → List Step
+abbrev pub births : State → List IdBytes → List Step
 births m xs = map (birth m) xs
 
 -- a single attribute gets its value, where it has one
@@ -67,13 +67,13 @@ put_first s None = []
 put_first s (Some v) = Put s.0 s.1 None (Some v) ∷ []
 
 -- a step for each value, of which the first comes in at n
-abbrev pub inserts : Name → ℕ → ℕ → List Value → List Step
+abbrev pub inserts : IdBytes → ℕ → ℕ → List Value → List Step
 inserts e f n [] = []
 inserts e f n (v ∷ vs) = Ins e f n v ∷ inserts e f (n + 1) vs
 
 -- an attribute gets its values
 abbrev pub filled : Meta → State → AttrKey → List Step
-filled meta m s = cond (is_attr (kind_of meta s.1)) (put_first s (held (get m.attr s))) (inserts s.0 s.1 0 (values_in m s.0 s.1))
+filled meta m s = cond (is_attr (kind_of meta s.1)) (put_first s (single_value (get m.attr s))) (inserts s.0 s.1 0 (values_in m s.0 s.1))
 
 -- each of these attributes gets its values, the last first
 abbrev pub all_filled : Meta → State → List AttrKey → List Step
@@ -81,7 +81,7 @@ all_filled meta m [] = []
 all_filled meta m (s ∷ ss) = all_filled meta m ss ++ filled meta m s
 
 -- entries of a feature of an element are linked, the last first
-abbrev pub linked : Rows → Option ℕ → Name → ℕ → List Entry → List Step
+abbrev pub linked : Rows → Option ℕ → IdBytes → ℕ → List Entry → List Step
 linked row o a f [] = []
 linked row o a f (x ∷ xs) = linked row o a f xs ++ link_step o a f x.rank x.id (mirror_rank row o a x.id) ∷ []
 

@@ -9,7 +9,7 @@ use ecore_meta::{List, Metamodel};
 use model_state::{Entry, Id, Look, Place, Step};
 use std::alloc::{AllocError, Global};
 
-/// Copies of ids, behind those that are there.
+/// Copies of ids, after those that are there.
 fn push_all(alloc: Global, ids: &[Id], found: &mut List<Id>) -> Result<(), AllocError>
     ensures { OnOk result (found.new ≡ found.old ++ ids.now) }
 {

@@ -2,7 +2,7 @@
 ghost use Rattle.std.specs.Prelude.{◌≡◌, ◌≤◌, ◌++◌, OnOk, length};
 ghost use Rattle.std.specs.FinMap.{get};
 ghost use Rattle.model_state.specs.Good.{Good};
-ghost use Rattle.edit_laws.specs.Attributes.{held};
+ghost use Rattle.edit_laws.specs.Attributes.{single_value};
 ghost use Rattle.state_steps.specs.Whole.{put_first, inserts, filled, all_filled};
 
 use crate::slots::Slot;
@@ -17,7 +17,7 @@ fn put_first<L: Look>(
     slot: &Slot,
     steps: &mut List<Step>,
 ) -> Result<(), AllocError>
-    ensures { OnOk result (steps.new ≡ steps.old ++ put_first slot.now (held (get (L.state look.now).attr slot.now))) }
+    ensures { OnOk result (steps.new ≡ steps.old ++ put_first slot.now (single_value (get (L.state look.now).attr slot.now))) }
 {
     match look.attr(&slot.0, slot.1).first() {
         None => Ok(()),

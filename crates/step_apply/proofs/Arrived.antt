@@ -14,7 +14,7 @@ use Rattle.finite_maps.specs.Tables.{table}
 use Rattle.finite_maps.proofs.EqualLaws.{text_equality, apart}
 use Rattle.finite_maps.proofs.MapLaws.{get-set, get-set_same, set_back, same_key}
 use Rattle.finite_maps.proofs.TableLaws.{get-table}
-use Rattle.model_state.specs.Keys.{Name, RowKey, row_cmp}
+use Rattle.model_state.specs.Keys.{IdBytes, RowKey, row_cmp}
 use Rattle.model_state.specs.Listing.{row_incoming, incoming}
 use Rattle.model_state.proofs.Orders.{row_order}
 use Rattle.step_apply.specs.Groups.{arriving, IsInto}
@@ -22,12 +22,12 @@ use Rattle.spread_maps.proofs.PartLaws.{part, entries-part}
 use Rattle.step_apply.proofs.Regrouped.{map_map}
 
 abbrev Into : Type 0
-Into = BTreeMap Name (BTreeMap RowKey ℕ)
+Into = BTreeMap IdBytes (BTreeMap RowKey ℕ)
 
 -- one row that is written, at all targets
 pub arrived : (t n : BTreeMap RowKey ℕ) (i j : Into) (k : RowKey) (w : Option ℕ) → IsInto t i
     → ((q : RowKey) → tree.get row_cmp n q ≡ cond (is_at (row_cmp k) q) w (tree.get row_cmp t q))
-    → arriving j k.2 ≡ set (arriving i k.2) k w → ((x : Name) → text_eq k.2 x ≡ false → arriving j x ≡ arriving i x) → IsInto n j
+    → arriving j k.2 ≡ set (arriving i k.2) k w → ((x : IdBytes) → text_eq k.2 x ≡ false → arriving j x ≡ arriving i x) → IsInto n j
 arrived t n i j k w is wrote here there b q =
     elim (text_eq k.2 b) as (λ c. text_eq k.2 b ≡ c → get (arriving j b) q ≡ cond (text_eq b q.2) (tree.get row_cmp n q) None) [
       | true ↦ λ same. subst (λ z. get (arriving j z) q ≡ cond (text_eq z q.2) (tree.get row_cmp n q) None) (text_equality.exact k.2 b same) (
@@ -52,8 +52,8 @@ arrived t n i j k w is wrote here there b q =
 
 -- what was put in is taken back
 pub into_undone : (t n : BTreeMap RowKey ℕ) (i p j : Into) (k : RowKey) (r : ℕ) (old : Option ℕ) → IsInto t i → n.entries ≡ t.entries → tree.get row_cmp t k ≡ old
-    → arriving p k.2 ≡ set (arriving i k.2) k (Some r) → ((x : Name) → text_eq k.2 x ≡ false → arriving p x ≡ arriving i x)
-    → (is_some (get (arriving p k.2) k) ≡ true → arriving j k.2 ≡ set (arriving p k.2) k old) → ((x : Name) → text_eq k.2 x ≡ false → arriving j x ≡ arriving p x)
+    → arriving p k.2 ≡ set (arriving i k.2) k (Some r) → ((x : IdBytes) → text_eq k.2 x ≡ false → arriving p x ≡ arriving i x)
+    → (is_some (get (arriving p k.2) k) ≡ true → arriving j k.2 ≡ set (arriving p k.2) k old) → ((x : IdBytes) → text_eq k.2 x ≡ false → arriving j x ≡ arriving p x)
     → IsInto n j
 into_undone t n i p j k r old is same was here there back else b q =
     ap (λ m. get m q) (elim (text_eq k.2 b) as (λ c. text_eq k.2 b ≡ c → arriving j b ≡ arriving i b) [
@@ -65,10 +65,10 @@ into_undone t n i p j k r old is same was here there back else b q =
     ] refl)
     ∙ is b q ∙ ap (λ es. cond (text_eq b q.2) (lookup (is_at (row_cmp q)) es) None) (sym same)
 
-abbrev ends_at : Name → RowKey × ℕ → Bool
+abbrev ends_at : IdBytes → RowKey × ℕ → Bool
 ends_at b e = text_eq b e.0.2
 
-pub incoming_are : (t : BTreeMap RowKey ℕ) (i : Into) → IsInto t i → (b : Name) → map row_incoming (entries (arriving i b)) ≡ incoming (table row_cmp t) b
+pub incoming_are : (t : BTreeMap RowKey ℕ) (i : Into) → IsInto t i → (b : IdBytes) → map row_incoming (entries (arriving i b)) ≡ incoming (table row_cmp t) b
 incoming_are t i is b =
     ap (map row_incoming) (
     entries-part row_order row_order (ends_at b) (λ (e : RowKey × ℕ). e) (λ k. k) (λ e d _ _ less. less) (λ e _. refl) (λ l x _. refl) (table row_cmp t) (arriving i b)

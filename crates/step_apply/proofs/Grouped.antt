@@ -11,12 +11,12 @@ use Rattle.finite_maps.proofs.Cases.{not_so, true_false}
 use Rattle.finite_maps.proofs.EqualLaws.{text_equality}
 use Rattle.finite_maps.proofs.MapLaws.{same_key}
 use Rattle.finite_maps.proofs.TableLaws.{get-table}
-use Rattle.model_state.specs.Keys.{Name, RowKey, id_cmp, row_cmp}
+use Rattle.model_state.specs.Keys.{IdBytes, RowKey, id_cmp, row_cmp}
 use Rattle.model_state.proofs.Orders.{id_order, row_order}
 use Rattle.step_apply.specs.Groups.{rows_of}
 
 -- different names are not found at one another
-pub not_at : (a b : Name) → text_eq a b ≡ false → is_at (id_cmp a) b ≡ false
+pub not_at : (a b : IdBytes) → text_eq a b ≡ false → is_at (id_cmp a) b ≡ false
 not_at a b apart = not_so (is_at (id_cmp a) b) (λ t. true_false (text_eq a b) (subst (λ z. text_eq a z ≡ true) (same_key id_order a b t) (text_equality.own a)) apart)
 
 pub no_items : {A : Type 0} (xs : List A) → length xs ≡ 0 → xs ≡ []

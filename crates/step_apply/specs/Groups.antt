@@ -9,7 +9,7 @@ use Rattle.finite_maps.specs.Tables.{table}
 use Rattle.model_state.specs.declared.step.Place.{Place}
 use Rattle.model_state.specs.declared.step.Place.TheVariants.{Root, Inside}
 use Rattle.model_state.specs.declared.step.Placed.{Placed}
-use Rattle.model_state.specs.Keys.{Name, RowKey, id_cmp, row_cmp}
+use Rattle.model_state.specs.Keys.{IdBytes, RowKey, id_cmp, row_cmp}
 use Rattle.model_state.specs.State.{place_eq}
 use Rattle.step_apply.specs.Spots.{Members}
 use Rattle.step_apply.specs.declared.groups.Groups.{Groups}
@@ -25,13 +25,13 @@ fan_of None f = empty
 fan_of (Some t) f = group_of (tree.get nat_cmp t f)
 
 -- those of a feature of an element
-abbrev pub held : BTreeMap Name (BTreeMap ℕ Members) → Name → ℕ → Members
-held t a f = fan_of (tree.get id_cmp t a) f
+abbrev pub members_of : BTreeMap IdBytes (BTreeMap ℕ Members) → IdBytes → ℕ → Members
+members_of t a f = fan_of (tree.get id_cmp t a) f
 
 -- those of a place
 abbrev pub standing : Groups → Place → Members
 standing s Root = s.roots
-standing s (Inside a f) = held s.inside a f
+standing s (Inside a f) = members_of s.inside a f
 
 -- the rank in a place of the element that stands as given
 abbrev pub stood : Place → Option Placed → Option ℕ
@@ -39,12 +39,12 @@ stood p None = None
 stood p (Some x) = cond (place_eq p x.place) (Some x.rank) None
 
 -- each place has the elements that stand there, and no others
-abbrev pub IsGrouped : BTreeMap Name Placed → Groups → Type 0
-IsGrouped t g = (p : Place) (e : Name) → get (standing g p) e ≡ stood p (tree.get id_cmp t e)
+abbrev pub IsGrouped : BTreeMap IdBytes Placed → Groups → Type 0
+IsGrouped t g = (p : Place) (e : IdBytes) → get (standing g p) e ≡ stood p (tree.get id_cmp t e)
 
 -- the rows are held by source and feature
-abbrev pub IsOut : BTreeMap RowKey ℕ → BTreeMap Name (BTreeMap ℕ Members) → Type 0
-IsOut t out = (a : Name) (f : ℕ) (b : Name) → get (held out a f) b ≡ tree.get row_cmp t (a, f, b)
+abbrev pub IsOut : BTreeMap RowKey ℕ → BTreeMap IdBytes (BTreeMap ℕ Members) → Type 0
+IsOut t out = (a : IdBytes) (f : ℕ) (b : IdBytes) → get (members_of out a f) b ≡ tree.get row_cmp t (a, f, b)
 
 -- the rows to an element
 abbrev pub rows_of : Option (BTreeMap RowKey ℕ) → FinMap row_cmp ℕ
@@ -52,9 +52,9 @@ rows_of None = empty
 rows_of (Some t) = table row_cmp t
 
 -- those to the element of that id
-abbrev pub arriving : BTreeMap Name (BTreeMap RowKey ℕ) → Name → FinMap row_cmp ℕ
+abbrev pub arriving : BTreeMap IdBytes (BTreeMap RowKey ℕ) → IdBytes → FinMap row_cmp ℕ
 arriving t b = rows_of (tree.get id_cmp t b)
 
 -- the rows are held by target
-abbrev pub IsInto : BTreeMap RowKey ℕ → BTreeMap Name (BTreeMap RowKey ℕ) → Type 0
-IsInto t into = (b : Name) (k : RowKey) → get (arriving into b) k ≡ cond (text_eq b k.2) (tree.get row_cmp t k) None
+abbrev pub IsInto : BTreeMap RowKey ℕ → BTreeMap IdBytes (BTreeMap RowKey ℕ) → Type 0
+IsInto t into = (b : IdBytes) (k : RowKey) → get (arriving into b) k ≡ cond (text_eq b k.2) (tree.get row_cmp t k) None

@@ -6,7 +6,7 @@ use Rattle.ecore_meta.specs.declared.meta.Value.{Value}
 use Rattle.ecore_meta.specs.contracts.meta.Value as value_type
 use Rattle.model_state.specs.declared.step.Place.{Place}
 use Rattle.model_state.specs.contracts.step.Place as place_type
-use Rattle.model_state.specs.Keys.{Name, id_cmp, attr_cmp, row_cmp}
+use Rattle.model_state.specs.Keys.{IdBytes, id_cmp, attr_cmp, row_cmp}
 
 -- where elements stand, and their ranks there
 pub record Spots : Type 0 where
@@ -14,7 +14,7 @@ pub record Spots : Type 0 where
   pub rank : FinMap id_cmp ℕ
 
 -- the code of an id
-abbrev pub coded_name : Coded Name
+abbrev pub coded_name : Coded IdBytes
 coded_name = coded_list coded_ℕ
 
 -- the code of where elements stand
@@ -39,4 +39,4 @@ Ranks = FinMap row_cmp ℕ
 
 -- the code of those ranks
 abbrev pub ranks_code : Coded Ranks
-ranks_code = code (code_by (Name × (ℕ × Name)) (coded× coded_name (coded× coded_ℕ coded_name)) (λ k. (k.0, (k.1, k.2))) (λ p. (p.0, p.1.0, p.1.1)) (λ _. refl)) coded_ℕ
+ranks_code = code (code_by (IdBytes × (ℕ × IdBytes)) (coded× coded_name (coded× coded_ℕ coded_name)) (λ k. (k.0, (k.1, k.2))) (λ p. (p.0, p.1.0, p.1.1)) (λ _. refl)) coded_ℕ

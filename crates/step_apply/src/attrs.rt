@@ -62,7 +62,7 @@ impl Attrs {
         }
     }
 
-    /// Gives an attribute its values, in place of those that it has. The error is want of memory.
+    /// Gives an attribute its values, in place of those that it has. The error is out of memory.
     pub fn put(
         &mut self,
         alloc: Global,

@@ -7,11 +7,11 @@ ghost use Rattle.std.specs.BTreeMap as ordered_map;
 ghost use Rattle.finite_maps.specs.Equal.{text_eq};
 ghost use Rattle.finite_maps.specs.Maps.{set};
 ghost use Rattle.finite_maps.specs.Sorts.{in_order};
-ghost use Rattle.model_state.specs.declared.step.Place.{Place as Spot};
-ghost use Rattle.model_state.specs.Keys.{Name};
+ghost use Rattle.model_state.specs.declared.step.Place.{Place as PlaceValue};
+ghost use Rattle.model_state.specs.Keys.{IdBytes};
 ghost use Rattle.model_state.specs.Listing.{entry_cmp, last_rank};
 ghost use Rattle.model_state.specs.State.{place_eq};
-ghost use Rattle.step_apply.specs.Groups.{group_of, held, standing};
+ghost use Rattle.step_apply.specs.Groups.{group_of, members_of, standing};
 ghost use Rattle.ranked_lists.specs.Ranks.{ranked_entry};
 
 use ecore_meta::List;
@@ -20,8 +20,8 @@ use ranked_lists::RankedList;
 use std::alloc::{AllocError, Global};
 use std::collections::BTreeMap;
 
-/// The elements of each place and their ranks there. To find, put in or take out one, and to tell the rank of the last,
-/// costs a logarithm, to list a place as many steps as elements stand in it. A list without elements is let go.
+/// The elements of each place and their ranks there. To find, put in or take out one, and to find the rank of the last,
+/// costs a logarithm, to list a place as many steps as elements stand in it. A list without elements is dropped.
 #[derive(Drop)]
 pub struct Groups {
     pub(crate) roots: RankedList,
@@ -40,7 +40,7 @@ fn take_of(fan: &mut BTreeMap<u32, RankedList>, f: u32, e: &Id)
 
 /// Whether the list of the feature has no element.
 fn is_empty_of(fan: &BTreeMap<u32, RankedList>, f: u32) -> bool
-    ensures { result ≡ true → (b : Name) → get (group_of (ordered_map.get nat_cmp fan.now f)) b ≡ None }
+    ensures { result ≡ true → (b : IdBytes) → get (group_of (ordered_map.get nat_cmp fan.now f)) b ≡ None }
 {
     match fan.get(&f) {
         None => true,
@@ -48,7 +48,7 @@ fn is_empty_of(fan: &BTreeMap<u32, RankedList>, f: u32) -> bool
     }
 }
 
-/// Lets the list of the feature go, where it has no element.
+/// Drops the list of the feature, where it has no element.
 fn clear_of(fan: &mut BTreeMap<u32, RankedList>, f: u32)
     ensures { (g : ℕ) → group_of (ordered_map.get nat_cmp fan.new g) ≡ group_of (ordered_map.get nat_cmp fan.old g) }
 {
@@ -57,7 +57,7 @@ fn clear_of(fan: &mut BTreeMap<u32, RankedList>, f: u32)
     }
 }
 
-/// Takes an element out of the list of the feature, where it is there; a list that it leaves empty goes.
+/// Takes an element out of the list of the feature, where it is there; a list that it leaves empty is dropped.
 fn drop_of(fan: &mut BTreeMap<u32, RankedList>, f: u32, e: &Id)
     ensures here { group_of (ordered_map.get nat_cmp fan.new f) ≡ set (group_of (ordered_map.get nat_cmp fan.old f)) e.now None }
     ensures there { (g : ℕ) → nat_eq f g ≡ false → group_of (ordered_map.get nat_cmp fan.new g) ≡ group_of (ordered_map.get nat_cmp fan.old g) }
@@ -91,7 +91,7 @@ fn put_of(
 
 /// Whether no list of the element has an element.
 pub(crate) fn is_bare(inside: &BTreeMap<Id, BTreeMap<u32, RankedList>>, a: &Id) -> bool
-    ensures { result ≡ true → (f : ℕ) → (b : Name) → get (held inside.now a.now f) b ≡ None }
+    ensures { result ≡ true → (f : ℕ) → (b : IdBytes) → get (members_of inside.now a.now f) b ≡ None }
 {
     match inside.get(a) {
         None => true,
@@ -101,29 +101,29 @@ pub(crate) fn is_bare(inside: &BTreeMap<Id, BTreeMap<u32, RankedList>>, a: &Id) 
 
 /// Takes an element out of the list, where it is there.
 fn take_in(inside: &mut BTreeMap<Id, BTreeMap<u32, RankedList>>, a: &Id, f: u32, e: &Id)
-    ensures here { held inside.new a.now f ≡ set (held inside.old a.now f) e.now None }
-    ensures same_element { (g : ℕ) → nat_eq f g ≡ false → held inside.new a.now g ≡ held inside.old a.now g }
-    ensures there { (b : Name) (g : ℕ) → text_eq a.now b ≡ false → held inside.new b g ≡ held inside.old b g }
+    ensures here { members_of inside.new a.now f ≡ set (members_of inside.old a.now f) e.now None }
+    ensures same_element { (g : ℕ) → nat_eq f g ≡ false → members_of inside.new a.now g ≡ members_of inside.old a.now g }
+    ensures there { (b : IdBytes) (g : ℕ) → text_eq a.now b ≡ false → members_of inside.new b g ≡ members_of inside.old b g }
 {
     if let Some(fan) = inside.get_mut(a) {
         drop_of(fan, f, e);
     }
 }
 
-/// Lets the lists of an element go, where there are none.
+/// Drops the lists of an element, where there are none.
 fn clear_in(inside: &mut BTreeMap<Id, BTreeMap<u32, RankedList>>, a: &Id)
-    ensures { (b : Name) (g : ℕ) → held inside.new b g ≡ held inside.old b g }
+    ensures { (b : IdBytes) (g : ℕ) → members_of inside.new b g ≡ members_of inside.old b g }
 {
     if is_bare(inside, a) {
         inside.remove(a);
     }
 }
 
-/// Takes an element out of the list, where it is there; what it leaves empty goes. This takes no memory.
+/// Takes an element out of the list, where it is there; what it leaves empty is dropped. This takes no memory.
 pub(crate) fn drop_in(inside: &mut BTreeMap<Id, BTreeMap<u32, RankedList>>, a: &Id, f: u32, e: &Id)
-    ensures here { held inside.new a.now f ≡ set (held inside.old a.now f) e.now None }
-    ensures same_element { (g : ℕ) → nat_eq f g ≡ false → held inside.new a.now g ≡ held inside.old a.now g }
-    ensures there { (b : Name) (g : ℕ) → text_eq a.now b ≡ false → held inside.new b g ≡ held inside.old b g }
+    ensures here { members_of inside.new a.now f ≡ set (members_of inside.old a.now f) e.now None }
+    ensures same_element { (g : ℕ) → nat_eq f g ≡ false → members_of inside.new a.now g ≡ members_of inside.old a.now g }
+    ensures there { (b : IdBytes) (g : ℕ) → text_eq a.now b ≡ false → members_of inside.new b g ≡ members_of inside.old b g }
 {
     take_in(inside, a, f, e);
     clear_in(inside, a);
@@ -138,10 +138,10 @@ pub(crate) fn put_in(
     e: Id,
     rank: u64,
 ) -> Result<(), AllocError>
-    ensures here { OnOk result (held inside.new a.now f ≡ set (held inside.old a.now f) e (Some rank)) }
-    ensures same_element { (g : ℕ) → nat_eq f g ≡ false → held inside.new a.now g ≡ held inside.old a.now g }
-    ensures there { (b : Name) (g : ℕ) → text_eq a.now b ≡ false → held inside.new b g ≡ held inside.old b g }
-    ensures err { OnErr result (held inside.new a.now f ≡ held inside.old a.now f) }
+    ensures here { OnOk result (members_of inside.new a.now f ≡ set (members_of inside.old a.now f) e (Some rank)) }
+    ensures same_element { (g : ℕ) → nat_eq f g ≡ false → members_of inside.new a.now g ≡ members_of inside.old a.now g }
+    ensures there { (b : IdBytes) (g : ℕ) → text_eq a.now b ≡ false → members_of inside.new b g ≡ members_of inside.old b g }
+    ensures err { OnErr result (members_of inside.new a.now f ≡ members_of inside.old a.now f) }
 {
     let key = a.copy(alloc)?;
     match inside.get_mut(a) {
@@ -160,7 +160,7 @@ pub(crate) fn group_in<'a>(
     a: &Id,
     f: u32,
 ) -> Option<&'a RankedList>
-    ensures { group_of (option_copied result) ≡ held inside.now a.now f }
+    ensures { group_of (option_copied result) ≡ members_of inside.now a.now f }
 {
     match inside.get(a) {
         None => None,
@@ -171,7 +171,7 @@ pub(crate) fn group_in<'a>(
 impl Groups {
     /// No element stands anywhere.
     pub fn new(alloc: Global) -> Groups
-        ensures { (p : Spot) → standing result p ≡ empty }
+        ensures { (p : PlaceValue) → standing result p ≡ empty }
     {
         Groups {
             roots: RankedList::new(alloc),
@@ -182,7 +182,7 @@ impl Groups {
     /// Gives an element its rank in the list of a place, a new element or one that is there. The error is out of memory.
     pub fn put(&mut self, alloc: Global, place: &Place, e: Id, rank: u64) -> Result<(), AllocError>
         ensures here { OnOk result (standing self.new place.now ≡ set (standing self.old place.now) e (Some rank)) }
-        ensures there { (p : Spot) → place_eq place.now p ≡ false → standing self.new p ≡ standing self.old p }
+        ensures there { (p : PlaceValue) → place_eq place.now p ≡ false → standing self.new p ≡ standing self.old p }
         ensures err { OnErr result (standing self.new place.now ≡ standing self.old place.now) }
     {
         match place {
@@ -196,7 +196,7 @@ impl Groups {
     /// Takes an element out of the list of a place, where it stands there. This takes no memory.
     pub fn drop_at(&mut self, place: &Place, e: &Id)
         ensures here { standing self.new place.now ≡ set (standing self.old place.now) e.now None }
-        ensures there { (p : Spot) → place_eq place.now p ≡ false → standing self.new p ≡ standing self.old p }
+        ensures there { (p : PlaceValue) → place_eq place.now p ≡ false → standing self.new p ≡ standing self.old p }
     {
         match place {
             Place::Root => self.roots.drop_at(e),

@@ -61,7 +61,7 @@ impl Kinds {
         self.tree.get(e).copied()
     }
 
-    /// Makes an element live, with its class. The error is want of memory.
+    /// Makes an element live, with its class. The error is out of memory.
     pub fn put(&mut self, e: Id, class: u32) -> Result<(), AllocError>
         ensures ok { OnOk result (self.new ≡ set self.old e (Some class)) }
         ensures err { OnErr result (self.new ≡ self.old) }

@@ -1,7 +1,7 @@
 //! The places of a model's elements with their ranks, and the index of the elements of each place.
 ghost use Rattle.std.specs.Prelude.{◌≡◌, Some, None, OnOk, OnErr, IfOk, is_some, true, false};
 ghost use Rattle.model_state.specs.Listing.{children, last_rank};
-ghost use Rattle.model_state.specs.declared.step.Place.{Place as Spot};
+ghost use Rattle.model_state.specs.declared.step.Place.{Place as PlaceValue};
 ghost use Rattle.step_apply.specs.Groups.{standing, stood};
 ghost use Rattle.std.specs.Option.{option_copied, option_map};
 ghost use Rattle.std.specs.FinMap.{get, empty};
@@ -28,19 +28,19 @@ fn standing_inside(tree: &BTreeMap<Id, Placed>, e: &Id) -> usize
     tree.values().filter(|p| p.place.is_inside(e)).count()
 }
 
-/// Takes an element that stood as told out of its list.
+/// Takes an element that stood as given out of its list.
 fn leave(groups: &mut Groups, old: Option<Placed>, e: &Id)
-    ensures { ((p : Spot) → get (standing groups.old p) e.now ≡ stood p old) → (p : Spot) → standing groups.new p ≡ set (standing groups.old p) e.now None }
+    ensures { ((p : PlaceValue) → get (standing groups.old p) e.now ≡ stood p old) → (p : PlaceValue) → standing groups.new p ≡ set (standing groups.old p) e.now None }
 {
     if let Some(old) = old {
         groups.drop_at(&old.place, e);
     }
 }
 
-/// Takes an element that stood as told out of its list, where that isn't the list of the place.
+/// Takes an element that stood as given out of its list, where that isn't the list of the place.
 fn leave_for(groups: &mut Groups, old: Option<Placed>, e: &Id, to: &Place)
     ensures here { standing groups.new to.now ≡ standing groups.old to.now }
-    ensures there { ((p : Spot) → place_eq to.now p ≡ false → get (standing groups.old p) e.now ≡ stood p old) → (p : Spot) → place_eq to.now p ≡ false → standing groups.new p ≡ set (standing groups.old p) e.now None }
+    ensures there { ((p : PlaceValue) → place_eq to.now p ≡ false → get (standing groups.old p) e.now ≡ stood p old) → (p : PlaceValue) → place_eq to.now p ≡ false → standing groups.new p ≡ set (standing groups.old p) e.now None }
 {
     if let Some(old) = old {
         if !old.place.is_same(to) {
@@ -52,7 +52,7 @@ fn leave_for(groups: &mut Groups, old: Option<Placed>, e: &Id, to: &Place)
 /// The places of the live elements and their ranks, which contracts see as two finite maps.
 ///
 /// Beside the place of each element stand the elements of each place. So to find, put or take out an element, and
-/// to count a place or tell the rank of its last, costs a logarithm, and to list a place costs the sorting of what stands there.
+/// to count a place or find the rank of its last, costs a logarithm, and to list a place costs the sorting of what stands there.
 #[derive(Drop)]
 pub struct Places {
     alloc: Global,
@@ -114,7 +114,7 @@ impl Places {
         standing_inside(&self.tree, e)
     }
 
-    /// Puts an element to a place with a rank; where it stood elsewhere, it leaves that place. The error is want of memory.
+    /// Puts an element to a place with a rank; where it stood elsewhere, it leaves that place. The error is out of memory.
     pub fn put(&mut self, e: Id, placed: Placed) -> Result<(), AllocError>
         ensures place { OnOk result (self.new.place ≡ set self.old.place e (Some placed.place)) }
         ensures rank { OnOk result (self.new.rank ≡ set self.old.rank e (Some placed.rank)) }

@@ -8,7 +8,7 @@ ghost use Rattle.finite_maps.specs.Maps.{set, count};
 ghost use Rattle.finite_maps.specs.Tables.{table};
 ghost use Rattle.step_apply.specs.Groups.{arriving};
 ghost use Rattle.finite_maps.specs.Equal.{text_eq};
-ghost use Rattle.model_state.specs.Keys.{Name, RowKey, row_cmp};
+ghost use Rattle.model_state.specs.Keys.{IdBytes, RowKey, row_cmp};
 ghost use Rattle.model_state.specs.Listing.{row_incoming, last_rank, targets, incoming};
 
 use crate::groups::{drop_in, group_in, is_bare, put_in};
@@ -67,7 +67,7 @@ fn write_to(
     rank: Option<u64>,
 )
     ensures here { is_some (get (arriving into.old b.now) key.now) ≡ true → arriving into.new b.now ≡ set (arriving into.old b.now) key.now rank }
-    ensures there { (x : Name) → text_eq b.now x ≡ false → arriving into.new x ≡ arriving into.old x }
+    ensures there { (x : IdBytes) → text_eq b.now x ≡ false → arriving into.new x ≡ arriving into.old x }
 {
     if let Some(rows) = into.get_mut(b) {
         rewrite_row(rows, key, rank);
@@ -84,16 +84,16 @@ fn is_no_target(into: &BTreeMap<Id, BTreeMap<(Id, u32, Id), u64>>, b: &Id) -> bo
     }
 }
 
-/// Lets the rows to an element go, where there are none.
+/// Drops the map of the rows to an element, where there are none.
 fn clear_to(into: &mut BTreeMap<Id, BTreeMap<(Id, u32, Id), u64>>, b: &Id)
-    ensures { (x : Name) → arriving into.new x ≡ arriving into.old x }
+    ensures { (x : IdBytes) → arriving into.new x ≡ arriving into.old x }
 {
     if is_no_target(into, b) {
         into.remove(b);
     }
 }
 
-/// Gives a row that is among those to the element another rank, or takes it out; where none is left they go.
+/// Gives a row that is among those to the element another rank, or takes it out; where none is left their map is dropped.
 fn rewrite_to(
     into: &mut BTreeMap<Id, BTreeMap<(Id, u32, Id), u64>>,
     b: &Id,
@@ -101,7 +101,7 @@ fn rewrite_to(
     rank: Option<u64>,
 )
     ensures here { is_some (get (arriving into.old b.now) key.now) ≡ true → arriving into.new b.now ≡ set (arriving into.old b.now) key.now rank }
-    ensures there { (x : Name) → text_eq b.now x ≡ false → arriving into.new x ≡ arriving into.old x }
+    ensures there { (x : IdBytes) → text_eq b.now x ≡ false → arriving into.new x ≡ arriving into.old x }
 {
     write_to(into, b, key, rank);
     clear_to(into, b);
@@ -116,7 +116,7 @@ fn put_to(
     rank: u64,
 ) -> Result<(), AllocError>
     ensures here { OnOk result (arriving into.new b.now ≡ set (arriving into.old b.now) key (Some rank)) }
-    ensures there { (x : Name) → text_eq b.now x ≡ false → arriving into.new x ≡ arriving into.old x }
+    ensures there { (x : IdBytes) → text_eq b.now x ≡ false → arriving into.new x ≡ arriving into.old x }
     ensures err { OnErr result (arriving into.new b.now ≡ arriving into.old b.now) }
 {
     let own = b.copy(alloc)?;

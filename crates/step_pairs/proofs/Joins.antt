@@ -9,7 +9,7 @@ use Rattle.ecore_meta.specs.Meta.{Meta}
 use Rattle.ecore_meta.specs.declared.meta.Value.{Value}
 use Rattle.model_state.specs.declared.step.Step.{Step}
 use Rattle.model_state.specs.declared.step.Step.TheVariants.{Put, RerankRow, RerankPlace}
-use Rattle.model_state.specs.Keys.{Name}
+use Rattle.model_state.specs.Keys.{IdBytes}
 use Rattle.model_state.specs.Typing.{value_eq}
 use Rattle.model_state.specs.State.{State}
 use Rattle.model_state.specs.Steps.{tests, Can, apply, single}
@@ -30,7 +30,7 @@ same_single None (Some y) h = cc
 same_single (Some x) None h = cc
 same_single (Some x) (Some y) h = cc
 
-put_joins : (meta : Meta) (m : State) (e : Name) (f : ℕ) (old mid mid' new : Option Value) → Can meta m (Put e f old mid) → Can meta (apply meta m (Put e f old mid)) (Put e f mid' new) → step_eq (Put e f mid' new) (Put e f mid old) ≡ false → Stands meta m (Put e f old mid) (Put e f mid' new) (Put e f old new)
+put_joins : (meta : Meta) (m : State) (e : IdBytes) (f : ℕ) (old mid mid' new : Option Value) → Can meta m (Put e f old mid) → Can meta (apply meta m (Put e f old mid)) (Put e f mid' new) → step_eq (Put e f mid' new) (Put e f mid old) ≡ false → Stands meta m (Put e f old mid) (Put e f mid' new) (Put e f old new)
 put_joins meta m e f old mid mid' new can next other =
     let p = passed (tests meta m (Put e f old mid)) can in
     let q = passed (tests meta (apply meta m (Put e f old mid)) (Put e f mid' new)) next in
@@ -43,7 +43,7 @@ put_joins meta m e f old mid mid' new can next other =
       ap (λ a. record m { attr = a }) (sym (set_twice attr_order m.attr (e, f) (single mid) (single new))),
     )
 
-row_joins : (meta : Meta) (m : State) (a : Name) (f : ℕ) (b : Name) (old mid mid' new : ℕ) → Can meta m (RerankRow a f b old mid) → Can meta (apply meta m (RerankRow a f b old mid)) (RerankRow a f b mid' new) → step_eq (RerankRow a f b mid' new) (RerankRow a f b mid old) ≡ false → Stands meta m (RerankRow a f b old mid) (RerankRow a f b mid' new) (RerankRow a f b old new)
+row_joins : (meta : Meta) (m : State) (a : IdBytes) (f : ℕ) (b : IdBytes) (old mid mid' new : ℕ) → Can meta m (RerankRow a f b old mid) → Can meta (apply meta m (RerankRow a f b old mid)) (RerankRow a f b mid' new) → step_eq (RerankRow a f b mid' new) (RerankRow a f b mid old) ≡ false → Stands meta m (RerankRow a f b old mid) (RerankRow a f b mid' new) (RerankRow a f b old new)
 row_joins meta m a f b old mid mid' new can next other =
     let p = passed (tests meta m (RerankRow a f b old mid)) can in
     let q = passed (tests meta (apply meta m (RerankRow a f b old mid)) (RerankRow a f b mid' new)) next in
@@ -55,7 +55,7 @@ row_joins meta m a f b old mid mid' new can next other =
       ap (λ r. record m { row = r }) (sym (set_twice row_order m.row (a, f, b) (Some mid) (Some new))),
     )
 
-place_joins : (meta : Meta) (m : State) (e : Name) (old mid mid' new : ℕ) → Can meta m (RerankPlace e old mid) → Can meta (apply meta m (RerankPlace e old mid)) (RerankPlace e mid' new) → step_eq (RerankPlace e mid' new) (RerankPlace e mid old) ≡ false → Stands meta m (RerankPlace e old mid) (RerankPlace e mid' new) (RerankPlace e old new)
+place_joins : (meta : Meta) (m : State) (e : IdBytes) (old mid mid' new : ℕ) → Can meta m (RerankPlace e old mid) → Can meta (apply meta m (RerankPlace e old mid)) (RerankPlace e mid' new) → step_eq (RerankPlace e mid' new) (RerankPlace e mid old) ≡ false → Stands meta m (RerankPlace e old mid) (RerankPlace e mid' new) (RerankPlace e old new)
 place_joins meta m e old mid mid' new can next other =
     let p = passed (tests meta m (RerankPlace e old mid)) can in
     let q = passed (tests meta (apply meta m (RerankPlace e old mid)) (RerankPlace e mid' new)) next in

@@ -1,5 +1,5 @@
-//! Whole sessions: the lines of a script, and what is said to them. In a table a line after `> ` is one of the script, below it
-//! stands what is said to it, and a session's last line is how it ends: the exit status and its name.
+//! Whole sessions: the lines of a script, and what they are answered. In a table a line after `> ` is one of the script, below it
+//! stands what it is answered, and a session's last line is how it ends: the exit status and its name.
 mod composites;
 mod crowds;
 mod faults;
@@ -48,7 +48,7 @@ fn push_line(text: &mut String, line: &str) -> Result<(), AllocError> {
     text.push_str("\n")
 }
 
-// The lines of a session's script after an opening, and what is told of it after what is said to the opening.
+// The lines of a session's script after an opening, and what is printed for them after what is printed for the opening.
 fn parts_of(
     alloc: Global,
     opening: &str,
@@ -84,7 +84,7 @@ fn asked<H: Host>(alloc: Global, words: &str, host: &mut H) -> Result<Status, Fa
     Ok(run(alloc, list.as_slice(), host))
 }
 
-// All that is said in a run with this input over a file, how it ends (the exit status and its name), and the file after it.
+// All that is printed in a run with this input over a file, how it ends (the exit status and its name), and the file after it.
 #[derive(Drop)]
 struct Run {
     said: String,
@@ -108,7 +108,7 @@ fn are_bytes(rt: &impl Abort, found: &[u8], wanted: &[u8]) {
     assert_eq!(rt; found, wanted);
 }
 
-// A session after an opening is told as it is written down.
+// A session after an opening is answered as it is written down.
 fn play(
     rt: &impl Abort,
     alloc: Global,
@@ -131,7 +131,7 @@ fn play(
 
 const QUESTIONS: &str = "changes 1\nshow 1\nchanges 2\nshow 2\nlog\ncat trunk\n";
 
-// The store that a run of a script leaves is read again: to questions it says what the script with these after it says. A script that
+// The store that a run of a script leaves is read again: to questions it answers what the script with these after it does. A script that
 // ends within a block is asked nothing more.
 fn is_read_again(
     rt: &impl Abort,
@@ -308,7 +308,7 @@ fn before_there_is_a_metamodel_only_init_is_accepted(rt: HostRuntime) -> Result<
 }
 
 #[test]
-fn a_reply_is_said_before_the_next_line_is_asked_for(rt: HostRuntime) -> Result<(), Fail> {
+fn a_reply_is_printed_before_the_next_line_is_asked_for(rt: HostRuntime) -> Result<(), Fail> {
     let alloc = rt.alloc();
     let mut first = String::from_str(alloc, "init\n")?;
     first.push_str(METAMODEL)?;

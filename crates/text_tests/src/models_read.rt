@@ -1,4 +1,4 @@
-//! Texts of models, with the document that each says or its first fault, by the format's rules.
+//! Texts of models, with the document that each describes or its first fault, by the format's rules.
 use crate::metamodels::{cut, metamodel, plain, replaced};
 use ecore_meta::Metamodel;
 use emfjson_model::{Doc, ModelFault, read_model};
@@ -282,7 +282,7 @@ fn push_roots(roots: &mut String, table: &str) -> Result<(), Fail> {
     Ok(())
 }
 
-// Each root of a table, after these and before all of the table, has its fault told.
+// Each root of a table, after these and before all of the table, has its fault reported.
 fn check_first(
     rt: &impl Abort,
     alloc: Global,
@@ -317,7 +317,7 @@ fn check_tables(
 }
 
 #[test]
-fn of_many_faults_the_first_is_told(rt: HostRuntime) -> Result<(), Fail> {
+fn of_many_faults_the_first_is_reported(rt: HostRuntime) -> Result<(), Fail> {
     let alloc = rt.alloc();
     let meta = metamodel(alloc, LIBRARY)?;
     let mut before = String::new(alloc);

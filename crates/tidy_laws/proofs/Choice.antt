@@ -17,7 +17,7 @@ use Rattle.tidy_laws.proofs.Whole.{shorter}
 some_none : {A : Type 0} (o : Option A) (v : A) → o ≡ Some v → o ≡ None → ⊥
 some_none o v h k = cc
 
--- where no rule applies in front of the rest, the search passes it
+-- where no rule applies before the rest, the search passes it
 no_place : (meta : Meta) (b : Operation) (before after xs : List Operation) → NoRule meta (onto before (b ∷ xs)) → Found meta b before after → ⊥
 no_place meta b before after xs none f =
     let at : onto before (b ∷ xs) ≡ onto f.far [] ++ (f.a ∷ (onto f.near [] ++ (b ∷ xs))) =

@@ -1,4 +1,4 @@
--- Packages are told apart, and whether one is tidy goes by its length.
+-- Packages are tested for equality, and whether one is tidy goes by its length.
 use Rattle.std.proofs.Common.{◌≡◌, true, List, [], ◌∷◌, length, refl, ap, subst, ◌∙◌, ◌≤◌, arith}
 use Rattle.finite_maps.proofs.EqualLaws.{IsEquality, and_first, and_second, and_both, text_equality, list_equality}
 use Rattle.ecore_meta.specs.Meta.{Meta}

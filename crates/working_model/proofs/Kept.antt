@@ -8,7 +8,7 @@ use Rattle.finite_maps.specs.Maps.{set}
 use Rattle.finite_maps.proofs.MapLaws.{get-set}
 use Rattle.ecore_meta.specs.Meta.{Meta}
 use Rattle.model_state.proofs.Orders.{id_order}
-use Rattle.model_state.specs.Keys.{Name, id_cmp}
+use Rattle.model_state.specs.Keys.{IdBytes, id_cmp}
 use Rattle.model_state.specs.State.{State, is_live}
 use Rattle.model_state.specs.Steps.{apply, fold}
 use Rattle.model_state.specs.declared.step.Step.{Step}
@@ -18,7 +18,7 @@ use Rattle.edits.specs.FreshIds.{numbered}
 use Rattle.working_model.specs.Taken.{AreTaken, is_deletion}
 
 -- an element that is created leaves those that are live
-made : (kind : FinMap id_cmp ℕ) (x : Name) (class : ℕ) (e : Name) → is_some (get kind e) ≡ true → is_some (get (set kind x (Some class)) e) ≡ true
+made : (kind : FinMap id_cmp ℕ) (x : IdBytes) (class : ℕ) (e : IdBytes) → is_some (get kind e) ≡ true → is_some (get (set kind x (Some class)) e) ≡ true
 made kind x class e live = ap is_some (get-set id_order kind x (Some class) e) ∙ either (eq_by_cmp id_cmp e x) live
   where
     either : (b : Bool) → is_some (get kind e) ≡ true → is_some (cond b (Some class) (get kind e)) ≡ true
@@ -26,7 +26,7 @@ made kind x class e live = ap is_some (get-set id_order kind x (Some class) e) �
     either false live = live
 
 -- so does a step that deletes none
-step_keeps : (meta : Meta) (m : State) (s : Step) (e : Name) → is_deletion s ≡ false → is_live m e ≡ true → is_live (apply meta m s) e ≡ true
+step_keeps : (meta : Meta) (m : State) (s : Step) (e : IdBytes) → is_deletion s ≡ false → is_live m e ≡ true → is_live (apply meta m s) e ≡ true
 step_keeps meta m (New x class place rank) e kept live = made m.kind x class e live
 step_keeps meta m (Gone x class place rank) e kept live = cc
 step_keeps meta m (Put x f old new) e kept live = live
@@ -44,7 +44,7 @@ either_false true b h = cc
 either_false false b h = (refl, h)
 
 -- so do all that are taken one by one
-pub steps_keep : (meta : Meta) (m n : State) (steps : List Step) (e : Name) → list_any is_deletion steps ≡ false → fold meta m steps ≡ Some n → is_live m e ≡ true → is_live n e ≡ true
+pub steps_keep : (meta : Meta) (m n : State) (steps : List Step) (e : IdBytes) → list_any is_deletion steps ≡ false → fold meta m steps ≡ Some n → is_live m e ≡ true → is_live n e ≡ true
 steps_keep meta m n [] e none run live = ap (λ (x : State). is_live x e) (sym (same_state m n run)) ∙ live
 steps_keep meta m n (s ∷ ss) e none run live =
     let here = either_false (is_deletion s) (list_any is_deletion ss) none in

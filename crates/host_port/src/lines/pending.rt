@@ -4,7 +4,7 @@ ghost use Rattle.std.specs.Prelude.{◌≡◌, ◌≤◌, ◌++◌, [], length, 
 use std::alloc::{AllocError, Global};
 use std::marker::Model;
 
-/// Bytes that come at the end, and go from the front when they are read.
+/// Bytes that are added at the end, and removed at the beginning when they are read.
 #[derive(Drop)]
 pub struct Pending {
     bytes: Vec<u8>,
@@ -56,7 +56,7 @@ impl Pending {
         Ok(())
     }
 
-    /// Reads the first bytes. Once half of all bytes are read the others are moved to the front, so a byte is moved once at most.
+    /// Reads the first bytes. Once half of all bytes are read the others are moved to the beginning, so a byte is moved once at most.
     pub fn go_past(&mut self, count: usize)
         requires { count ≤ length self.old }
         ensures past { self.new ≡ drop count self.old }

@@ -9,7 +9,7 @@ ghost use Rattle.repo_core.specs.Decisions.{seen, CanMakeIt};
 use crate::repo::Repo;
 use commit_journal::{Fit, fits};
 use ecore_meta::{List, Text};
-use op_form::{Event, encode_event, has_form};
+use op_form::{Event, encode_event, has_encoding};
 use script_lang::{Last, Refusal, Reply};
 use std::alloc::{AllocError, Global};
 
@@ -103,7 +103,7 @@ impl Repo {
             return Ok(refuse(alloc, Refusal::HistoryFull));
         }
         // Such an event has a text or a list of 2^32 items, for which no memory is large enough.
-        if !has_form(&event) {
+        if !has_encoding(&event) {
             return Err(AllocError);
         }
         let form = encode_event(alloc, &event)?;

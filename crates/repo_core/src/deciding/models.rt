@@ -86,6 +86,6 @@ impl Repo {
         ensures model { plain_state _model.now ≡ model_of _begun.now.meta self.now.history (plain_of _workspace.now) }
         ensures good { Good _begun.now.meta (plain_state _model.now) }
     {
-        // The contract alone speaks of it.
+        // Only the contract needs it.
     }
 }

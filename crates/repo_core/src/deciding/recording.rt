@@ -20,7 +20,7 @@ use script_lang::Refusal;
 use std::alloc::{AllocError, Global};
 use step_apply::Plain;
 
-/// The refusal that an edit's fault is; want of memory is none.
+/// The refusal that an edit's fault is; out of memory is none.
 fn refusal_of(fault: EditFault) -> Option<Refusal>
     ensures none { IfNone result (fault ≡ EditFault.Memory) }
     ensures some { IfSome result (λ refusal. (refusal ≡ refusal_of fault) × (fault ≢ EditFault.Memory)) }

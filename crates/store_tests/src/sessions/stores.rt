@@ -74,7 +74,7 @@ fn kept_at(calls: u64, fill: u8) -> u64 {
     (calls / 5).max(1).min(5) - 1
 }
 
-// What a run of the script of two says over a store of its first events.
+// What a run of the script of two prints over a store of its first events.
 fn said_after(kept: u64) -> &'static str {
     match kept {
         0 => "ok\n[]\nok 1 0 trunk\nok a\nok b\n",
@@ -85,7 +85,7 @@ fn said_after(kept: u64) -> &'static str {
     }
 }
 
-// A run of the script of two over a store of its first events says what is said then.
+// A run of the script of two over a store of its first events prints what is due then.
 fn is_said_after(rt: &impl Abort, alloc: Global, file: Vec<u8>, kept: u64) -> Result<(), Fail> {
     let run = ran(rt, alloc, script_of_two(alloc)?, file)?;
     assert_eq!(rt; run.said.as_str(), said_after(kept));

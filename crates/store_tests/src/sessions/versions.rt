@@ -1,4 +1,4 @@
-//! Sessions with versions: commits, branches, tags, and workspaces that come and go.
+//! Sessions with versions: commits, branches, tags, and workspaces that are made and dropped.
 
 // Over the library of the sessions beside this file.
 pub(crate) const SESSIONS: &str = r##"> create 1 Library / l

@@ -1,4 +1,4 @@
-use Rattle.byte_form.specs.Fields.{text_at, text_form}
+use Rattle.byte_form.specs.Fields.{text_at, text_encoding}
 use Rattle.byte_form.specs.Laws.{IsShortText}
 use Rattle.byte_form.proofs.FieldLemmas.{apart, byte_again, byte_spelled, u32_again, u32_spelled, u64_again, u64_spelled, text_again, text_spelled}
 use Rattle.byte_form.proofs.laws.law_of_fields.Goals as goal
@@ -28,4 +28,4 @@ pub returns-clause-texts_spelled : goal.returns-clause-texts_spelled
 returns-clause-texts_spelled c = text_spelled
 
 pub returns-clause-texts_apart : goal.returns-clause-texts_apart
-returns-clause-texts_apart c = apart IsShortText text_form text_at text_again
+returns-clause-texts_apart c = apart IsShortText text_encoding text_at text_again

@@ -1,13 +1,13 @@
 -- an operation stands at the place to which alone a rule may apply
 use Rattle.std.proofs.Common.{◌≡◌, ◌+◌, length}
 use Rattle.footprint.specs.Prints.{shown, printed}
-use Rattle.cell_index.specs.Standing.{Keeps}
+use Rattle.cell_index.specs.Standing.{ListsStanding}
 use Rattle.canoniser.specs.Meetings.{kept, Ready, Leads}
 use Rattle.canoniser.proofs.turns.enter.Given as goal
 
 abbrev pub invariant-loop-place : goal.invariant-loop-place
 invariant-loop-place l = record {
-  keeps : Keeps l.standing l.prints;
+  keeps : ListsStanding l.standing l.prints;
   printed : shown l.prints ≡ printed l.meta l.list.items;
   ready : Ready l.meta l.standing.stands.items l.list.items l.at;
   leads : Leads l.meta (kept l.fn.standing.stands.items l.fn.list.items) (kept l.standing.stands.items l.list.items);

@@ -2,7 +2,7 @@ use Rattle.std.proofs.Common.{◌≡◌, ap, sym, ◌∙◌, None}
 use Rattle.serde_json.specs.View.{view}
 use Rattle.ecore_meta.specs.Faults.{fault}
 use Rattle.ecore_meta.specs.declared.rows.MetaRows.{MetaRows}
-use Rattle.ecore_json.specs.declared.table.Place.TheVariants.{Root}
+use Rattle.ecore_json.specs.declared.table.Position.TheVariants.{Root}
 use Rattle.ecore_json.specs.Walk.{package_fault, object_fault}
 use Rattle.ecore_json.specs.Rows.{own_prefix, rows_of}
 use Rattle.ecore_json.specs.Metamodel.{built, walked}

@@ -1,6 +1,6 @@
 use Rattle.std.proofs.Common.{◌∙◌, List, ap, subst, sym, arith, map, length}
 use Rattle.std.specs.List.{list_any}
-use Rattle.ecore_meta.specs.Document.{Rows, feature_total}
+use Rattle.ecore_meta.specs.Document.{ClassifierRows, feature_total}
 use Rattle.ecore_meta.specs.Faults.{IsFault, any_from, bad_bound, bad_default, fault, is_self, is_unanswered, literals_in}
 use Rattle.ecore_meta.specs.Values.{AreShort}
 use Rattle.ecore_meta.specs.declared.meta.EnumLiteral.{EnumLiteral}
@@ -9,7 +9,7 @@ use Rattle.ecore_meta.proofs.building.build.Goals as goal
 
 pub returns-in-Err-clause-fault : goal.returns-in-Err-clause-fault
 returns-in-Err-clause-fault c =
-    let P : Rows → Type 0 = λ rows. IsFault (fault rows) c.in-Err.fault in
+    let P : ClassifierRows → Type 0 = λ rows. IsFault (fault rows) c.in-Err.fault in
     subst P c.as_slice.ensures c.in-Err.ensures.fault
 
 pub any_self-requires : goal.any_self-requires
@@ -31,7 +31,7 @@ returns-then-any_bad_bound-clause-fault c =
 pub any_bad_default-requires : goal.any_bad_default-requires
 any_bad_default-requires c =
     let P : List (List EnumLiteral) → Type 0 = λ ls. AreShort ls in
-    let Q : Rows → Type 0 = λ rows. AreShort (literals_in rows) in
+    let Q : ClassifierRows → Type 0 = λ rows. AreShort (literals_in rows) in
     subst P (sym (ap (map (λ ls. ls.items)) c.as_slice-5.ensures.value ∙ c.in-Ok.ensures.literals))
     (subst Q (sym c.as_slice.ensures) (literals_short c.args.rows.now.classifiers c.requires.parts))
 

@@ -2,8 +2,8 @@ use Rattle.std.proofs.Common.{◌≡◌, ℕ, ◌+◌, length, sym, ◌∙◌, a
 use Rattle.std.specs.Prelude.{map}
 use Rattle.host_port.specs.Host.{disk_now}
 use Rattle.host_port.proofs.Course.{still_disk}
-use Rattle.commit_journal.specs.Journal.{JournalState, IsAtRest, Fits}
-use Rattle.op_form.specs.Events.{event_form}
+use Rattle.commit_journal.specs.Journal.{JournalState, IsAtRest, RecordFits}
+use Rattle.op_form.specs.Events.{event_encoding}
 use Rattle.plain_repository.specs.Events.{play}
 use Rattle.emf_session.proofs.Entering.{none_added, none_entering, event_added, event_entering, none_ready, some_ready, held_none, held_some}
 use Rattle.emf_session.proofs.Playing.{play_end}
@@ -15,12 +15,12 @@ end_of j = j.end
 pub append-requires-clause-ready : goal.append-requires-clause-ready
 append-requires-clause-ready g c =
     let of = some_ready c.args.pool.now c.requires.ready.0 c.requires.ready.1 c.args.ready c.in-Some.prepared c.in-Some.is c.requires.ready.2 in
-    (event_form of.made, of.holds, subst (λ (n : ℕ). Fits n (length (event_form of.made))) c.requires.ready.3 of.fits)
+    (event_encoding of.made, of.holds, subst (λ (n : ℕ). RecordFits n (length (event_encoding of.made))) c.requires.ready.3 of.fits)
 
 pub append-requires-clause-at_rest : goal.append-requires-clause-at_rest
 append-requires-clause-at_rest g c = λ told.
     let had = c.requires.holds told in
-    (map event_form had.1, subst (λ (n : ℕ). IsAtRest (disk_now (g.H.Host.told c.args.host.now)) (map event_form had.1) n) had.3 had.2.rests.journal)
+    (map event_encoding had.1, subst (λ (n : ℕ). IsAtRest (disk_now (g.H.Host.told c.args.host.now)) (map event_encoding had.1) n) had.3 had.2.rests.journal)
 
 pub returns-in_default-clause-end : goal.returns-in_default-clause-end
 returns-in_default-clause-end g c = λ state event at' is. rw (none_ready c.args.pool.now state event c.args.ready c.in_default.is is) at'
@@ -36,28 +36,28 @@ returns-in_default-clause-entering g c = λ state event at' is made holds.
 pub returns-in-Ok-clause-end : goal.returns-in-Ok-clause-end
 returns-in-Ok-clause-end g c = λ state event at' is.
     let of = some_ready c.args.pool.now state event c.args.ready c.in-Some.prepared c.in-Some.is is in
-    let same : state.end + 5 + length (event_form of.made) ≡ c.args.journal.now.end + 5 + length (event_form of.made) = omega (arith, at') in
-    rw of.event_is (play_end state of.made ∙ same ∙ sym (ap end_of (c.in-Ok.ensures.ok (event_form of.made) of.holds)))
+    let same : state.end + 5 + length (event_encoding of.made) ≡ c.args.journal.now.end + 5 + length (event_encoding of.made) = omega (arith, at') in
+    rw of.event_is (play_end state of.made ∙ same ∙ sym (ap end_of (c.in-Ok.ensures.ok (event_encoding of.made) of.holds)))
 
 pub returns-in-Ok-clause-added : goal.returns-in-Ok-clause-added
 returns-in-Ok-clause-added g c = λ told state event at' is made holds.
     let of = some_ready c.args.pool.now state event c.args.ready c.in-Some.prepared c.in-Some.is is in
-    let same : state.end + 5 + length (event_form of.made) ≡ c.args.journal.now.end + 5 + length (event_form of.made) = omega (arith, at') in
+    let same : state.end + 5 + length (event_encoding of.made) ≡ c.args.journal.now.end + 5 + length (event_encoding of.made) = omega (arith, at') in
     rw of.event_is (event_added (g.H.Host.told c.args.host.now) (g.H.Host.told c.append.new.host) state made of.made of.playable holds
-    (disk_now (g.H.Host.told c.append.new.host)) (play state of.made) c.append.new.self.end (event_form of.made) refl refl (play_end state of.made ∙ same ∙ sym (ap end_of (c.in-Ok.ensures.ok (event_form of.made) of.holds)))
-    (c.in-Ok.ensures.added told (event_form of.made) of.holds (map event_form made) (subst (λ (n : ℕ). IsAtRest (disk_now (g.H.Host.told c.args.host.now)) (map event_form made) n) at' holds.rests.journal)))
+    (disk_now (g.H.Host.told c.append.new.host)) (play state of.made) c.append.new.self.end (event_encoding of.made) refl refl (play_end state of.made ∙ same ∙ sym (ap end_of (c.in-Ok.ensures.ok (event_encoding of.made) of.holds)))
+    (c.in-Ok.ensures.added told (event_encoding of.made) of.holds (map event_encoding made) (subst (λ (n : ℕ). IsAtRest (disk_now (g.H.Host.told c.args.host.now)) (map event_encoding made) n) at' holds.rests.journal)))
 
 pub returns-in-Ok-clause-entering : goal.returns-in-Ok-clause-entering
 returns-in-Ok-clause-entering g c = λ state event at' is made holds.
     let of = some_ready c.args.pool.now state event c.args.ready c.in-Some.prepared c.in-Some.is is in
     rw of.event_is (event_entering (g.H.Host.told c.args.host.now) (g.H.Host.told c.append.new.host) state made of.made of.playable holds
-    (event_form of.made) refl (c.append.ensures.any_moment (event_form of.made) of.holds (map event_form made) (subst (λ (n : ℕ). IsAtRest (disk_now (g.H.Host.told c.args.host.now)) (map event_form made) n) at' holds.rests.journal)))
+    (event_encoding of.made) refl (c.append.ensures.any_moment (event_encoding of.made) of.holds (map event_encoding made) (subst (λ (n : ℕ). IsAtRest (disk_now (g.H.Host.told c.args.host.now)) (map event_encoding made) n) at' holds.rests.journal)))
 
 pub returns-in-Err-clause-entering : goal.returns-in-Err-clause-entering
 returns-in-Err-clause-entering g c = λ state event at' is made holds.
     let of = some_ready c.args.pool.now state event c.args.ready c.in-Some.prepared c.in-Some.is is in
     rw of.event_is (event_entering (g.H.Host.told c.args.host.now) (g.H.Host.told c.append.new.host) state made of.made of.playable holds
-    (event_form of.made) refl (c.append.ensures.any_moment (event_form of.made) of.holds (map event_form made) (subst (λ (n : ℕ). IsAtRest (disk_now (g.H.Host.told c.args.host.now)) (map event_form made) n) at' holds.rests.journal)))
+    (event_encoding of.made) refl (c.append.ensures.any_moment (event_encoding of.made) of.holds (map event_encoding made) (subst (λ (n : ℕ). IsAtRest (disk_now (g.H.Host.told c.args.host.now)) (map event_encoding made) n) at' holds.rests.journal)))
 
 pub returns-in_default-clause-still : goal.returns-in_default-clause-still
 returns-in_default-clause-still g c = λ none. still_disk (g.H.Host.told c.args.host.now)

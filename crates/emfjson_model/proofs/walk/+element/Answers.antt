@@ -10,7 +10,7 @@ use Rattle.ecore_meta.specs.declared.meta.Kind.{Kind}
 use Rattle.ecore_meta.specs.declared.meta.Kind.TheVariants.{Skip}
 use Rattle.emfjson_model.specs.declared.classes.Key.{Key}
 use Rattle.emfjson_model.specs.declared.draft.Draft.{Draft}
-use Rattle.emfjson_model.specs.Answers.{IsFault, Holds}
+use Rattle.emfjson_model.specs.Answers.{IsFault, AppendsPart}
 use Rattle.finite_maps.specs.Maps.{is_within}
 use Rattle.ecore_meta.specs.Typing.{is_one}
 use Rattle.emfjson_model.specs.Parts.{ids_of, no_part}
@@ -149,7 +149,7 @@ members_of-loop-key-preserved t c =
     let d = view c.in-Some.value.now in
     members_step meta c.args.class c.args.own first now c.part_of.new.rows c.loop-key.held.attrs c.part_of.new.held.attrs c.loop-key.held.links c.part_of.new.held.links c.in-Ok.field-0 (members_view c.args.members.now.entries) (string_bytes c.in-Some.key.now) d (members_view c.next.new.self)
     (so.0, so.1, so.2, so.3, so.4 ∙ ap (λ es. members_rows meta c.args.class c.args.own (ids_of first) so.0 (members_view es)) c.in-Some.ensures.steps)
-    (subst (λ (k : Key). Holds c.loop-key.held.attrs c.part_of.new.held.attrs c.loop-key.held.links c.part_of.new.held.links now c.part_of.new.rows (Ok c.in-Ok.field-0) (key_part meta k d (λ f target. held_rows meta (ids_of now) (record { row = c.args.own; feature = f }) target d))) (c.key_named-key.ensures ∙ ap (key_named meta c.args.class) c.as_str.ensures.value) c.in-Ok.ensures)
+    (subst (λ (k : Key). AppendsPart c.loop-key.held.attrs c.part_of.new.held.attrs c.loop-key.held.links c.part_of.new.held.links now c.part_of.new.rows (Ok c.in-Ok.field-0) (key_part meta k d (λ f target. held_rows meta (ids_of now) (record { row = c.args.own; feature = f }) target d))) (c.key_named-key.ensures ∙ ap (key_named meta c.args.class) c.as_str.ensures.value) c.in-Ok.ensures)
 
 pub feature_part-returns-in-Container : goal.feature_part-returns-in-Container
 feature_part-returns-in-Container t c =

@@ -1,7 +1,7 @@
 use Rattle.std.proofs.Common.{◌≡◌, ℕ, ◌+◌, ◌*◌, ◌<◌, ◌≤◌, true, false, cond, refl, sym, ap, ◌∙◌, arith, nat_eq, List, [], ◌∷◌, ◌++◌, length, take, rules}
 use Rattle.model_state.specs.declared.entry.Entry.{Entry}
 use Rattle.model_state.specs.declared.step.Step.TheVariants.{RerankRow}
-use Rattle.model_state.specs.Keys.{Name}
+use Rattle.model_state.specs.Keys.{IdBytes}
 use Rattle.edit_laws.specs.Rows.{reranks}
 use Rattle.edit_laws.specs.Spot.{evened}
 use Rattle.opposites.proofs.SpotLaws.{reranks_last, take_more, take_long}
@@ -17,7 +17,7 @@ append_nil [] = refl
 append_nil (x ∷ xs) = ap (λ l. x ∷ l) (append_nil xs)
 
 -- the steps for one entry more
-grown : (a : Name) (f : ℕ) (xs : List Entry) (i : ℕ) (x : Entry) → i < length xs → i ≤ length xs → take (i + 1) xs ≡ take i xs ++ x ∷ []
+grown : (a : IdBytes) (f : ℕ) (xs : List Entry) (i : ℕ) (x : Entry) → i < length xs → i ≤ length xs → take (i + 1) xs ≡ take i xs ++ x ∷ []
     → reranks a f (take (i + 1) xs) (evened 1 (take (i + 1) xs)) ≡ reranks a f (take i xs) (evened 1 (take i xs)) ++ cond (nat_eq x.rank ((i + 1) * 4294967296)) [] (RerankRow a f x.id x.rank ((i + 1) * 4294967296) ∷ [])
 grown a f xs i x lt le more =
     ap (λ ys. reranks a f ys (evened 1 ys)) more

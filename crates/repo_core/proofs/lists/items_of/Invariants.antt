@@ -1,4 +1,4 @@
--- what is left in the list, and behind it what was moved, from its end
+-- what is left in the list, and after it what was moved, from its end
 use Rattle.std.proofs.Common.{◌≡◌, ◌++◌, length, reverse}
 use Rattle.repo_core.proofs.lists.items_of.Given as goal
 

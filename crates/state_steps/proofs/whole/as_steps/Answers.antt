@@ -1,4 +1,4 @@
--- the three parts of the list, one behind another
+-- the three parts of the list, one after another
 use Rattle.std.proofs.Common.{◌≡◌, ◌++◌, ap, ◌∙◌, append_assoc}
 use Rattle.model_state.specs.State.{nothing}
 use Rattle.model_state.specs.Steps.{fold}

@@ -1,7 +1,7 @@
 use Rattle.std.proofs.Common.{◌≡◌, false, refl, sym, ap, subst, ◌∙◌}
 use Rattle.std.specs.Prelude.{IsSome}
 use Rattle.finite_maps.specs.Equal.{text_eq}
-use Rattle.step_apply.specs.Groups.{fan_of, held}
+use Rattle.step_apply.specs.Groups.{fan_of, members_of}
 use Rattle.step_apply.proofs.Grouped.{not_at}
 use Rattle.step_apply.proofs.groups.put_in.Goals as goal
 
@@ -13,4 +13,4 @@ returns-in-Some-clause-there c = λ b g apart.
 pub returns-in_ok-insert-in-None-clause-there : goal.returns-in_ok-insert-in-None-clause-there
 returns-in_ok-insert-in-None-clause-there c = λ b g apart.
     ap (λ o. fan_of o g) (c.in_ok-insert-in-None.ensures.updates.2 b (not_at c.in_ok-key.key b (subst (λ x. text_eq x b ≡ false) (sym c.in_ok-key.ensures) apart)))
-    ∙ ap (λ t. held t b g) c.get_mut.follows.holds-at-none
+    ∙ ap (λ t. members_of t b g) c.get_mut.follows.holds-at-none

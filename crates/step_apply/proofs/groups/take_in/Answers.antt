@@ -5,7 +5,7 @@ use Rattle.std.specs.FinMap.{get, get-empty}
 use Rattle.finite_maps.proofs.MapLaws.{set_here}
 use Rattle.model_state.specs.Keys.{id_cmp}
 use Rattle.model_state.proofs.Orders.{id_order}
-use Rattle.step_apply.specs.Groups.{fan_of, held}
+use Rattle.step_apply.specs.Groups.{fan_of, members_of}
 use Rattle.step_apply.proofs.Grouped.{not_at}
 use Rattle.step_apply.proofs.groups.take_in.Goals as goal
 
@@ -16,5 +16,5 @@ returns-in-Some-clause-there c = λ b g apart.
 
 pub returns-in_default-clause-here : goal.returns-in_default-clause-here
 returns-in_default-clause-here c =
-    ap (λ t. held t c.args.a.now c.args.f) c.get_mut.follows.holds-at-none
+    ap (λ t. members_of t c.args.a.now c.args.f) c.get_mut.follows.holds-at-none
     ∙ sym (set_here id_order _ c.args.e.now None (ap (λ o. get (fan_of o c.args.f) c.args.e.now) (sym (sym (ap option_copied_mut c.in_default.is) ∙ c.get_mut.ensures.value)) ∙ get-empty id_cmp c.args.e.now))

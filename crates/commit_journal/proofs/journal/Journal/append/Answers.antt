@@ -3,7 +3,7 @@ use Rattle.host_port.specs.Host.{disk_now}
 use Rattle.commit_journal.specs.Journal.{JournalState, IsAtRest}
 use Rattle.page_pool.specs.Paged.{PagedState, content}
 use Rattle.commit_journal.proofs.Append.{fits_held, bytes_of, one_any_moment, one_front, one_gate_last, two_any_moment, two_front, two_gate_last, added}
-use Rattle.commit_journal.proofs.Ends.{length-behind_gate}
+use Rattle.commit_journal.proofs.Ends.{length-after_gate}
 use Rattle.commit_journal.proofs.journal.Journal.append.Goals as goal
 
 abbrev end_of : JournalState → ℕ
@@ -15,8 +15,8 @@ size_of p = p.size
 pub returns-in_err-done-clause-any_moment : goal.returns-in_err-done-clause-any_moment
 returns-in_err-done-clause-any_moment g c = λ form held. one_any_moment (g.H.Host.told c.args.host.now) (g.H.Host.told c.write_pages-done.new.host) c.args.self.now.end c.self.inside.end form (content c.args.pool.now c.prepared.inside.paged) (ap end_of c.self.view_is) (bytes_of c.args.pool.now c.args.prepared c.prepared.inside.paged form c.prepared.view_is held) (fits_held c.args.pool.now c.args.prepared c.args.self.now.end c.requires.ready form held) c.write_pages-done.ensures.during
 
-pub returns-in_err-done-clause-front : goal.returns-in_err-done-clause-front
-returns-in_err-done-clause-front g c = one_front (g.H.Host.told c.args.host.now) (g.H.Host.told c.write_pages-done.new.host) c.args.self.now.end c.self.inside.end c.requires.ready.0 (content c.args.pool.now c.prepared.inside.paged) (ap end_of c.self.view_is) (bytes_of c.args.pool.now c.args.prepared c.prepared.inside.paged c.requires.ready.0 c.prepared.view_is c.requires.ready.1) (fits_held c.args.pool.now c.args.prepared c.args.self.now.end c.requires.ready c.requires.ready.0 c.requires.ready.1) c.write_pages-done.ensures.during c.requires.at_rest
+pub returns-in_err-done-clause-prefix : goal.returns-in_err-done-clause-prefix
+returns-in_err-done-clause-prefix g c = one_front (g.H.Host.told c.args.host.now) (g.H.Host.told c.write_pages-done.new.host) c.args.self.now.end c.self.inside.end c.requires.ready.0 (content c.args.pool.now c.prepared.inside.paged) (ap end_of c.self.view_is) (bytes_of c.args.pool.now c.args.prepared c.prepared.inside.paged c.requires.ready.0 c.prepared.view_is c.requires.ready.1) (fits_held c.args.pool.now c.args.prepared c.args.self.now.end c.requires.ready c.requires.ready.0 c.requires.ready.1) c.write_pages-done.ensures.during c.requires.at_rest
 
 pub returns-in_err-done-clause-gate_last : goal.returns-in_err-done-clause-gate_last
 returns-in_err-done-clause-gate_last g c = λ form held. one_gate_last (g.H.Host.told c.args.host.now) (g.H.Host.told c.write_pages-done.new.host) c.args.self.now.end c.self.inside.end form (content c.args.pool.now c.prepared.inside.paged) (ap end_of c.self.view_is) (bytes_of c.args.pool.now c.args.prepared c.prepared.inside.paged form c.prepared.view_is held) (fits_held c.args.pool.now c.args.prepared c.args.self.now.end c.requires.ready form held) c.write_pages-done.ensures.during c.requires.at_rest
@@ -24,8 +24,8 @@ returns-in_err-done-clause-gate_last g c = λ form held. one_gate_last (g.H.Host
 pub returns-in_err-write_durably-clause-any_moment : goal.returns-in_err-write_durably-clause-any_moment
 returns-in_err-write_durably-clause-any_moment g c = λ form held. two_any_moment (g.H.Host.told c.args.host.now) (g.H.Host.told c.write_pages-done.new.host) c.args.self.now.end c.self.inside.end form (content c.args.pool.now c.prepared.inside.paged) (ap end_of c.self.view_is) (bytes_of c.args.pool.now c.args.prepared c.prepared.inside.paged form c.prepared.view_is held) (fits_held c.args.pool.now c.args.prepared c.args.self.now.end c.requires.ready form held) c.write_pages-done.ensures.during (g.H.Host.told c.write_durably.new.host) c.write_pages-done.ensures.course c.write_durably.ensures.course c.in_ok-done.ensures.done c.write_durably.ensures.during
 
-pub returns-in_err-write_durably-clause-front : goal.returns-in_err-write_durably-clause-front
-returns-in_err-write_durably-clause-front g c = two_front (g.H.Host.told c.args.host.now) (g.H.Host.told c.write_pages-done.new.host) c.args.self.now.end c.self.inside.end c.requires.ready.0 (content c.args.pool.now c.prepared.inside.paged) (ap end_of c.self.view_is) (bytes_of c.args.pool.now c.args.prepared c.prepared.inside.paged c.requires.ready.0 c.prepared.view_is c.requires.ready.1) (fits_held c.args.pool.now c.args.prepared c.args.self.now.end c.requires.ready c.requires.ready.0 c.requires.ready.1) c.write_pages-done.ensures.during (g.H.Host.told c.write_durably.new.host) c.write_pages-done.ensures.course c.write_durably.ensures.course c.in_ok-done.ensures.done c.write_durably.ensures.during c.requires.at_rest
+pub returns-in_err-write_durably-clause-prefix : goal.returns-in_err-write_durably-clause-prefix
+returns-in_err-write_durably-clause-prefix g c = two_front (g.H.Host.told c.args.host.now) (g.H.Host.told c.write_pages-done.new.host) c.args.self.now.end c.self.inside.end c.requires.ready.0 (content c.args.pool.now c.prepared.inside.paged) (ap end_of c.self.view_is) (bytes_of c.args.pool.now c.args.prepared c.prepared.inside.paged c.requires.ready.0 c.prepared.view_is c.requires.ready.1) (fits_held c.args.pool.now c.args.prepared c.args.self.now.end c.requires.ready c.requires.ready.0 c.requires.ready.1) c.write_pages-done.ensures.during (g.H.Host.told c.write_durably.new.host) c.write_pages-done.ensures.course c.write_durably.ensures.course c.in_ok-done.ensures.done c.write_durably.ensures.during c.requires.at_rest
 
 pub returns-in_err-write_durably-clause-gate_last : goal.returns-in_err-write_durably-clause-gate_last
 returns-in_err-write_durably-clause-gate_last g c = λ form held. two_gate_last (g.H.Host.told c.args.host.now) (g.H.Host.told c.write_pages-done.new.host) c.args.self.now.end c.self.inside.end form (content c.args.pool.now c.prepared.inside.paged) (ap end_of c.self.view_is) (bytes_of c.args.pool.now c.args.prepared c.prepared.inside.paged form c.prepared.view_is held) (fits_held c.args.pool.now c.args.prepared c.args.self.now.end c.requires.ready form held) c.write_pages-done.ensures.during (g.H.Host.told c.write_durably.new.host) c.write_pages-done.ensures.course c.write_durably.ensures.course c.in_ok-done.ensures.done c.write_durably.ensures.during c.requires.at_rest
@@ -33,8 +33,8 @@ returns-in_err-write_durably-clause-gate_last g c = λ form held. two_gate_last 
 pub returns-clause-any_moment : goal.returns-clause-any_moment
 returns-clause-any_moment g c = λ form held. two_any_moment (g.H.Host.told c.args.host.now) (g.H.Host.told c.write_pages-done.new.host) c.args.self.now.end c.self.inside.end form (content c.args.pool.now c.prepared.inside.paged) (ap end_of c.self.view_is) (bytes_of c.args.pool.now c.args.prepared c.prepared.inside.paged form c.prepared.view_is held) (fits_held c.args.pool.now c.args.prepared c.args.self.now.end c.requires.ready form held) c.write_pages-done.ensures.during (g.H.Host.told c.write_durably.new.host) c.write_pages-done.ensures.course c.write_durably.ensures.course c.in_ok-done.ensures.done c.write_durably.ensures.during
 
-pub returns-clause-front : goal.returns-clause-front
-returns-clause-front g c = two_front (g.H.Host.told c.args.host.now) (g.H.Host.told c.write_pages-done.new.host) c.args.self.now.end c.self.inside.end c.requires.ready.0 (content c.args.pool.now c.prepared.inside.paged) (ap end_of c.self.view_is) (bytes_of c.args.pool.now c.args.prepared c.prepared.inside.paged c.requires.ready.0 c.prepared.view_is c.requires.ready.1) (fits_held c.args.pool.now c.args.prepared c.args.self.now.end c.requires.ready c.requires.ready.0 c.requires.ready.1) c.write_pages-done.ensures.during (g.H.Host.told c.write_durably.new.host) c.write_pages-done.ensures.course c.write_durably.ensures.course c.in_ok-done.ensures.done c.write_durably.ensures.during c.requires.at_rest
+pub returns-clause-prefix : goal.returns-clause-prefix
+returns-clause-prefix g c = two_front (g.H.Host.told c.args.host.now) (g.H.Host.told c.write_pages-done.new.host) c.args.self.now.end c.self.inside.end c.requires.ready.0 (content c.args.pool.now c.prepared.inside.paged) (ap end_of c.self.view_is) (bytes_of c.args.pool.now c.args.prepared c.prepared.inside.paged c.requires.ready.0 c.prepared.view_is c.requires.ready.1) (fits_held c.args.pool.now c.args.prepared c.args.self.now.end c.requires.ready c.requires.ready.0 c.requires.ready.1) c.write_pages-done.ensures.during (g.H.Host.told c.write_durably.new.host) c.write_pages-done.ensures.course c.write_durably.ensures.course c.in_ok-done.ensures.done c.write_durably.ensures.during c.requires.at_rest
 
 pub returns-clause-gate_last : goal.returns-clause-gate_last
 returns-clause-gate_last g c = λ form held. two_gate_last (g.H.Host.told c.args.host.now) (g.H.Host.told c.write_pages-done.new.host) c.args.self.now.end c.self.inside.end form (content c.args.pool.now c.prepared.inside.paged) (ap end_of c.self.view_is) (bytes_of c.args.pool.now c.args.prepared c.prepared.inside.paged form c.prepared.view_is held) (fits_held c.args.pool.now c.args.prepared c.args.self.now.end c.requires.ready form held) c.write_pages-done.ensures.during (g.H.Host.told c.write_durably.new.host) c.write_pages-done.ensures.course c.write_durably.ensures.course c.in_ok-done.ensures.done c.write_durably.ensures.during c.requires.at_rest
@@ -42,14 +42,14 @@ returns-clause-gate_last g c = λ form held. two_gate_last (g.H.Host.told c.args
 pub returns-clause-ok : goal.returns-clause-ok
 returns-clause-ok g c = λ form held.
     let new_end : c.self.inside.end + c.len-length.result ≡ c.args.self.now.end + 5 + length form =
-    omega (arith, ap end_of c.self.view_is, ap size_of c.prepared.view_is, length-behind_gate form, c.len-length.ensures, held.size) in
+    omega (arith, ap end_of c.self.view_is, ap size_of c.prepared.view_is, length-after_gate form, c.len-length.ensures, held.size) in
     let made : ℕ → JournalState = λ n. record { end = n; broken = false } in
     ap made new_end
 
 pub returns-clause-added : goal.returns-clause-added
 returns-clause-added g c = λ told form held forms at_rest.
     let new_end : c.self.inside.end + c.len-length.result ≡ c.args.self.now.end + 5 + length form =
-    omega (arith, ap end_of c.self.view_is, ap size_of c.prepared.view_is, length-behind_gate form, c.len-length.ensures, held.size) in
+    omega (arith, ap end_of c.self.view_is, ap size_of c.prepared.view_is, length-after_gate form, c.len-length.ensures, held.size) in
     subst (λ (n : ℕ). IsAtRest (disk_now (g.H.Host.told c.write_durably.new.host)) (forms ++ form ∷ []) n) (sym new_end)
     (added (g.H.Host.told c.args.host.now) (g.H.Host.told c.write_pages-done.new.host) c.args.self.now.end c.self.inside.end form (content c.args.pool.now c.prepared.inside.paged) (ap end_of c.self.view_is) (bytes_of c.args.pool.now c.args.prepared c.prepared.inside.paged form c.prepared.view_is held) (fits_held c.args.pool.now c.args.prepared c.args.self.now.end c.requires.ready form held) c.write_pages-done.ensures.during (g.H.Host.told c.write_durably.new.host) c.write_pages-done.ensures.course c.write_durably.ensures.course c.in_ok-done.ensures.done c.write_durably.ensures.during c.in_ok-write_durably.ensures.done told forms at_rest)
 
@@ -57,16 +57,16 @@ pub write_pages-done-requires-clause-limit : goal.write_pages-done-requires-clau
 write_pages-done-requires-clause-limit g c =
     let b = ap length (bytes_of c.args.pool.now c.args.prepared c.prepared.inside.paged c.requires.ready.0 c.prepared.view_is c.requires.ready.1) in
     let f = c.requires.ready.2.room in
-    omega (arith, b, f, length-behind_gate c.requires.ready.0, ap end_of c.self.view_is)
+    omega (arith, b, f, length-after_gate c.requires.ready.0, ap end_of c.self.view_is)
 
 pub overflow_add-self : goal.overflow_add-self
 overflow_add-self g c =
     let f = c.requires.ready.2.room in
     let h = c.requires.ready.1.size in
-    omega (arith, f, h, length-behind_gate c.requires.ready.0, ap end_of c.self.view_is, ap size_of c.prepared.view_is, c.len-length.ensures)
+    omega (arith, f, h, length-after_gate c.requires.ready.0, ap end_of c.self.view_is, ap size_of c.prepared.view_is, c.len-length.ensures)
 
 pub invariant_of-self-2 : goal.invariant_of-self-2
 invariant_of-self-2 g c =
     let f = c.requires.ready.2.room in
     let h = c.requires.ready.1.size in
-    omega (arith, f, h, length-behind_gate c.requires.ready.0, ap end_of c.self.view_is, ap size_of c.prepared.view_is, c.len-length.ensures)
+    omega (arith, f, h, length-after_gate c.requires.ready.0, ap end_of c.self.view_is, ap size_of c.prepared.view_is, c.len-length.ensures)

@@ -6,7 +6,7 @@ use Rattle.commit_journal.proofs.Mounting.{up_to_len, now_to_len, up_to_read, no
 use Rattle.commit_journal.proofs.Unique.{headless_for_none}
 use Rattle.commit_journal.proofs.walk.Walk.mount.Goals as goal
 
--- the length that a host tells is that of the file at the start
+-- the length that a host reports is that of the file at the start
 length_read : (a s : Told) (n : ℕ) → GoesOn a s → (IsTrue a.tells → disk_now s ≡ synced (disk_now a)) → (IsTrue s.tells → n ≡ length (disk_now s).now) → IsTrue a.tells → n ≡ length (disk_now a).now
 length_read a s n course stable is told = is (told_next a s course told) ∙ ap (λ (d : Disk). length d.now) (stable told)
 

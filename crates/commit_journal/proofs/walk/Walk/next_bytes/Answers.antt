@@ -2,7 +2,7 @@ use Rattle.std.proofs.Common.{◌≡◌, ℕ, ◌+◌, List, [], ◌∷◌, ◌+
 use Rattle.std.specs.Prelude.{IsTrue}
 use Rattle.host_port.specs.Host.{Disk, disk_now}
 use Rattle.commit_journal.specs.Journal.{IsWalked, IsMounted, IsStuck, ReadsTo, StandsForNone}
-use Rattle.commit_journal.specs.Stop.{IsSettled}
+use Rattle.commit_journal.specs.TornWrites.{IsSettled}
 use Rattle.host_port.proofs.Course.{told_next, kept_now}
 use Rattle.commit_journal.proofs.Unique.{stuck_for_none}
 use Rattle.commit_journal.proofs.Walking.{one_record}

@@ -4,12 +4,12 @@ use Rattle.std.proofs.lemmas.List.{get_or-take, get_or-drop, length-take, length
 use Rattle.std.specs.Bool.{◌==◌}
 use Rattle.host_port.proofs.lines.unread.line_feed.Goals as goal
 
--- what stands behind a place
+-- what stands after a place
 behind : (bytes : List ℕ) (from k : ℕ) → k < length bytes - from → get_or (take (length bytes - from) (drop from bytes)) k 0 ≡ get_or bytes (from + k) 0
 behind bytes from k below = get_or-take (length bytes - from) (drop from bytes) k 0 below ∙ get_or-drop from bytes k 0
 
 module _ (bytes : List ℕ) (from : ℕ) (low : from ≤ length bytes) (before : (k : ℕ) → k < from → get_or bytes k 0 ≡ 10 → ⊥) where
-  -- no line feed stands before a place behind which none stands up to another
+  -- no line feed stands before a place after which none stands up to another
   none_before : (at : ℕ) → at ≤ length bytes - from → ((k : ℕ) → 0 ≤ k → k < at → (get_or (take (length bytes - from) (drop from bytes)) k 0 == 10) ≡ true → ⊥)
       → (k : ℕ) → k < from + at → get_or bytes k 0 ≡ 10 → ⊥
   none_before at within none k below feed =

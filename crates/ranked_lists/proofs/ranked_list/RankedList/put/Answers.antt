@@ -6,17 +6,17 @@ use Rattle.std.specs.BTreeSet.{BTreeSet, contains}
 use Rattle.finite_maps.specs.Maps.{set}
 use Rattle.finite_maps.proofs.TableLaws.{table_updates}
 use Rattle.model_state.specs.declared.entry.Entry.{Entry}
-use Rattle.model_state.specs.Keys.{Name, id_cmp}
+use Rattle.model_state.specs.Keys.{IdBytes, id_cmp}
 use Rattle.model_state.specs.Listing.{entry_cmp}
 use Rattle.model_state.proofs.Orders.{id_order}
 use Rattle.ranked_lists.proofs.Ranked.{ranked_put, ranked_moved, ranked_back}
 use Rattle.ranked_lists.proofs.ranked_list.RankedList.put.Goals as goal
 
 -- the set with an entry, or without it
-abbrev Writes : BTreeSet Entry → BTreeSet Entry → ℕ → Name → Bool → Type 0
+abbrev Writes : BTreeSet Entry → BTreeSet Entry → ℕ → IdBytes → Bool → Type 0
 Writes s u r z b = (x : Entry) → contains entry_cmp u x ≡ cond (is_at (entry_cmp (record { rank = r; id = z })) x) b (contains entry_cmp s x)
 
-of_same : (s u : BTreeSet Entry) (r : ℕ) (z e : Name) (b : Bool) → z ≡ e → Writes s u r z b → Writes s u r e b
+of_same : (s u : BTreeSet Entry) (r : ℕ) (z e : IdBytes) (b : Bool) → z ≡ e → Writes s u r z b → Writes s u r e b
 of_same s u r z e b same wrote = subst (λ y. Writes s u r y b) same wrote
 
 pub invariant_of-self-in-Err : goal.invariant_of-self-in-Err

@@ -1,15 +1,15 @@
 use Rattle.std.proofs.Common.{◌≡◌, ap, arith, length, subst, true}
 use Rattle.std.specs.Prelude.{◌||◌}
-use Rattle.op_form.specs.Events.{event_form}
+use Rattle.op_form.specs.Events.{event_encoding}
 use Rattle.op_form.specs.declared.event.Event.{Event}
-use Rattle.plain_repository.proofs.Forms.{text_shorter}
+use Rattle.plain_repository.proofs.Encodings.{text_shorter}
 use Rattle.plain_repository.specs.Events.{playable_with}
 use Rattle.repo_core.specs.Making.{is_tested_late}
 use Rattle.repo_core.proofs.Could.{begin_there, branch_there, commit_there, discard_there, drop_there, end_there, undo_there}
 use Rattle.repo_core.proofs.repo.Repo.change.Goals as goal
 
 pub begin-requires-clause-short : goal.begin-requires-clause-short
-begin-requires-clause-short c = omega (arith, text_shorter c.in-Init.text, ap (λ (e : Event). length (event_form e)) c.in-Init.is, c.requires.short)
+begin-requires-clause-short c = omega (arith, text_shorter c.in-Init.text, ap (λ (e : Event). length (event_encoding e)) c.in-Init.is, c.requires.short)
 
 pub open_composite-requires-clause-there : goal.open_composite-requires-clause-there
 open_composite-requires-clause-there c =

@@ -1,5 +1,5 @@
 use Rattle.op_form.proofs.FormedLaws.{is_event_holds}
-use Rattle.plain_repository.proofs.Forms.{playable_is_event}
+use Rattle.plain_repository.proofs.Encodings.{playable_is_event}
 use Rattle.repo_core.proofs.repo.Repo.play.Goals as goal
 
 pub make-requires-clause-event : goal.make-requires-clause-event

@@ -3,8 +3,8 @@ use Rattle.std.proofs.Common.{◌+◌, ◌++◌, ◌∷◌, [], drop, ap, ◌∙
 use Rattle.merge_laws.specs.Merge.{dropped}
 use Rattle.merge_choices.specs.Flags.{is_flagged}
 use Rattle.merge_choices.proofs.Picks.{drops_one, drops_none, at_index}
-use Rattle.merge_choices.proofs.picking.take.Goals as goal
-use Rattle.merge_choices.proofs.picking.take.Goals.{then-flags-i+in_ok-copy+in_ok-push, else-flags-i}
+use Rattle.merge_choices.proofs.picking.pick.Goals as goal
+use Rattle.merge_choices.proofs.picking.pick.Goals.{then-flags-i+in_ok-copy+in_ok-push, else-flags-i}
 
 pub loop-i-preserved : goal.loop-i-preserved
 loop-i-preserved c =

@@ -1,4 +1,4 @@
--- Each element of a document stands behind the one that contains it.
+-- Each element of a document stands after the one that contains it.
 use Rattle.std.proofs.lemmas.Bool.Decides.{nat_tests}
 use Rattle.std.proofs.Common.{◌≡◌, ℕ, ◌+◌, suc, Bool, true, false, ◌&&◌, List, [], ◌∷◌, ◌++◌, map, length, codes, nat_lt, refl, sym, ap, subst, ◌∙◌, append-nil, inl, inr, arith}
 use Rattle.std.specs.Prelude.{Option, None, Some, Ok, not}
@@ -7,7 +7,7 @@ use Rattle.serde_json.specs.Find.{get_member}
 use Rattle.serde_json.specs.Read.{read}
 use Rattle.ecore_json.specs.Rows.{list_of}
 use Rattle.ecore_meta.specs.Meta.{Meta}
-use Rattle.model_state.specs.Keys.{Name}
+use Rattle.model_state.specs.Keys.{IdBytes}
 use Rattle.model_state.specs.Typing.{upper_of}
 use Rattle.emfjson_model.specs.declared.doc.DocParent.{DocParent}
 use Rattle.emfjson_model.specs.declared.doc.DocRow.{DocRow}
@@ -16,7 +16,7 @@ use Rattle.emfjson_model.specs.declared.fault.ModelFault.TheVariants.{Bound, Wro
 use Rattle.finite_maps.specs.Maps.{is_within}
 use Rattle.emfjson_model.specs.Classes.{class_of, id_of}
 use Rattle.emfjson_model.specs.Document.{doc_of, of_json, resolved}
-use Rattle.emfjson_model.specs.Laws.{ParentsComeFirst, are_behind, parent_before}
+use Rattle.emfjson_model.specs.Laws.{ParentsComeFirst, parents_before, parent_before}
 use Rattle.ecore_meta.specs.Typing.{is_one}
 use Rattle.emfjson_model.specs.Merged.{rows_by}
 use Rattle.emfjson_model.specs.Parts.{Part, no_part, joined, Ids, ids_of}
@@ -81,7 +81,7 @@ parents_append : (xs ys : List Draft) → parents (xs ++ ys) ≡ parents xs ++ p
 parents_append [] ys = refl
 parents_append (x ∷ xs) ys = ap (λ l. x.parent ∷ l) (parents_append xs ys)
 
-length_last : (ids : Ids) (id : Option Name) → length (ids ++ id ∷ []) ≡ suc (length ids)
+length_last : (ids : Ids) (id : Option IdBytes) → length (ids ++ id ∷ []) ≡ suc (length ids)
 length_last [] id = refl
 length_last (x ∷ ids) id = ap (λ n. suc n) (length_last ids id)
 
@@ -91,7 +91,7 @@ own_less n = grind (arith, nat_tests)
 pub rows_ok : (xs ys : List Draft) → ◌≡◌ {A = Read (List Draft)} (Ok xs) (Ok ys) → xs ≡ ys
 rows_ok xs ys h = cc
 
--- rows behind those that are there
+-- rows after those that are there
 more_behind : (ids : Ids) (rows more : List Draft) → behind (length ids) (parents rows) ≡ true → behind (length (ids ++ ids_of rows)) (parents more) ≡ true → behind (length ids) (parents (rows ++ more)) ≡ true
 more_behind ids rows more h g =
     ap (behind (length ids)) (parents_append rows more)
@@ -106,7 +106,7 @@ still_before ids rows p h = ap (λ n. parent_before n p) (length_ids ids rows) �
 module _ (meta : Meta) where
   -- an object whose keys keep to this
   object_behind : (ids : Ids) (parent : Option DocParent) (default : Option ℕ) (ms : Members) (inside : ℕ → Ids → Read Part)
-      → ((c : ℕ) (id : Option Name) (part : Part) → nat_lt (length ids) (length (ids ++ id ∷ [])) ≡ true → inside c (ids ++ id ∷ []) ≡ Ok part → behind (length (ids ++ id ∷ [])) (parents part.rows) ≡ true)
+      → ((c : ℕ) (id : Option IdBytes) (part : Part) → nat_lt (length ids) (length (ids ++ id ∷ [])) ≡ true → inside c (ids ++ id ∷ []) ≡ Ok part → behind (length (ids ++ id ∷ [])) (parents part.rows) ≡ true)
       → (more : List Draft) → parent_before (length ids) parent ≡ true → object_rows meta ids parent default ms inside ≡ Ok more → behind (length ids) (parents more) ≡ true
   object_behind ids parent default ms inside keeps more before h =
       let class = then_ok (class_of meta default (get_member (codes "eClass") ms)) (λ c. «then» (id_of ids (get_member (codes "_id") ms)) (λ id. own_rows parent id c (inside c (ids ++ id ∷ [])))) more h in
@@ -176,11 +176,11 @@ module _ (meta : Meta) where
   walked_behind (number n) more h = cc
   walked_behind (string s) more h = cc
 
-rows_behind : (n : ℕ) (rows : List DocRow) → are_behind n rows ≡ behind n (map (λ (r : DocRow). r.parent) rows)
+rows_behind : (n : ℕ) (rows : List DocRow) → parents_before n rows ≡ behind n (map (λ (r : DocRow). r.parent) rows)
 rows_behind n [] = refl
 rows_behind n (r ∷ rows) = ap (λ b. parent_before n r.parent && b) (rows_behind (suc n) rows)
 
-of_data : (meta : Meta) (o : Option Data) (rows : List DocRow) → of_json meta o ≡ Ok rows → are_behind 0 rows ≡ true
+of_data : (meta : Meta) (o : Option Data) (rows : List DocRow) → of_json meta o ≡ Ok rows → parents_before 0 rows ≡ true
 of_data meta None rows h = cc
 of_data meta (Some d) rows h =
     let drafts = then_ok (walked meta d) (resolved meta) rows h in

@@ -1,6 +1,6 @@
--- What a stop may leave while commands run. 'stands x events' says that the bytes x of a file stand for these events.
+-- What a crash may leave while commands run. 'stands x events' says that the bytes x of a file stand for these events.
 use Rattle.std.specs.Prelude.{◌≡◌, ◌⊎◌, ℕ, ◌-◌, ◌≤◌, List, ◌++◌, Option, length, take}
-use Rattle.host_port.specs.Host.{Disk, StopLeaves}
+use Rattle.host_port.specs.Host.{Disk, CrashLeaves}
 use Rattle.command_runs.specs.Runs.{listed}
 
 -- the file stands for the first events and some of those that were made since: at least so many, and none in part
@@ -10,15 +10,15 @@ pub record IsAmong {E : Type 0} (stands : List ℕ → List E → Type 0) (first
   pub most_is : count ≤ length made
   pub stands_for : stands x (first ++ take count made)
 
--- At a moment of a run, where before is what was said before it: whatever a stop leaves stands for the first events and
--- some of those made, with all that are answered by then. How many these are at least is a function of how much was said.
+-- At a moment of a run, where before is what was printed before it: whatever a crash leaves stands for the first events and
+-- some of those made, with all that are answered by then. How many these are at least is a function of how much was printed.
 abbrev pub IsRunning : {E : Type 0} → (List ℕ → List E → Type 0) → List E → List E → (ℕ → ℕ) → List ℕ → Disk → List ℕ → Type 0
-IsRunning stands first made least before disk said = StopLeaves (IsAmong stands first made (least (length said - length before))) disk
+IsRunning stands first made least before disk said = CrashLeaves (IsAmong stands first made (least (length said - length before))) disk
 
--- the same from the end of the first sync on: until then the disk is that of the entry, and nothing is said
+-- the same from the end of the first sync on: until then the disk is that of the entry, and nothing is printed
 abbrev pub IsOpenedRunning : {E : Type 0} → Disk → (List ℕ → List E → Type 0) → List E → List E → (ℕ → ℕ) → List ℕ → Disk → List ℕ → Type 0
 IsOpenedRunning entry stands first made least before disk said = ((disk ≡ entry) × (said ≡ before)) ⊎ IsRunning stands first made least before disk said
 
--- at a moment of one command: nothing of its reply is said yet, or whatever a stop leaves has its event
+-- at a moment of one command: nothing of its reply is printed yet, or whatever a crash leaves has its event
 abbrev pub IsStepping : {E : Type 0} → (List ℕ → List E → Type 0) → List E → Option E → List ℕ → Disk → List ℕ → Type 0
-IsStepping stands first event before disk said = StopLeaves (λ x. (stands x first × (said ≡ before)) ⊎ stands x (first ++ listed event)) disk
+IsStepping stands first event before disk said = CrashLeaves (λ x. (stands x first × (said ≡ before)) ⊎ stands x (first ++ listed event)) disk

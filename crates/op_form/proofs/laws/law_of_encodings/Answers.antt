@@ -1,12 +1,12 @@
 use Rattle.byte_form.proofs.FieldLemmas.{apart}
-use Rattle.op_form.specs.Packages.{package_at, package_form}
-use Rattle.op_form.specs.Events.{event_at, event_form}
+use Rattle.op_form.specs.Packages.{package_at, package_encoding}
+use Rattle.op_form.specs.Events.{event_at, event_encoding}
 use Rattle.op_form.specs.Laws.{IsPackage, IsEvent}
 use Rattle.op_form.proofs.Codes.{whole_again, whole_spelled}
 use Rattle.op_form.proofs.PackageCodes.{package_codes}
 use Rattle.op_form.proofs.EventCodes.{event_codes}
 use Rattle.op_form.proofs.FormedLaws.{events_tested}
-use Rattle.op_form.proofs.laws.law_of_forms.Goals as goal
+use Rattle.op_form.proofs.laws.law_of_encodings.Goals as goal
 
 pub returns-clause-packages_again : goal.returns-clause-packages_again
 returns-clause-packages_again c = whole_again package_codes
@@ -15,7 +15,7 @@ pub returns-clause-packages_spelled : goal.returns-clause-packages_spelled
 returns-clause-packages_spelled c = whole_spelled package_codes
 
 pub returns-clause-packages_apart : goal.returns-clause-packages_apart
-returns-clause-packages_apart c = apart IsPackage package_form package_at package_codes.again
+returns-clause-packages_apart c = apart IsPackage package_encoding package_at package_codes.again
 
 pub returns-clause-events_again : goal.returns-clause-events_again
 returns-clause-events_again c = whole_again event_codes
@@ -24,7 +24,7 @@ pub returns-clause-events_spelled : goal.returns-clause-events_spelled
 returns-clause-events_spelled c = whole_spelled event_codes
 
 pub returns-clause-events_apart : goal.returns-clause-events_apart
-returns-clause-events_apart c = apart IsEvent event_form event_at event_codes.again
+returns-clause-events_apart c = apart IsEvent event_encoding event_at event_codes.again
 
 pub returns-clause-events_tested : goal.returns-clause-events_tested
 returns-clause-events_tested c = events_tested

@@ -3,11 +3,11 @@ use Rattle.std.proofs.Common.{◌≡◌, ℕ, ◌≤◌, nat_le, length-append, 
 use Rattle.std.specs.Prelude.{IsTrue, map}
 use Rattle.std.proofs.lemmas.Bool.{leb-true}
 use Rattle.byte_form.proofs.FieldLemmas.{apart}
-use Rattle.byte_form.specs.Fields.{text_form, u32_form}
+use Rattle.byte_form.specs.Fields.{text_encoding, u32_encoding}
 use Rattle.commit_journal.specs.Journal.{most_bytes}
 use Rattle.op_form.specs.declared.event.Event.{Event}
 use Rattle.op_form.specs.declared.event.Event.TheVariants.{Init}
-use Rattle.op_form.specs.Events.{event_form, event_at}
+use Rattle.op_form.specs.Events.{event_encoding, event_at}
 use Rattle.op_form.specs.Laws.{IsEvent}
 use Rattle.op_form.specs.Formed.{is_event}
 use Rattle.op_form.proofs.FormedLaws.{is_event_is}
@@ -25,9 +25,9 @@ and_right true b both = both
 and_right false b both = absurd cc
 
 -- a text is shorter than the event of it
-pub text_shorter : (text : List ℕ) → length text ≤ length (event_form (Init text))
-unfolding event_form text_form
-text_shorter text = omega (arith, length-append (u32_form (length text)) text)
+pub text_shorter : (text : List ℕ) → length text ≤ length (event_encoding (Init text))
+unfolding event_encoding text_encoding
+text_shorter text = omega (arith, length-append (u32_encoding (length text)) text)
 
 fitting : (s : State) (e : Event) → IsTrue (playable s e) → IsTrue (fits_record e)
 unfolding playable
@@ -36,26 +36,26 @@ fitting s e could =
     and_right room (fits_record e) (and_left (room && fits_record e) (playable_with s s.meta e) could)
 
 -- the bytes of an event that could be made fit a record
-pub playable_short : (s : State) (e : Event) → IsTrue (playable s e) → length (event_form e) ≤ most_bytes
-playable_short s e could = leb-true (length (event_form e)) most_bytes (and_right (is_event e) (nat_le (length (event_form e)) most_bytes) (fitting s e could))
+pub playable_short : (s : State) (e : Event) → IsTrue (playable s e) → length (event_encoding e) ≤ most_bytes
+playable_short s e could = leb-true (length (event_encoding e)) most_bytes (and_right (is_event e) (nat_le (length (event_encoding e)) most_bytes) (fitting s e could))
 
 -- an event that could be made has a spelling
 pub playable_is_event : (s : State) (e : Event) → IsTrue (playable s e) → IsEvent e
-playable_is_event s e could = is_event_is e (and_left (is_event e) (nat_le (length (event_form e)) most_bytes) (fitting s e could))
+playable_is_event s e could = is_event_is e (and_left (is_event e) (nat_le (length (event_encoding e)) most_bytes) (fitting s e could))
 
 -- an event that could be made is known by its bytes
-pub form_is : (s t : State) (a b : Event) → IsTrue (playable s a) → IsTrue (playable t b) → event_form a ≡ event_form b → a ≡ b
+pub form_is : (s t : State) (a b : Event) → IsTrue (playable s a) → IsTrue (playable t b) → event_encoding a ≡ event_encoding b → a ≡ b
 form_is s t a b first second is =
-    apart IsEvent event_form event_at event_codes.again a b (playable_is_event s a first) (playable_is_event t b second) [] []
-    (append-nil (event_form a) ∙ is ∙ sym (append-nil (event_form b)))
+    apart IsEvent event_encoding event_at event_codes.again a b (playable_is_event s a first) (playable_is_event t b second) [] []
+    (append-nil (event_encoding a) ∙ is ∙ sym (append-nil (event_encoding b)))
 
 -- so are events that could be made one after the other
-pub forms_are : (s : State) (a b : List Event) → IsTrue (are_playable s a) → IsTrue (are_playable s b) → map event_form a ≡ map event_form b → a ≡ b
+pub forms_are : (s : State) (a b : List Event) → IsTrue (are_playable s a) → IsTrue (are_playable s b) → map event_encoding a ≡ map event_encoding b → a ≡ b
 forms_are s [] [] first second is = refl
 forms_are s [] (y ∷ ys) first second is = absurd cc
 forms_are s (x ∷ xs) [] first second is = absurd cc
 forms_are s (x ∷ xs) (y ∷ ys) first second is =
-    let head : event_form x ≡ event_form y = cc in
-    let tail : map event_form xs ≡ map event_form ys = cc in
+    let head : event_encoding x ≡ event_encoding y = cc in
+    let tail : map event_encoding xs ≡ map event_encoding ys = cc in
     let same : x ≡ y = form_is s s x y (and_left _ _ first) (and_left _ _ second) head in
     ap (λ (e : Event). e ∷ xs) same ∙ ap (λ (l : List Event). y ∷ l) (forms_are (play s y) xs ys (subst (λ (e : Event). IsTrue (are_playable (play s e) xs)) same (and_right _ _ first)) (and_right _ _ second) tail)

@@ -18,7 +18,7 @@ pub record IsWithin (outer inner : Span) : Type 0 where
   pub from : outer.from ≤ inner.from
   pub to : inner.to ≤ outer.to
 
--- any number of writes within a range, each of them under way, done or failed, and no sync behind them
+-- any number of writes within a range, each of them under way, done or failed, and no sync after them
 pub record WrittenWithin (old : Disk) (span : Span) (disk : Disk) : Type 0 where
   pub stable : disk.stable ≡ old.stable
   pub loose : All (λ range. Contains old.loose range ⊎ IsWithin span range) disk.loose
