@@ -248,4 +248,4 @@ module _ (meta : Meta) (sound : Sound meta) (m : State) (names : List IdBytes) (
 
     pub news_led : (ss : List Step) → news.news_made (children m.place m.prank Root) names rows ≡ Ok ss
         → Led ss (placed m (kinds_from names 0 m.kind rows) (places_from names 0 m.place rows) (ranks_from names rows 0 (children m.place m.prank Root) m.prank rows))
-    news_led ss made = news_lead rows 0 m.kind m.place m.prank (children m.place m.prank Root) [] ss (drop_none rows) fit.behind come_none refl made
+    news_led ss made = news_lead rows 0 m.kind m.place m.prank (children m.place m.prank Root) [] ss (drop_none rows) fit.parents come_none refl made
