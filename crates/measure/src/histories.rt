@@ -36,12 +36,12 @@ pub(crate) const CALLS: [(Call, &str); 11] = [
 ];
 
 fn add_version(alloc: Global, history: &mut History, branch: u32) -> Result<(), MeasureFault> {
-    let message = Text::new(alloc, "a version")?;
     history.reserve()?;
     if history.version_count() == u32::MAX || branch >= history.branch_count() {
         return Err(MeasureFault::TooMany);
     }
     let parent = Some(history.head(branch));
+    let message = Text::new(alloc, "a version")?;
     history.append(Version {
         branch,
         parent,
@@ -53,24 +53,22 @@ fn add_version(alloc: Global, history: &mut History, branch: u32) -> Result<(), 
 }
 
 fn add_branch(alloc: Global, history: &mut History, name: &str) -> Result<(), MeasureFault> {
-    let text = Text::new(alloc, name)?;
     history.reserve()?;
     if history.branch_count() == u32::MAX || history.branch_named(name).is_some() {
         return Err(MeasureFault::TooMany);
     }
     let start = history.head(0);
-    history.add_branch(text, start);
+    history.add_branch(Text::new(alloc, name)?, start);
     Ok(())
 }
 
 fn add_tag(alloc: Global, history: &mut History, name: &str, n: u32) -> Result<(), MeasureFault> {
-    let text = Text::new(alloc, name)?;
     history.reserve()?;
     if history.tag_count() == u32::MAX || history.has_tag(name) {
         return Err(MeasureFault::TooMany);
     }
     let version = n % history.version_count();
-    history.add_tag(text, version);
+    history.add_tag(Text::new(alloc, name)?, version);
     Ok(())
 }
 
@@ -117,21 +115,30 @@ fn number(found: bool) -> u32 {
     if found { 1 } else { 0 }
 }
 
+/// Makes a call that asks for the tag of a name; the answer is some number of its.
+fn ask_tag(history: &History, call: Call, name: &str) -> u32 {
+    match call {
+        Call::HasTag => number(history.has_tag(name)),
+        _ => number(history.resolve(None, None, Some(name)).is_ok()),
+    }
+}
+
 /// Makes a call that asks something, on the version, branch or tag of that number; the answer is some number of its.
 fn ask(alloc: Global, history: &History, call: Call, n: u32) -> Result<u32, MeasureFault> {
     let version = n % history.version_count();
     let branch = n % history.branch_count();
     let name = history.branch_name(branch);
-    let tag = format!(in alloc; "t{n}")?;
     match call {
         Call::Version => Ok(history.version(version).branch),
         Call::Head => Ok(history.head(branch)),
         Call::BranchNamed => Ok(number(history.branch_named(name).is_some())),
-        Call::HasTag => Ok(number(history.has_tag(tag.as_str()))),
         Call::TagsOf => Ok(number(history.tags_of(alloc, version)?.len() > 0)),
         Call::ResolveNumber => Ok(number(history.resolve(Some(version), None, None).is_ok())),
         Call::ResolveBranch => Ok(number(history.resolve(None, Some(name), None).is_ok())),
-        _ => Ok(number(history.resolve(None, None, Some(tag.as_str())).is_ok())),
+        _ => {
+            let tag = format!(in alloc; "t{n}")?;
+            Ok(ask_tag(history, call, tag.as_str()))
+        }
     }
 }
 

@@ -13,16 +13,19 @@ mod rows;
 
 ghost use Rattle.std.specs.Prelude.{◌≡◌};
 ghost use Rattle.footprint.specs.Buckets.{buckets as buckets_of};
+ghost use Rattle.op_form.specs.Laws.{IsPackage};
+ghost use Rattle.op_form.specs.Packages.{package_encoding};
 
 use anyhow::Result;
 use canoniser::tidy;
 use conflict_buckets::{buckets, pairs};
-use ecore_meta::{Metamodel, build};
+use ecore_meta::{MetaRows, Metamodel, build};
 use edits::{Edits, edits_of};
 use fault::MeasureFault;
-use footprint::{Buckets, prints_of};
+use footprint::{Buckets, Print, prints_of};
 use forms::{package_of, read_again};
-use histories::{CALLS, history_of, make};
+use histories::{CALLS, Call, history_of, make};
+use history_tree::History;
 use merge_choices::{merge_package, update_package};
 use merge_laws::Side;
 use model_state::Package;
@@ -42,14 +45,18 @@ fn print_time(rt: &HostRuntime, is_timed: bool, call: &str, taken: Duration) -> 
     Ok(())
 }
 
-fn measure_metamodel(rt: &HostRuntime, is_timed: bool, classes: u32, features: u32) -> Result<()> {
-    let alloc = rt.alloc();
-    let rows = rows_of(alloc, classes, features)?;
+fn measure_building(
+    rt: &HostRuntime,
+    is_timed: bool,
+    rows: &MetaRows,
+    classes: u32,
+    features: u32,
+) -> Result<()> {
     if !rows.is_numbered() {
         return Err(MeasureFault::TooMany.into());
     }
     let start = Instant::now(rt)?;
-    let built = build(alloc, &rows)?;
+    let built = build(rt.alloc(), rows)?;
     let building = start.elapsed(rt)?;
     println!(rt;
         "metamodel {classes} {features}: {} classes, {} features",
@@ -59,24 +66,77 @@ fn measure_metamodel(rt: &HostRuntime, is_timed: bool, classes: u32, features: u
     print_time(rt, is_timed, "build", building)
 }
 
-fn measure_forms(rt: &HostRuntime, is_timed: bool, steps: u32) -> Result<()> {
-    let alloc = rt.alloc();
-    let package = package_of(alloc, steps)?;
-    let start = Instant::now(rt)?;
-    let bytes = encode(alloc, &package)?;
-    let encoding = start.elapsed(rt)?;
-    let start = Instant::now(rt)?;
-    let read = read_again(alloc, &package, bytes.as_slice())?;
-    let decoding = start.elapsed(rt)?;
-    let again = encode(alloc, &read)?;
-    let is_same = again == bytes;
+fn measure_metamodel(rt: &HostRuntime, is_timed: bool, classes: u32, features: u32) -> Result<()> {
+    let rows = rows_of(rt.alloc(), classes, features)?;
+    measure_building(rt, is_timed, &rows, classes, features)
+}
+
+/// Tells of a package that was read whether its spelling is those bytes.
+fn print_forms(rt: &HostRuntime, steps: u32, read: &Package, bytes: &[u8]) -> Result<()>
+    requires { IsPackage read.now }
+{
+    let again = encode(rt.alloc(), read)?;
+    let is_same = again.as_slice() == bytes;
     println!(rt;
         "forms {steps}: {} operations in {} bytes, read again as the same bytes: {is_same}",
         read.len(),
         bytes.len()
     )?;
+    Ok(())
+}
+
+fn measure_decoding(
+    rt: &HostRuntime,
+    is_timed: bool,
+    steps: u32,
+    given: &Package,
+    bytes: &[u8],
+    encoding: Duration,
+) -> Result<()>
+    requires is { IsPackage given.now }
+    requires form { bytes.now ≡ package_encoding given.now }
+{
+    let start = Instant::now(rt)?;
+    let read = read_again(rt.alloc(), given, bytes)?;
+    let decoding = start.elapsed(rt)?;
+    print_forms(rt, steps, &read, bytes)?;
     print_time(rt, is_timed, "encode", encoding)?;
     print_time(rt, is_timed, "decode", decoding)
+}
+
+fn measure_encoding(rt: &HostRuntime, is_timed: bool, steps: u32, given: &Package) -> Result<()>
+    requires { IsPackage given.now }
+{
+    let start = Instant::now(rt)?;
+    let bytes = encode(rt.alloc(), given)?;
+    let encoding = start.elapsed(rt)?;
+    measure_decoding(rt, is_timed, steps, given, bytes.as_slice(), encoding)
+}
+
+fn measure_forms(rt: &HostRuntime, is_timed: bool, steps: u32) -> Result<()> {
+    let package = package_of(rt.alloc(), steps)?;
+    measure_encoding(rt, is_timed, steps, &package)
+}
+
+fn measure_call(
+    rt: &HostRuntime,
+    is_timed: bool,
+    history: &mut History,
+    call: Call,
+    word: &str,
+) -> Result<()> {
+    let start = Instant::now(rt)?;
+    let sum = make(rt.alloc(), history, call)?;
+    let taken = start.elapsed(rt)?;
+    println!(rt; "{word}: {sum}")?;
+    print_time(rt, is_timed, word, taken)
+}
+
+fn measure_calls(rt: &HostRuntime, is_timed: bool, history: &mut History) -> Result<()> {
+    for (call, word) in CALLS {
+        measure_call(rt, is_timed, history, call, word)?;
+    }
+    Ok(())
 }
 
 fn measure_history(
@@ -86,34 +146,27 @@ fn measure_history(
     branches: u32,
     tags: u32,
 ) -> Result<()> {
-    let alloc = rt.alloc();
-    let mut history = history_of(alloc, versions, branches, tags)?;
+    let mut history = history_of(rt.alloc(), versions, branches, tags)?;
     println!(rt;
         "history {versions} {branches} {tags}: {} versions, {} branches, {} tags",
         history.version_count(),
         history.branch_count(),
         history.tag_count()
     )?;
-    for (call, word) in CALLS {
-        let start = Instant::now(rt)?;
-        let sum = make(alloc, &mut history, call)?;
-        let taken = start.elapsed(rt)?;
-        println!(rt; "{word}: {sum}")?;
-        print_time(rt, is_timed, word, taken)?;
-    }
-    Ok(())
+    measure_calls(rt, is_timed, &mut history)
 }
 
 /// How many operations, at most, are each tested with each.
 const TESTED: usize = 1000;
 
-fn measure_prints(rt: &HostRuntime, is_timed: bool, operations: u32, steps: u32) -> Result<()> {
-    let alloc = rt.alloc();
-    let meta = metamodel(alloc)?;
-    let package = settings(alloc, operations, steps)?;
-    let start = Instant::now(rt)?;
-    let prints = prints_of(alloc, package.as_slice(), &meta)?;
-    let printing = start.elapsed(rt)?;
+fn measure_testing(
+    rt: &HostRuntime,
+    is_timed: bool,
+    operations: u32,
+    steps: u32,
+    prints: &[Print],
+    printing: Duration,
+) -> Result<()> {
     let tested = &prints[..prints.len().min(TESTED)];
     let start = Instant::now(rt)?;
     let found = count_interfering(tested);
@@ -127,20 +180,96 @@ fn measure_prints(rt: &HostRuntime, is_timed: bool, operations: u32, steps: u32)
     print_time(rt, is_timed, "test", testing)
 }
 
-fn measure_pairs(rt: &HostRuntime, is_timed: bool, shape: Shape, operations: u32) -> Result<()> {
-    let alloc = rt.alloc();
-    let meta = metamodel(alloc)?;
-    let theirs = side_of(alloc, shape, operations, false)?;
-    let mine = side_of(alloc, shape, operations, true)?;
+fn measure_printing(
+    rt: &HostRuntime,
+    is_timed: bool,
+    operations: u32,
+    steps: u32,
+    given: &Package,
+    meta: &Metamodel,
+) -> Result<()> {
     let start = Instant::now(rt)?;
-    let found = pairs(alloc, &theirs, &mine, &meta)?;
+    let prints = prints_of(rt.alloc(), given.as_slice(), meta)?;
+    let printing = start.elapsed(rt)?;
+    measure_testing(rt, is_timed, operations, steps, prints.as_slice(), printing)
+}
+
+fn measure_prints(rt: &HostRuntime, is_timed: bool, operations: u32, steps: u32) -> Result<()> {
+    let meta = metamodel(rt.alloc())?;
+    let package = settings(rt.alloc(), operations, steps)?;
+    measure_printing(rt, is_timed, operations, steps, &package, &meta)
+}
+
+fn measure_pairs(
+    rt: &HostRuntime,
+    is_timed: bool,
+    shape: Shape,
+    operations: u32,
+    theirs: &Package,
+    mine: &Package,
+    meta: &Metamodel,
+) -> Result<()> {
+    let start = Instant::now(rt)?;
+    let found = pairs(rt.alloc(), theirs, mine, meta)?;
     let pairing = start.elapsed(rt)?;
     println!(rt; "pairs {shape:?} {operations}: {} pairs", found.len())?;
     print_time(rt, is_timed, "pairs", pairing)
 }
 
-/// An update and a merge that keep mine of each bucket.
+/// An update that makes the choices; the number of its operations, and how long it took.
+fn measure_update(
+    rt: &HostRuntime,
+    theirs: &Package,
+    mine: &Package,
+    found: &Buckets,
+    choices: &[Side],
+    meta: &Metamodel,
+) -> Result<(usize, Duration)>
+    requires { found.now.rows ≡ buckets_of meta.now theirs.now mine.now }
+{
+    let start = Instant::now(rt)?;
+    let update = update_package(rt.alloc(), theirs, mine, found, choices, meta)?;
+    let updating = start.elapsed(rt)?;
+    Ok((update.len(), updating))
+}
+
+/// The same of a merge.
+fn measure_merging(
+    rt: &HostRuntime,
+    theirs: &Package,
+    mine: &Package,
+    found: &Buckets,
+    choices: &[Side],
+    meta: &Metamodel,
+) -> Result<(usize, Duration)>
+    requires { found.now.rows ≡ buckets_of meta.now theirs.now mine.now }
+{
+    let start = Instant::now(rt)?;
+    let merge = merge_package(rt.alloc(), theirs, mine, found, choices, meta)?;
+    let merging = start.elapsed(rt)?;
+    Ok((merge.len(), merging))
+}
+
 fn measure_choices(
+    rt: &HostRuntime,
+    is_timed: bool,
+    theirs: &Package,
+    mine: &Package,
+    found: &Buckets,
+    choices: &[Side],
+    meta: &Metamodel,
+) -> Result<()>
+    requires { found.now.rows ≡ buckets_of meta.now theirs.now mine.now }
+{
+    let (updated, updating) = measure_update(rt, theirs, mine, found, choices, meta)?;
+    let (merged, merging) = measure_merging(rt, theirs, mine, found, choices, meta)?;
+    println!(rt; "an update of {updated} operations, a merge of {merged}")?;
+    print_time(rt, is_timed, "update", updating)?;
+    print_time(rt, is_timed, "merge", merging)
+}
+
+/// An update and a merge that keep mine of each bucket.
+fn measure_keeping(
     rt: &HostRuntime,
     is_timed: bool,
     theirs: &Package,
@@ -150,45 +279,69 @@ fn measure_choices(
 ) -> Result<()>
     requires { found.now.rows ≡ buckets_of meta.now theirs.now mine.now }
 {
-    let alloc = rt.alloc();
-    let choices = vec![in alloc; Side::Mine; found.rows.len()]?;
-    let start = Instant::now(rt)?;
-    let update = update_package(alloc, theirs, mine, found, &choices, meta)?;
-    let updating = start.elapsed(rt)?;
-    let start = Instant::now(rt)?;
-    let merge = merge_package(alloc, theirs, mine, found, &choices, meta)?;
-    let merging = start.elapsed(rt)?;
-    println!(rt;
-        "an update of {} operations, a merge of {}",
-        update.len(),
-        merge.len()
-    )?;
-    print_time(rt, is_timed, "update", updating)?;
-    print_time(rt, is_timed, "merge", merging)
+    let choices = vec![in rt.alloc(); Side::Mine; found.rows.len()]?;
+    measure_choices(rt, is_timed, theirs, mine, found, choices.as_slice(), meta)
 }
 
-fn measure_merge(rt: &HostRuntime, is_timed: bool, shape: Shape, operations: u32) -> Result<()> {
-    let alloc = rt.alloc();
-    let meta = metamodel(alloc)?;
-    let theirs = side_of(alloc, shape, operations, false)?;
-    let mine = side_of(alloc, shape, operations, true)?;
+fn measure_merge(
+    rt: &HostRuntime,
+    is_timed: bool,
+    shape: Shape,
+    operations: u32,
+    theirs: &Package,
+    mine: &Package,
+    meta: &Metamodel,
+) -> Result<()> {
     let start = Instant::now(rt)?;
-    let found = buckets(alloc, &theirs, &mine, &meta)?;
+    let found = buckets(rt.alloc(), theirs, mine, meta)?;
     let grouping = start.elapsed(rt)?;
     println!(rt;
         "merge {shape:?} {operations}: {} buckets",
         found.rows.len()
     )?;
     print_time(rt, is_timed, "buckets", grouping)?;
-    measure_choices(rt, is_timed, &theirs, &mine, &found, &meta)
+    measure_keeping(rt, is_timed, theirs, mine, &found, meta)
 }
 
-fn measure_tidy(rt: &HostRuntime, is_timed: bool, edits: Edits, operations: u32) -> Result<()> {
-    let alloc = rt.alloc();
-    let meta = metamodel(alloc)?;
-    let package = edits_of(alloc, edits, operations)?;
+/// What is measured of two packages.
+fn measure_sides(
+    rt: &HostRuntime,
+    is_timed: bool,
+    is_merged: bool,
+    shape: Shape,
+    operations: u32,
+    meta: &Metamodel,
+) -> Result<()> {
+    let theirs = side_of(rt.alloc(), shape, operations, false)?;
+    let mine = side_of(rt.alloc(), shape, operations, true)?;
+    if is_merged {
+        measure_merge(rt, is_timed, shape, operations, &theirs, &mine, meta)
+    } else {
+        measure_pairs(rt, is_timed, shape, operations, &theirs, &mine, meta)
+    }
+}
+
+fn measure_two(
+    rt: &HostRuntime,
+    is_timed: bool,
+    is_merged: bool,
+    shape: Shape,
+    operations: u32,
+) -> Result<()> {
+    let meta = metamodel(rt.alloc())?;
+    measure_sides(rt, is_timed, is_merged, shape, operations, &meta)
+}
+
+fn measure_tidying(
+    rt: &HostRuntime,
+    is_timed: bool,
+    edits: Edits,
+    operations: u32,
+    given: &Package,
+    meta: &Metamodel,
+) -> Result<()> {
     let start = Instant::now(rt)?;
-    let tidied = tidy(alloc, &package, &meta)?;
+    let tidied = tidy(rt.alloc(), given, meta)?;
     let tidying = start.elapsed(rt)?;
     println!(rt;
         "tidy {edits:?} {operations}: {} operations are left",
@@ -197,49 +350,38 @@ fn measure_tidy(rt: &HostRuntime, is_timed: bool, edits: Edits, operations: u32)
     print_time(rt, is_timed, "tidy", tidying)
 }
 
+fn measure_tidy(rt: &HostRuntime, is_timed: bool, edits: Edits, operations: u32) -> Result<()> {
+    let meta = metamodel(rt.alloc())?;
+    let package = edits_of(rt.alloc(), edits, operations)?;
+    measure_tidying(rt, is_timed, edits, operations, &package, &meta)
+}
+
+fn measure(rt: &HostRuntime, is_timed: bool, task: Task) -> Result<()> {
+    match task {
+        Task::Metamodel { classes, features } => measure_metamodel(rt, is_timed, classes, features),
+        Task::Forms { steps } => measure_forms(rt, is_timed, steps),
+        Task::History {
+            versions,
+            branches,
+            tags,
+        } => measure_history(rt, is_timed, versions, branches, tags),
+        Task::Prints { operations, steps } => measure_prints(rt, is_timed, operations, steps),
+        Task::Pairs { shape, operations } => measure_two(rt, is_timed, false, shape, operations),
+        Task::Merge { shape, operations } => measure_two(rt, is_timed, true, shape, operations),
+        Task::Tidy { edits, operations } => measure_tidy(rt, is_timed, edits, operations),
+    }
+}
+
+fn measure_all(rt: &HostRuntime, is_timed: bool, tasks: &[Task]) -> Result<()> {
+    for task in tasks {
+        measure(rt, is_timed, *task)?;
+    }
+    Ok(())
+}
+
 fn main(rt: HostRuntime) -> Result<()> {
     let alloc = rt.alloc();
     let words: Vec<String> = env::args(&rt)?.skip(1).collect(alloc)?;
     let plan = read_plan(alloc, words.as_slice())?;
-    for task in plan.tasks.as_slice() {
-        match *task {
-            Task::Metamodel { classes, features } => measure_metamodel(
-                &rt,
-                plan.is_timed,
-                classes,
-                features,
-            )?,
-            Task::Forms { steps } => measure_forms(&rt, plan.is_timed, steps)?,
-            Task::History {
-                versions,
-                branches,
-                tags,
-            } => measure_history(&rt, plan.is_timed, versions, branches, tags)?,
-            Task::Prints { operations, steps } => measure_prints(
-                &rt,
-                plan.is_timed,
-                operations,
-                steps,
-            )?,
-            Task::Pairs { shape, operations } => measure_pairs(
-                &rt,
-                plan.is_timed,
-                shape,
-                operations,
-            )?,
-            Task::Merge { shape, operations } => measure_merge(
-                &rt,
-                plan.is_timed,
-                shape,
-                operations,
-            )?,
-            Task::Tidy { edits, operations } => measure_tidy(
-                &rt,
-                plan.is_timed,
-                edits,
-                operations,
-            )?,
-        }
-    }
-    Ok(())
+    measure_all(&rt, plan.is_timed, plan.tasks.as_slice())
 }

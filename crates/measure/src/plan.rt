@@ -80,8 +80,7 @@ fn edits_named(word: &String) -> Result<Edits, MeasureFault> {
 }
 
 /// The task of a word after which a shape stands, or the edits of a package.
-fn shaped_task(word: &str, shape: &String, operations: &String) -> Result<Task, MeasureFault> {
-    let operations = number(operations)?;
+fn shaped_task(word: &str, shape: &String, operations: u32) -> Result<Task, MeasureFault> {
     match word {
         "pairs" => Ok(Task::Pairs {
             shape: shape_named(shape)?,
@@ -99,49 +98,60 @@ fn shaped_task(word: &str, shape: &String, operations: &String) -> Result<Task, 
     }
 }
 
-/// Reads the words after the program's name.
-pub(crate) fn read_plan(alloc: Global, words: &[String]) -> Result<Plan, MeasureFault> {
-    let mut tasks = List::new(alloc);
+/// The task of a word after which two others stand.
+fn task_of_two(word: &str, first: &String, second: &String) -> Result<Task, MeasureFault> {
+    let second = number(second)?;
+    match word {
+        "metamodel" => Ok(Task::Metamodel {
+            classes: number(first)?,
+            features: second,
+        }),
+        "prints" => Ok(Task::Prints {
+            operations: number(first)?,
+            steps: second,
+        }),
+        _ => shaped_task(word, first, second),
+    }
+}
+
+fn history_task(versions: &String, branches: &String, tags: &String) -> Result<Task, MeasureFault> {
+    Ok(Task::History {
+        versions: number(versions)?,
+        branches: number(branches)?,
+        tags: number(tags)?,
+    })
+}
+
+/// Puts the tasks that the words ask for after others, and tells whether times are printed.
+fn put_tasks(tasks: &mut List<Task>, words: &[String]) -> Result<bool, MeasureFault> {
     let mut is_timed = false;
     let mut rest = words;
     while let [word, more @ ..] = rest {
         rest = more;
         match (word.as_str(), more) {
             ("timed", _) => is_timed = true,
-            ("metamodel", [classes, features, more @ ..]) => {
-                let classes = number(classes)?;
-                let features = number(features)?;
-                tasks.push(Task::Metamodel { classes, features })?;
-                rest = more;
-            }
             ("forms", [steps, more @ ..]) => {
                 let steps = number(steps)?;
                 tasks.push(Task::Forms { steps })?;
                 rest = more;
             }
             ("history", [versions, branches, tags, more @ ..]) => {
-                let versions = number(versions)?;
-                let branches = number(branches)?;
-                let tags = number(tags)?;
-                tasks.push(Task::History {
-                    versions,
-                    branches,
-                    tags,
-                })?;
+                tasks.push(history_task(versions, branches, tags)?)?;
                 rest = more;
             }
-            ("prints", [operations, steps, more @ ..]) => {
-                let operations = number(operations)?;
-                let steps = number(steps)?;
-                tasks.push(Task::Prints { operations, steps })?;
-                rest = more;
-            }
-            (word, [shape, operations, more @ ..]) => {
-                tasks.push(shaped_task(word, shape, operations)?)?;
+            (word, [first, second, more @ ..]) => {
+                tasks.push(task_of_two(word, first, second)?)?;
                 rest = more;
             }
             _ => return Err(MeasureFault::Usage),
         }
     }
+    Ok(is_timed)
+}
+
+/// Reads the words after the program's name.
+pub(crate) fn read_plan(alloc: Global, words: &[String]) -> Result<Plan, MeasureFault> {
+    let mut tasks = List::new(alloc);
+    let is_timed = put_tasks(&mut tasks, words)?;
     Ok(Plan { tasks, is_timed })
 }

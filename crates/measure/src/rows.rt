@@ -103,11 +103,13 @@ fn class_row(
     requires { class < classes }
     ensures { IfOk result (λ row. length (features_in row) ≡ features) }
 {
+    let name = class_name(alloc, class)?;
+    let supers = supers_of(alloc, class)?;
     let features = features_of(alloc, class, partner_of(class, classes), features)?;
     Ok(ClassifierRow::Class(ClassRow {
-        name: class_name(alloc, class)?,
+        name,
         is_abstract: false,
-        supers: supers_of(alloc, class)?,
+        supers,
         features,
     }))
 }
