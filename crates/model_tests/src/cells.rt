@@ -1,19 +1,19 @@
 //! The cells of operations, which of them interfere, and two operations in the other order. Cells stand in the order of the steps, those written and then, after
 //! `reads`, those read. Two operations have ` & ` between them; before those that are exchanged stand the steps that a model takes beforehand.
-ghost use Rattle.std.specs.Prelude.{◌≡◌, false, Some, IfOk};
-ghost use Rattle.model_state.specs.State.{nothing};
+ghost use Rattle.std.specs.Prelude.{◌≡◌, [], ◌∷◌, false, Some, IfOk};
+ghost use Rattle.model_state.specs.State.{State, nothing};
 ghost use Rattle.model_state.specs.Steps.{fold};
-ghost use Rattle.model_state.specs.Packages.{steps_of};
+ghost use Rattle.model_state.specs.Packages.{steps_of, fold_package};
 ghost use Rattle.model_state.specs.Good.{Good, Sound};
 ghost use Rattle.step_apply.specs.View.{plain_state};
 ghost use Rattle.footprint.specs.Interference.{interferes};
 
 use crate::answers::{Calls, check};
 use crate::lines::add;
-use crate::reading::{operation, steps};
+use crate::reading::{cut, operation, steps};
 use ecore_meta::{List, Metamodel};
 use emfjson_text::write_model;
-use footprint::{Cell, exchange, interferes, print_of};
+use footprint::{Cell, Print, exchange, interferes, print_of};
 use model_laws::replay;
 use model_state::{Operation, Step};
 use std::alloc::Global;
@@ -72,19 +72,22 @@ fn put_cells(alloc: Global, text: &mut String, cells: &List<Cell>) -> Result<(),
     Ok(())
 }
 
-fn cells(alloc: Global, meta: &Metamodel, text: &str) -> Result<String, Fail> {
-    let print = print_of(alloc, &operation(alloc, text)?, meta)?;
-    let mut told = String::new(alloc);
-    put_cells(alloc, &mut told, &print.writes)?;
-    add(&mut told, " ", "reads")?;
-    put_cells(alloc, &mut told, &print.reads)?;
-    Ok(told)
+fn put_print(alloc: Global, text: &mut String, print: &Print) -> Result<(), Fail> {
+    put_cells(alloc, text, &print.writes)?;
+    add(text, " ", "reads")?;
+    put_cells(alloc, text, &print.reads)
 }
 
-// The operations on both sides of the first ` & `.
-fn two(alloc: Global, text: &str) -> Result<(Operation, Operation), Fail> {
-    let (first, second) = text.split_once(" & ").ok_or("one operation")?;
-    Ok((operation(alloc, first)?, operation(alloc, second)?))
+fn told(alloc: Global, print: &Print) -> Result<String, Fail> {
+    let mut text = String::new(alloc);
+    put_print(alloc, &mut text, print)?;
+    Ok(text)
+}
+
+fn cells(alloc: Global, meta: &Metamodel, text: &str) -> Result<String, Fail> {
+    let operation = operation(alloc, text)?;
+    let print = print_of(alloc, &operation, meta)?;
+    told(alloc, &print)
 }
 
 // Whether the two interfere.
@@ -101,13 +104,24 @@ fn clash(
     Ok(interferes(&a, &b))
 }
 
-fn meet(alloc: Global, meta: &Metamodel, text: &str) -> Result<&'static str, Fail> {
-    let (first, second) = two(alloc, text)?;
-    Ok(if clash(alloc, meta, &first, &second)? {
+fn met(
+    alloc: Global,
+    meta: &Metamodel,
+    first: &Operation,
+    second: &Operation,
+) -> Result<&'static str, Fail> {
+    Ok(if clash(alloc, meta, first, second)? {
         "yes"
     } else {
         "no"
     })
+}
+
+fn meet(alloc: Global, meta: &Metamodel, text: &str) -> Result<&'static str, Fail> {
+    let (first, second) = cut(text, " & ");
+    let first = operation(alloc, first)?;
+    let second = operation(alloc, second)?;
+    met(alloc, meta, &first, &second)
 }
 
 fn steps_of(op: &Operation) -> &[Step]
@@ -130,6 +144,35 @@ fn model_of(alloc: Global, meta: &Metamodel, steps: &[Step]) -> Result<Plain, Fa
     Ok(plain)
 }
 
+// Whether two models have the same text.
+fn has_same_text(alloc: Global, meta: &Metamodel, one: &Plain, other: &Plain) -> Result<bool, Fail>
+    requires one { Good meta.now (plain_state one.now) }
+    requires other { Good meta.now (plain_state other.now) }
+{
+    let one = write_model(alloc, one, meta)?;
+    let other = write_model(alloc, other, meta)?;
+    Ok(one == other)
+}
+
+// Whether the steps and then the second operation before the first leave that model.
+fn is_left_exchanged(
+    alloc: Global,
+    meta: &Metamodel,
+    in_order: &Plain,
+    start: &[Step],
+    first: &Operation,
+    second: &Operation,
+) -> Result<bool, Fail>
+    requires sound { Sound meta.now }
+    requires good { Good meta.now (plain_state in_order.now) }
+    requires apart { interferes meta.now first.now second.now ≡ false }
+    requires possible { (m : State) → fold meta.now nothing start.now ≡ Some m → (n : State) × (fold_package meta.now m (first.now ∷ second.now ∷ []) ≡ Some n) }
+{
+    let mut exchanged = model_of(alloc, meta, start)?;
+    exchange(&mut exchanged, meta, first, second)?;
+    has_same_text(alloc, meta, &exchanged, in_order)
+}
+
 // Whether two operations that can be applied after the steps leave the same model in either order.
 fn is_same(
     alloc: Global,
@@ -144,32 +187,55 @@ fn is_same(
     let mut in_order = model_of(alloc, meta, start)?;
     replay(&mut in_order, meta, steps_of(first))?;
     replay(&mut in_order, meta, steps_of(second))?;
-    let mut exchanged = model_of(alloc, meta, start)?;
-    exchange(&mut exchanged, meta, first, second)?;
-    Ok(write_model(alloc, &exchanged, meta)? == write_model(alloc, &in_order, meta)?)
+    is_left_exchanged(alloc, meta, &in_order, start, first, second)
 }
 
-fn exchanged(alloc: Global, meta: &Metamodel, text: &str) -> Result<&'static str, Fail>
+// What becomes of the exchange of two operations after the steps.
+fn outcome(
+    alloc: Global,
+    meta: &Metamodel,
+    start: &[Step],
+    first: &Operation,
+    second: &Operation,
+) -> Result<&'static str, Fail>
     requires { Sound meta.now }
 {
-    let (start, rest) = text.split_once(" & ").ok_or("no steps")?;
-    let start = steps(alloc, start)?;
-    let (first, second) = two(alloc, rest)?;
-    if clash(alloc, meta, &first, &second)? {
+    if clash(alloc, meta, first, second)? {
         return Ok("they interfere");
     }
-    let is_same = is_same(alloc, meta, start.as_slice(), &first, &second)?;
-    Ok(if is_same {
+    Ok(if is_same(alloc, meta, start, first, second)? {
         "the same model"
     } else {
         "another model"
     })
 }
 
+fn exchanged_after(
+    alloc: Global,
+    meta: &Metamodel,
+    start: &[Step],
+    text: &str,
+) -> Result<&'static str, Fail>
+    requires { Sound meta.now }
+{
+    let (first, second) = cut(text, " & ");
+    let first = operation(alloc, first)?;
+    let second = operation(alloc, second)?;
+    outcome(alloc, meta, start, &first, &second)
+}
+
+fn exchanged(alloc: Global, meta: &Metamodel, text: &str) -> Result<&'static str, Fail>
+    requires { Sound meta.now }
+{
+    let (start, rest) = cut(text, " & ");
+    let start = steps(alloc, start)?;
+    exchanged_after(alloc, meta, start.as_slice(), rest)
+}
+
 pub(crate) fn answer(alloc: Global, meta: &Metamodel, call: &str) -> Result<String, Fail>
     requires { Sound meta.now }
 {
-    let (word, text) = call.split_once(' ').unwrap_or((call, ""));
+    let (word, text) = cut(call, " ");
     match word {
         "cells" => cells(alloc, meta, text),
         "meet" => Ok(String::from_str(alloc, meet(alloc, meta, text)?)?),

@@ -2,14 +2,15 @@
 ghost use Rattle.std.specs.Prelude.{OnOk};
 ghost use Rattle.ecore_meta.specs.Sound.{Sound};
 ghost use Rattle.model_state.specs.Good.{Good};
+ghost use Rattle.step_apply.specs.View.{plain_state};
 
 use crate::metamodels::metamodel;
-use crate::reading::{step, steps};
+use crate::reading::{cut, id, prefixed, step, steps};
 use crate::steps::{TABLE, told};
 use ecore_meta::{List, Metamodel};
 use model_graph::Graph;
 use model_laws::replay;
-use model_state::{Change, Id, Look, Place, Step};
+use model_state::{Change, Entry, Id, Look, Place, Step, StepFault};
 use state_steps::as_steps;
 use std::alloc::Global;
 use std::process::Abort;
@@ -17,66 +18,155 @@ use std::test::Fail;
 use step_apply::Plain;
 
 // All that a model shows of a place.
-fn place_shown<L: Look>(alloc: Global, model: &L, place: &Place) -> Result<String, Fail> {
+fn put_place<L: Look>(
+    alloc: Global,
+    text: &mut String,
+    model: &L,
+    place: &Place,
+) -> Result<(), Fail> {
     let list = model.children(alloc, place)?;
-    Ok(format!(in alloc;
-        "{:?}",
-        (
-            list.as_slice(),
-            model.child_count(place),
-            model.last_child(place)
-        )
-    )?)
+    let count = model.child_count(place);
+    let last = model.last_child(place);
+    write!(text, "{:?} {count} {last:?}", list.as_slice())?;
+    Ok(())
 }
 
-// All that a model shows of a feature of an element.
-fn feature_shown<L: Look>(alloc: Global, model: &L, e: &Id, f: u32) -> Result<String, Fail> {
+fn put_ranks<L: Look>(
+    text: &mut String,
+    model: &L,
+    e: &Id,
+    f: u32,
+    list: &[Entry],
+) -> Result<(), Fail> {
+    for entry in list {
+        let rank = model.row(e, f, &entry.id);
+        write!(text, " {rank:?}")?;
+    }
+    Ok(())
+}
+
+fn put_targets<L: Look>(
+    alloc: Global,
+    text: &mut String,
+    model: &L,
+    e: &Id,
+    f: u32,
+) -> Result<(), Fail> {
+    let list = model.targets(alloc, e, f)?;
+    let last = model.last_target(e, f);
+    write!(text, " {:?} {last:?}", list.as_slice())?;
+    put_ranks(text, model, e, f, list.as_slice())
+}
+
+fn put_inside<L: Look>(
+    alloc: Global,
+    text: &mut String,
+    model: &L,
+    e: &Id,
+    f: u32,
+) -> Result<(), Fail> {
     let inside = Place::Inside {
         parent: e.copy(alloc)?,
         feature: f,
     };
-    let place = place_shown(alloc, model, &inside)?;
-    let list = model.targets(alloc, e, f)?;
-    let mut text = format!(in alloc;
-        "{f}: {} {:?}",
-        place.as_str(),
-        (model.attr(e, f), list.as_slice(), model.last_target(e, f))
+    put_place(alloc, text, model, &inside)
+}
+
+// All that a model shows of a feature of an element.
+fn put_feature<L: Look>(
+    alloc: Global,
+    text: &mut String,
+    model: &L,
+    e: &Id,
+    f: u32,
+) -> Result<(), Fail> {
+    write!(text, "\n{f}: {:?} ", model.attr(e, f))?;
+    put_inside(alloc, text, model, e, f)?;
+    put_targets(alloc, text, model, e, f)
+}
+
+fn put_head<L: Look>(alloc: Global, text: &mut String, model: &L, e: &Id) -> Result<(), Fail> {
+    let rows = model.incoming(alloc, e)?;
+    let class = model.class(e);
+    let placed = model.placed(e);
+    write!(
+        text,
+        "\n{} {class:?} {placed:?} {:?}",
+        e.as_str(),
+        rows.as_slice()
     )?;
-    for entry in list.as_slice() {
-        let rank = model.row(e, f, &entry.id);
-        text.push_str(format!(in alloc; " {rank:?}")?.as_str())?;
-    }
-    Ok(text)
+    Ok(())
 }
 
 // All that a model shows of an element.
-fn element_shown<L: Look>(
+fn put_element<L: Look>(
     alloc: Global,
     meta: &Metamodel,
+    text: &mut String,
     model: &L,
     e: &Id,
-) -> Result<String, Fail> {
-    let rows = model.incoming(alloc, e)?;
-    let mut text = format!(in alloc;
-        "{} {:?}\n",
-        e.as_str(),
-        (model.class(e), model.placed(e), rows.as_slice())
-    )?;
+) -> Result<(), Fail> {
+    put_head(alloc, text, model, e)?;
     for f in 0..meta.feature_count() {
-        text.push_str(feature_shown(alloc, model, e, f)?.as_str())?;
-        text.push_str("\n")?;
+        put_feature(alloc, text, model, e, f)?;
     }
-    Ok(text)
+    Ok(())
+}
+
+fn put_elements<L: Look>(
+    alloc: Global,
+    meta: &Metamodel,
+    text: &mut String,
+    model: &L,
+    ids: &[Id],
+) -> Result<(), Fail> {
+    for e in ids {
+        put_element(alloc, meta, text, model, e)?;
+    }
+    Ok(())
+}
+
+fn put_model<L: Look>(
+    alloc: Global,
+    meta: &Metamodel,
+    text: &mut String,
+    model: &L,
+) -> Result<(), Fail> {
+    put_place(alloc, text, model, &Place::Root)?;
+    let ids = model.ids(alloc)?;
+    put_elements(alloc, meta, text, model, ids.as_slice())
 }
 
 // All that a model shows.
 fn shown<L: Look>(alloc: Global, meta: &Metamodel, model: &L) -> Result<String, Fail> {
-    let mut text = place_shown(alloc, model, &Place::Root)?;
-    text.push_str("\n")?;
-    for e in model.ids(alloc)?.as_slice() {
-        text.push_str(element_shown(alloc, meta, model, e)?.as_str())?;
-    }
+    let mut text = String::new(alloc);
+    put_model(alloc, meta, &mut text, model)?;
     Ok(text)
+}
+
+fn check_shown<L: Look>(
+    rt: &impl Abort,
+    alloc: Global,
+    meta: &Metamodel,
+    model: &L,
+    wanted: &str,
+    line: &str,
+) -> Result<(), Fail> {
+    let text = shown(alloc, meta, model)?;
+    assert_eq!(rt; text.as_str(), wanted, "{line}");
+    Ok(())
+}
+
+fn check_same<A: Look, B: Look>(
+    rt: &impl Abort,
+    alloc: Global,
+    meta: &Metamodel,
+    one: &A,
+    other: &B,
+    line: &str,
+) -> Result<(), Fail> {
+    let wanted = shown(alloc, meta, one)?;
+    check_shown(rt, alloc, meta, other, wanted.as_str(), line)
 }
 
 // Takes the steps that a text describes.
@@ -93,25 +183,84 @@ fn take<M: Change>(alloc: Global, meta: &Metamodel, model: &mut M, text: &str) -
     Ok(())
 }
 
+// Takes the steps at the start of a table, and those that stand before a call.
+fn begin<M: Change>(
+    alloc: Global,
+    meta: &Metamodel,
+    model: &mut M,
+    start: &str,
+    beside: &str,
+) -> Result<(), Fail>
+    requires sound { Sound meta.now }
+    requires good { Good meta.now (M.state model.old) }
+    ensures { OnOk result (Good meta.now (M.state model.new)) }
+{
+    take(alloc, meta, model, start)?;
+    take(alloc, meta, model, beside)
+}
+
 // Each entry of a list of a graph is found at its index, and none past the last.
-fn check_entries(
+fn check_children(
+    rt: &impl Abort,
+    alloc: Global,
+    graph: &Graph,
+    place: &Place,
+    end: usize,
+) -> Result<(), Fail> {
+    let children = graph.children(alloc, place)?;
+    for at in 0..end {
+        let child = graph.child_at(place, at);
+        assert!(rt; child == children.as_slice().get(at), "child {at}");
+    }
+    Ok(())
+}
+
+fn check_targets(
     rt: &impl Abort,
     alloc: Global,
     graph: &Graph,
     e: &Id,
     f: u32,
 ) -> Result<(), Fail> {
+    let targets = graph.targets(alloc, e, f)?;
+    for at in 0..4 {
+        let target = graph.target_at(e, f, at);
+        assert!(rt; target == targets.as_slice().get(at), "target {at}");
+    }
+    Ok(())
+}
+
+fn check_inside(rt: &impl Abort, alloc: Global, graph: &Graph, e: &Id, f: u32) -> Result<(), Fail> {
     let inside = Place::Inside {
         parent: e.copy(alloc)?,
         feature: f,
     };
-    let targets = graph.targets(alloc, e, f)?;
-    let children = graph.children(alloc, &inside)?;
-    for at in 0..4 {
-        let target = graph.target_at(e, f, at);
-        let child = graph.child_at(&inside, at);
-        assert!(rt; target == targets.as_slice().get(at), "target {at}");
-        assert!(rt; child == children.as_slice().get(at), "child {at}");
+    check_children(rt, alloc, graph, &inside, 4)
+}
+
+fn check_element(
+    rt: &impl Abort,
+    alloc: Global,
+    meta: &Metamodel,
+    graph: &Graph,
+    e: &Id,
+) -> Result<(), Fail> {
+    for f in 0..meta.feature_count() {
+        check_targets(rt, alloc, graph, e, f)?;
+        check_inside(rt, alloc, graph, e, f)?;
+    }
+    Ok(())
+}
+
+fn check_elements(
+    rt: &impl Abort,
+    alloc: Global,
+    meta: &Metamodel,
+    graph: &Graph,
+    ids: &[Id],
+) -> Result<(), Fail> {
+    for e in ids {
+        check_element(rt, alloc, meta, graph, e)?;
     }
     Ok(())
 }
@@ -122,34 +271,27 @@ fn check_lists(
     meta: &Metamodel,
     graph: &Graph,
 ) -> Result<(), Fail> {
-    let roots = graph.children(alloc, &Place::Root)?;
-    for at in 0..8 {
-        let root = graph.child_at(&Place::Root, at);
-        assert!(rt; root == roots.as_slice().get(at), "root {at}");
-    }
-    for e in graph.ids(alloc)?.as_slice() {
-        for f in 0..meta.feature_count() {
-            check_entries(rt, alloc, graph, e, f)?;
-        }
-    }
-    Ok(())
-}
-
-fn check_same<A: Look, B: Look>(
-    rt: &impl Abort,
-    alloc: Global,
-    meta: &Metamodel,
-    one: &A,
-    other: &B,
-    line: &str,
-) -> Result<(), Fail> {
-    let one = shown(alloc, meta, one)?;
-    let other = shown(alloc, meta, other)?;
-    assert_eq!(rt; one.as_str(), other.as_str(), "{line}");
-    Ok(())
+    check_children(rt, alloc, graph, &Place::Root, 8)?;
+    let ids = graph.ids(alloc)?;
+    check_elements(rt, alloc, meta, graph, ids.as_slice())
 }
 
 // The steps of a graph build it from the empty model.
+fn check_steps(
+    rt: &impl Abort,
+    alloc: Global,
+    meta: &Metamodel,
+    graph: &Graph,
+    steps: &[Step],
+    line: &str,
+) -> Result<(), Fail>
+    requires { Sound meta.now }
+{
+    let mut built = Plain::new(alloc);
+    replay(&mut built, meta, steps)?;
+    check_same(rt, alloc, meta, graph, &built, line)
+}
+
 fn check_built(
     rt: &impl Abort,
     alloc: Global,
@@ -161,12 +303,56 @@ fn check_built(
     requires good { Good meta.now graph.now }
 {
     let steps = as_steps(alloc, graph, meta)?;
-    let mut built = Plain::new(alloc);
-    replay(&mut built, meta, steps.as_slice())?;
-    check_same(rt, alloc, meta, graph, &built, line)
+    check_steps(rt, alloc, meta, graph, steps.as_slice(), line)
 }
 
-// All steps or none, on a copy of a graph: the copy answers as one step does, and the graph stays.
+fn check_answer(
+    rt: &impl Abort,
+    alloc: Global,
+    answer: Result<(), StepFault>,
+    wanted: &str,
+    call: &str,
+) -> Result<(), Fail> {
+    let answer = told(alloc, answer)?;
+    assert_eq!(rt; answer.as_str(), wanted, "{call}");
+    Ok(())
+}
+
+// All steps or none: they are answered as one step is.
+fn check_run(
+    rt: &impl Abort,
+    alloc: Global,
+    meta: &Metamodel,
+    graph: &mut Graph,
+    call: &str,
+    wanted: &str,
+) -> Result<(), Fail>
+    requires sound { Sound meta.now }
+    requires good { Good meta.now graph.old }
+{
+    let steps = steps(alloc, call)?;
+    match graph.apply_all(meta, steps.as_slice()) {
+        Ok(()) => check_answer(rt, alloc, Ok(()), wanted, call),
+        Err(stop) => check_answer(rt, alloc, Err(stop.fault), wanted, call),
+    }
+}
+
+fn check_copy(
+    rt: &impl Abort,
+    alloc: Global,
+    meta: &Metamodel,
+    graph: &Graph,
+    call: &str,
+    wanted: &str,
+) -> Result<(), Fail>
+    requires sound { Sound meta.now }
+    requires good { Good meta.now graph.now }
+{
+    let mut copy = graph.copy()?;
+    check_run(rt, alloc, meta, &mut copy, call, wanted)
+}
+
+// On a copy of a graph; the graph stays.
 fn check_whole(
     rt: &impl Abort,
     alloc: Global,
@@ -179,84 +365,149 @@ fn check_whole(
     requires good { Good meta.now graph.now }
 {
     let before = shown(alloc, meta, graph)?;
-    let mut copy = graph.copy()?;
-    let steps = steps(alloc, call)?;
-    let answer = match copy.apply_all(meta, steps.as_slice()) {
-        Ok(()) => Ok(()),
-        Err(stop) => Err(stop.fault),
-    };
-    let answer = told(alloc, answer)?;
-    assert_eq!(rt; answer.as_str(), wanted, "{call}");
-    let after = shown(alloc, meta, graph)?;
-    assert_eq!(rt; before.as_str(), after.as_str(), "{call}");
-    Ok(())
+    check_copy(rt, alloc, meta, graph, call, wanted)?;
+    check_shown(rt, alloc, meta, graph, before.as_str(), call)
 }
 
-fn check_line(
+// Both answer a step the same.
+fn check_step(
+    rt: &impl Abort,
+    alloc: Global,
+    meta: &Metamodel,
+    plain: &mut Plain,
+    graph: &mut Graph,
+    call: &str,
+) -> Result<(), Fail>
+    requires good { Good meta.now (plain_state plain.old) }
+    requires as_good { Good meta.now graph.old }
+{
+    let step = step(alloc, call)?;
+    let wanted = told(alloc, plain.apply(meta, &step))?;
+    check_answer(rt, alloc, graph.apply(meta, &step), wanted.as_str(), call)
+}
+
+// Both models, after the steps before the call.
+fn check_both(
+    rt: &impl Abort,
+    alloc: Global,
+    meta: &Metamodel,
+    plain: &mut Plain,
+    graph: &mut Graph,
+    case: &str,
+) -> Result<(), Fail>
+    requires sound { Sound meta.now }
+    requires good { Good meta.now (plain_state plain.old) }
+    requires as_good { Good meta.now graph.old }
+{
+    let (call, wanted) = cut(case, " -> ");
+    check_built(rt, alloc, meta, graph, case)?;
+    check_whole(rt, alloc, meta, graph, call, wanted)?;
+    check_step(rt, alloc, meta, plain, graph, call)?;
+    check_lists(rt, alloc, meta, graph)?;
+    check_same(rt, alloc, meta, plain, graph, case)
+}
+
+fn check_graph(
+    rt: &impl Abort,
+    alloc: Global,
+    meta: &Metamodel,
+    plain: &mut Plain,
+    start: &str,
+    line: &str,
+) -> Result<(), Fail>
+    requires sound { Sound meta.now }
+    requires good { Good meta.now (plain_state plain.old) }
+{
+    let (beside, case) = prefixed(line, " | ");
+    begin(alloc, meta, plain, start, beside)?;
+    let mut graph = Graph::new(alloc);
+    begin(alloc, meta, &mut graph, start, beside)?;
+    check_both(rt, alloc, meta, plain, &mut graph, case)
+}
+
+fn check_lines(
     rt: &impl Abort,
     alloc: Global,
     meta: &Metamodel,
     start: &str,
-    line: &str,
+    lines: &str,
 ) -> Result<(), Fail>
     requires { Sound meta.now }
 {
-    let (beside, case) = line.split_once(" | ").unwrap_or(("", line));
-    let (call, wanted) = case.split_once(" -> ").unwrap_or((case, "no answer"));
-    let mut plain = Plain::new(alloc);
-    let mut graph = Graph::new(alloc);
-    take(alloc, meta, &mut plain, start)?;
-    take(alloc, meta, &mut graph, start)?;
-    take(alloc, meta, &mut plain, beside)?;
-    take(alloc, meta, &mut graph, beside)?;
-    check_built(rt, alloc, meta, &graph, line)?;
-    check_whole(rt, alloc, meta, &graph, call, wanted)?;
-    let step = step(alloc, call)?;
-    let one = told(alloc, plain.apply(meta, &step))?;
-    let other = told(alloc, graph.apply(meta, &step))?;
-    assert_eq!(rt; one.as_str(), other.as_str(), "{line}");
-    check_lists(rt, alloc, meta, &graph)?;
-    check_same(rt, alloc, meta, &plain, &graph, line)
-}
-
-#[test]
-fn a_graph_takes_steps_as_plain_maps_do(rt: HostRuntime) -> Result<(), Fail> {
-    let alloc = rt.alloc();
-    let (head, lines) = TABLE.split_once('\n').unwrap_or((TABLE, ""));
-    let (name, start) = head.split_once("; ").unwrap_or((head, ""));
-    let meta = metamodel(alloc, name)?;
     for line in lines.lines() {
         if !line.starts_with('#') {
-            check_line(&rt, alloc, &meta, start, line)?;
+            check_graph(rt, alloc, meta, &mut Plain::new(alloc), start, line)?;
         }
     }
     Ok(())
 }
 
-// So many books at the root, each linked to a writer of its own, and one shelf.
-fn library_steps(alloc: Global, books: u64) -> Result<List<Step>, Fail> {
-    let mut all = List::new(alloc);
-    all.push(step(alloc, "New s 3 / 1")?)?;
+#[test]
+fn a_graph_takes_steps_as_plain_maps_do(rt: HostRuntime) -> Result<(), Fail> {
+    let alloc = rt.alloc();
+    let (head, lines) = cut(TABLE, "\n");
+    let (name, start) = cut(head, "; ");
+    let meta = metamodel(alloc, name)?;
+    check_lines(&rt, alloc, &meta, start, lines)
+}
+
+fn put_step(alloc: Global, all: &mut List<Step>, text: &str) -> Result<(), Fail> {
+    let step = step(alloc, text)?;
+    all.push(step)?;
+    Ok(())
+}
+
+// A book at the root, linked to a writer of its own.
+fn put_book(alloc: Global, all: &mut List<Step>, k: u64) -> Result<(), Fail> {
+    put_step(alloc, all, format!(in alloc; "New b{k} 1 / {k}")?.as_str())?;
+    put_step(alloc, all, format!(in alloc; "New w{k} 2 / {k}")?.as_str())?;
+    put_step(
+        alloc,
+        all,
+        format!(in alloc; "Link b{k} 4 1 w{k} 1")?.as_str(),
+    )
+}
+
+// A shelf, and so many books.
+fn put_library(alloc: Global, all: &mut List<Step>, books: u64) -> Result<(), Fail> {
+    put_step(alloc, all, "New s 3 / 1")?;
     for k in 0..books {
-        all.push(step(alloc, format!(in alloc; "New b{k} 1 / {k}")?.as_str())?)?;
-        all.push(step(alloc, format!(in alloc; "New w{k} 2 / {k}")?.as_str())?)?;
-        all.push(step(alloc, format!(in alloc; "Link b{k} 4 1 w{k} 1")?.as_str())?)?;
+        put_book(alloc, all, k)?;
     }
-    Ok(all)
+    Ok(())
+}
+
+fn take_library(alloc: Global, meta: &Metamodel, graph: &mut Graph) -> Result<(), Fail>
+    requires sound { Sound meta.now }
+    requires good { Good meta.now graph.old }
+{
+    let mut all = List::new(alloc);
+    put_library(alloc, &mut all, 20_000)?;
+    replay(graph, meta, all.as_slice())?;
+    Ok(())
 }
 
 // A search of all references at each call doesn't end within the time of a test.
+fn check_found(rt: &impl Abort, alloc: Global, graph: &Graph, shelf: &Id) -> Result<(), Fail> {
+    for _ in 0..2_000_000 {
+        let rows = graph.incoming(alloc, shelf)?;
+        assert_eq!(rt; rows.len(), 0);
+    }
+    Ok(())
+}
+
+fn check_library(rt: &impl Abort, alloc: Global, meta: &Metamodel) -> Result<(), Fail>
+    requires { Sound meta.now }
+{
+    let mut graph = Graph::new(alloc);
+    take_library(alloc, meta, &mut graph)?;
+    let shelf = id(alloc, "s")?;
+    check_found(rt, alloc, &graph, &shelf)
+}
+
 #[test]
 fn no_reference_to_a_shelf_is_found_at_once(rt: HostRuntime) -> Result<(), Fail> {
     let alloc = rt.alloc();
     let meta = metamodel(alloc, "library")?;
-    let mut graph = Graph::new(alloc);
-    let all = library_steps(alloc, 20_000)?;
-    replay(&mut graph, &meta, all.as_slice())?;
-    let shelf = Id::read(alloc, "s")?;
-    for _ in 0..2_000_000 {
-        let rows = graph.incoming(alloc, &shelf)?;
-        assert_eq!(rt; rows.len(), 0);
-    }
-    Ok(())
+    check_library(&rt, alloc, &meta)
 }

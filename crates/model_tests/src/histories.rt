@@ -2,10 +2,12 @@
 ghost use Rattle.std.specs.Prelude.{◌<◌, IsTrue, All, length};
 
 use crate::lines::{add, texts};
+use crate::reading::{Words, cut, words_of};
 use data_lines::log_lines;
 use ecore_meta::{List, Text};
 use history_tree::{FindFault, Found, History, Version};
 use std::alloc::Global;
+use std::process::Abort;
 use std::test::Fail;
 
 // `commit BRANCH MESSAGE MERGED..`, `branch NAME START` and `tag NAME VERSION`, in their order; branches by their numbers.
@@ -56,20 +58,20 @@ fn are_versions(history: &History, versions: &[u32]) -> bool
     versions.iter().all(|v| *v < count)
 }
 
-fn commit(
+fn append(
     alloc: Global,
     history: &mut History,
     branch: u32,
     message: &str,
     merged: List<u32>,
 ) -> Result<(), Fail> {
-    let message = Text::new(alloc, message)?;
     history.reserve()?;
     let has_place = history.version_count() < u32::MAX && branch < history.branch_count();
     if !has_place || !are_versions(history, merged.as_slice()) {
         return Err("no such commit")?;
     }
     let parent = Some(history.head(branch));
+    let message = Text::new(alloc, message)?;
     history.append(Version {
         branch,
         parent,
@@ -80,45 +82,47 @@ fn commit(
     Ok(())
 }
 
-fn start_branch(alloc: Global, history: &mut History, name: &str, start: u32) -> Result<(), Fail> {
-    let text = Text::new(alloc, name)?;
-    history.reserve()?;
-    let has_place = history.branch_count() < u32::MAX && start < history.version_count();
-    if !has_place || history.branch_named(name).is_some() {
-        return Err("no such branch")?;
-    }
-    history.add_branch(text, start);
-    Ok(())
-}
-
-fn tag(alloc: Global, history: &mut History, name: &str, version: u32) -> Result<(), Fail> {
-    let text = Text::new(alloc, name)?;
-    history.reserve()?;
-    let has_place = history.tag_count() < u32::MAX && version < history.version_count();
-    if !has_place || history.has_tag(name) {
-        return Err("no such tag")?;
-    }
-    history.add_tag(text, version);
-    Ok(())
-}
-
-fn numbers(alloc: Global, words: &[&str]) -> Result<List<u32>, Fail> {
+fn numbers(alloc: Global, words: &str) -> Result<List<u32>, Fail> {
     let mut numbers = List::new(alloc);
-    for word in words {
+    for word in words.split_whitespace() {
         numbers.push(word.parse::<u32>()?)?;
     }
     Ok(numbers)
 }
 
+fn commit(alloc: Global, history: &mut History, words: &mut Words) -> Result<(), Fail> {
+    let branch = words.number()?;
+    let message = words.word();
+    let merged = numbers(alloc, words.rest())?;
+    append(alloc, history, branch, message, merged)
+}
+
+fn start_branch(alloc: Global, history: &mut History, name: &str, start: u32) -> Result<(), Fail> {
+    history.reserve()?;
+    let has_place = history.branch_count() < u32::MAX && start < history.version_count();
+    if !has_place || history.branch_named(name).is_some() {
+        return Err("no such branch")?;
+    }
+    history.add_branch(Text::new(alloc, name)?, start);
+    Ok(())
+}
+
+fn tag(alloc: Global, history: &mut History, name: &str, version: u32) -> Result<(), Fail> {
+    history.reserve()?;
+    let has_place = history.tag_count() < u32::MAX && version < history.version_count();
+    if !has_place || history.has_tag(name) {
+        return Err("no such tag")?;
+    }
+    history.add_tag(Text::new(alloc, name)?, version);
+    Ok(())
+}
+
 fn make(alloc: Global, history: &mut History, line: &str) -> Result<(), Fail> {
-    let words: Vec<&str> = line.split_whitespace().collect(alloc)?;
-    match words.as_slice() {
-        ["commit", branch, message, merged @ ..] => {
-            let merged = numbers(alloc, merged)?;
-            commit(alloc, history, branch.parse::<u32>()?, message, merged)
-        }
-        ["branch", name, start] => start_branch(alloc, history, name, start.parse::<u32>()?),
-        ["tag", name, version] => tag(alloc, history, name, version.parse::<u32>()?),
+    let mut words = words_of(line);
+    match words.word() {
+        "commit" => commit(alloc, history, &mut words),
+        "branch" => start_branch(alloc, history, words.word(), words.number()?),
+        "tag" => tag(alloc, history, words.word(), words.number()?),
         _ => Err("no such line")?,
     }
 }
@@ -127,15 +131,25 @@ fn shown(alloc: Global, found: Result<Found, FindFault>) -> Result<String, Fail>
     Ok(format!(in alloc; "{found:?}")?)
 }
 
+fn log(alloc: Global, history: &History) -> Result<String, Fail> {
+    let lines = log_lines(alloc, history)?;
+    texts(alloc, &lines, ";")
+}
+
+fn numbers_told(alloc: Global, numbers: &[u32]) -> Result<String, Fail> {
+    let mut text = String::new(alloc);
+    for n in numbers {
+        add(&mut text, " ", format!(in alloc; "{n}")?.as_str())?;
+    }
+    Ok(text)
+}
+
 fn path_of(alloc: Global, history: &History, v: u32) -> Result<String, Fail> {
     if v >= history.version_count() {
         return Err("no such version")?;
     }
-    let mut text = String::new(alloc);
-    for u in history.path(alloc, v)?.as_slice() {
-        add(&mut text, " ", format!(in alloc; "{u}")?.as_str())?;
-    }
-    Ok(text)
+    let path = history.path(alloc, v)?;
+    numbers_told(alloc, path.as_slice())
 }
 
 fn last_common(alloc: Global, history: &History, a: u32, b: u32) -> Result<String, Fail> {
@@ -145,7 +159,7 @@ fn last_common(alloc: Global, history: &History, a: u32, b: u32) -> Result<Strin
     Ok(format!(in alloc; "{}", history.last_common(a, b))?)
 }
 
-fn merge_base(
+fn base_with(
     alloc: Global,
     history: &History,
     base: u32,
@@ -158,6 +172,13 @@ fn merge_base(
     }
     let version = history.merge_base(alloc, base, pending, other)?;
     Ok(format!(in alloc; "{version}")?)
+}
+
+fn merge_base(alloc: Global, history: &History, words: &mut Words) -> Result<String, Fail> {
+    let base = words.number()?;
+    let other = words.number()?;
+    let pending = numbers(alloc, words.rest())?;
+    base_with(alloc, history, base, other, &pending)
 }
 
 fn of_branch(alloc: Global, history: &History, asked: &str, branch: u32) -> Result<String, Fail> {
@@ -177,45 +198,63 @@ fn counts(alloc: Global, history: &History) -> Result<String, Fail> {
     Ok(format!(in alloc; "{versions} {branches} {tags}")?)
 }
 
-fn ask(alloc: Global, history: &History, asked: &str) -> Result<String, Fail> {
-    let words: Vec<&str> = asked.split_whitespace().collect(alloc)?;
-    match words.as_slice() {
-        ["log"] => texts(alloc, &log_lines(alloc, history)?, ";"),
-        ["counts"] => counts(alloc, history),
-        ["path", v] => path_of(alloc, history, v.parse::<u32>()?),
-        ["name", branch] => of_branch(alloc, history, "name", branch.parse::<u32>()?),
-        ["head", branch] => of_branch(alloc, history, "head", branch.parse::<u32>()?),
-        ["common", a, b] => last_common(alloc, history, a.parse::<u32>()?, b.parse::<u32>()?),
-        ["base", base, other, pending @ ..] => {
-            let pending = numbers(alloc, pending)?;
-            merge_base(
-                alloc,
-                history,
-                base.parse::<u32>()?,
-                other.parse::<u32>()?,
-                &pending,
-            )
-        }
-        ["number", v] => shown(alloc, history.resolve(Some(v.parse::<u32>()?), None, None)),
-        ["numbered", name] => Ok(format!(in alloc; "{:?}", history.branch_named(name))?),
-        ["branch", name] => shown(alloc, history.resolve(None, Some(name), None)),
-        ["tag", name] => shown(alloc, history.resolve(None, None, Some(name))),
-        ["has", name] => Ok(format!(in alloc; "{}", history.has_tag(name))?),
+// What is there under a name.
+fn ask_name(alloc: Global, history: &History, asked: &str, name: &str) -> Result<String, Fail> {
+    match asked {
+        "numbered" => Ok(format!(in alloc; "{:?}", history.branch_named(name))?),
+        "branch" => shown(alloc, history.resolve(None, Some(name), None)),
+        "tag" => shown(alloc, history.resolve(None, None, Some(name))),
+        "has" => Ok(format!(in alloc; "{}", history.has_tag(name))?),
         _ => Err("no such question")?,
     }
+}
+
+// What is asked by the numbers of versions and branches, or by a name.
+fn ask_of(
+    alloc: Global,
+    history: &History,
+    asked: &str,
+    words: &mut Words,
+) -> Result<String, Fail> {
+    match asked {
+        "path" => path_of(alloc, history, words.number()?),
+        "common" => last_common(alloc, history, words.number()?, words.number()?),
+        "base" => merge_base(alloc, history, words),
+        "name" | "head" => of_branch(alloc, history, asked, words.number()?),
+        "number" => shown(alloc, history.resolve(Some(words.number()?), None, None)),
+        _ => ask_name(alloc, history, asked, words.rest()),
+    }
+}
+
+fn ask(alloc: Global, history: &History, question: &str) -> Result<String, Fail> {
+    let mut words = words_of(question);
+    match words.word() {
+        "log" => log(alloc, history),
+        "counts" => counts(alloc, history),
+        asked => ask_of(alloc, history, asked, &mut words),
+    }
+}
+
+fn make_all(alloc: Global, history: &mut History, lines: &str) -> Result<(), Fail> {
+    for line in lines.lines() {
+        make(alloc, history, line)?;
+    }
+    Ok(())
+}
+
+fn check_asked(rt: &impl Abort, alloc: Global, history: &History, lines: &str) -> Result<(), Fail> {
+    for line in lines.lines() {
+        let (asked, wanted) = cut(line, " = ");
+        let answer = ask(alloc, history, asked)?;
+        assert_eq!(rt; answer.as_str(), wanted, "{asked}");
+    }
+    Ok(())
 }
 
 #[test]
 fn histories_grow_and_are_asked(rt: HostRuntime) -> Result<(), Fail> {
     let alloc = rt.alloc();
     let mut history = History::new(alloc)?;
-    for line in MADE.lines() {
-        make(alloc, &mut history, line)?;
-    }
-    for line in ASKED.lines() {
-        let (asked, wanted) = line.split_once(" = ").unwrap_or((line, ""));
-        let answer = ask(alloc, &history, asked)?;
-        assert_eq!(&rt; answer.as_str(), wanted, "{asked}");
-    }
-    Ok(())
+    make_all(alloc, &mut history, MADE)?;
+    check_asked(&rt, alloc, &history, ASKED)
 }

@@ -51,9 +51,15 @@ fn rank_told(alloc: Global, words: &mut Words) -> Result<String, Fail> {
     line_of(alloc, rank.as_str())
 }
 
+// Of the copy of an id.
+fn copy_told(alloc: Global, id: &Id) -> Result<String, Fail> {
+    let copy = id.copy(alloc)?;
+    Ok(String::from_str(alloc, copy.as_str())?)
+}
+
 fn id_told(alloc: Global, answer: Result<Id, IdFault>) -> Result<String, Fail> {
     match answer {
-        Ok(id) => Ok(format!(in alloc; "{}", id.copy(alloc)?.as_str())?),
+        Ok(id) => copy_told(alloc, &id),
         Err(fault) => Ok(format!(in alloc; "{fault:?}")?),
     }
 }
@@ -68,13 +74,19 @@ fn long_told(alloc: Global, length: u32) -> Result<String, Fail> {
     Ok(told)
 }
 
+fn copied(alloc: Global, text: &str) -> Result<String, Fail> {
+    let operation = operation(alloc, text)?;
+    let copy = operation.copy(alloc)?;
+    operation_line(alloc, &copy)
+}
+
 pub(crate) fn answer(alloc: Global, call: &str) -> Result<String, Fail> {
-    let mut words = words_of(alloc, call);
+    let mut words = words_of(call);
     match words.word() {
         "rank" => rank_told(alloc, &mut words),
         "id" => id_told(alloc, Id::read(alloc, words.rest())),
         "long" => long_told(alloc, words.number()?),
-        "copy" => operation_line(alloc, &operation(alloc, words.rest())?.copy(alloc)?),
+        "copy" => copied(alloc, words.rest()),
         _ => Err("no such call")?,
     }
 }

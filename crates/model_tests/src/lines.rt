@@ -1,4 +1,5 @@
 //! Steps and operations as the words that `reading` takes.
+use crate::reading::cut;
 use ecore_meta::{List, Text};
 use model_state::{Id, Operation, Step};
 use std::alloc::Global;
@@ -49,14 +50,24 @@ List { items: =>|
 ]=>|
  }=>|"#;
 
+fn replace(alloc: Global, text: &mut String, old: &str, new: &str) -> Result<(), Fail> {
+    let replaced = text.as_str().replace(alloc, old, new)?;
+    *text = replaced;
+    Ok(())
+}
+
+fn replace_all(alloc: Global, text: &mut String, table: &str) -> Result<(), Fail> {
+    for line in table.lines() {
+        let (old, new) = cut(line.strip_suffix('|').unwrap_or(line), "=>");
+        replace(alloc, text, old, new)?;
+    }
+    Ok(())
+}
+
 // What is shown, as words.
 pub(crate) fn words(alloc: Global, shown: &str) -> Result<String, Fail> {
     let mut text = String::from_str(alloc, shown)?;
-    for line in WORDS.lines() {
-        let line = line.strip_suffix('|').unwrap_or(line);
-        let (old, new) = line.split_once("=>").unwrap_or((line, ""));
-        text = text.as_str().replace(alloc, old, new)?;
-    }
+    replace_all(alloc, &mut text, WORDS)?;
     Ok(text)
 }
 

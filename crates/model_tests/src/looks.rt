@@ -5,12 +5,13 @@ ghost use Rattle.step_apply.specs.View.{plain_state};
 
 use crate::answers::{Calls, check};
 use crate::lines::{add, ids, texts, words};
-use crate::reading::{Words, operation, steps, words_of};
+use crate::packages::package;
+use crate::reading::{Words, cut, id, place, steps, words_of};
 use containment::{delete_steps, subtree};
 use data_lines::{are_typed, is_typed_package, open_lines, operation_lines, validate_lines};
 use ecore_meta::{List, Metamodel, Text};
 use emfjson_text::write_model;
-use model_state::{Entry, Id, Look, chain};
+use model_state::{Entry, Id, Incoming, Look, Package, Step, chain};
 use std::alloc::Global;
 use std::test::Fail;
 use step_apply::Plain;
@@ -79,8 +80,8 @@ show Composite all: Put b 2 -7 -; Ins b 3 0 "x\n\"y\""; Del b 3 1 "two words"; S
 fn entries(alloc: Global, list: &List<Entry>) -> Result<String, Fail> {
     let mut text = String::new(alloc);
     for entry in list.as_slice() {
-        add(&mut text, " ", entry.id.as_str())?;
-        text.push_str(format!(in alloc; " {}", entry.rank)?.as_str())?;
+        let word = format!(in alloc; "{} {}", entry.id.as_str(), entry.rank)?;
+        add(&mut text, " ", word.as_str())?;
     }
     Ok(text)
 }
@@ -92,7 +93,10 @@ fn above(alloc: Global, meta: &Metamodel, plain: &Plain, e: &Id) -> Result<Strin
     let _meta = meta;
     match plain.placed(e) {
         None => Ok(String::new(alloc)),
-        Some(placed) => ids(alloc, &chain(alloc, plain, &placed.place)?, " "),
+        Some(placed) => {
+            let above = chain(alloc, plain, &placed.place)?;
+            ids(alloc, &above, " ")
+        }
     }
 }
 
@@ -105,14 +109,20 @@ fn standing(alloc: Global, plain: &Plain, e: &Id) -> Result<String, Fail> {
     Ok(format!(in alloc; "{:?}", (plain.class(e), rank))?)
 }
 
-// The references to an element: source, feature and rank.
-fn incoming(alloc: Global, plain: &Plain, b: &Id) -> Result<String, Fail> {
+// References: source, feature and rank.
+fn rows_told(alloc: Global, rows: &[Incoming]) -> Result<String, Fail> {
     let mut text = String::new(alloc);
-    for row in plain.incoming(alloc, b)?.as_slice() {
-        add(&mut text, " ", row.source.as_str())?;
-        text.push_str(format!(in alloc; " {} {}", row.feature, row.rank)?.as_str())?;
+    for row in rows {
+        let word = format!(in alloc; "{} {} {}", row.source.as_str(), row.feature, row.rank)?;
+        add(&mut text, " ", word.as_str())?;
     }
     Ok(text)
+}
+
+// The references to an element.
+fn incoming(alloc: Global, plain: &Plain, b: &Id) -> Result<String, Fail> {
+    let rows = plain.incoming(alloc, b)?;
+    rows_told(alloc, rows.as_slice())
 }
 
 fn values(alloc: Global, plain: &Plain, e: &Id, f: u32) -> Result<String, Fail> {
@@ -124,48 +134,88 @@ fn number(alloc: Global, n: usize) -> Result<String, Fail> {
     Ok(format!(in alloc; "{n}")?)
 }
 
-// How many elements the subtrees of two elements have.
+// How many elements the subtree of an element has.
+fn size(alloc: Global, meta: &Metamodel, plain: &Plain, e: &str) -> Result<usize, Fail>
+    requires { Good meta.now (plain_state plain.now) }
+{
+    let e = id(alloc, e)?;
+    let list = subtree(alloc, plain, meta, &e)?;
+    Ok(list.len())
+}
+
 fn sizes(alloc: Global, meta: &Metamodel, plain: &Plain, words: &mut Words) -> Result<String, Fail>
     requires { Good meta.now (plain_state plain.now) }
 {
-    let a = words.id()?;
-    let b = words.id()?;
-    let a = subtree(alloc, plain, meta, &a)?.len();
-    let b = subtree(alloc, plain, meta, &b)?.len();
+    let a = size(alloc, meta, plain, words.word())?;
+    let b = size(alloc, meta, plain, words.word())?;
     Ok(format!(in alloc; "{a} {b}")?)
+}
+
+fn shown_lines(alloc: Global, meta: &Metamodel, package: &Package) -> Result<String, Fail> {
+    if !is_typed_package(package, meta) {
+        return Err("steps of other types")?;
+    }
+    let lines = operation_lines(alloc, package.as_slice(), meta)?;
+    texts(alloc, &lines, ";")
 }
 
 // The lines of operations, which have ` + ` between them.
 fn show(alloc: Global, meta: &Metamodel, text: &str) -> Result<String, Fail> {
-    let mut package = List::new(alloc);
-    for part in text.split(" + ") {
-        package.push(operation(alloc, part)?)?;
-    }
-    if !is_typed_package(&package, meta) {
+    let package = package(alloc, text)?;
+    shown_lines(alloc, meta, &package)
+}
+
+fn open_with(alloc: Global, meta: &Metamodel, name: &Text, steps: &[Step]) -> Result<String, Fail> {
+    if !are_typed(steps, meta) {
         return Err("steps of other types")?;
     }
-    texts(
-        alloc,
-        &operation_lines(alloc, package.as_slice(), meta)?,
-        ";",
-    )
+    let lines = open_lines(alloc, name, steps, meta)?;
+    texts(alloc, &lines, ";")
 }
 
 // The lines of an open composite, of its name, `: ` and its steps.
 fn open(alloc: Global, meta: &Metamodel, text: &str) -> Result<String, Fail> {
-    let (name, text) = text.split_once(": ").unwrap_or((text, ""));
+    let (name, text) = cut(text, ": ");
+    let name = Text::new(alloc, name)?;
     let steps = steps(alloc, text)?;
-    if !are_typed(steps.as_slice(), meta) {
-        return Err("steps of other types")?;
-    }
-    texts(
-        alloc,
-        &open_lines(alloc, &Text::new(alloc, name)?, steps.as_slice(), meta)?,
-        ";",
-    )
+    open_with(alloc, meta, &name, steps.as_slice())
+}
+
+fn targets(alloc: Global, plain: &Plain, e: &Id, f: u32) -> Result<String, Fail> {
+    let list = plain.targets(alloc, e, f)?;
+    entries(alloc, &list)
+}
+
+// How many steps the deletion of an element has.
+fn deletion(alloc: Global, meta: &Metamodel, plain: &Plain, e: &Id) -> Result<String, Fail>
+    requires { Good meta.now (plain_state plain.now) }
+{
+    let steps = delete_steps(alloc, plain, meta, e)?;
+    number(alloc, steps.len())
 }
 
 // What is shown of an element, or of a feature of it.
+fn of_element(
+    alloc: Global,
+    meta: &Metamodel,
+    plain: &Plain,
+    look: &str,
+    e: &Id,
+    words: &mut Words,
+) -> Result<String, Fail>
+    requires { Good meta.now (plain_state plain.now) }
+{
+    match look {
+        "above" => above(alloc, meta, plain, e),
+        "standing" => standing(alloc, plain, e),
+        "incoming" => incoming(alloc, plain, e),
+        "targets" => targets(alloc, plain, e, words.number()?),
+        "values" => values(alloc, plain, e, words.number()?),
+        "deletion" => deletion(alloc, meta, plain, e),
+        _ => Err("no such look")?,
+    }
+}
+
 fn shown(
     alloc: Global,
     meta: &Metamodel,
@@ -175,14 +225,49 @@ fn shown(
 ) -> Result<String, Fail>
     requires { Good meta.now (plain_state plain.now) }
 {
-    let e = words.id()?;
+    let e = id(alloc, words.word())?;
+    of_element(alloc, meta, plain, look, &e, words)
+}
+
+fn children(alloc: Global, plain: &Plain, word: &str) -> Result<String, Fail> {
+    let place = place(alloc, word)?;
+    let list = plain.children(alloc, &place)?;
+    entries(alloc, &list)
+}
+
+fn all(alloc: Global, plain: &Plain) -> Result<String, Fail> {
+    let list = plain.ids(alloc)?;
+    ids(alloc, &list, " ")
+}
+
+fn count(alloc: Global, plain: &Plain) -> Result<String, Fail> {
+    let list = plain.ids(alloc)?;
+    number(alloc, list.len())
+}
+
+fn text(alloc: Global, meta: &Metamodel, plain: &Plain) -> Result<String, Fail>
+    requires { Good meta.now (plain_state plain.now) }
+{
+    let text = write_model(alloc, plain, meta)?;
+    Ok(String::from_str(alloc, text.as_str())?)
+}
+
+fn lacks(alloc: Global, meta: &Metamodel, plain: &Plain) -> Result<String, Fail>
+    requires { Good meta.now (plain_state plain.now) }
+{
+    let lines = validate_lines(alloc, plain, meta)?;
+    texts(alloc, &lines, "; ")
+}
+
+// What is shown of all elements.
+fn of_all(alloc: Global, meta: &Metamodel, plain: &Plain, look: &str) -> Result<String, Fail>
+    requires { Good meta.now (plain_state plain.now) }
+{
     match look {
-        "above" => above(alloc, meta, plain, &e),
-        "standing" => standing(alloc, plain, &e),
-        "incoming" => incoming(alloc, plain, &e),
-        "targets" => entries(alloc, &plain.targets(alloc, &e, words.number()?)?),
-        "values" => values(alloc, plain, &e, words.number()?),
-        "deletion" => number(alloc, delete_steps(alloc, plain, meta, &e)?.len()),
+        "ids" => all(alloc, plain),
+        "count" => count(alloc, plain),
+        "text" => text(alloc, meta, plain),
+        "lacks" => lacks(alloc, meta, plain),
         _ => Err("no such look")?,
     }
 }
@@ -195,16 +280,16 @@ pub(crate) fn answer(
 ) -> Result<String, Fail>
     requires { Good meta.now (plain_state plain.now) }
 {
-    let mut words = words_of(alloc, call);
-    match words.word() {
-        "ids" => ids(alloc, &plain.ids(alloc)?, " "),
-        "count" => number(alloc, plain.ids(alloc)?.len()),
-        "text" => Ok(format!(in alloc; "{}", write_model(alloc, plain, meta)?.as_str())?),
+    let mut words = words_of(call);
+    let look = words.word();
+    if words.rest().is_empty() {
+        return of_all(alloc, meta, plain, look);
+    }
+    match look {
         "sizes" => sizes(alloc, meta, plain, &mut words),
-        "lacks" => texts(alloc, &validate_lines(alloc, plain, meta)?, "; "),
         "show" => show(alloc, meta, words.rest()),
         "open" => open(alloc, meta, words.rest()),
-        "children" => entries(alloc, &plain.children(alloc, &words.place()?)?),
+        "children" => children(alloc, plain, words.word()),
         look => shown(alloc, meta, plain, look, &mut words),
     }
 }

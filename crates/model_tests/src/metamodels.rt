@@ -27,6 +27,7 @@
 ghost use Rattle.std.specs.Prelude.{IfOk};
 ghost use Rattle.ecore_meta.specs.Sound.{Sound};
 
+use crate::reading::cut;
 use ecore_json::read_metamodel;
 use ecore_meta::Metamodel;
 use std::alloc::Global;
@@ -173,9 +174,10 @@ needs
 {"eClass":"E#//EReference","name":"few","lowerBound":1,"upperBound":3,"eType":{"$ref":"//More"}}]}
 ]}"##;
 
-fn document(name: &str) -> Result<&'static str, Fail> {
-    for part in METAMODELS.split("\n\n") {
-        let (first, text) = part.split_once('\n').unwrap_or((part, ""));
+// The text after its name, among parts that have an empty line between them.
+fn named(all: &'static str, name: &str) -> Result<&'static str, Fail> {
+    for part in all.split("\n\n") {
+        let (first, text) = cut(part, "\n");
         if first == name {
             return Ok(text);
         }
@@ -183,14 +185,24 @@ fn document(name: &str) -> Result<&'static str, Fail> {
     Err("no such metamodel")?
 }
 
-pub(crate) fn metamodel(alloc: Global, name: &str) -> Result<Metamodel, Fail>
+fn read(alloc: Global, text: &str) -> Result<Metamodel, Fail>
     ensures { IfOk result Sound }
 {
-    let text = document(name)?.replace(alloc, "E#", "http://www.eclipse.org/emf/2002/Ecore#")?;
     if text.len() >= 4_294_967_295 {
         return Err("a long text")?;
     }
-    let meta = read_metamodel(alloc, text.as_str())?;
+    let meta = read_metamodel(alloc, text)?;
     meta.sound();
     Ok(meta)
+}
+
+pub(crate) fn metamodel(alloc: Global, name: &str) -> Result<Metamodel, Fail>
+    ensures { IfOk result Sound }
+{
+    let text = named(METAMODELS, name)?.replace(
+        alloc,
+        "E#",
+        "http://www.eclipse.org/emf/2002/Ecore#",
+    )?;
+    read(alloc, text.as_str())
 }

@@ -1,17 +1,18 @@
 //! What becomes of packages: tidied, paired and grouped by what interferes, and what choices make of two. A package is operations with ` + ` between them; two have
 //! ` & ` between them, theirs first. Choices are a letter a bucket, `m` for mine and `t` for theirs. Pairs have the places of operations, from 0; buckets are shown by
 //! their lines, with numbers from 1.
-ghost use Rattle.std.specs.Prelude.{IsTrue, All};
+ghost use Rattle.std.specs.Prelude.{◌≡◌, IsTrue, All};
 ghost use Rattle.data_lines.specs.Buckets.{HasNumber, HasNumbers};
+ghost use Rattle.footprint.specs.Buckets.{buckets as buckets_of};
 
 use crate::answers::{Calls, check};
 use crate::lines::{add, operation_line, texts};
-use crate::reading::operation;
+use crate::reading::{cut, operation};
 use canoniser::{is_tidy, tidy};
 use conflict_buckets::{buckets, pairs};
 use data_lines::bucket_lines;
 use ecore_meta::{List, Metamodel};
-use footprint::Bucket;
+use footprint::{Bucket, Buckets};
 use merge_choices::{ChoiceFault, merge_package, update_package};
 use merge_laws::Side;
 use model_state::Package;
@@ -53,18 +54,12 @@ merge t Attribute: Put b 1 - "A" + Attribute: Put b 2 - 3 & Attribute: Put b 2 -
 merge  Attribute: Put b 1 - "A" & Attribute: Put b 1 - "B" -> BadChoice { want: 1, got: 0 }
 update mt Attribute: Put b 1 - "A" + Attribute: Put b 2 - 3 & Attribute: Put b 2 - 4 + Attribute: Put c 2 - 4 + Attribute: Put b 1 - "B" -> Attribute: Put b 1 "A" - + Attribute: Put c 2 - 4 + Attribute: Put b 1 - "B""#;
 
-fn package(alloc: Global, text: &str) -> Result<Package, Fail> {
+pub(crate) fn package(alloc: Global, text: &str) -> Result<Package, Fail> {
     let mut package = List::new(alloc);
     for line in text.split(" + ") {
         package.push(operation(alloc, line)?)?;
     }
     Ok(package)
-}
-
-// The packages on both sides of ` & `.
-fn two(alloc: Global, text: &str) -> Result<(Package, Package), Fail> {
-    let (theirs, mine) = text.split_once(" & ").ok_or("one package")?;
-    Ok((package(alloc, theirs)?, package(alloc, mine)?))
 }
 
 fn told(alloc: Global, package: &Package) -> Result<String, Fail> {
@@ -75,13 +70,23 @@ fn told(alloc: Global, package: &Package) -> Result<String, Fail> {
     Ok(text)
 }
 
-fn paired(alloc: Global, meta: &Metamodel, text: &str) -> Result<String, Fail> {
-    let (theirs, mine) = two(alloc, text)?;
+// Pairs of places with a comma in each.
+fn pairs_told(alloc: Global, pairs: &[(u64, u64)]) -> Result<String, Fail> {
     let mut text = String::new(alloc);
-    for (i, k) in pairs(alloc, &theirs, &mine, meta)?.as_slice() {
+    for (i, k) in pairs {
         add(&mut text, " ", format!(in alloc; "{i},{k}")?.as_str())?;
     }
     Ok(text)
+}
+
+fn paired(
+    alloc: Global,
+    meta: &Metamodel,
+    theirs: &Package,
+    mine: &Package,
+) -> Result<String, Fail> {
+    let found = pairs(alloc, theirs, mine, meta)?;
+    pairs_told(alloc, found.as_slice())
 }
 
 fn have_numbers(places: &[u64]) -> bool
@@ -97,38 +102,32 @@ fn are_numbered(rows: &[Bucket]) -> bool
     rows.iter().all(|row| have_numbers(row.theirs.as_slice()) && have_numbers(row.mine.as_slice()))
 }
 
-// The lines of the buckets of two packages.
-fn grouped(alloc: Global, meta: &Metamodel, text: &str) -> Result<String, Fail> {
-    let (theirs, mine) = two(alloc, text)?;
-    let found = buckets(alloc, &theirs, &mine, meta)?;
+// The lines of buckets.
+fn grouped(alloc: Global, found: &Buckets) -> Result<String, Fail> {
     if !are_numbered(found.rows.as_slice()) {
         return Err("a place without a number")?;
     }
-    texts(alloc, &bucket_lines(alloc, &found)?, "; ")
+    let lines = bucket_lines(alloc, found)?;
+    texts(alloc, &lines, "; ")
 }
 
-fn choices(alloc: Global, word: &str) -> Result<Vec<Side>, Fail> {
+fn side(letter: u8) -> Side {
+    if letter == b'm' {
+        Side::Mine
+    } else {
+        Side::Theirs
+    }
+}
+
+fn choices(alloc: Global, letters: &str) -> Result<Vec<Side>, Fail> {
     let mut choices = Vec::new(alloc);
-    for letter in word.as_bytes() {
-        choices.push(if *letter == b'm' {
-            Side::Mine
-        } else {
-            Side::Theirs
-        })?;
+    for letter in letters.as_bytes() {
+        choices.push(side(*letter))?;
     }
     Ok(choices)
 }
 
-fn chosen(alloc: Global, meta: &Metamodel, is_update: bool, text: &str) -> Result<String, Fail> {
-    let (word, text) = text.split_once(' ').ok_or("no choices")?;
-    let choices = choices(alloc, word)?;
-    let (theirs, mine) = two(alloc, text)?;
-    let found = buckets(alloc, &theirs, &mine, meta)?;
-    let made = if is_update {
-        update_package(alloc, &theirs, &mine, &found, &choices, meta)
-    } else {
-        merge_package(alloc, &theirs, &mine, &found, &choices, meta)
-    };
+fn made_told(alloc: Global, made: Result<Package, ChoiceFault>) -> Result<String, Fail> {
     match made {
         Ok(package) => told(alloc, &package),
         Err(ChoiceFault::Memory) => Err("out of memory")?,
@@ -136,16 +135,100 @@ fn chosen(alloc: Global, meta: &Metamodel, is_update: bool, text: &str) -> Resul
     }
 }
 
-pub(crate) fn answer(alloc: Global, meta: &Metamodel, call: &str) -> Result<String, Fail> {
-    let (word, text) = call.split_once(' ').unwrap_or((call, ""));
-    match word {
-        "tidy" => told(alloc, &tidy(alloc, &package(alloc, text)?, meta)?),
-        "is_tidy" => Ok(format!(in alloc; "{}", is_tidy(alloc, &package(alloc, text)?, meta)?)?),
-        "pairs" => paired(alloc, meta, text),
-        "buckets" => grouped(alloc, meta, text),
-        "update" => chosen(alloc, meta, true, text),
-        "merge" => chosen(alloc, meta, false, text),
+// What an update or a merge puts in.
+fn chosen(
+    alloc: Global,
+    meta: &Metamodel,
+    call: &str,
+    choices: &[Side],
+    theirs: &Package,
+    mine: &Package,
+    found: &Buckets,
+) -> Result<String, Fail>
+    requires { found.now.rows ≡ buckets_of meta.now theirs.now mine.now }
+{
+    match call {
+        "update" => made_told(
+            alloc,
+            update_package(alloc, theirs, mine, found, choices, meta),
+        ),
+        "merge" => made_told(
+            alloc,
+            merge_package(alloc, theirs, mine, found, choices, meta),
+        ),
         _ => Err("no such call")?,
+    }
+}
+
+fn of_buckets(
+    alloc: Global,
+    meta: &Metamodel,
+    call: &str,
+    letters: &str,
+    theirs: &Package,
+    mine: &Package,
+    found: &Buckets,
+) -> Result<String, Fail>
+    requires { found.now.rows ≡ buckets_of meta.now theirs.now mine.now }
+{
+    if call == "buckets" {
+        return grouped(alloc, found);
+    }
+    let choices = choices(alloc, letters)?;
+    chosen(alloc, meta, call, choices.as_slice(), theirs, mine, found)
+}
+
+fn of_packages(
+    alloc: Global,
+    meta: &Metamodel,
+    call: &str,
+    letters: &str,
+    theirs: &Package,
+    mine: &Package,
+) -> Result<String, Fail> {
+    if call == "pairs" {
+        return paired(alloc, meta, theirs, mine);
+    }
+    let found = buckets(alloc, theirs, mine, meta)?;
+    of_buckets(alloc, meta, call, letters, theirs, mine, &found)
+}
+
+// What a call answers to two packages, after the letters of choices where it has any.
+fn of_two(
+    alloc: Global,
+    meta: &Metamodel,
+    call: &str,
+    letters: &str,
+    text: &str,
+) -> Result<String, Fail> {
+    let (theirs, mine) = cut(text, " & ");
+    let theirs = package(alloc, theirs)?;
+    let mine = package(alloc, mine)?;
+    of_packages(alloc, meta, call, letters, &theirs, &mine)
+}
+
+fn tidied(alloc: Global, meta: &Metamodel, text: &str) -> Result<String, Fail> {
+    let package = package(alloc, text)?;
+    let tidied = tidy(alloc, &package, meta)?;
+    told(alloc, &tidied)
+}
+
+fn tidy_told(alloc: Global, meta: &Metamodel, text: &str) -> Result<String, Fail> {
+    let package = package(alloc, text)?;
+    let is_tidy = is_tidy(alloc, &package, meta)?;
+    Ok(format!(in alloc; "{is_tidy}")?)
+}
+
+pub(crate) fn answer(alloc: Global, meta: &Metamodel, call: &str) -> Result<String, Fail> {
+    let (word, text) = cut(call, " ");
+    match word {
+        "tidy" => tidied(alloc, meta, text),
+        "is_tidy" => tidy_told(alloc, meta, text),
+        "update" | "merge" => {
+            let (letters, text) = cut(text, " ");
+            of_two(alloc, meta, word, letters, text)
+        }
+        _ => of_two(alloc, meta, word, "", text),
     }
 }
 

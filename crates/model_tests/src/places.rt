@@ -6,12 +6,12 @@ ghost use Rattle.step_apply.specs.View.{plain_state};
 
 use crate::answers::{Calls, check};
 use crate::lines::{ids, lines};
-use crate::reading::{Words, words_of};
+use crate::reading::{Words, id, place, words_of};
 use containment::{
     MoveFault, Spot, create_steps, delete_steps, is_place, move_steps, spot_steps, subtree,
 };
 use ecore_meta::{List, Metamodel};
-use model_state::{Id, Look, Step};
+use model_state::{Id, Look, Place, Step};
 use std::alloc::Global;
 use std::test::Fail;
 use step_apply::Plain;
@@ -127,15 +127,27 @@ fn told_spot(alloc: Global, answer: Result<Spot, MoveFault>) -> Result<String, F
     }
 }
 
+// The spot at an index, or at the end, of a place, but for an element that is skipped, or `-`.
+fn spot_at(
+    alloc: Global,
+    plain: &Plain,
+    place: &Place,
+    skip: &str,
+    at: Option<u32>,
+) -> Result<String, Fail> {
+    if skip == "-" {
+        return told_spot(alloc, spot_steps(alloc, plain, place, None, at));
+    }
+    let skip = id(alloc, skip)?;
+    told_spot(alloc, spot_steps(alloc, plain, place, Some(&skip), at))
+}
+
 fn spot(alloc: Global, plain: &Plain, words: &mut Words) -> Result<String, Fail> {
-    let place = words.place()?;
+    let to = words.word();
     let skip = words.word();
     let at = words.index()?;
-    if skip == "-" {
-        return told_spot(alloc, spot_steps(alloc, plain, &place, None, at));
-    }
-    let skip = Id::read(alloc, skip)?;
-    told_spot(alloc, spot_steps(alloc, plain, &place, Some(&skip), at))
+    let place = place(alloc, to)?;
+    spot_at(alloc, plain, &place, skip, at)
 }
 
 fn create(
@@ -144,10 +156,27 @@ fn create(
     plain: &Plain,
     words: &mut Words,
 ) -> Result<String, Fail> {
-    let e = words.id()?;
+    let e = words.word();
     let class = words.number()?;
-    let place = words.place()?;
+    let e = id(alloc, e)?;
+    let place = place(alloc, words.word())?;
     told(alloc, create_steps(alloc, plain, meta, &e, class, &place))
+}
+
+fn move_to(
+    alloc: Global,
+    meta: &Metamodel,
+    plain: &Plain,
+    e: &Id,
+    to: &Place,
+    at: Option<u32>,
+) -> Result<String, Fail>
+    requires { Good meta.now (plain_state plain.now) }
+{
+    if plain.class(e).is_none() || !is_place(plain, meta, to) {
+        return Err("no element, or no place")?;
+    }
+    told(alloc, move_steps(alloc, plain, meta, e, to, at))
 }
 
 fn move_element(
@@ -158,13 +187,28 @@ fn move_element(
 ) -> Result<String, Fail>
     requires { Good meta.now (plain_state plain.now) }
 {
-    let e = words.id()?;
-    let to = words.place()?;
+    let e = words.word();
+    let to = words.word();
     let at = words.index()?;
-    if plain.class(&e).is_none() || !is_place(plain, meta, &to) {
-        return Err("no element, or no place")?;
-    }
-    told(alloc, move_steps(alloc, plain, meta, &e, &to, at))
+    let e = id(alloc, e)?;
+    let to = place(alloc, to)?;
+    move_to(alloc, meta, plain, &e, &to, at)
+}
+
+fn delete(alloc: Global, meta: &Metamodel, plain: &Plain, e: &str) -> Result<String, Fail>
+    requires { Good meta.now (plain_state plain.now) }
+{
+    let e = id(alloc, e)?;
+    let steps = delete_steps(alloc, plain, meta, &e)?;
+    lines(alloc, &steps)
+}
+
+fn below(alloc: Global, meta: &Metamodel, plain: &Plain, e: &str) -> Result<String, Fail>
+    requires { Good meta.now (plain_state plain.now) }
+{
+    let e = id(alloc, e)?;
+    let list = subtree(alloc, plain, meta, &e)?;
+    ids(alloc, &list, " ")
 }
 
 // What a call of a place or of an element's subtree answers.
@@ -176,13 +220,13 @@ pub(crate) fn answer(
 ) -> Result<String, Fail>
     requires { Good meta.now (plain_state plain.now) }
 {
-    let mut words = words_of(alloc, call);
+    let mut words = words_of(call);
     match words.word() {
         "create" => create(alloc, meta, plain, &mut words),
         "spot" => spot(alloc, plain, &mut words),
         "move" => move_element(alloc, meta, plain, &mut words),
-        "delete" => lines(alloc, &delete_steps(alloc, plain, meta, &words.id()?)?),
-        "subtree" => ids(alloc, &subtree(alloc, plain, meta, &words.id()?)?, " "),
+        "delete" => delete(alloc, meta, plain, words.word()),
+        "subtree" => below(alloc, meta, plain, words.word()),
         _ => Err("no such call")?,
     }
 }

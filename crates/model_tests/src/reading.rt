@@ -1,66 +1,41 @@
 //! Steps as words: the kind of a step and its fields in their order, each after one blank. A class and a feature are their numbers; a place is `/`, or `a.4` inside
-//! the element a, in its feature 4; a value is `"Emma"` as in JSON, `-5`, `true`, or `#1`, the literal of that number; containers have commas between them. `-` is no
+//! the element a, in its feature 4; a value is `"Emma"`, with `\n` and `\"` in it as in JSON, `-5`, `true`, or `#1`, the literal of that number; containers have commas between them. `-` is no
 //! value, no rank, or no containers. Only a value at the end may have blanks. Steps have `; ` between them; an operation is its kind, `: ` and its steps, and the kind
 //! of a composite is `Composite` and its name.
 use ecore_meta::{List, Text, Value};
 use model_state::{Id, OpKind, Operation, Place, Step};
-use serde_json::Value as Json;
 use std::alloc::Global;
 use std::test::Fail;
+
+// What stands before the first mark and after it: the text and nothing, where there is none.
+pub(crate) fn cut<'a>(text: &'a str, mark: &str) -> (&'a str, &'a str) {
+    match text.split_once(mark) {
+        Some(parts) => parts,
+        None => (text, ""),
+    }
+}
+
+// The same, but nothing and the text, where there is no mark.
+pub(crate) fn prefixed<'a>(text: &'a str, mark: &str) -> (&'a str, &'a str) {
+    match text.split_once(mark) {
+        Some(parts) => parts,
+        None => ("", text),
+    }
+}
 
 // The words of a step or a call that are still to be read.
 #[derive(Drop)]
 pub(crate) struct Words<'a> {
-    alloc: Global,
     rest: &'a str,
 }
 
-pub(crate) fn words_of(alloc: Global, text: &str) -> Words<'_> {
-    Words { alloc, rest: text }
-}
-
-pub(crate) fn step(alloc: Global, text: &str) -> Result<Step, Fail> {
-    words_of(alloc, text).step()
-}
-
-pub(crate) fn steps(alloc: Global, text: &str) -> Result<List<Step>, Fail> {
-    let mut steps = List::new(alloc);
-    for line in text.split("; ") {
-        steps.push(step(alloc, line)?)?;
-    }
-    Ok(steps)
-}
-
-fn kind_named(name: &str) -> Result<OpKind, Fail> {
-    match name {
-        "Create" => Ok(OpKind::Create),
-        "Delete" => Ok(OpKind::Delete),
-        "Attribute" => Ok(OpKind::Attribute),
-        "ManyAttribute" => Ok(OpKind::ManyAttribute),
-        "Reference" => Ok(OpKind::Reference),
-        "Move" => Ok(OpKind::Move),
-        _ => Err("no kind of operation")?,
-    }
-}
-
-pub(crate) fn operation(alloc: Global, text: &str) -> Result<Operation, Fail> {
-    let (kind, lines) = text.split_once(": ").unwrap_or(("", text));
-    let steps = steps(alloc, lines)?;
-    match kind.strip_prefix("Composite ") {
-        None => Ok(Operation::Simple {
-            kind: kind_named(kind)?,
-            steps,
-        }),
-        Some(name) => Ok(Operation::Composite {
-            name: Text::new(alloc, name)?,
-            steps,
-        }),
-    }
+pub(crate) fn words_of(text: &str) -> Words<'_> {
+    Words { rest: text }
 }
 
 impl<'a> Words<'a> {
     pub(crate) fn word(&mut self) -> &'a str {
-        let (word, rest) = self.rest.split_once(' ').unwrap_or((self.rest, ""));
+        let (word, rest) = cut(self.rest, " ");
         self.rest = rest;
         word
     }
@@ -68,10 +43,6 @@ impl<'a> Words<'a> {
     // All that is not read yet.
     pub(crate) fn rest(&self) -> &'a str {
         self.rest
-    }
-
-    pub(crate) fn id(&mut self) -> Result<Id, Fail> {
-        Ok(Id::read(self.alloc, self.word())?)
     }
 
     pub(crate) fn number(&mut self) -> Result<u32, Fail> {
@@ -97,147 +68,51 @@ impl<'a> Words<'a> {
         }
         Ok(Some(word.parse::<u64>()?))
     }
+}
 
-    pub(crate) fn place(&mut self) -> Result<Place, Fail> {
-        match self.word().split_once('.') {
-            None => Ok(Place::Root),
-            Some((parent, feature)) => Ok(Place::Inside {
-                parent: Id::read(self.alloc, parent)?,
-                feature: feature.parse::<u32>()?,
-            }),
+pub(crate) fn id(alloc: Global, word: &str) -> Result<Id, Fail> {
+    Ok(Id::read(alloc, word)?)
+}
+
+pub(crate) fn place(alloc: Global, word: &str) -> Result<Place, Fail> {
+    match word.split_once('.') {
+        None => Ok(Place::Root),
+        Some((parent, feature)) => {
+            let feature = feature.parse::<u32>()?;
+            let parent = id(alloc, parent)?;
+            Ok(Place::Inside { parent, feature })
         }
     }
+}
 
-    fn containers(&mut self) -> Result<List<Id>, Fail> {
-        let word = self.word();
-        let mut ids = List::new(self.alloc);
-        if word != "-" {
-            for id in word.split(',') {
-                ids.push(Id::read(self.alloc, id)?)?;
-            }
-        }
-        Ok(ids)
+fn containers(alloc: Global, word: &str) -> Result<List<Id>, Fail> {
+    let mut ids = List::new(alloc);
+    if word != "-" {
+        put_ids(alloc, &mut ids, word)?;
     }
+    Ok(ids)
+}
 
-    fn step(&mut self) -> Result<Step, Fail> {
-        match self.word() {
-            "Put" => self.put(),
-            "Ins" => self.ins(),
-            "Del" => self.del(),
-            "Shift" => self.shift(),
-            "Link" => self.link(),
-            "Unlink" => self.unlink(),
-            "RerankRow" => self.rerank_row(),
-            "New" => self.new_element(),
-            "Gone" => self.gone(),
-            "Move" => self.move_element(),
-            "RerankPlace" => self.rerank_place(),
-            _ => Err("no kind of step")?,
-        }
+fn put_ids(alloc: Global, ids: &mut List<Id>, words: &str) -> Result<(), Fail> {
+    for word in words.split(',') {
+        ids.push(id(alloc, word)?)?;
     }
+    Ok(())
+}
 
-    fn put(&mut self) -> Result<Step, Fail> {
-        Ok(Step::Put {
-            e: self.id()?,
-            f: self.number()?,
-            old: optional(self.alloc, self.word())?,
-            new: optional(self.alloc, self.rest)?,
-        })
-    }
+// The text before the last quotation mark; `\n` and `\"` in it are as in JSON.
+fn quoted(alloc: Global, text: &str) -> Result<Value, Fail> {
+    let text = text.strip_suffix('"').ok_or("no end of a text")?;
+    let lines = text.replace(alloc, r"\n", "\n")?;
+    let text = lines.as_str().replace(alloc, r#"\""#, r#"""#)?;
+    Ok(Value::Text(Text::new(alloc, text.as_str())?))
+}
 
-    fn ins(&mut self) -> Result<Step, Fail> {
-        Ok(Step::Ins {
-            e: self.id()?,
-            f: self.number()?,
-            at: self.number()?,
-            v: value(self.alloc, self.rest)?,
-        })
-    }
-
-    fn del(&mut self) -> Result<Step, Fail> {
-        Ok(Step::Del {
-            e: self.id()?,
-            f: self.number()?,
-            at: self.number()?,
-            v: value(self.alloc, self.rest)?,
-        })
-    }
-
-    fn shift(&mut self) -> Result<Step, Fail> {
-        Ok(Step::Shift {
-            e: self.id()?,
-            f: self.number()?,
-            from: self.number()?,
-            to: self.number()?,
-        })
-    }
-
-    fn link(&mut self) -> Result<Step, Fail> {
-        Ok(Step::Link {
-            a: self.id()?,
-            f: self.number()?,
-            ra: self.rank()?,
-            b: self.id()?,
-            rb: self.optional_rank()?,
-        })
-    }
-
-    fn unlink(&mut self) -> Result<Step, Fail> {
-        Ok(Step::Unlink {
-            a: self.id()?,
-            f: self.number()?,
-            ra: self.rank()?,
-            b: self.id()?,
-            rb: self.optional_rank()?,
-        })
-    }
-
-    fn rerank_row(&mut self) -> Result<Step, Fail> {
-        Ok(Step::RerankRow {
-            a: self.id()?,
-            f: self.number()?,
-            b: self.id()?,
-            old: self.rank()?,
-            new: self.rank()?,
-        })
-    }
-
-    fn new_element(&mut self) -> Result<Step, Fail> {
-        Ok(Step::New {
-            e: self.id()?,
-            class: self.number()?,
-            place: self.place()?,
-            rank: self.rank()?,
-        })
-    }
-
-    fn gone(&mut self) -> Result<Step, Fail> {
-        Ok(Step::Gone {
-            e: self.id()?,
-            class: self.number()?,
-            place: self.place()?,
-            rank: self.rank()?,
-        })
-    }
-
-    fn move_element(&mut self) -> Result<Step, Fail> {
-        Ok(Step::Move {
-            e: self.id()?,
-            from: self.place()?,
-            from_rank: self.rank()?,
-            to: self.place()?,
-            to_rank: self.rank()?,
-            above_from: self.containers()?,
-            above_to: self.containers()?,
-        })
-    }
-
-    fn rerank_place(&mut self) -> Result<Step, Fail> {
-        Ok(Step::RerankPlace {
-            e: self.id()?,
-            old: self.rank()?,
-            new: self.rank()?,
-        })
+fn flag_or_number(text: &str) -> Result<Value, Fail> {
+    match text {
+        "true" => Ok(Value::Flag(true)),
+        "false" => Ok(Value::Flag(false)),
+        _ => Ok(Value::Whole(text.parse::<i64>()?)),
     }
 }
 
@@ -245,13 +120,9 @@ fn value(alloc: Global, text: &str) -> Result<Value, Fail> {
     if let Some(number) = text.strip_prefix('#') {
         return Ok(Value::Literal(number.parse::<u32>()?));
     }
-    let json = Json::from_str(alloc, text)?;
-    if let Some(text) = json.as_str() {
-        return Ok(Value::Text(Text::new(alloc, text)?));
-    }
-    match json.as_i64() {
-        Some(n) => Ok(Value::Whole(n)),
-        None => Ok(Value::Flag(json.as_bool().ok_or("no value")?)),
+    match text.strip_prefix('"') {
+        Some(rest) => quoted(alloc, rest),
+        None => flag_or_number(text),
     }
 }
 
@@ -260,4 +131,195 @@ fn optional(alloc: Global, text: &str) -> Result<Option<Value>, Fail> {
         return Ok(None);
     }
     Ok(Some(value(alloc, text)?))
+}
+
+fn put(alloc: Global, words: &mut Words) -> Result<Step, Fail> {
+    let e = words.word();
+    let f = words.number()?;
+    let old = words.word();
+    let new = words.rest();
+    Ok(Step::Put {
+        e: id(alloc, e)?,
+        f,
+        old: optional(alloc, old)?,
+        new: optional(alloc, new)?,
+    })
+}
+
+fn ins(alloc: Global, words: &mut Words) -> Result<Step, Fail> {
+    let e = words.word();
+    let f = words.number()?;
+    let at = words.number()?;
+    let e = id(alloc, e)?;
+    let v = value(alloc, words.rest())?;
+    Ok(Step::Ins { e, f, at, v })
+}
+
+fn del(alloc: Global, words: &mut Words) -> Result<Step, Fail> {
+    let e = words.word();
+    let f = words.number()?;
+    let at = words.number()?;
+    let e = id(alloc, e)?;
+    let v = value(alloc, words.rest())?;
+    Ok(Step::Del { e, f, at, v })
+}
+
+fn shift(alloc: Global, words: &mut Words) -> Result<Step, Fail> {
+    let e = words.word();
+    let f = words.number()?;
+    let from = words.number()?;
+    let to = words.number()?;
+    let e = id(alloc, e)?;
+    Ok(Step::Shift { e, f, from, to })
+}
+
+fn link(alloc: Global, words: &mut Words) -> Result<Step, Fail> {
+    let a = words.word();
+    let f = words.number()?;
+    let ra = words.rank()?;
+    let b = words.word();
+    let rb = words.optional_rank()?;
+    let a = id(alloc, a)?;
+    let b = id(alloc, b)?;
+    Ok(Step::Link { a, f, ra, b, rb })
+}
+
+fn unlink(alloc: Global, words: &mut Words) -> Result<Step, Fail> {
+    let a = words.word();
+    let f = words.number()?;
+    let ra = words.rank()?;
+    let b = words.word();
+    let rb = words.optional_rank()?;
+    let a = id(alloc, a)?;
+    let b = id(alloc, b)?;
+    Ok(Step::Unlink { a, f, ra, b, rb })
+}
+
+fn rerank_row(alloc: Global, words: &mut Words) -> Result<Step, Fail> {
+    let a = words.word();
+    let f = words.number()?;
+    let b = words.word();
+    let old = words.rank()?;
+    let new = words.rank()?;
+    let a = id(alloc, a)?;
+    let b = id(alloc, b)?;
+    Ok(Step::RerankRow { a, f, b, old, new })
+}
+
+fn new_element(alloc: Global, words: &mut Words) -> Result<Step, Fail> {
+    let e = words.word();
+    let class = words.number()?;
+    let at = words.word();
+    let rank = words.rank()?;
+    let e = id(alloc, e)?;
+    let place = place(alloc, at)?;
+    Ok(Step::New {
+        e,
+        class,
+        place,
+        rank,
+    })
+}
+
+fn gone(alloc: Global, words: &mut Words) -> Result<Step, Fail> {
+    let e = words.word();
+    let class = words.number()?;
+    let at = words.word();
+    let rank = words.rank()?;
+    let e = id(alloc, e)?;
+    let place = place(alloc, at)?;
+    Ok(Step::Gone {
+        e,
+        class,
+        place,
+        rank,
+    })
+}
+
+fn move_element(alloc: Global, words: &mut Words) -> Result<Step, Fail> {
+    let e = words.word();
+    let from = words.word();
+    let from_rank = words.rank()?;
+    let to = words.word();
+    let to_rank = words.rank()?;
+    Ok(Step::Move {
+        e: id(alloc, e)?,
+        from: place(alloc, from)?,
+        from_rank,
+        to: place(alloc, to)?,
+        to_rank,
+        above_from: containers(alloc, words.word())?,
+        above_to: containers(alloc, words.word())?,
+    })
+}
+
+fn rerank_place(alloc: Global, words: &mut Words) -> Result<Step, Fail> {
+    let e = words.word();
+    let old = words.rank()?;
+    let new = words.rank()?;
+    let e = id(alloc, e)?;
+    Ok(Step::RerankPlace { e, old, new })
+}
+
+// A step on the values of an attribute or on a reference.
+fn feature_step(alloc: Global, kind: &str, words: &mut Words) -> Result<Step, Fail> {
+    match kind {
+        "Put" => put(alloc, words),
+        "Ins" => ins(alloc, words),
+        "Del" => del(alloc, words),
+        "Shift" => shift(alloc, words),
+        "Link" => link(alloc, words),
+        "Unlink" => unlink(alloc, words),
+        "RerankRow" => rerank_row(alloc, words),
+        _ => Err("no kind of step")?,
+    }
+}
+
+pub(crate) fn step(alloc: Global, text: &str) -> Result<Step, Fail> {
+    let mut words = words_of(text);
+    match words.word() {
+        "New" => new_element(alloc, &mut words),
+        "Gone" => gone(alloc, &mut words),
+        "Move" => move_element(alloc, &mut words),
+        "RerankPlace" => rerank_place(alloc, &mut words),
+        kind => feature_step(alloc, kind, &mut words),
+    }
+}
+
+pub(crate) fn steps(alloc: Global, text: &str) -> Result<List<Step>, Fail> {
+    let mut steps = List::new(alloc);
+    for line in text.split("; ") {
+        steps.push(step(alloc, line)?)?;
+    }
+    Ok(steps)
+}
+
+fn kind_named(name: &str) -> Result<OpKind, Fail> {
+    match name {
+        "Create" => Ok(OpKind::Create),
+        "Delete" => Ok(OpKind::Delete),
+        "Attribute" => Ok(OpKind::Attribute),
+        "ManyAttribute" => Ok(OpKind::ManyAttribute),
+        "Reference" => Ok(OpKind::Reference),
+        "Move" => Ok(OpKind::Move),
+        _ => Err("no kind of operation")?,
+    }
+}
+
+fn composite(alloc: Global, name: &str, lines: &str) -> Result<Operation, Fail> {
+    let name = Text::new(alloc, name)?;
+    let steps = steps(alloc, lines)?;
+    Ok(Operation::Composite { name, steps })
+}
+
+pub(crate) fn operation(alloc: Global, text: &str) -> Result<Operation, Fail> {
+    let (word, lines) = prefixed(text, ": ");
+    match word.strip_prefix("Composite ") {
+        Some(name) => composite(alloc, name, lines),
+        None => {
+            let kind = kind_named(word)?;
+            let steps = steps(alloc, lines)?;
+            Ok(Operation::Simple { kind, steps })
+        }
+    }
 }

@@ -12,6 +12,7 @@ ghost use Rattle.step_apply.specs.View.{plain_state};
 use crate::answers::{Calls, check};
 use crate::lines::operation_line;
 use ecore_meta::Metamodel;
+use edits::Edit;
 use model_laws::replay;
 use model_state::{Operation, Step};
 use recorder::{EditFault, Recorded, take_edit};
@@ -374,22 +375,11 @@ create 7 Box b tops #b -> NoElement
 stacks; create 7 Box / b
 create 7 Box b tops #b -> WrongKind"#;
 
-// What is recorded of the edit that a line spells.
-fn recorded(
-    alloc: Global,
-    meta: &Metamodel,
-    plain: &Plain,
-    line: &str,
-) -> Result<Result<Recorded, EditFault>, Fail>
-    requires { Good meta.now (plain_state plain.now) }
-{
+fn command(alloc: Global, line: &str) -> Result<Command, Fail> {
     if line.len() > 1000 {
         return Err("a long line")?;
     }
-    match parse_line(alloc, line)? {
-        Command::Edit { ws, edit } => Ok(take_edit(alloc, plain, meta, ws, &edit)),
-        _ => Err("no edit")?,
-    }
+    Ok(parse_line(alloc, line)?)
 }
 
 fn steps_of(operation: &Option<Operation>) -> &[Step] {
@@ -400,33 +390,95 @@ fn steps_of(operation: &Option<Operation>) -> &[Step] {
     }
 }
 
-// The same, and its steps are taken.
-pub(crate) fn edit(
-    alloc: Global,
-    meta: &Metamodel,
-    plain: &mut Plain,
-    line: &str,
-) -> Result<Result<Recorded, EditFault>, Fail>
+// Takes the steps that are recorded.
+fn replay_recorded(meta: &Metamodel, plain: &mut Plain, recorded: &Recorded) -> Result<(), Fail>
     requires sound { Sound meta.now }
     requires good { Good meta.now (plain_state plain.old) }
     ensures { OnOk result (Good meta.now (plain_state plain.new)) }
 {
-    let answer = recorded(alloc, meta, plain, line)?;
-    if let Ok(recorded) = &answer {
-        replay(plain, meta, steps_of(&recorded.operation))?;
+    replay(plain, meta, steps_of(&recorded.operation))?;
+    Ok(())
+}
+
+fn take_edit_of(
+    alloc: Global,
+    meta: &Metamodel,
+    plain: &mut Plain,
+    ws: u32,
+    edit: &Edit,
+) -> Result<(), Fail>
+    requires sound { Sound meta.now }
+    requires good { Good meta.now (plain_state plain.old) }
+    ensures { OnOk result (Good meta.now (plain_state plain.new)) }
+{
+    let recorded = take_edit(alloc, plain, meta, ws, edit)?;
+    replay_recorded(meta, plain, &recorded)
+}
+
+// Takes what is recorded of the edit that a line spells.
+pub(crate) fn take(
+    alloc: Global,
+    meta: &Metamodel,
+    plain: &mut Plain,
+    line: &str,
+) -> Result<(), Fail>
+    requires sound { Sound meta.now }
+    requires good { Good meta.now (plain_state plain.old) }
+    ensures { OnOk result (Good meta.now (plain_state plain.new)) }
+{
+    let command = command(alloc, line)?;
+    match &command {
+        Command::Edit { ws, edit } => take_edit_of(alloc, meta, plain, *ws, edit),
+        _ => Err("no edit")?,
     }
-    Ok(answer)
+}
+
+fn operation_told(alloc: Global, operation: &Option<Operation>) -> Result<String, Fail> {
+    match operation {
+        None => Ok(String::from_str(alloc, "nothing")?),
+        Some(operation) => operation_line(alloc, operation),
+    }
 }
 
 fn told(alloc: Global, recorded: &Recorded) -> Result<String, Fail> {
-    let line = match &recorded.operation {
-        None => format!(in alloc; "nothing")?,
-        Some(operation) => operation_line(alloc, operation)?,
-    };
+    let line = operation_told(alloc, &recorded.operation)?;
     match &recorded.id {
         None => Ok(line),
         Some(id) => Ok(format!(in alloc; "{line} -> {}", id.as_str())?),
     }
+}
+
+// What an edit was answered, of which the steps that are recorded can be taken.
+fn told_or_refused(
+    alloc: Global,
+    meta: &Metamodel,
+    plain: &mut Plain,
+    answer: &Result<Recorded, EditFault>,
+) -> Result<String, Fail>
+    requires sound { Sound meta.now }
+    requires good { Good meta.now (plain_state plain.old) }
+{
+    match answer {
+        Ok(recorded) => {
+            replay_recorded(meta, plain, recorded)?;
+            told(alloc, recorded)
+        }
+        Err(fault) => Ok(format!(in alloc; "{fault:?}")?),
+    }
+}
+
+fn answer_of(
+    alloc: Global,
+    meta: &Metamodel,
+    plain: &mut Plain,
+    ws: u32,
+    edit: &Edit,
+) -> Result<String, Fail>
+    requires sound { Sound meta.now }
+    requires good { Good meta.now (plain_state plain.old) }
+{
+    let answer = take_edit(alloc, plain, meta, ws, edit);
+    told_or_refused(alloc, meta, plain, &answer)
 }
 
 // What an edit is answered; its steps can be taken.
@@ -439,9 +491,10 @@ pub(crate) fn answer(
     requires sound { Sound meta.now }
     requires good { Good meta.now (plain_state plain.old) }
 {
-    match edit(alloc, meta, plain, call)? {
-        Ok(recorded) => told(alloc, &recorded),
-        Err(fault) => Ok(format!(in alloc; "{fault:?}")?),
+    let command = command(alloc, call)?;
+    match &command {
+        Command::Edit { ws, edit } => answer_of(alloc, meta, plain, *ws, edit),
+        _ => Err("no edit")?,
     }
 }
 

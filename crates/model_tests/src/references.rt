@@ -11,7 +11,7 @@ ghost use Rattle.step_apply.specs.View.{plain_state};
 
 use crate::answers::{Calls, check};
 use crate::lines::lines;
-use crate::reading::{Words, words_of};
+use crate::reading::{Words, id, words_of};
 use ecore_meta::{List, Metamodel};
 use model_state::{Id, Look, Step, class_has, is_plain};
 use opposites::{
@@ -184,6 +184,34 @@ fn link_at(
 }
 
 // What the edit of a reference to a target answers.
+fn edit_of(
+    alloc: Global,
+    meta: &Metamodel,
+    plain: &Plain,
+    call: &str,
+    a: &Id,
+    f: u32,
+    b: &Id,
+    at: Option<u32>,
+) -> Result<String, Fail>
+    requires sound { Sound meta.now }
+    requires good { Good meta.now (plain_state plain.now) }
+{
+    if !class_has(meta, plain.class(a), f) || !is_plain(meta, f) || plain.class(b).is_none() {
+        return Err("no plain reference, or no target")?;
+    }
+    match call {
+        "set" => set(alloc, meta, plain, a, f, b),
+        "link" => link_at(alloc, meta, plain, a, f, b, at),
+        "unlink" => told(alloc, unlink_steps(alloc, plain, meta, a, f, b)),
+        "reorder" => {
+            let at = at.ok_or("no index")?;
+            told(alloc, reorder_steps(alloc, plain, meta, a, f, b, at))
+        }
+        _ => Err("no such edit")?,
+    }
+}
+
 fn edit(
     alloc: Global,
     meta: &Metamodel,
@@ -194,23 +222,24 @@ fn edit(
     requires sound { Sound meta.now }
     requires good { Good meta.now (plain_state plain.now) }
 {
-    let a = words.id()?;
+    let source = words.word();
     let f = words.number()?;
-    let b = words.id()?;
+    let target = words.word();
     let at = words.index()?;
-    if !class_has(meta, plain.class(&a), f) || !is_plain(meta, f) || plain.class(&b).is_none() {
-        return Err("no plain reference, or no target")?;
-    }
-    match call {
-        "set" => set(alloc, meta, plain, &a, f, &b),
-        "link" => link_at(alloc, meta, plain, &a, f, &b, at),
-        "unlink" => told(alloc, unlink_steps(alloc, plain, meta, &a, f, &b)),
-        "reorder" => {
-            let at = at.ok_or("no index")?;
-            told(alloc, reorder_steps(alloc, plain, meta, &a, f, &b, at))
-        }
-        _ => Err("no such edit")?,
-    }
+    let a = id(alloc, source)?;
+    let b = id(alloc, target)?;
+    edit_of(alloc, meta, plain, call, &a, f, &b, at)
+}
+
+fn unset(alloc: Global, meta: &Metamodel, plain: &Plain, words: &mut Words) -> Result<String, Fail>
+    requires sound { Sound meta.now }
+    requires good { Good meta.now (plain_state plain.now) }
+{
+    let source = words.word();
+    let f = words.number()?;
+    let a = id(alloc, source)?;
+    let steps = unset_ref_steps(alloc, plain, meta, &a, f)?;
+    lines(alloc, &steps)
 }
 
 // What an edit of a reference answers.
@@ -223,17 +252,12 @@ pub(crate) fn answer(
     requires sound { Sound meta.now }
     requires good { Good meta.now (plain_state plain.now) }
 {
-    let mut words = words_of(alloc, call);
-    match words.word() {
-        "unset" => {
-            let a = words.id()?;
-            lines(
-                alloc,
-                &unset_ref_steps(alloc, plain, meta, &a, words.number()?)?,
-            )
-        }
-        call => edit(alloc, meta, plain, call, &mut words),
+    let mut words = words_of(call);
+    let call = words.word();
+    if call == "unset" {
+        return unset(alloc, meta, plain, &mut words);
     }
+    edit(alloc, meta, plain, call, &mut words)
 }
 
 #[test]

@@ -18,9 +18,9 @@ both_lead meta start m x n k ss o p h g one two = (k, subst (λ y. fold_package 
     same : Some m ≡ Some x → m ≡ x
     same e = cc
 
-pub exchange-requires-clause-possible : goal.exchange-requires-clause-possible
-exchange-requires-clause-possible c =
+pub is_left_exchanged-requires-clause-possible : goal.is_left_exchanged-requires-clause-possible
+is_left_exchanged-requires-clause-possible c = λ x led.
     let meta = c.args.meta.now in
-    both_lead meta nothing _ _ _ _ c.args.start.now c.args.first.now c.args.second.now c.in_ok-in_order.ensures.run c.in_ok-exchanged.ensures.run
+    both_lead meta nothing _ x _ _ _ c.args.first.now c.args.second.now c.in_ok-in_order.ensures.run led
     (ap (fold meta _) (sym c.steps_of.ensures) ∙ c.in_ok-replay.ensures.done)
     (ap (fold meta _) (sym c.steps_of-2.ensures) ∙ c.in_ok-replay-2.ensures.done)
