@@ -25,7 +25,7 @@ const BACK: u32 = 4;
 const INNER: u32 = 5;
 
 /// The kinds of steps, in an order in which the batches can be taken.
-#[derive(Clone, Copy, Debug, Drop)]
+#[derive(Clone, Copy, Drop)]
 pub enum Batch {
     Put,
     Ins,
@@ -54,6 +54,25 @@ pub const BATCHES: [Batch; 11] = [
     Batch::New,
     Batch::Gone,
 ];
+
+impl Batch {
+    /// The word under which the batch is told.
+    pub fn word(self) -> &'static str {
+        match self {
+            Batch::Put => "Put",
+            Batch::Ins => "Ins",
+            Batch::Shift => "Shift",
+            Batch::Del => "Del",
+            Batch::Link => "Link",
+            Batch::RerankRow => "RerankRow",
+            Batch::Unlink => "Unlink",
+            Batch::RerankPlace => "RerankPlace",
+            Batch::Move => "Move",
+            Batch::New => "New",
+            Batch::Gone => "Gone",
+        }
+    }
+}
 
 /// The element of a number.
 pub fn element(alloc: Global, number: u64) -> Result<Id, TimesFault> {
@@ -86,17 +105,27 @@ fn citation(alloc: Global, number: u64) -> Result<Step, TimesFault> {
     })
 }
 
-/// The steps that make a model of so many elements.
-pub fn building(alloc: Global, elements: u64) -> Result<List<Step>, TimesFault> {
-    let mut steps = List::new(alloc);
+fn put_creations(alloc: Global, steps: &mut List<Step>, elements: u64) -> Result<(), TimesFault> {
     for number in 0..elements {
         steps.push(creation(alloc, number)?)?;
     }
+    Ok(())
+}
+
+fn put_citations(alloc: Global, steps: &mut List<Step>, elements: u64) -> Result<(), TimesFault> {
     for number in 0..elements {
         if number % 5 == 0 {
             steps.push(citation(alloc, number)?)?;
         }
     }
+    Ok(())
+}
+
+/// The steps that make a model of so many elements.
+pub fn building(alloc: Global, elements: u64) -> Result<List<Step>, TimesFault> {
+    let mut steps = List::new(alloc);
+    put_creations(alloc, &mut steps, elements)?;
+    put_citations(alloc, &mut steps, elements)?;
     Ok(steps)
 }
 
@@ -176,15 +205,23 @@ fn row_step(alloc: Global, batch: Batch, a: Id, rank: u64) -> Result<Step, Times
     }
 }
 
-/// The move of an element from the root into the element of number 1.
-fn move_step(alloc: Global, e: Id, from_rank: u64, to_rank: u64) -> Result<Step, TimesFault> {
-    let mut above_to = List::new(alloc);
-    above_to.push(element(alloc, 1)?)?;
+/// The containers of what stands inside the element of number 1: that element alone.
+fn containers(alloc: Global) -> Result<List<Id>, TimesFault> {
+    let mut above = List::new(alloc);
+    above.push(element(alloc, 1)?)?;
+    Ok(above)
+}
+
+/// The move of the element of a number from the root into the element of number 1.
+fn move_step(alloc: Global, number: u64, from_rank: u64, to_rank: u64) -> Result<Step, TimesFault> {
+    let e = element(alloc, number)?;
+    let to = inside(alloc)?;
+    let above_to = containers(alloc)?;
     Ok(Step::Move {
         e,
         from: Place::Root,
         from_rank,
-        to: inside(alloc)?,
+        to,
         to_rank,
         above_from: List::new(alloc),
         above_to,
@@ -201,7 +238,7 @@ fn place_step(alloc: Global, batch: Batch, number: u64, at: u64) -> Result<Step,
             old,
             new,
         }),
-        Batch::Move => move_step(alloc, element(alloc, number)?, new, old),
+        Batch::Move => move_step(alloc, number, new, old),
         Batch::New => Ok(Step::New {
             e: Id::read(alloc, format!(in alloc; "m{at}")?.as_str())?,
             class: 0,
@@ -229,19 +266,46 @@ fn step_of(alloc: Global, batch: Batch, number: u64, at: u64) -> Result<Step, Ti
     }
 }
 
+/// The second insertion into the values of an element.
+fn insertion(alloc: Global, number: u64) -> Result<Step, TimesFault> {
+    Ok(Step::Ins {
+        e: element(alloc, number)?,
+        f: SIZES,
+        at: 1,
+        v: Value::Whole(2),
+    })
+}
+
+/// Puts the step of a batch at a place in it after others, and after an insertion a second one.
+fn put_step(
+    alloc: Global,
+    steps: &mut List<Step>,
+    batch: Batch,
+    number: u64,
+    at: u64,
+) -> Result<(), TimesFault> {
+    steps.push(step_of(alloc, batch, number, at)?)?;
+    if matches!(batch, Batch::Ins) {
+        steps.push(insertion(alloc, number)?)?;
+    }
+    Ok(())
+}
+
+fn put_batch(
+    alloc: Global,
+    steps: &mut List<Step>,
+    batch: Batch,
+    elements: u64,
+) -> Result<(), TimesFault> {
+    for at in 0..COUNT {
+        put_step(alloc, steps, batch, number_of(elements, at), at)?;
+    }
+    Ok(())
+}
+
 /// The steps of a batch.
 pub fn batch_of(alloc: Global, batch: Batch, elements: u64) -> Result<List<Step>, TimesFault> {
     let mut steps = List::new(alloc);
-    for at in 0..COUNT {
-        steps.push(step_of(alloc, batch, number_of(elements, at), at)?)?;
-        if matches!(batch, Batch::Ins) {
-            steps.push(Step::Ins {
-                e: element(alloc, number_of(elements, at))?,
-                f: SIZES,
-                at: 1,
-                v: Value::Whole(2),
-            })?;
-        }
-    }
+    put_batch(alloc, &mut steps, batch, elements)?;
     Ok(steps)
 }

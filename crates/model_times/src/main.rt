@@ -10,14 +10,14 @@ ghost use Rattle.ecore_meta.specs.Sound.{Sound};
 ghost use Rattle.model_state.specs.Good.{Good};
 
 use anyhow::Result;
-use batches::{BATCHES, batch_of, building};
+use batches::{BATCHES, Batch, batch_of, building};
 use ecore_json::read_metamodel;
 use ecore_meta::Metamodel;
 use fault::TimesFault;
 use model_graph::Graph;
 use model_laws::replay;
-use model_state::{Change, Step};
-use queries::{QUERIES, ask, asked};
+use model_state::{Change, Id, Look, Step};
+use queries::{QUERIES, Query, ask, asked};
 use std::alloc::Global;
 use std::env;
 use std::time::{Duration, Instant};
@@ -68,8 +68,58 @@ fn take<M: Change>(meta: &Metamodel, model: &mut M, steps: &[Step]) -> Result<()
     }
 }
 
-/// Builds the model, and takes each batch.
+/// Takes steps that are told by a word, and tells how many they are.
 fn measure_steps<M: Change>(
+    rt: &HostRuntime,
+    is_timed: bool,
+    meta: &Metamodel,
+    model: &mut M,
+    word: &str,
+    steps: &[Step],
+) -> Result<()>
+    requires sound { Sound meta.now }
+    requires good { Good meta.now (M.state model.old) }
+    ensures { OnOk result (Good meta.now (M.state model.new)) }
+{
+    let start = Instant::now(rt)?;
+    take(meta, model, steps)?;
+    let taken = start.elapsed(rt)?;
+    println!(rt; "{word}: {}", steps.len())?;
+    print_time(rt, is_timed, taken)
+}
+
+fn measure_building<M: Change>(
+    rt: &HostRuntime,
+    is_timed: bool,
+    meta: &Metamodel,
+    model: &mut M,
+    elements: u64,
+) -> Result<()>
+    requires sound { Sound meta.now }
+    requires good { Good meta.now (M.state model.old) }
+    ensures { OnOk result (Good meta.now (M.state model.new)) }
+{
+    let steps = building(rt.alloc(), elements)?;
+    measure_steps(rt, is_timed, meta, model, "build", steps.as_slice())
+}
+
+fn measure_batch<M: Change>(
+    rt: &HostRuntime,
+    is_timed: bool,
+    meta: &Metamodel,
+    model: &mut M,
+    batch: Batch,
+    elements: u64,
+) -> Result<()>
+    requires sound { Sound meta.now }
+    requires good { Good meta.now (M.state model.old) }
+    ensures { OnOk result (Good meta.now (M.state model.new)) }
+{
+    let steps = batch_of(rt.alloc(), batch, elements)?;
+    measure_steps(rt, is_timed, meta, model, batch.word(), steps.as_slice())
+}
+
+fn measure_batches<M: Change>(
     rt: &HostRuntime,
     is_timed: bool,
     meta: &Metamodel,
@@ -79,43 +129,39 @@ fn measure_steps<M: Change>(
     requires sound { Sound meta.now }
     requires good { Good meta.now (M.state model.old) }
 {
-    let alloc = rt.alloc();
-    let steps = building(alloc, elements)?;
-    let start = Instant::now(rt)?;
-    take(meta, model, steps.as_slice())?;
-    let taken = start.elapsed(rt)?;
-    println!(rt; "build: {}", steps.len())?;
-    print_time(rt, is_timed, taken)?;
     for batch in BATCHES {
-        let steps = batch_of(alloc, batch, elements)?;
-        let start = Instant::now(rt)?;
-        take(meta, model, steps.as_slice())?;
-        let taken = start.elapsed(rt)?;
-        println!(rt; "{batch:?}: {}", steps.len())?;
-        print_time(rt, is_timed, taken)?;
+        measure_batch(rt, is_timed, meta, model, batch, elements)?;
     }
     Ok(())
 }
 
-/// Asks each query of the model.
-fn measure_queries<M: Change>(
+fn measure_query<L: Look>(
     rt: &HostRuntime,
     is_timed: bool,
-    model: &M,
-    elements: u64,
+    model: &L,
+    query: Query,
+    asked: &[Id],
 ) -> Result<()> {
-    let alloc = rt.alloc();
-    let asked = asked(alloc, elements)?;
+    let start = Instant::now(rt)?;
+    let found = ask(rt.alloc(), model, query, asked)?;
+    let taken = start.elapsed(rt)?;
+    println!(rt; "{query:?}: {}, {found} found", asked.len())?;
+    print_time(rt, is_timed, taken)
+}
+
+fn measure_queries<L: Look>(
+    rt: &HostRuntime,
+    is_timed: bool,
+    model: &L,
+    asked: &[Id],
+) -> Result<()> {
     for query in QUERIES {
-        let start = Instant::now(rt)?;
-        let found = ask(alloc, model, query, asked.as_slice())?;
-        let taken = start.elapsed(rt)?;
-        println!(rt; "{query:?}: {}, {found} found", asked.len())?;
-        print_time(rt, is_timed, taken)?;
+        measure_query(rt, is_timed, model, query, asked)?;
     }
     Ok(())
 }
 
+/// Builds the model, takes each batch, and asks each query.
 fn measure<M: Change>(
     rt: &HostRuntime,
     is_timed: bool,
@@ -126,36 +172,44 @@ fn measure<M: Change>(
     requires sound { Sound meta.now }
     requires good { Good meta.now (M.state model.old) }
 {
-    measure_steps(rt, is_timed, meta, model, elements)?;
-    measure_queries(rt, is_timed, model, elements)
+    measure_building(rt, is_timed, meta, model, elements)?;
+    measure_batches(rt, is_timed, meta, model, elements)?;
+    let asked = asked(rt.alloc(), elements)?;
+    measure_queries(rt, is_timed, model, asked.as_slice())
 }
 
-fn main(rt: HostRuntime) -> Result<()> {
-    let alloc = rt.alloc();
-    let words: Vec<String> = env::args(&rt)?.skip(1).collect(alloc)?;
-    let [kind, elements, rest @ ..] = words.as_slice() else {
+fn measure_plain(rt: &HostRuntime, is_timed: bool, meta: &Metamodel, elements: u64) -> Result<()>
+    requires { Sound meta.now }
+{
+    let mut model = Plain::new(rt.alloc());
+    measure(rt, is_timed, meta, &mut model, elements)
+}
+
+fn measure_graph(rt: &HostRuntime, is_timed: bool, meta: &Metamodel, elements: u64) -> Result<()>
+    requires { Sound meta.now }
+{
+    let mut model = Graph::new(rt.alloc());
+    measure(rt, is_timed, meta, &mut model, elements)
+}
+
+/// Measures what the words after the program's name say.
+fn run(rt: &HostRuntime, words: &[String]) -> Result<()> {
+    let [kind, elements, rest @ ..] = words else {
         return Err(TimesFault::Usage.into());
     };
     let Ok(elements) = elements.as_str().parse::<u32>() else {
         return Err(TimesFault::Usage.into());
     };
-    let meta = metamodel(alloc)?;
+    let meta = metamodel(rt.alloc())?;
     let is_timed = !rest.is_empty();
     match kind.as_str() {
-        "plain" => measure(
-            &rt,
-            is_timed,
-            &meta,
-            &mut Plain::new(alloc),
-            elements as u64,
-        ),
-        "graph" => measure(
-            &rt,
-            is_timed,
-            &meta,
-            &mut Graph::new(alloc),
-            elements as u64,
-        ),
+        "plain" => measure_plain(rt, is_timed, &meta, elements as u64),
+        "graph" => measure_graph(rt, is_timed, &meta, elements as u64),
         _ => Err(TimesFault::Usage.into()),
     }
+}
+
+fn main(rt: HostRuntime) -> Result<()> {
+    let words: Vec<String> = env::args(&rt)?.skip(1).collect(rt.alloc())?;
+    run(&rt, words.as_slice())
 }

@@ -48,6 +48,30 @@ fn yes(is_so: bool) -> usize {
     if is_so { 1 } else { 0 }
 }
 
+/// How many elements stand inside an element.
+fn count_inside<L: Look>(alloc: Global, model: &L, e: &Id) -> Result<usize, TimesFault> {
+    let place = Place::Inside {
+        parent: e.copy(alloc)?,
+        feature: 5,
+    };
+    let list = model.children(alloc, &place)?;
+    Ok(list.len())
+}
+
+/// How long the list is that a query of an element gives.
+fn count_list<L: Look>(
+    alloc: Global,
+    model: &L,
+    query: Query,
+    e: &Id,
+) -> Result<usize, TimesFault> {
+    match query {
+        Query::Targets => Ok(model.targets(alloc, e, 2)?.len()),
+        Query::Incoming => Ok(model.incoming(alloc, e)?.len()),
+        _ => count_inside(alloc, model, e),
+    }
+}
+
 /// A query of an element, and how much it found.
 fn ask_one<L: Look>(alloc: Global, model: &L, query: Query, e: &Id) -> Result<usize, TimesFault> {
     match query {
@@ -55,22 +79,10 @@ fn ask_one<L: Look>(alloc: Global, model: &L, query: Query, e: &Id) -> Result<us
         Query::Placed => Ok(yes(model.placed(e).is_some())),
         Query::Attr => Ok(model.attr(e, 1).len()),
         Query::Row => Ok(yes(model.row(e, 2, e).is_some())),
-        Query::Targets => Ok(model.targets(alloc, e, 2)?.len()),
         Query::LastTarget => Ok(yes(model.last_target(e, 2).is_some())),
-        Query::Incoming => Ok(model.incoming(alloc, e)?.len()),
-        Query::Children => Ok(
-            model
-                .children(
-                    alloc,
-                    &Place::Inside {
-                        parent: e.copy(alloc)?,
-                        feature: 5,
-                    },
-                )?
-                .len(),
-        ),
         Query::LastChild => Ok(yes(model.last_child(&Place::Root).is_some())),
         Query::ChildCount => Ok(model.child_count(&Place::Root)),
+        Query::Targets | Query::Incoming | Query::Children => count_list(alloc, model, query, e),
     }
 }
 
