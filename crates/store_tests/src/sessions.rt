@@ -5,6 +5,7 @@ mod crowds;
 mod faults;
 mod frames;
 mod imports;
+mod large;
 mod library;
 mod links;
 mod merging;
