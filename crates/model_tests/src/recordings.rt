@@ -12,7 +12,6 @@ ghost use Rattle.step_apply.specs.View.{plain_state};
 use crate::answers::{Calls, check};
 use crate::lines::operation_line;
 use ecore_meta::Metamodel;
-use edits::Edit;
 use model_laws::replay;
 use model_state::{Operation, Step};
 use recorder::{EditFault, Recorded, take_edit};
@@ -375,11 +374,22 @@ create 7 Box b tops #b -> NoElement
 stacks; create 7 Box / b
 create 7 Box b tops #b -> WrongKind"#;
 
-fn command(alloc: Global, line: &str) -> Result<Command, Fail> {
+// What is recorded of the edit that a line spells.
+fn recorded(
+    alloc: Global,
+    meta: &Metamodel,
+    plain: &Plain,
+    line: &str,
+) -> Result<Result<Recorded, EditFault>, Fail>
+    requires { Good meta.now (plain_state plain.now) }
+{
     if line.len() > 1000 {
         return Err("a long line")?;
     }
-    Ok(parse_line(alloc, line)?)
+    match parse_line(alloc, line)? {
+        Command::Edit { ws, edit } => Ok(take_edit(alloc, plain, meta, ws, &edit)),
+        _ => Err("no edit")?,
+    }
 }
 
 fn steps_of(operation: &Option<Operation>) -> &[Step] {
@@ -400,21 +410,6 @@ fn replay_recorded(meta: &Metamodel, plain: &mut Plain, recorded: &Recorded) -> 
     Ok(())
 }
 
-fn take_edit_of(
-    alloc: Global,
-    meta: &Metamodel,
-    plain: &mut Plain,
-    ws: u32,
-    edit: &Edit,
-) -> Result<(), Fail>
-    requires sound { Sound meta.now }
-    requires good { Good meta.now (plain_state plain.old) }
-    ensures { OnOk result (Good meta.now (plain_state plain.new)) }
-{
-    let recorded = take_edit(alloc, plain, meta, ws, edit)?;
-    replay_recorded(meta, plain, &recorded)
-}
-
 // Takes what is recorded of the edit that a line spells.
 pub(crate) fn take(
     alloc: Global,
@@ -426,11 +421,8 @@ pub(crate) fn take(
     requires good { Good meta.now (plain_state plain.old) }
     ensures { OnOk result (Good meta.now (plain_state plain.new)) }
 {
-    let command = command(alloc, line)?;
-    match &command {
-        Command::Edit { ws, edit } => take_edit_of(alloc, meta, plain, *ws, edit),
-        _ => Err("no edit")?,
-    }
+    let recorded = recorded(alloc, meta, plain, line)??;
+    replay_recorded(meta, plain, &recorded)
 }
 
 fn operation_told(alloc: Global, operation: &Option<Operation>) -> Result<String, Fail> {
@@ -467,20 +459,6 @@ fn told_or_refused(
     }
 }
 
-fn answer_of(
-    alloc: Global,
-    meta: &Metamodel,
-    plain: &mut Plain,
-    ws: u32,
-    edit: &Edit,
-) -> Result<String, Fail>
-    requires sound { Sound meta.now }
-    requires good { Good meta.now (plain_state plain.old) }
-{
-    let answer = take_edit(alloc, plain, meta, ws, edit);
-    told_or_refused(alloc, meta, plain, &answer)
-}
-
 // What an edit is answered; its steps can be taken.
 pub(crate) fn answer(
     alloc: Global,
@@ -491,11 +469,8 @@ pub(crate) fn answer(
     requires sound { Sound meta.now }
     requires good { Good meta.now (plain_state plain.old) }
 {
-    let command = command(alloc, call)?;
-    match &command {
-        Command::Edit { ws, edit } => answer_of(alloc, meta, plain, *ws, edit),
-        _ => Err("no edit")?,
-    }
+    let answer = recorded(alloc, meta, plain, call)?;
+    told_or_refused(alloc, meta, plain, &answer)
 }
 
 #[test]
