@@ -28,7 +28,7 @@ text_encoding text = u32_encoding (length text) ++ text
 abbrev pub past : Rest → ℕ → Rest
 past r n = record { bytes = drop n r.bytes; place = r.place + n }
 
--- the first of the bytes that begin at a place, and what is left after it
+-- the first of the bytes that begin at an offset, and what is left after it
 abbrev pub byte_from : ℕ → List ℕ → Result (ℕ × Rest) ReadFault
 byte_from place [] = Err (Short place)
 byte_from place (b ∷ bytes) = Ok (b, record { bytes = bytes; place = place + 1 })

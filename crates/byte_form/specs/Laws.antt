@@ -3,7 +3,7 @@ use Rattle.std.specs.Prelude.{◌≡◌, ℕ, ◌+◌, ◌^◌, ◌<◌, List, [
 use Rattle.std.specs.Str.{IsUtf8}
 use Rattle.byte_form.specs.Rest.{Rest}
 
--- what is left at a place
+-- what is left at an offset
 abbrev pub at : List ℕ → ℕ → Rest
 at bytes place = record { bytes = bytes; place = place }
 

@@ -7,7 +7,7 @@ use std::alloc::Global;
 use std::marker::Model;
 use thiserror::Error;
 
-/// Why a field was not read. The place is the number of bytes before the field.
+/// Why a field was not read. The offset is the number of bytes before the field.
 #[derive(Clone, Copy, Debug, PartialEq, Eq, Error)]
 pub enum ReadFault {
     /// The field passes the end.
@@ -125,7 +125,7 @@ impl<'a> Reader<'a> {
     }
 }
 
-/// The number that the first eight bytes are.
+/// The number that the first eight bytes are, and how many bytes the field takes.
 #[tactic(auto, unfolding(crate::specs::Fields::number_at))]
 fn long_field(rest: &[u8], at: u64) -> Result<(u64, usize), ReadFault>
     ensures field { MatchResult result

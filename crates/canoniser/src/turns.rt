@@ -76,7 +76,7 @@ fn turn(
     }
 }
 
-/// The next operation is added, and rules are taken until none applies to those that were.
+/// The next operation is added, and rules are taken until none applies to those that stand.
 fn enter(
     alloc: Global,
     meta: &Metamodel,

@@ -33,15 +33,15 @@ records (form ∷ forms) = record_of form ++ records forms
 abbrev pub after_gate : List ℕ → List ℕ
 after_gate form = four_bytes (length form) ++ form ++ 0 ∷ []
 
--- the place of the first gate: after the header
+-- the offset of the first gate: after the header
 abbrev pub first_gate : ℕ
 first_gate = 16
 
--- the place of the next gate after the record of a form of that size
+-- the offset of the next gate, after the record of a byte string of that size
 abbrev pub next_gate : ℕ → ℕ → ℕ
 next_gate gate size = gate + 5 + size
 
--- the most bytes of a form: with its gate and its length a record has at most 2 ^ 24 bytes
+-- the most bytes of a byte string: with its gate and its length a record has at most 2 ^ 24 bytes
 abbrev pub most_bytes : ℕ
 most_bytes = 16777211
 
@@ -49,7 +49,7 @@ most_bytes = 16777211
 abbrev pub IsShort : List ℕ → Type 0
 IsShort form = length form ≤ most_bytes
 
--- the file begins with the header and the records of these byte strings, which end at a place
+-- the file begins with the header and the records of these byte strings, which end at an offset
 pub record ReadsTo (file : List ℕ) (forms : List (List ℕ)) (place : ℕ) : Type 0 where
   pub prefix : take place file ≡ header ++ records forms
   pub place_is : place ≡ 16 + length (records forms)
@@ -108,7 +108,7 @@ IsMounted file = (17 < length file) ⊎ (file ≡ new_file)
 abbrev pub MountedFrom : List ℕ → List ℕ → Type 0
 MountedFrom old new = ((17 < length old) × (new ≡ old)) ⊎ ((length old ≤ 17) × (new ≡ new_file))
 
--- a file while it is read: all of it is stable, and it reads as these byte strings up to a place
+-- a file while it is read: all of it is stable, and it reads as these byte strings up to an offset
 pub record IsWalked (disk : Disk) (forms : List (List ℕ)) (place : ℕ) : Type 0 where
   pub settled : IsSettled disk
   pub mounted : IsMounted disk.now
@@ -123,12 +123,12 @@ pub record IsAtRest (disk : Disk) (forms : List (List ℕ)) (end : ℕ) : Type 0
 abbrev pub IsGateLast : Disk → ℕ → List ℕ → Disk → Type 0
 IsGateLast old gate behind disk = CrashLeaves (λ x. slice_index x gate ≡ slice_index old.now gate) disk ⊎ (take (length behind) (drop (gate + 1) disk.stable) ≡ behind)
 
--- what contracts see of a journal: the place of its end, and whether an append failed
+-- what contracts see of a journal: the offset of its end, and whether an append failed
 pub record JournalState : Type 0 where
   pub end : ℕ
   pub broken : Bool
 
--- what contracts see of a journal that is read: the place of the gate that was opened last, that of the next, and whether the closed gate was found
+-- what contracts see of a journal that is read: the offset of the gate that was opened last, that of the next, and whether the closed gate was found
 pub record WalkState : Type 0 where
   pub place : ℕ
   pub next : ℕ

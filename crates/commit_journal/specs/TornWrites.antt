@@ -24,6 +24,6 @@ pub record WrittenWithin (old : Disk) (span : Span) (disk : Disk) : Type 0 where
   pub loose : All (λ range. Contains old.loose range ⊎ IsWithin span range) disk.loose
   pub torn : Torn span old.now disk.now
 
--- these bytes are being written from a place on, or they are there and on the disk
+-- these bytes are being written from an offset on, or they are there and on the disk
 abbrev pub IsWriting : Disk → ℕ → List ℕ → Disk → Type 0
 IsWriting old at bytes disk = WrittenWithin old (record { from = at; to = at + length bytes }) disk ⊎ (disk ≡ synced (written old at bytes))

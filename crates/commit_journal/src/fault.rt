@@ -1,4 +1,4 @@
-//! The faults of reading a journal: damage with its place, a failed disk call, out of memory.
+//! The faults of reading a journal: damage with its offset, a failed disk call, out of memory.
 ghost use Rattle.std.specs.Prelude.{◌≡◌};
 ghost use Rattle.commit_journal.specs.declared.fault.JournalFault.TheVariants.{DiskFault, Memory};
 
@@ -9,7 +9,7 @@ use thiserror::Error;
 /// Why a journal could not be read.
 #[derive(Clone, Copy, Debug, PartialEq, Eq, Error)]
 pub enum JournalFault {
-    /// The file stands for no records; the place, in bytes from 0, is the header's first byte that differs, or the gate
+    /// The file stands for no records; the offset, from 0, is that of the header's first byte that differs, or of the gate
     /// at which neither a closed gate nor a whole record stands.
     #[error("the journal is damaged at byte {at}")]
     Damaged { at: u64 },

@@ -3,13 +3,13 @@
 ghost use Rattle.std.specs.Prelude.{◌≡◌, ◌+◌, ◌^◌, ◌<◌, ◌↔◌};
 ghost use Rattle.commit_journal.specs.Journal.{RecordFits, fit_of, next_gate};
 
-/// The place of the first gate: after the header.
+/// The offset of the first gate: after the header.
 pub const FIRST_GATE: u64 = 16;
 
 /// The most bytes of a record: its gate, its length and its byte string.
 const RECORD_LIMIT: u64 = 1 << 24;
 
-/// The most bytes of a form.
+/// The most bytes of a byte string.
 pub const MOST_BYTES: u64 = RECORD_LIMIT - 5;
 
 /// The most bytes of a journal.
@@ -39,7 +39,7 @@ pub fn fits(end: u64, n: u64) -> Fit
     Fit::Yes
 }
 
-/// The place of the gate after a record of a form of `n` bytes, whose own gate is at `gate`.
+/// The offset of the gate after a record of a byte string of `n` bytes, whose own gate is at `gate`.
 pub fn next_gate(gate: u64, n: u64) -> u64
     requires low { next_gate gate n < 2 ^ 40 }
     ensures place { result ≡ next_gate gate n }

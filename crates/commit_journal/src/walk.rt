@@ -61,7 +61,7 @@ fn has_room(length: u64, gate: u64, size: u64) -> bool
     size <= MOST_BYTES && gate + 5 + size < JOURNAL_LIMIT && size <= length - gate - 5
 }
 
-/// What stands at the place where a record's gate may stand.
+/// What stands at the offset where a record's gate may stand.
 enum Gate {
     /// No record: the journal ends here.
     Closed,
@@ -156,7 +156,7 @@ impl Walk {
         }
     }
 
-    /// The place of the gate that was opened last.
+    /// The offset of the gate that was opened last.
     pub fn place(&self) -> u64
         ensures { result ≡ self.now.place }
     {

@@ -82,7 +82,7 @@ Some(Meta(NoType)) {"eClass":"E#//EClass","name":"C","eStructuralFeatures":[{"eC
 Some(Meta(Unsupported)) {"eClass":"E#//EClass","name":"B","eStructuralFeatures":[{"eClass":"E#//EAttribute","name":"x","eType":{"$ref":"E#//EDouble"}}]}
 Some(Meta(DupName)) {"eClass":"E#//EClass","name":"A"},{"eClass":"E#//EClass","name":"A"}"###;
 
-// With all that are looked for later before it, a fault is reported.
+// A fault is reported where all that are looked for later stand before it.
 #[test]
 fn of_many_faults_the_first_in_order_is_reported(rt: HostRuntime) -> Result<(), Fail> {
     let alloc = rt.alloc();

@@ -46,7 +46,7 @@ fn read(alloc: Global, text: &str) -> Result<Vec<u8>, Fail> {
     Ok(hex::decode(alloc, digits.as_str())?)
 }
 
-// Until the last byte of the next field has come, the bytes are no event, and the place is that where the field begins.
+// Until the last byte of the next field has come, the bytes are no event, and the offset is that where the field begins.
 fn add_field(
     rt: &impl Abort,
     alloc: Global,
@@ -97,7 +97,7 @@ fn events_are_spelled_and_every_prefix_is_no_encoding(rt: HostRuntime) -> Result
     Ok(())
 }
 
-// Bytes of no event, and the place: of the first field that can't be read, or of the first byte left over.
+// Bytes of no event, and the offset: of the first field that can't be read, or of the first byte left over.
 const NO_EVENTS: &str = "0f 00000001 = 0
 00 = 0
 01 00000001ff = 1

@@ -70,14 +70,14 @@ pub record IsPlan (pool : Frames) (state : State) (decision : plain.Decision) (p
   pub answered : plan.answered ≡ answered_as (is_refusal decision.reply)
   pub ready : IsRecordOf pool state decision.event plan.ready
 
--- a store while it is read: its records up to a place are those of events, each one that a command could make, and the
+-- a store while it is read: its records up to an offset are those of events, each one that a command could make, and the
 -- state is theirs
 pub record IsReplayed (disk : Disk) (state : State) (place : ℕ) (made : List Event) : Type 0 where
   pub walked : IsWalked disk (map event_encoding made) place
   pub playable : IsTrue (are_playable empty made)
   pub state_is : state ≡ played play empty made
 
--- a fault that is damage is at a place that has P
+-- a fault that is damage is at an offset that has P
 abbrev pub AtDamage : SessionFault → (ℕ → Type 0) → Type 0
 AtDamage (Damaged at) P = P at
 AtDamage DiskFault P = Unit {0}

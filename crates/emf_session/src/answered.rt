@@ -25,7 +25,7 @@ pub enum SessionFault {
     /// The host failed to print a reply. The command is carried out.
     #[error("the reply was not printed")]
     SayFault,
-    /// The file stands for no list of events; `at` is the place, in bytes from 0.
+    /// The file stands for no list of events; `at` is the offset, in bytes from 0.
     #[error("damaged at {at}")]
     Damaged { at: u64 },
     /// Nothing has changed.

@@ -22,7 +22,7 @@ use repo_core::{Decision, Made, Repo};
 use script_lang::print_reply;
 use std::alloc::{AllocError, Global};
 
-/// All that answering a command takes: the bytes of the reply, and the record of the event. No memory is wanted any more.
+/// All that answering a command takes: the bytes of the reply, and the record of the event. No more memory is needed.
 #[derive(Drop)]
 pub struct Plan {
     pub reply: Vec<u8>,

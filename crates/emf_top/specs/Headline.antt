@@ -100,7 +100,7 @@ pub record NothingRose (before now : Told) : Type 0 where
 abbrev pub KeepsFile : Told → Told → Type 0
 KeepsFile before now = Throughout before now (λ disk said. disk.now ≡ (disk_now before).now)
 
--- a host that reports has a file that is damaged at a place and stands for no list of events; at each moment the file reads as
+-- a host that reports has a file that is damaged at an offset and stands for no list of events; at each moment the file reads as
 -- it was; nothing is printed, and no input taken
 pub record IsFoundDamaged (before now : Told) (at : ℕ) : Type 0 where
   pub place : IsTrue before.tells → IsDamaged (disk_now before).now at

@@ -40,11 +40,11 @@ pub enum Status {
     WriteFault,
     /// A disk call of the host failed.
     DiskFault,
-    /// The file stands for no list of events; `at` is the place, in bytes from 0.
+    /// The file stands for no list of events; `at` is the offset, in bytes from 0.
     Damaged { at: u64 },
     /// No memory was left.
     Memory,
-    /// The input is no script: the number of the fault, 1 to 5, and its place, in bytes from 0.
+    /// The input is no script: the number of the fault, 1 to 5, and its offset, in bytes from 0.
     Input { fault: u32, at: u64 },
 }
 

@@ -1,4 +1,4 @@
-//! The lines and blocks read of an input, however it is cut into pieces, and the place of each fault.
+//! The lines and blocks read of an input, however it is cut into pieces, and the offset of each fault.
 ghost use Rattle.std.specs.Prelude.{◌≡◌, ◌≤◌, false};
 
 use crate::spelling::{bytes_of, text_of};

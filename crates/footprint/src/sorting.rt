@@ -94,7 +94,7 @@ fn sorted_places(alloc: Global, list: &[Cell]) -> Result<Vec<usize>, AllocError>
     Ok(order)
 }
 
-/// So many cells at most are searched one by one, and want no order.
+/// So many cells at most are searched one by one, and need no order.
 const FEW: usize = 8;
 
 /// The places of the cells by the order of cells, or none of few cells.

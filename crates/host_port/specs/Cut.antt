@@ -1,4 +1,4 @@
--- The items of a script's input: lines, and lines with their blocks, followed by the end or by a fault with its place.
+-- The items of a script's input: lines, and lines with their blocks, followed by the end or by a fault with its offset.
 use Rattle.std.specs.Prelude.{ℕ, ◌+◌, ◌-◌, ◌==◌, ◌&&◌, nat_lt, nat_le, not, List, [], ◌∷◌, ◌++◌, length, take, slice_index, Bool, true, false, if◌then◌else◌, Option, Some, None, Result, Ok, Err}
 use Rattle.std.specs.List.{slice_split, before_first}
 use Rattle.std.specs.Str.Lossy.{utf8_valid_len}
@@ -18,7 +18,7 @@ without_cr raw = if slice_index raw (length raw - 1) == 13 then take (length raw
 abbrev pub line_bytes : Bool → List ℕ → List ℕ
 line_bytes ended raw = if ended then without_cr raw else raw
 
--- the bytes as text, or the place of the first byte that is none
+-- the bytes as text, or the offset of the first byte that is none
 abbrev pub text_at : ℕ → List ℕ → Result (List ℕ) LineFault
 text_at place bytes = if utf8_valid_len bytes == length bytes then Ok bytes else Err (NotText (place + utf8_valid_len bytes))
 
@@ -85,7 +85,7 @@ abbrev pub text_with : ℕ → Result (List ℕ) LineFault → List ℕ → Resu
 text_with place (Err e) line = Err e
 text_with place (Ok text) line = line_added text (text_at place line)
 
--- the place after a line, and after its line feed where one follows
+-- the offset after a line, and after its line feed where one follows
 abbrev pub past_line : ℕ → Bool → List ℕ → ℕ
 past_line place ended raw = place + (if ended then length raw + 1 else length raw)
 
@@ -138,7 +138,7 @@ unfoldable mutual
       if ends_block place true raw then after_block line text (cut takes_block (place + length raw + 1) (next ∷ parts))
       else in_block_by (block_line start place true text raw) (λ more. cut_block takes_block line start (place + length raw + 1) more (next ∷ parts))
 
--- the script that the unread bytes are, from a place on
+-- the script that the unread bytes are, from an offset on
 abbrev pub script_from : (List ℕ → Bool) → ℕ → List ℕ → Script
 script_from takes_block place unread = cut takes_block place (slice_split is_lf unread)
 

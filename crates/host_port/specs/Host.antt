@@ -1,7 +1,7 @@
 -- What a host reports of its store, its console and its input, and what each call does to that.
 use Rattle.std.specs.Prelude.{◌≡◌, ◌⊎◌, ℕ, ◌+◌, ◌-◌, ◌^◌, ◌<◌, ◌≤◌, min, max, Bool, IsTrue, List, [], ◌∷◌, ◌++◌, length, take, drop, slice_index, All}
 
--- the places from one on, up to before another
+-- the offsets from one on, up to before another
 pub record Span : Type 0 where
   pub from : ℕ
   pub to : ℕ
@@ -12,7 +12,7 @@ pub record Disk : Type 0 where
   pub stable : List ℕ
   pub loose : List Span
 
--- the place is not in the range
+-- the offset is not in the range
 abbrev pub IsOutside : Span → ℕ → Type 0
 IsOutside span i = (i < span.from) ⊎ (span.to ≤ i)
 
@@ -111,7 +111,7 @@ pub record RaisesDiskAlone (old new : Told) : Type 0 where
   pub take_faults : new.take_faults ≡ old.take_faults
   pub say_faults : new.say_faults ≡ old.say_faults
 
--- old with these bytes from a place on
+-- old with these bytes from an offset on
 abbrev pub overwritten : List ℕ → ℕ → List ℕ → List ℕ
 overwritten old at bytes = take at old ++ bytes ++ drop (at + length bytes) old
 
@@ -123,7 +123,7 @@ pub record WrittenPart (old : Disk) (span : Span) (disk : Disk) : Type 0 where
   pub no_longer : length disk.now ≤ max (length old.now) span.to
   pub kept : (i : ℕ) → i < length old.now → IsOutside span i → slice_index disk.now i ≡ slice_index old.now i
 
--- the file once these bytes are written from a place on; they are not stable yet
+-- the file once these bytes are written from an offset on; they are not stable yet
 abbrev pub written : Disk → ℕ → List ℕ → Disk
 written old at bytes = record {
   now = overwritten old.now at bytes;

@@ -2,7 +2,7 @@
 use Rattle.std.specs.Prelude.{◌≡◌, ℕ, ◌<◌, ◌≤◌, List, length, slice_index, All, Contains}
 use Rattle.host_port.specs.Host.{Disk, Span, IsOutside, furthest}
 
--- the place is in the range
+-- the offset is in the range
 abbrev pub IsInside : Span → ℕ → Type 0
 IsInside span i = (span.from ≤ i) × (i < span.to)
 

@@ -77,7 +77,7 @@ BlockLine stop start place old new raw (Ok false) = (ends_block place (is_feed s
 BlockLine stop start place old new raw (Err Memory) = Unit {0}
 BlockLine stop start place old new raw (Err e) = BlockFault stop start place old raw e
 
--- what contracts see of a reader: the bytes at hand, the place of the first of them, the text and whether a call failed
+-- what contracts see of a reader: the bytes at hand, the offset of the first of them, the text and whether a call failed
 pub record Reader : Type 0 where
   pub pending : List ℕ
   pub place : ℕ

@@ -26,7 +26,7 @@ taken_on talk n = record talk { part = drop n talk.part }
 abbrev pub pieces_in : IntoIter (Vec ℕ Global) Global → List (List ℕ)
 pieces_in pieces = map (λ v. v.items) (into_iter_items pieces)
 
--- a file that is lengthened with zeros to a place
+-- a file that is lengthened with zeros to an offset
 abbrev pub padded : List ℕ → ℕ → List ℕ
 padded file to = file ++ replicate (to - length file) 0
 

@@ -1,4 +1,4 @@
--- What a host that talks has left, has heard and holds.
+-- What a host of a dialogue has left of its input, what was printed to it, and what its file holds.
 use Rattle.std.specs.Prelude.{◌≡◌, ℕ, List, drop}
 use Rattle.host_port.specs.declared.talk.TalkHost.{TalkHost}
 use Rattle.host_port.specs.Host.{Told}
@@ -8,7 +8,7 @@ use Rattle.host_port.specs.Talk.{Talk, pieces_in, nothing_told}
 abbrev pub talk_told : TalkHost → Told
 talk_told host = nothing_told host.take_faults host.say_faults host.disk_faults
 
--- the talk that is left
+-- the dialogue that is left
 abbrev pub talk_of : TalkHost → Talk
 talk_of host = record { part = drop host.taken host.piece.items; later = pieces_in host.pieces; heard = host.heard }
 

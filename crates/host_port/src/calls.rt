@@ -124,7 +124,7 @@ pub(crate) fn shown_bytes<'a>(written: &'a Option<Vec<u8>>, first: &'a Vec<u8>) 
     }
 }
 
-// The bytes with others over them from a place on, or after them where they end before it.
+// The bytes with others over them from an offset on, or after them where they end before it.
 pub(crate) fn overwrite(
     alloc: Global,
     file: &[u8],

@@ -7,7 +7,7 @@ ghost use Rattle.host_port.specs.Replay.{at_start, after_call, after_calls, smea
 use crate::calls::{Call, overwrite};
 use std::alloc::{AllocError, Global};
 
-// The bytes, lengthened to a place with one byte.
+// The bytes, lengthened to an offset with one byte.
 pub(crate) fn lengthen(
     alloc: Global,
     bytes: &Vec<u8>,
@@ -22,7 +22,7 @@ pub(crate) fn lengthen(
     Ok(long)
 }
 
-// The bytes with one byte in a range, and in the places up to it that there weren't.
+// The bytes with one byte in a range, and at the offsets up to it that there weren't.
 fn smear(
     alloc: Global,
     image: &Vec<u8>,

@@ -35,19 +35,19 @@ pub enum Got {
     End,
 }
 
-/// Why no line or block is read. `at` is a place in the input, counted in bytes from 0.
+/// Why no line or block is read. `at` is an offset in the input, in bytes from 0.
 #[derive(Clone, Copy, Debug, PartialEq, Eq, Error)]
 pub enum LineFault {
-    /// A line goes on past its limit, at this place.
+    /// A line goes on past its limit, at this offset.
     #[error("a line is too long at {at}")]
     LineTooLong { at: u64 },
-    /// A block goes on past its limit, at this place.
+    /// A block goes on past its limit, at this offset.
     #[error("a block is too long at {at}")]
     BlockTooLong { at: u64 },
-    /// The first byte of a line or block that is no UTF-8 is at this place.
+    /// The first byte of a line or block that is no UTF-8 is at this offset.
     #[error("no UTF-8 at {at}")]
     NotText { at: u64 },
-    /// The input ends at this place, in a block.
+    /// The input ends at this offset, in a block.
     #[error("the input ends within a block at {at}")]
     UnendedBlock { at: u64 },
     /// The input has that many bytes or more.

@@ -48,7 +48,7 @@ fn turn_over(pieces: &mut IntoIter<Vec<u8>>, piece: &mut Vec<u8>, taken: &mut us
     }
 }
 
-// Reads what the file has from a place on, and zeros after its end.
+// Reads what the file has from an offset on, and zeros after its end.
 fn read_over(file: &[u8], at: u64, into: &mut [u8])
     ensures { into.new ≡ take (length into.old) (drop at (padded file.now (at + length into.old))) }
 {
@@ -58,7 +58,7 @@ fn read_over(file: &[u8], at: u64, into: &mut [u8])
     into[..count].copy_from_slice(&rest[..count]);
 }
 
-// The file with bytes over it from a place on, lengthened with zeros where it ends before.
+// The file with bytes over it from an offset on, lengthened with zeros where it ends before.
 fn write_over(alloc: Global, file: &Vec<u8>, at: u64, bytes: &[u8]) -> Result<Vec<u8>, AllocError>
     ensures { IfOk result (λ v. v.items ≡ overwritten (padded file.now.items at) at bytes.now) }
 {

@@ -54,7 +54,7 @@ stood p (Some x) = cond (place_eq p x.place) (Some x.rank) None
 abbrev pub IsHoused : Ranks → Elements → Type 0
 IsHoused roots m = (p : Place) (x : IdBytes) → standing roots m p x ≡ stood p (placed_at m x)
 
--- a reference comes in where it goes out, with the same rank
+-- a reference stands at its target as at its source, with the same rank
 abbrev pub IsMirrored : Elements → Type 0
 IsMirrored m = (a b : IdBytes) (f : ℕ) → inner (λ (n : Node). n.into) (get m b) (a, f) ≡ inner (λ (n : Node). n.out) (get m a) (f, b)
 

@@ -1,4 +1,4 @@
-//! The references that come to an element.
+//! The references that end at an element.
 ghost use Rattle.std.specs.Prelude.{◌≡◌, Some, None, OnOk, OnErr, IfOk, is_some, true, map};
 ghost use Rattle.std.specs.FinMap.{get, empty, entries};
 ghost use Rattle.std.specs.BTreeMap.{IsOrdered};
@@ -30,7 +30,7 @@ fn listed(alloc: Global, tree: &BTreeMap<(Id, u32), u64>) -> Result<List<Incomin
     Ok(found)
 }
 
-/// The ranks of the references that come to an element, by source and feature, which contracts see as a finite map.
+/// The ranks of the references that end at an element, by source and feature, which contracts see as a finite map.
 #[derive(Drop)]
 pub struct Arrivals {
     tree: BTreeMap<(Id, u32), u64>,
@@ -58,7 +58,7 @@ impl Arrivals {
         }
     }
 
-    /// Whether no reference comes.
+    /// Whether there is no reference.
     pub fn is_empty(&self) -> bool
         ensures { result ≡ is_bare self.now }
     {

@@ -8,7 +8,7 @@ use crate::feature_lists::FeatureLists;
 use model_state::Placed;
 use std::alloc::{AllocError, Global};
 
-/// An element: its class, where it stands, its values, the references that go out and those that come in, and the
+/// An element: its class, where it stands, its values, the references that begin and those that end at it, and the
 /// elements inside it.
 #[derive(Drop)]
 pub struct Node {

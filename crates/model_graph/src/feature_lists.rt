@@ -39,7 +39,7 @@ fn put_of(
     }
 }
 
-/// Takes an element out of the list of a feature, and tells whether that list is there and empty now.
+/// Takes an element out of the list of a feature, and answers whether that list is there and empty now.
 fn drop_of(tree: &mut BTreeMap<u32, RankedList>, f: u32, e: &Id) -> bool
     ensures tree { table nat_cmp tree.new ≡ set (table nat_cmp tree.old) f (option_map (λ g. set g e.now None) (ordered_map.get nat_cmp tree.old f)) }
     ensures emptied { result ≡ is_emptied (option_map (λ g. set g e.now None) (ordered_map.get nat_cmp tree.old f)) }

@@ -20,10 +20,10 @@ use std::marker::Model;
 
 /// A model over elements in slots, which contracts see as its state.
 ///
-/// Beside each element stand its values, the references that go out of it by feature and target, those that come to it by
+/// Beside each element stand its values, the references that begin at it by feature and target, those that end at it by
 /// source and feature, and the elements inside it by feature; the elements at the root are listed beside all. So to find
 /// an element costs a look-up in a hash table; to find, write or take out a value, a reference or an element of a list,
-/// and to tell the last of a list, a logarithm more; a list's length is stored; and to list costs a copy of what is
+/// and to find the last of a list, a logarithm more; a list's length is stored; and to list costs a copy of what is
 /// listed.
 #[derive(Drop)]
 pub struct Graph {
@@ -137,7 +137,7 @@ impl Graph {
         }
     }
 
-    /// Gives a reference its rank, a new reference or one that is there, where it goes out and where it comes in.
+    /// Gives a reference its rank, a new reference or one that is there, at its source and at its target.
     pub(crate) fn put_row(&mut self, a: &Id, f: u32, b: &Id, rank: u64) -> Result<(), AllocError>
         requires source { is_live self.old a.now ≡ true }
         requires target { is_live self.old b.now ≡ true }
@@ -158,7 +158,7 @@ impl Graph {
         }
     }
 
-    /// Takes a reference out, where it goes out and where it comes in. This takes no memory.
+    /// Takes a reference out, at its source and at its target. This takes no memory.
     pub(crate) fn drop_row(&mut self, a: &Id, f: u32, b: &Id, key: &(Id, u32))
         requires source { is_live self.old a.now ≡ true }
         requires target { is_live self.old b.now ≡ true }

@@ -98,7 +98,7 @@ pub fn put_into(
     done
 }
 
-/// Gives a reference to the element that is there another rank.
+/// Gives a reference to the element, one that is there, another rank.
 pub fn rewrite_into(alloc: Global, nodes: &mut Nodes<Node>, e: &Id, key: &(Id, u32), rank: u64)
     requires live { IsSome (get nodes.old e.now) }
     requires there { is_some (inner (λ n. n.into) (get nodes.old e.now) key.now) ≡ true }

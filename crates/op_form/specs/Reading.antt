@@ -12,7 +12,7 @@ use Rattle.op_form.specs.declared.fault.FormFault.TheVariants.{NotForm, Memory}
 abbrev pub Reading : Type 0 → Type 0
 Reading X = Rest → Result (X × Rest) FormFault
 
--- a field that can't be read is no encoding, at the field's place
+-- a field that can't be read is no encoding, at the field's offset
 abbrev pub not_form : ReadFault → FormFault
 not_form (read.Short at) = NotForm at
 not_form (read.BadText at) = NotForm at

@@ -27,7 +27,7 @@ pub enum Event {
     Branch { ws: u32, name: Text },
     /// A version has a tag of that name.
     Tag { name: Text, version: u32 },
-    /// The workspace takes up the versions up to its branch's head, with these choices; no text where no bucket was to be chosen of.
+    /// The workspace takes up the versions up to its branch's head, with these choices; an empty text where there is no bucket.
     Update { ws: u32, choices: Text },
     /// The workspace takes up the versions of that branch, with these choices.
     Merge { ws: u32, branch: u32, choices: Text },

@@ -17,7 +17,7 @@ use std::alloc::Global;
 ///
 /// # Errors
 ///
-/// `NotForm` with the place of the first field that can't be read, or of the first byte left over; `Memory`.
+/// `NotForm` with the offset of the first field that can't be read, or of the first byte left over; `Memory`.
 #[tactic(auto, unfolding(crate::specs::Events::whole_of))]
 pub fn decode(alloc: Global, bytes: &[u8]) -> Result<Package, FormFault>
     ensures read { GivesWhole result (whole_of package_at bytes.now) }

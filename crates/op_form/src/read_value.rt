@@ -17,7 +17,7 @@ pub(crate) fn take_text(alloc: Global, reader: &mut Reader<'_>) -> Result<Text, 
     Ok(Text::new(alloc, text.as_str())?)
 }
 
-/// An id: a text of its form. Where the form is another, the fault has the place of the text.
+/// An id: a text of its form. Where the form is another, the fault has the offset of the text.
 #[tactic(auto, unfolding(crate::specs::Values::id_at))]
 pub(crate) fn take_id(alloc: Global, reader: &mut Reader<'_>) -> Result<Id, FormFault>
     ensures { Gives reader.new result (id_at reader.old) }

@@ -31,7 +31,7 @@ pub record IsOut (pool : Frames) (k : ℕ) : Type 0 where
 unfoldable pub zeros : List ℕ
 zeros = replicate 4096 0
 
--- the bytes with others written over them from a place on
+-- the bytes with others written over them from an offset on
 abbrev pub overwritten : List ℕ → ℕ → List ℕ → List ℕ
 overwritten old at bytes = take at old ++ bytes ++ drop (at + length bytes) old
 

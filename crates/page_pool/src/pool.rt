@@ -138,7 +138,7 @@ impl Pool {
         self.free.push_reserved(number);
     }
 
-    /// Writes bytes into a frame, from a place on.
+    /// Writes bytes into a frame, from an offset on.
     pub fn write(&mut self, frame: &Frame, at: u32, bytes: &[u8])
         requires out { IsOut self.old frame.now }
         requires range { at + length bytes.now ≤ 4096 }

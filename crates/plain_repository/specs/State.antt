@@ -26,7 +26,7 @@ pub record Workspace : Type 0 where
   pub pending : List ℕ
 
 -- The metamodel, once there is one; the history, which has no version before; the workspaces, the one of the number n at the place n - 1, None where it was dropped;
--- how many events were played; and the place of the journal's end after them.
+-- how many events were played; and the offset of the journal's end after them.
 pub record State : Type 0 where
   pub meta : Option Meta
   pub history : History

@@ -22,7 +22,7 @@ pub record IsUnplayable (file : List ℕ) (events : List Event) (at : ℕ) : Typ
   pub reads : ReadsTo file (map event_encoding events ++ bytes ∷ []) (next_gate at (length bytes))
   pub no_event : (more : List Event) → IsTrue (are_playable empty more) → map event_encoding more ≡ map event_encoding events ++ bytes ∷ [] → ⊥
 
--- the records up to a place below 2^40 are those of events, and there neither a closed gate nor a record of an event stands
+-- the records up to an offset below 2^40 are those of events, and there neither a closed gate nor a record of an event stands
 pub record IsBroken (file : List ℕ) (at : ℕ) : Type 0 where
   pub events : List Event
   pub playable : IsTrue (are_playable empty events)
@@ -40,7 +40,7 @@ pub record IsDamaged (file : List ℕ) (at : ℕ) : Type 0 where
 abbrev pub StandsForOne : Type 0
 StandsForOne = (file : List ℕ) (first second : List Event) → StandsForEvents file first → StandsForEvents file second → first ≡ second
 
--- a file is damaged at one place at most
+-- a file is damaged at one offset at most
 abbrev pub IsDamagedOnce : Type 0
 IsDamagedOnce = (file : List ℕ) (first second : ℕ) → IsDamaged file first → IsDamaged file second → first ≡ second
 

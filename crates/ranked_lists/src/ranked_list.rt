@@ -21,7 +21,7 @@ use std::marker::Model;
 /// Elements with their ranks, which contracts see as a finite map.
 ///
 /// Beside the rank of each element stand the entries by rank and then by id. So to find, put or take out an element, and
-/// to tell the last, costs a logarithm; to tell the entry at an index as many steps as entries lie between it and the
+/// to find the last, costs a logarithm; to find the entry at an index as many steps as entries lie between it and the
 /// nearer end; and to list a copy of each entry.
 #[derive(Drop)]
 pub struct RankedList {

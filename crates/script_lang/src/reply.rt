@@ -81,7 +81,7 @@ pub enum Refusal {
     JournalFull,
     /// 36: the package's step of that number, from 0 over all its operations, can't be applied.
     NotApplicable { step: u64 },
-    /// 37: the bytes are no package: the place is that of the first field that can't be read, or of the first byte left over.
+    /// 37: the bytes are no package: the offset is that of the first field that can't be read, or of the first byte left over.
     NotForm { at: u64 },
 }
 

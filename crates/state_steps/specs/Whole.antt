@@ -46,14 +46,14 @@ abbrev pub unlinked : Meta → Rows → List AttrKey → List Step
 unlinked meta row [] = []
 unlinked meta row (s ∷ ss) = unlinks row (opposite_of meta s.1) s.0 s.1 (targets row s.0 s.1) ++ unlinked meta row ss
 
--- the steps that take a state apart: its references go, then its values, then its elements, the last first
+-- the steps that take a state apart: its references are removed, then its values, then its elements are deleted, the last first
 abbrev pub unmade : Meta → State → List Step
 unmade meta m =
     let xs = elements_of meta m in
     unlinked meta m.row (links_of meta m xs) ++ (values_made meta m (slots_of meta m is_attribute xs) ++ gone_made m xs)
 
 -- ---- the steps that build a state
--- an element comes where it stands
+-- an element is created where it stands
 abbrev pub birth : State → IdBytes → Step
 birth m x = New x (unwrap_or (get m.kind x) 0) (unwrap_or (get m.place x) Root) (rank_at m.prank x)
 
@@ -66,7 +66,7 @@ abbrev pub put_first : AttrKey → Option Value → List Step
 put_first s None = []
 put_first s (Some v) = Put s.0 s.1 None (Some v) ∷ []
 
--- a step for each value, of which the first comes in at n
+-- a step for each value, of which the first is inserted at n
 abbrev pub inserts : IdBytes → ℕ → ℕ → List Value → List Step
 inserts e f n [] = []
 inserts e f n (v ∷ vs) = Ins e f n v ∷ inserts e f (n + 1) vs

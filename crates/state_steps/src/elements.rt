@@ -1,4 +1,4 @@
-//! The elements of a model, and the steps by which they come.
+//! The elements of a model, and the steps that create them.
 ghost use Rattle.std.specs.Prelude.{◌≡◌, ◌++◌, IfOk, OnOk};
 ghost use Rattle.model_state.specs.Good.{Good};
 ghost use Rattle.containment.specs.Subtree.{each, ids_of, subtree_of};
@@ -46,7 +46,7 @@ pub fn elements<L: Look>(alloc: Global, look: &L, meta: &Metamodel) -> Result<Li
     subtrees(alloc, look, meta, roots.as_slice())
 }
 
-/// The step by which an element comes where it stands.
+/// The step that creates an element where it stands.
 fn birth<L: Look>(alloc: Global, look: &L, e: &Id) -> Result<Step, AllocError>
     ensures { IfOk result (λ s. s ≡ birth (L.state look.now) e.now) }
 {
@@ -68,7 +68,7 @@ fn birth<L: Look>(alloc: Global, look: &L, e: &Id) -> Result<Step, AllocError>
     }
 }
 
-/// The steps by which elements come.
+/// The steps that create elements.
 pub fn births<L: Look>(
     alloc: Global,
     look: &L,

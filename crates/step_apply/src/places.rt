@@ -52,7 +52,7 @@ fn leave_for(groups: &mut Groups, old: Option<Placed>, e: &Id, to: &Place)
 /// The places of the live elements and their ranks, which contracts see as two finite maps.
 ///
 /// Beside the place of each element stand the elements of each place. So to find, put or take out an element, and
-/// to count a place or find the rank of its last, costs a logarithm, and to list a place costs the sorting of what stands there.
+/// to count a place or find the rank of its last, costs a logarithm, and to list a place as many steps as elements stand there.
 #[derive(Drop)]
 pub struct Places {
     alloc: Global,
@@ -103,8 +103,8 @@ impl Places {
         self.groups.count(place)
     }
 
-    /// How many elements stand inside an element. This costs as many steps as features of the element were used
-    /// where none stands inside, and otherwise goes over all elements.
+    /// How many elements stand inside an element. This costs a logarithm where none stands inside, and otherwise goes over
+    /// all elements.
     pub fn count_inside(&self, e: &Id) -> usize
         ensures { result ≡ count (λ x. is_inside e.now x.1) self.now.place }
     {

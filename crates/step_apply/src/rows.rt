@@ -154,7 +154,7 @@ fn listed(alloc: Global, rows: &BTreeMap<(Id, u32, Id), u64>) -> Result<List<Inc
 ///
 /// Beside each row stand the rows of each feature of an element and the rows to each element. So to find, put or
 /// take out a row, and to count a feature's targets, costs a logarithm, and to list them or the rows to an element
-/// costs no more than the sorting of what is listed.
+/// as many steps as are listed.
 #[derive(Drop)]
 pub struct Rows {
     alloc: Global,
@@ -254,8 +254,8 @@ impl Rows {
         }
     }
 
-    /// How many rows begin or end at an element. This costs as many steps as features of the element were used
-    /// where there is none, and otherwise goes over all rows.
+    /// How many rows begin or end at an element. This costs a logarithm where there is none, and otherwise goes over all
+    /// rows.
     pub fn count_at(&self, e: &Id) -> usize
         ensures { result ≡ count (λ x. text_eq e.now x.0.0 || text_eq e.now x.0.2) self.now }
     {

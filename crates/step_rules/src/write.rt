@@ -21,7 +21,7 @@ pub trait Write: Look {
     fn has_no_value(&self, e: &Id) -> bool
         ensures { result ≡ nat_eq (value_count (Self.state self.now) e.now) 0 };
 
-    /// Whether no reference goes out of the element or comes to it.
+    /// Whether no reference begins or ends at the element.
     fn has_no_row(&self, e: &Id) -> bool
         ensures { result ≡ nat_eq (link_count (Self.state self.now) e.now) 0 };
 

@@ -10,7 +10,7 @@ use super::{BLOCK_LIMIT, INPUT_LIMIT, LineFault};
 use crate::Host;
 use std::alloc::{AllocError, Global};
 
-/// The lines of a block so far: their text, or the place of the first byte that is no UTF-8.
+/// The lines of a block so far: their text, or the offset of the first byte that is no UTF-8.
 #[derive(Drop)]
 pub struct Block {
     pub text: String,
@@ -59,7 +59,7 @@ impl Block {
         self.not_text = None;
     }
 
-    /// Adds a line, which stands at a place of the input.
+    /// Adds a line, which stands at an offset of the input.
     #[tactic(auto, using(crate::proofs::ScriptCuts::text_lemmas))]
     fn add(&mut self, place: u64, line: &[u8]) -> Result<(), AllocError>
         requires { place + length line.now < 2 ^ 64 }
@@ -127,7 +127,7 @@ impl Block {
         Ok(false)
     }
 
-    /// One line of the block that began at a place; true where it is the block's end.
+    /// One line of the block that began at an offset; true where it is the block's end.
     fn line<H: Host>(
         &mut self,
         unread: &mut Unread,

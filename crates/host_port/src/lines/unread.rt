@@ -23,7 +23,7 @@ pub enum Stop {
     Far,
 }
 
-/// The bytes at hand from a place in the input on.
+/// The bytes at hand from an offset in the input on.
 #[derive(Drop)]
 pub struct Unread {
     pub pending: Pending,
@@ -31,7 +31,7 @@ pub struct Unread {
     ghost within: { place + length pending ≤ 2 ^ 40 },
 }
 
-/// The first line feed, where none stands before a place.
+/// The first line feed, where none stands before an offset.
 fn line_feed(bytes: &[u8], from: usize) -> Option<usize>
     requires from { from ≤ length bytes.now }
     requires before { (k : ℕ) → k < from → slice_index bytes.now k ≢ 10 }

@@ -86,7 +86,7 @@ pub(crate) fn number_words(alloc: Global, n: u64) -> Result<Text, AllocError>
 }
 
 impl Repo {
-    /// Makes an event, where the history and the journal have room. Of one that has no form it answers out of memory.
+    /// Makes an event, where the history and the journal have room. Of one that has no encoding it answers out of memory.
     #[tactic(auto, unfolding(plain_repository::specs::Answers::with_room, plain_repository::specs::Events::playable))]
     pub(crate) fn with_room(
         &self,

@@ -46,7 +46,7 @@ fn events_in(alloc: Global, file: Vec<u8>) -> Result<usize, Fail> {
     Ok(count.parse::<usize>()?)
 }
 
-// How many events have their reply among what was said.
+// How many events have their reply among what was printed.
 fn replied(said: &[u8]) -> Result<usize, Fail> {
     let replies = std::str::from_utf8(said)?
         .lines()
@@ -55,7 +55,7 @@ fn replied(said: &[u8]) -> Result<usize, Fail> {
     Ok(replies.min(EVENTS))
 }
 
-// The file has the events whose reply was said, and at most one more.
+// The file has the events whose reply was printed, and at most one more.
 fn holds_a_prefix(rt: &impl Abort, alloc: Global, said: &[u8], file: Vec<u8>) -> Result<(), Fail> {
     let (kept, least) = (events_in(alloc, file)?, replied(said)?);
     assert!(rt;
@@ -103,7 +103,7 @@ fn a_crash_between_two_calls_leaves_the_first_events_whole(rt: HostRuntime) -> R
     Ok(())
 }
 
-// Where the record ends that begins at a place of a store.
+// Where the record ends that begins at an offset of a store.
 fn end_of(file: &[u8], place: usize) -> Option<usize> {
     match file.get(place..)? {
         [_, a, b, c, d, ..] => {
@@ -114,7 +114,7 @@ fn end_of(file: &[u8], place: usize) -> Option<usize> {
     }
 }
 
-// How the store ends that is cut at a length, where the record or gate that is cut begins at a place.
+// How the store ends that is cut at a length, where the record or gate that is cut begins at an offset.
 fn cut_status(length: usize, place: usize) -> Status {
     if length <= 17 {
         Status::Accepted

@@ -18,7 +18,7 @@ fn script(alloc: Global, title: &str) -> Result<Vec<u8>, Fail> {
     Ok(beginning(alloc, TITLED, lines.as_str())?.into_bytes())
 }
 
-// What is said after a crash, of that fill, to whom asks for the model.
+// What is printed after a crash, of that fill, to whom asks for the model.
 fn shown(rt: &impl Abort, alloc: Global, host: &MemoryHost, fill: u8) -> Result<String, Fail> {
     let run = ran(
         rt,
@@ -29,7 +29,7 @@ fn shown(rt: &impl Abort, alloc: Global, host: &MemoryHost, fill: u8) -> Result<
     Ok(run.said)
 }
 
-// What is said of the book, with these bytes of its title.
+// What is printed of the book, with these bytes of its title.
 fn text(alloc: Global, title: &str) -> Result<String, Fail> {
     Ok(format!(in alloc; "{{\"_id\":\"b\",\"eClass\":\"http://lib/1#//Book\"{title}}}\nok\n")?)
 }
@@ -45,7 +45,7 @@ fn stopped(alloc: Global, title: &str, calls: u64) -> Result<(MemoryHost, bool),
     Ok((fuse.into_inner(), is_whole))
 }
 
-// Of the runs in which the book's reply was said and the title's was not, each leaves the book with or without its title. Of those with both
+// Of the runs in which the book's reply was printed and the title's was not, each leaves the book with or without its title. Of those with both
 // replies each leaves it with its title. Gives how many calls there are of both sorts.
 fn sorts(rt: &impl Abort, alloc: Global, title: &str) -> Result<(u64, u64), Fail> {
     let without = text(alloc, "")?;
