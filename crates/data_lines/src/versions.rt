@@ -6,7 +6,7 @@ ghost use Rattle.serde_json.specs.Written.{compact_text};
 ghost use Rattle.hex.specs.Hex.{encode_lower};
 ghost use Rattle.history_tree.specs.Found.{branch_name, tags_of};
 ghost use Rattle.op_form.specs.Packages.{package_encoding};
-ghost use Rattle.op_form.specs.Laws.{IsPackage};
+ghost use Rattle.op_form.specs.Formed.{IsPackage};
 ghost use Rattle.data_lines.specs.Lines.{optional, operation_lines, after_spaces};
 ghost use Rattle.data_lines.specs.Typed.{IsTypedPackage};
 ghost use Rattle.data_lines.specs.Versions.{after_commas, listed, log_lines, package_lines, version_line};

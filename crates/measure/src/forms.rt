@@ -2,7 +2,7 @@
 ghost use Rattle.std.specs.Prelude.{◌≡◌, ◌-◌, ◌+◌, ◌*◌, ◌<◌, ◌^◌, IfOk, length};
 ghost use Rattle.std.specs.Str.{IsUtf8};
 ghost use Rattle.op_form.specs.Packages.{package_encoding};
-ghost use Rattle.op_form.specs.Laws.{IsStep, IsOperation, IsPackage};
+ghost use Rattle.op_form.specs.Formed.{IsStep, IsOperation, IsPackage};
 ghost use Rattle.model_state.specs.Packages.{steps_of};
 ghost use Rattle.measure.specs.Steps.{step_count};
 

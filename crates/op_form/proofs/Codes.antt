@@ -13,7 +13,8 @@ use Rattle.op_form.specs.declared.fault.FormFault.{FormFault}
 use Rattle.op_form.specs.declared.fault.FormFault.TheVariants.{NotForm}
 use Rattle.op_form.specs.Reading.{Reading, field, made, ◌⊗◌, u8_at, u32_at, u64_at, any_text_at, option_at, option_of, option_encoding, items_at, items_encoding, list_at, some_at, list_encoding}
 use Rattle.op_form.specs.Events.{whole_of}
-use Rattle.op_form.specs.Laws.{IsU32, IsU64, IsGiven, IsList, IsSomeList, AreReadAgain, AreSpelledSo}
+use Rattle.op_form.specs.Laws.{AreReadAgain, AreSpelledSo}
+use Rattle.op_form.specs.Formed.{IsU32, IsU64, IsGiven, IsList, IsSomeList}
 
 -- values of a kind, their spelling and their reading
 pub record Codes {X : Type 0} (Is : X → Type 0) (form : X → List ℕ) (read : Reading X) : Type 0 where

@@ -8,7 +8,7 @@ use Rattle.op_form.specs.declared.event.Event.{Event}
 use Rattle.op_form.specs.declared.event.Event.TheVariants.{Init, Checkout, Edit, Begin, End, Undo, Discard, Tidy, Commit, Branch, Tag, Update, Merge, Drop}
 use Rattle.op_form.specs.Reading.{Reading, made, u8_at}
 use Rattle.op_form.specs.Events.{init_at, checkout_at, edit_at, begin_at, commit_at, branch_at, tag_at, update_at, merge_at, events_by_kind, chosen, event_at, event_encoding}
-use Rattle.op_form.specs.Laws.{IsEvent}
+use Rattle.op_form.specs.Formed.{IsEvent}
 use Rattle.op_form.proofs.Codes.{Codes, both, either, u32_codes, text_codes, made_again, made_spelled, byte_stood}
 use Rattle.op_form.proofs.PackageCodes.{package_codes}
 

@@ -15,7 +15,7 @@ use Rattle.model_state.specs.declared.operation.Operation.TheVariants.{Simple, C
 use Rattle.op_form.specs.declared.fault.FormFault.TheVariants.{NotForm}
 use Rattle.op_form.specs.Reading.{u8_at}
 use Rattle.op_form.specs.Packages.{kind_of, kind_from, kind_at, kind_byte, kind_encoding, name_at, simple_at, composite_at, operation_of, operation_at, operation_encoding, package_at, package_encoding}
-use Rattle.op_form.specs.Laws.{IsNameText, IsOperation, IsPackage}
+use Rattle.op_form.specs.Formed.{IsNameText, IsOperation, IsPackage}
 use Rattle.op_form.proofs.Codes.{Codes, both, either, some_codes, list_codes, made_again, made_spelled, byte_stood}
 use Rattle.op_form.proofs.ValueCodes.{and_both, told_again, told_spelled}
 use Rattle.op_form.proofs.StepCodes.{step_codes}

@@ -6,7 +6,7 @@ use Rattle.byte_form.proofs.FieldLemmas.{reached}
 use Rattle.model_state.specs.declared.step.Step.TheVariants.{Put, Ins, Del, Shift, Link, Unlink, RerankRow, New, Gone, Move, RerankPlace}
 use Rattle.op_form.specs.Reading.{u8_at}
 use Rattle.op_form.specs.Steps.{put_at, ins_at, del_at, shift_at, link_at, unlink_at, rerank_row_at, new_at, gone_at, move_at, rerank_place_at, step_of, step_at, step_encoding}
-use Rattle.op_form.specs.Laws.{IsStep}
+use Rattle.op_form.specs.Formed.{IsStep}
 use Rattle.op_form.proofs.Codes.{Codes, both, either, u32_codes, u64_codes, option_codes, list_codes, made_again, made_spelled, byte_stood}
 use Rattle.op_form.proofs.ValueCodes.{id_codes, value_codes, place_codes}
 

@@ -16,7 +16,7 @@ use Rattle.model_state.specs.declared.step.Place.TheVariants.{Root, Inside}
 use Rattle.op_form.specs.declared.fault.FormFault.TheVariants.{NotForm}
 use Rattle.op_form.specs.Reading.{Reading, made, ◌⊗◌, u8_at, u32_at, u64_at, any_text_at}
 use Rattle.op_form.specs.Values.{tested_text, id_at, flag_of, flag_at, flag_encoding, value_of, value_at, value_encoding, place_of, place_at, place_encoding}
-use Rattle.op_form.specs.Laws.{IsIdText, IsValue, IsPlace}
+use Rattle.op_form.specs.Formed.{IsIdText, IsValue, IsPlace}
 use Rattle.op_form.proofs.Codes.{Codes, both, either, u32_codes, u64_codes, text_codes, made_again, made_spelled, lone_spelled, byte_stood, are_bytes_behind}
 
 -- texts that pass a test, where these are short texts

@@ -1,4 +1,8 @@
-//! The events of a store.
+//! The events of a store, and which of them have an encoding.
+ghost use Rattle.std.specs.Prelude.{◌≡◌};
+ghost use Rattle.op_form.specs.Formed.{is_event};
+
+use crate::formed::{are_operations, is_short_text, is_u32};
 use ecore_meta::Text;
 use model_state::Package;
 
@@ -33,4 +37,31 @@ pub enum Event {
     Merge { ws: u32, branch: u32, choices: Text },
     /// The workspace is dropped.
     Drop { ws: u32 },
+}
+
+/// Whether an event has an encoding: one case an event.
+#[tactic(auto, unfolding(crate::specs::Formed::is_event))]
+pub(crate) fn is_event(event: &Event) -> bool
+    ensures { result ≡ is_event event.now }
+{
+    match event {
+        Event::Init { text } => is_short_text(text),
+        Event::Checkout { version, branch } => is_u32(*version) && is_u32(*branch),
+        Event::Edit { ws, package } => is_u32(*ws) && are_operations(package),
+        Event::Begin { ws, name } => is_u32(*ws) && is_short_text(name),
+        Event::End { ws } => is_u32(*ws),
+        Event::Undo { ws } => is_u32(*ws),
+        Event::Discard { ws } => is_u32(*ws),
+        Event::Tidy { ws } => is_u32(*ws),
+        Event::Commit { ws, message } => is_u32(*ws) && is_short_text(message),
+        Event::Branch { ws, name } => is_u32(*ws) && is_short_text(name),
+        Event::Tag { name, version } => is_short_text(name) && is_u32(*version),
+        Event::Update { ws, choices } => is_u32(*ws) && is_short_text(choices),
+        Event::Merge {
+            ws,
+            branch,
+            choices,
+        } => is_u32(*ws) && is_u32(*branch) && is_short_text(choices),
+        Event::Drop { ws } => is_u32(*ws),
+    }
 }

@@ -3,10 +3,10 @@
 ghost use Rattle.std.specs.Prelude.{◌≡◌, ◌&&◌, IsTrue};
 ghost use Rattle.model_state.specs.Ident.{is_id};
 ghost use Rattle.std.specs.List.{list_all};
-ghost use Rattle.op_form.specs.Formed.{is_u32, is_u64, is_i64, is_short_text, is_given, is_list, is_some_list, is_value, is_place, is_step, is_operation, is_package, is_event};
-ghost use Rattle.op_form.specs.Laws.{IsEvent, IsPackage};
+ghost use Rattle.op_form.specs.Formed.{is_u32, is_u64, is_i64, is_short_text, is_given, is_list, is_some_list, is_value, is_place, is_step, is_operation, is_package, is_event, IsEvent, IsPackage};
 
 use crate::Event;
+use crate::event::is_event;
 use ecore_meta::{List, Text, Value};
 use model_state::{Id, Operation, Package, Place, Step, is_name};
 
@@ -28,7 +28,7 @@ pub fn is_package(package: &Package) -> bool
     are_operations(package)
 }
 
-fn is_u32(number: u32) -> bool
+pub(crate) fn is_u32(number: u32) -> bool
     ensures { result ≡ is_u32 number }
 {
     // Only the contract needs it.
@@ -67,7 +67,7 @@ fn is_short(len: usize) -> bool
     len <= u32::MAX as usize
 }
 
-fn is_short_text(text: &Text) -> bool
+pub(crate) fn is_short_text(text: &Text) -> bool
     ensures { result ≡ is_short_text text.now }
 {
     is_short(text.as_str().len())
@@ -235,7 +235,7 @@ fn is_operation(operation: &Operation) -> bool
 }
 
 #[tactic(auto, unfolding(crate::specs::Formed::is_package))]
-fn are_operations(package: &Package) -> bool
+pub(crate) fn are_operations(package: &Package) -> bool
     ensures { result ≡ is_package «package».now }
 {
     is_short(package.len()) && all_operations(package.as_slice())
@@ -245,30 +245,4 @@ fn all_operations(operations: &[Operation]) -> bool
     ensures { result ≡ list_all is_operation operations.now }
 {
     operations.iter().all(|operation| is_operation(operation))
-}
-
-#[tactic(auto, unfolding(crate::specs::Formed::is_event))]
-fn is_event(event: &Event) -> bool
-    ensures { result ≡ is_event event.now }
-{
-    match event {
-        Event::Init { text } => is_short_text(text),
-        Event::Checkout { version, branch } => is_u32(*version) && is_u32(*branch),
-        Event::Edit { ws, package } => is_u32(*ws) && are_operations(package),
-        Event::Begin { ws, name } => is_u32(*ws) && is_short_text(name),
-        Event::End { ws } => is_u32(*ws),
-        Event::Undo { ws } => is_u32(*ws),
-        Event::Discard { ws } => is_u32(*ws),
-        Event::Tidy { ws } => is_u32(*ws),
-        Event::Commit { ws, message } => is_u32(*ws) && is_short_text(message),
-        Event::Branch { ws, name } => is_u32(*ws) && is_short_text(name),
-        Event::Tag { name, version } => is_short_text(name) && is_u32(*version),
-        Event::Update { ws, choices } => is_u32(*ws) && is_short_text(choices),
-        Event::Merge {
-            ws,
-            branch,
-            choices,
-        } => is_u32(*ws) && is_u32(*branch) && is_short_text(choices),
-        Event::Drop { ws } => is_u32(*ws),
-    }
 }

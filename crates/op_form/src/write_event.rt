@@ -5,7 +5,7 @@ ghost use Rattle.op_form.specs.Reading.{items_encoding, list_encoding};
 ghost use Rattle.op_form.specs.Steps.{step_encoding};
 ghost use Rattle.op_form.specs.Packages.{kind_encoding, operation_encoding, package_encoding};
 ghost use Rattle.op_form.specs.Events.{event_encoding};
-ghost use Rattle.op_form.specs.Laws.{IsSomeList, IsStep, IsOperation, IsPackage, IsEvent};
+ghost use Rattle.op_form.specs.Formed.{IsSomeList, IsStep, IsOperation, IsPackage, IsEvent};
 
 use crate::Event;
 use crate::write_step::put_step;

@@ -4,7 +4,7 @@ ghost use Rattle.byte_form.specs.Fields.{text_encoding, u32_encoding, u64_encodi
 ghost use Rattle.op_form.specs.Reading.{option_encoding, items_encoding, list_encoding};
 ghost use Rattle.op_form.specs.Values.{value_encoding, place_encoding, flag_encoding};
 ghost use Rattle.op_form.specs.Steps.{step_encoding};
-ghost use Rattle.op_form.specs.Laws.{IsGiven, IsIdText, IsList, IsValue, IsStep};
+ghost use Rattle.op_form.specs.Formed.{IsGiven, IsIdText, IsList, IsValue, IsStep};
 
 use byte_form::Form;
 use ecore_meta::{List, Value};

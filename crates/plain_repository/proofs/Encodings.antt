@@ -8,8 +8,7 @@ use Rattle.commit_journal.specs.Journal.{most_bytes}
 use Rattle.op_form.specs.declared.event.Event.{Event}
 use Rattle.op_form.specs.declared.event.Event.TheVariants.{Init}
 use Rattle.op_form.specs.Events.{event_encoding, event_at}
-use Rattle.op_form.specs.Laws.{IsEvent}
-use Rattle.op_form.specs.Formed.{is_event}
+use Rattle.op_form.specs.Formed.{IsEvent, is_event}
 use Rattle.op_form.proofs.FormedLaws.{is_event_is}
 use Rattle.op_form.proofs.EventCodes.{event_codes}
 use Rattle.plain_repository.specs.State.{State}

@@ -24,7 +24,7 @@ use Rattle.history_tree.specs.Whole.{IsWhole}
 use Rattle.history_tree.proofs.Growing.{whole_more}
 use Rattle.history_tree.proofs.Heads.{head_more, head_within}
 use Rattle.history_tree.proofs.Steady.{operations_kept, operations_more, path_ends, on_path_more, head_kept, head_new, whole_branch, whole_tag, whole_first}
-use Rattle.op_form.specs.Laws.{IsOperation, IsEvent}
+use Rattle.op_form.specs.Formed.{IsOperation, IsEvent}
 use Rattle.op_form.specs.declared.event.Event.{Event}
 use Rattle.op_form.specs.declared.event.Event.TheVariants.{Init, Checkout, Edit, Begin, End, Undo, Discard, Tidy, Commit, Branch, Tag, Update, Merge, Drop}
 use Rattle.plain_repository.specs.State.{State, Workspace, Composite as Open, empty, untouched, workspace_of, recorded_steps, open_steps, with_changed, changed_by_number, is_closed, has_operations, has_local}

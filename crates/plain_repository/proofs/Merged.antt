@@ -30,7 +30,7 @@ use Rattle.merge_laws.specs.Merge.{merged}
 use Rattle.merge_laws.proofs.Merges.{update_gives_merged, merge_leads_to_merged}
 use Rattle.merge_plans.specs.Choices.{is_choice, are_choices, side_of}
 use Rattle.merge_plans.specs.Plans.{incoming}
-use Rattle.op_form.specs.Laws.{IsStep}
+use Rattle.op_form.specs.Formed.{IsStep}
 use Rattle.plain_repository.specs.State.{Workspace, recorded_steps, model_of, is_closed}
 use Rattle.plain_repository.specs.Tidying.{tidied}
 use Rattle.plain_repository.specs.Merging.{update_buckets, updated, merge_theirs, merge_mine, merge_buckets, merge_tail, merged_with}

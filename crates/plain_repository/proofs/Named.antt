@@ -13,7 +13,7 @@ use Rattle.model_state.specs.declared.step.Step.{Step}
 use Rattle.model_state.specs.declared.step.Step.TheVariants.{Put, Ins, Del, Shift, Link, Unlink, RerankRow, New, Gone, Move, RerankPlace}
 use Rattle.model_state.proofs.Orders.{id_order}
 use Rattle.model_laws.proofs.Runs.{fold_first}
-use Rattle.op_form.specs.Laws.{IsStep}
+use Rattle.op_form.specs.Formed.{IsStep}
 
 -- the id of each live element has the form of an id
 abbrev pub HasIds : State → Type 0

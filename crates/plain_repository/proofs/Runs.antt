@@ -12,7 +12,7 @@ use Rattle.model_state.specs.declared.step.Step.{Step}
 use Rattle.model_state.specs.declared.operation.Operation.{Operation}
 use Rattle.model_state.specs.declared.operation.Operation.TheVariants.{Simple, Composite}
 use Rattle.model_laws.proofs.Runs.{fold_append}
-use Rattle.op_form.specs.Laws.{IsStep, IsOperation}
+use Rattle.op_form.specs.Formed.{IsStep, IsOperation}
 use Rattle.history_tree.specs.History.{History}
 use Rattle.history_tree.specs.States.{state_folded, state_of}
 use Rattle.plain_repository.specs.State.{Workspace, Composite as Open, untouched, open_steps, recorded_steps, folded, model_of, is_closed}

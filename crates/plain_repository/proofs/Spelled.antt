@@ -19,7 +19,7 @@ use Rattle.tidy_laws.proofs.Whole.{tidy_follows_rules}
 use Rattle.footprint.specs.declared.bucket.Bucket.{Bucket}
 use Rattle.merge_laws.specs.declared.side.Side.{Side}
 use Rattle.merge_laws.specs.Merge.{drops_theirs, drops_mine, dropped, kept, update_list, merge_list}
-use Rattle.op_form.specs.Laws.{IsGiven, IsStep}
+use Rattle.op_form.specs.Formed.{IsGiven, IsStep}
 use Rattle.plain_repository.proofs.Places.{both, front}
 
 -- each step of the operation has a spelling

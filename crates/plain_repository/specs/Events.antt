@@ -1,5 +1,5 @@
 -- What an event makes of the repository, and which events a command could make: one line an event.
-use Rattle.std.specs.Prelude.{◌+◌, ◌&&◌, nat_lt, List, [], ◌∷◌, Bool, true, false, length, Option, Some, None, is_some}
+use Rattle.std.specs.Prelude.{ℕ, ◌+◌, ◌&&◌, ◌==◌, nat_lt, List, [], ◌∷◌, Bool, true, false, length, Option, Some, None, is_some}
 use Rattle.commit_journal.specs.Journal.{next_gate}
 use Rattle.ecore_meta.specs.Meta.{Meta}
 use Rattle.model_state.specs.Names.{is_name}
@@ -39,6 +39,23 @@ effect s (Tag name version) = with_new_tag name version s
 effect s (Update ws letters) = with_changed (by_meta s.meta (λ meta. updated meta s.history letters)) ws s
 effect s (Merge ws branch letters) = with_changed (by_meta s.meta (λ meta. merged_with meta s.history (head s.history branch) letters)) ws s
 effect s (Drop ws) = dropped ws s
+
+-- is the event one of that workspace
+abbrev pub is_of : ℕ → Event → Bool
+is_of ws (Init text) = false
+is_of ws (Checkout version branch) = false
+is_of ws (Edit k operations) = k == ws
+is_of ws (Begin k name) = k == ws
+is_of ws (End k) = k == ws
+is_of ws (Undo k) = k == ws
+is_of ws (Discard k) = k == ws
+is_of ws (Tidy k) = k == ws
+is_of ws (Commit k message) = k == ws
+is_of ws (Branch k name) = k == ws
+is_of ws (Tag name version) = false
+is_of ws (Update k letters) = k == ws
+is_of ws (Merge k branch letters) = k == ws
+is_of ws (Drop k) = k == ws
 
 -- the state that an event makes
 unfoldable pub play : State → Event → State

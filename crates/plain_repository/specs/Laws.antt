@@ -1,5 +1,5 @@
 -- What holds in every repository that events make.
-use Rattle.std.specs.Prelude.{◌≡◌, ◌≢◌, ◌↔◌, ℕ, ◌<◌, ◌≤◌, ◌==◌, ◌||◌, List, [], ◌∷◌, ◌++◌, All, codes, map, take, Bool, true, false, Option, Some, None, IsTrue, length, slice_get}
+use Rattle.std.specs.Prelude.{◌≡◌, ◌≢◌, ◌↔◌, ℕ, ◌<◌, ◌≤◌, ◌||◌, List, [], ◌∷◌, ◌++◌, All, codes, map, take, Bool, true, false, Option, Some, None, IsTrue, length, slice_get}
 use Rattle.command_runs.specs.Runs.{played}
 use Rattle.ecore_meta.specs.Meta.{Meta}
 use Rattle.ecore_meta.specs.Sound.{Sound}
@@ -12,7 +12,7 @@ use Rattle.history_tree.specs.History.{History, head}
 use Rattle.history_tree.specs.States.{state_folded, state_of}
 use Rattle.history_tree.specs.Whole.{IsWhole}
 use Rattle.op_form.specs.declared.event.Event.{Event}
-use Rattle.op_form.specs.declared.event.Event.TheVariants.{Init, Checkout, Edit, Begin, End, Undo, Discard, Tidy, Commit, Branch, Tag, Update, Merge, Drop}
+use Rattle.op_form.specs.declared.event.Event.TheVariants.{Edit, Undo, Commit}
 use Rattle.script_lang.specs.declared.command.Command.{Command}
 use Rattle.script_lang.specs.declared.command.Command.TheVariants as commands
 use Rattle.script_lang.specs.declared.reply.Refusal.TheVariants as refusals
@@ -23,7 +23,7 @@ use Rattle.script_lang.specs.Words.{is_word}
 use Rattle.plain_repository.specs.State.{State, Workspace, empty, workspace_of, folded, model_of}
 use Rattle.plain_repository.specs.Orderly.{IsOrderly, StandsInHistory}
 use Rattle.plain_repository.specs.Answers.{Decision, is_refusal}
-use Rattle.plain_repository.specs.Events.{effect, play, playable, are_playable}
+use Rattle.plain_repository.specs.Events.{effect, play, playable, are_playable, is_of}
 use Rattle.plain_repository.specs.Repository.{decide_command, decide_line}
 
 -- events that could be made lead to the state
@@ -109,23 +109,6 @@ abbrev pub EventsChange : Type 0
 EventsChange = (s : State) (event : Event) → IsTrue (playable s event) → effect s event ≢ s
 
 -- ---- workspaces apart
--- is the event one of that workspace
-abbrev pub is_of : ℕ → Event → Bool
-is_of ws (Init text) = false
-is_of ws (Checkout version branch) = false
-is_of ws (Edit k operations) = k == ws
-is_of ws (Begin k name) = k == ws
-is_of ws (End k) = k == ws
-is_of ws (Undo k) = k == ws
-is_of ws (Discard k) = k == ws
-is_of ws (Tidy k) = k == ws
-is_of ws (Commit k message) = k == ws
-is_of ws (Branch k name) = k == ws
-is_of ws (Tag name version) = false
-is_of ws (Update k letters) = k == ws
-is_of ws (Merge k branch letters) = k == ws
-is_of ws (Drop k) = k == ws
-
 -- an event that is not of a workspace leaves its branch, base, operations, open composite and pending list
 abbrev pub WorkspacesStayApart : Type 0
 WorkspacesStayApart = (s : State) (ws : ℕ) (workspace : Workspace) → workspace_of s ws ≡ Some workspace → (event : Event) → is_of ws event ≡ false → workspace_of (play s event) ws ≡ Some workspace

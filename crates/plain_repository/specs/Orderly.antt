@@ -8,7 +8,7 @@ use Rattle.model_state.specs.State.{nothing}
 use Rattle.model_state.specs.Steps.{fold}
 use Rattle.model_state.specs.Packages.{steps_all}
 use Rattle.model_state.specs.declared.step.Step.{Step}
-use Rattle.op_form.specs.Laws.{IsStep}
+use Rattle.op_form.specs.Formed.{IsStep}
 use Rattle.history_tree.specs.declared.version.Version.{Version}
 use Rattle.history_tree.specs.History.{History, no_history, path, head}
 use Rattle.history_tree.specs.States.{operations_to}

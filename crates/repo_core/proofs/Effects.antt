@@ -9,7 +9,7 @@ use Rattle.std.proofs.Math.ListN.{set, get_or}
 use Rattle.ecore_meta.specs.Meta.{Meta}
 use Rattle.history_tree.specs.History.{History}
 use Rattle.op_form.specs.declared.event.Event.{Event}
-use Rattle.op_form.specs.Laws.{IsEvent}
+use Rattle.op_form.specs.Formed.{IsEvent}
 use Rattle.plain_repository.specs.State.{State, Workspace, untouched, changed_at, changed_by_number, with_changed, workspace_of}
 use Rattle.plain_repository.specs.Orderly.{AllOrderly, IsOrderly}
 use Rattle.plain_repository.specs.Events.{effect, playable_with}

@@ -6,7 +6,7 @@ use Rattle.ecore_json.specs.Metamodel.{metamodel_of}
 use Rattle.ecore_json.specs.declared.fault.EcoreFault.{EcoreFault}
 use Rattle.history_tree.specs.History.{History, first_history}
 use Rattle.op_form.specs.declared.event.Event.TheVariants.{Init}
-use Rattle.op_form.specs.Laws.{IsEvent}
+use Rattle.op_form.specs.Formed.{IsEvent}
 use Rattle.plain_repository.specs.State.{State}
 use Rattle.plain_repository.specs.Events.{effect}
 use Rattle.plain_repository.specs.Metamodels.{meta_of_read}

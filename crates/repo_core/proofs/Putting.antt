@@ -8,7 +8,7 @@ use Rattle.history_tree.specs.History.{head}
 use Rattle.tidy_laws.specs.Tidy.{tidy}
 use Rattle.op_form.specs.declared.event.Event.{Event}
 use Rattle.op_form.specs.declared.event.Event.TheVariants.{Tidy, Update, Merge}
-use Rattle.op_form.specs.Laws.{IsEvent}
+use Rattle.op_form.specs.Formed.{IsEvent}
 use Rattle.plain_repository.specs.State.{State, Workspace, there, workspace_of, changed_at, with_changed}
 use Rattle.plain_repository.specs.Events.{by_meta, effect, playable_with}
 use Rattle.plain_repository.specs.Merging.{can_merge, can_update, merge_tail, merged_with, updated}

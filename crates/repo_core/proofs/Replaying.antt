@@ -5,7 +5,7 @@ use Rattle.byte_form.specs.Laws.{AreBytes}
 use Rattle.op_form.specs.declared.event.Event.{Event}
 use Rattle.op_form.specs.declared.fault.FormFault.{FormFault}
 use Rattle.op_form.specs.Events.{event_encoding, event_at, whole_of}
-use Rattle.op_form.specs.Laws.{IsEvent}
+use Rattle.op_form.specs.Formed.{IsEvent}
 use Rattle.op_form.proofs.Codes.{whole_again, whole_spelled}
 use Rattle.op_form.proofs.EventCodes.{event_codes}
 use Rattle.plain_repository.specs.State.{State}

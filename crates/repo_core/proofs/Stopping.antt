@@ -16,7 +16,7 @@ use Rattle.model_state.specs.Steps.{apply, fault, first_stop, fold, further_on}
 use Rattle.model_state.specs.Packages.{fold_package, steps_all, steps_of}
 use Rattle.model_laws.proofs.Runs.{fold_first}
 use Rattle.model_laws.proofs.Stops.{further_none, no_stop_leads, stop_more}
-use Rattle.op_form.specs.Laws.{IsOperation, IsPackage}
+use Rattle.op_form.specs.Formed.{IsOperation, IsPackage}
 
 pub further_sum : (a b : ℕ) (o : Option ApplyFault) → further_on a (further_on b o) ≡ further_on (a + b) o
 further_sum a b None = refl

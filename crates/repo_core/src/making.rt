@@ -4,7 +4,7 @@ ghost use Rattle.ecore_json.specs.Metamodel.{metamodel_of};
 ghost use Rattle.history_tree.specs.History.{first_history};
 ghost use Rattle.model_state.specs.Packages.{fold_package};
 ghost use Rattle.op_form.specs.declared.event.Event.TheVariants.{Begin, Branch, Checkout, Commit, Discard, Drop, Edit, End, Init, Tag, Undo};
-ghost use Rattle.op_form.specs.Laws.{IsEvent};
+ghost use Rattle.op_form.specs.Formed.{IsEvent};
 ghost use Rattle.plain_repository.specs.Events.{effect, playable_with};
 ghost use Rattle.plain_repository.specs.Metamodels.{is_metamodel};
 ghost use Rattle.plain_repository.specs.State.{workspace_of};

@@ -1,7 +1,7 @@
 //! What the events Tidy, Update and Merge make of a workspace. Each call changes nothing when out of memory.
 ghost use Rattle.std.specs.Prelude.{◌≡◌, IfOk, IsErrOf, OnErr, OnOk, false, is_some, true};
 ghost use Rattle.op_form.specs.declared.event.Event.TheVariants.{Merge, Tidy, Update};
-ghost use Rattle.op_form.specs.Laws.{IsEvent};
+ghost use Rattle.op_form.specs.Formed.{IsEvent};
 ghost use Rattle.plain_repository.specs.Events.{effect, playable_with};
 ghost use Rattle.plain_repository.specs.Orderly.{IsOrderly};
 ghost use Rattle.plain_repository.specs.State.{with_changed, workspace_of};

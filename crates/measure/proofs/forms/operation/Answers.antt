@@ -1,5 +1,5 @@
 use Rattle.std.proofs.Common.{arith}
-use Rattle.op_form.specs.Laws.{IsStep}
+use Rattle.op_form.specs.Formed.{IsStep}
 use Rattle.measure.proofs.Grown.{all_more, one_more}
 use Rattle.measure.proofs.forms.operation.Goals as goal
 

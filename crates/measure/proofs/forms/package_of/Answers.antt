@@ -1,5 +1,5 @@
 use Rattle.std.proofs.Common.{arith}
-use Rattle.op_form.specs.Laws.{IsOperation}
+use Rattle.op_form.specs.Formed.{IsOperation}
 use Rattle.measure.proofs.Grown.{all_more, one_more, count_more}
 use Rattle.measure.proofs.forms.package_of.Goals as goal
 

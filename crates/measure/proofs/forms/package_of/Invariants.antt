@@ -1,6 +1,6 @@
 -- the operations so far: so many, each with a spelling, and the steps left are those after the last
 use Rattle.std.proofs.Common.{◌≡◌, ◌+◌, ◌-◌, ◌*◌, length, All}
-use Rattle.op_form.specs.Laws.{IsOperation}
+use Rattle.op_form.specs.Formed.{IsOperation}
 use Rattle.measure.specs.Steps.{step_count}
 use Rattle.measure.proofs.forms.package_of.Given as goal
 

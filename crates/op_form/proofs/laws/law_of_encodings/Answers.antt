@@ -1,7 +1,7 @@
 use Rattle.byte_form.proofs.FieldLemmas.{apart}
 use Rattle.op_form.specs.Packages.{package_at, package_encoding}
 use Rattle.op_form.specs.Events.{event_at, event_encoding}
-use Rattle.op_form.specs.Laws.{IsPackage, IsEvent}
+use Rattle.op_form.specs.Formed.{IsPackage, IsEvent}
 use Rattle.op_form.proofs.Codes.{whole_again, whole_spelled}
 use Rattle.op_form.proofs.PackageCodes.{package_codes}
 use Rattle.op_form.proofs.EventCodes.{event_codes}
