@@ -1,4 +1,4 @@
--- The sorts of features that a deletion looks for.
+-- The sorts of features that are looked for: references or values.
 use Rattle.std.specs.Prelude.{Bool}
 use Rattle.ecore_meta.specs.declared.meta.Kind.{Kind}
 use Rattle.model_state.specs.Typing.{is_plain}

@@ -1,4 +1,4 @@
-//! The features of a subtree's elements that a deletion empties.
+//! The features of elements, each as the slot of one element, by the sort that is looked for.
 ghost use Rattle.std.specs.Prelude.{◌≡◌, ◌++◌, IfOk, OnOk, map};
 ghost use Rattle.model_state.specs.Typing.{kind_of};
 ghost use Rattle.containment.specs.Subtree.{features_of};

@@ -17,6 +17,7 @@ mod walk;
 pub use create::{create_at, create_steps, creation_spot};
 pub use delete::delete_steps;
 pub use fault::MoveFault;
+pub use features::{Slot, Sort, slots_of};
 pub use laws::{
     law_of_containers, law_of_creations, law_of_deletions, law_of_moves, law_of_subtrees,
 };

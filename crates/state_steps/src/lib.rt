@@ -4,7 +4,6 @@
 mod elements;
 mod laws;
 mod links;
-mod slots;
 mod values;
 mod whole;
 

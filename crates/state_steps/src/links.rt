@@ -4,7 +4,7 @@ ghost use Rattle.model_state.specs.Typing.{opposite_of};
 ghost use Rattle.edit_laws.specs.Rows.{link_step, mirror_rank};
 ghost use Rattle.state_steps.specs.Whole.{leads, linked, all_linked};
 
-use crate::slots::Slot;
+use containment::Slot;
 use ecore_meta::{List, Metamodel};
 use model_state::{Entry, Id, Look, Step, opposite_of};
 use std::alloc::{AllocError, Global};

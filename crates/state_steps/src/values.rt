@@ -5,7 +5,7 @@ ghost use Rattle.model_state.specs.Good.{Good};
 ghost use Rattle.edit_laws.specs.Attributes.{single_value};
 ghost use Rattle.state_steps.specs.Whole.{put_first, inserts, filled, all_filled};
 
-use crate::slots::Slot;
+use containment::Slot;
 use ecore_meta::{List, Metamodel, Value};
 use model_state::{Id, Look, Step, is_attr};
 use std::alloc::{AllocError, Global};

@@ -7,8 +7,8 @@ ghost use Rattle.state_steps.specs.Whole.{as_steps};
 
 use crate::elements::{births, elements};
 use crate::links::link_all;
-use crate::slots::{Sort, slots_of};
 use crate::values::fill_all;
+use containment::{Sort, slots_of};
 use ecore_meta::{List, Metamodel};
 use model_state::{Look, Step};
 use std::alloc::{AllocError, Global};

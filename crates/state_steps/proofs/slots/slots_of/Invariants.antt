@@ -1,7 +1,0 @@
-use Rattle.std.proofs.Common.{◌≡◌, ◌++◌, drop}
-use Rattle.containment.specs.Deletes.{slots_of}
-use Rattle.state_steps.specs.Sorts.{passes}
-use Rattle.state_steps.proofs.slots.slots_of.Given as goal
-
-abbrev pub invariant-loop-x : goal.invariant-loop-x
-invariant-loop-x g l = l.slots ++ slots_of l.meta (g.L.Look.state l.look) (passes l.sort) (drop l.x-index l.elements) ≡ slots_of l.meta (g.L.Look.state l.look) (passes l.sort) l.elements
