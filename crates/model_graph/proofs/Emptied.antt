@@ -19,8 +19,8 @@ use Rattle.model_state.specs.State.{place_eq, is_inside, value_count, link_count
 use Rattle.model_state.proofs.Orders.{id_order, nat_order, attr_order, row_order}
 use Rattle.model_state.proofs.StepTests.{place_equality}
 use Rattle.model_graph.specs.declared.element.Node.{Node}
-use Rattle.ranked_lists.specs.Ranks.{Ranks}
-use Rattle.model_graph.specs.Seen.{Elements, nodes_state, placed_at, standing, stood, IsHoused, IsMirrored, bare_part}
+use Rattle.ranked_lists.specs.Ranks.{Ranks, stood}
+use Rattle.model_graph.specs.Seen.{Elements, nodes_state, placed_at, standing, IsHoused, IsMirrored, bare_part}
 use Rattle.model_graph.proofs.Changed.{attr_of, row_of, place_of}
 use Rattle.model_graph.proofs.ListLaws.{list_key_order}
 

@@ -20,9 +20,9 @@ use Rattle.model_state.specs.State.{State, place_eq}
 use Rattle.model_state.proofs.Orders.{id_order, nat_order, attr_order}
 use Rattle.model_state.proofs.StepTests.{place_equality}
 use Rattle.model_graph.specs.declared.element.Node.{Node}
-use Rattle.ranked_lists.specs.Ranks.{Ranks}
+use Rattle.ranked_lists.specs.Ranks.{Ranks, stood}
 use Rattle.model_graph.specs.Parts.{ListKey, list_key_cmp}
-use Rattle.model_graph.specs.Seen.{Elements, nodes_state, placed_at, standing, stood, IsHoused, IsMirrored, IsPlaceThere, Rewrites, IsListWritten}
+use Rattle.model_graph.specs.Seen.{Elements, nodes_state, placed_at, standing, IsHoused, IsMirrored, IsPlaceThere, Rewrites, IsListWritten}
 use Rattle.model_graph.proofs.Changed.{kept, hit, part_hit, same_class, same_place, same_prank, same_attr, same_row, out_written, placed_written, made, gone, some_is, live_after}
 use Rattle.model_graph.proofs.ListLaws.{list_key_order}
 

@@ -13,9 +13,9 @@ use Rattle.model_state.specs.Keys.{IdBytes, AttrKey, id_cmp}
 use Rattle.model_state.specs.State.{State, is_live}
 use Rattle.model_state.proofs.Orders.{id_order, attr_order}
 use Rattle.model_graph.specs.declared.element.Node.{Node}
-use Rattle.ranked_lists.specs.Ranks.{Ranks}
+use Rattle.ranked_lists.specs.Ranks.{Ranks, stood}
 use Rattle.model_graph.specs.Parts.{ListKey}
-use Rattle.model_graph.specs.Seen.{Elements, nodes_state, standing, stood, placed_at, IsHoused, IsMirrored, Rewrites}
+use Rattle.model_graph.specs.Seen.{Elements, nodes_state, standing, placed_at, IsHoused, IsMirrored, Rewrites}
 use Rattle.model_graph.proofs.Changed.{rewritten, live_node, live_after, some_is}
 use Rattle.model_graph.proofs.ListLaws.{list_key_order}
 use Rattle.model_graph.proofs.Housed.{mirrored_set, placed_linked, standing_linked, housed_by}

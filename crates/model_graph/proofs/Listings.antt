@@ -23,9 +23,8 @@ use Rattle.model_state.specs.Keys.{IdBytes, AttrKey, RowKey, id_cmp, attr_cmp, r
 use Rattle.model_state.specs.Listing.{is_of, row_entry, rank_at, row_incoming, incoming, targets, children, entry_cmp}
 use Rattle.model_state.specs.State.{place_eq}
 use Rattle.model_state.proofs.Orders.{id_order, nat_order, attr_order, row_order}
-use Rattle.ranked_lists.specs.Ranks.{Ranks, ranked_entry}
+use Rattle.ranked_lists.specs.Ranks.{Ranks, ranked_entry, stood}
 use Rattle.model_graph.specs.Parts.{Sources, arrived}
-use Rattle.model_graph.specs.Seen.{stood}
 
 pub map_map : {A B C : Type 0} (f : B → C) (h : A → B) (xs : List A) → map f (map h xs) ≡ map (λ x. f (h x)) xs
 map_map f h [] = refl

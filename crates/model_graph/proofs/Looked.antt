@@ -13,9 +13,9 @@ use Rattle.model_state.specs.Keys.{IdBytes, AttrKey, id_cmp}
 use Rattle.model_state.specs.State.{State}
 use Rattle.model_state.proofs.Orders.{id_order}
 use Rattle.model_graph.specs.declared.element.Node.{Node}
-use Rattle.ranked_lists.specs.Ranks.{Ranks}
+use Rattle.ranked_lists.specs.Ranks.{Ranks, stood}
 use Rattle.model_graph.specs.Parts.{ListKey}
-use Rattle.model_graph.specs.Seen.{Elements, nodes_state, placed_at, standing, stood, IsMirrored, IsHoused}
+use Rattle.model_graph.specs.Seen.{Elements, nodes_state, placed_at, standing, IsMirrored, IsHoused}
 use Rattle.model_graph.proofs.Changed.{class_of, place_of, prank_of, attr_of, row_of}
 use Rattle.model_graph.proofs.Listings.{keys_mapped}
 

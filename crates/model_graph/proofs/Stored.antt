@@ -19,9 +19,9 @@ use Rattle.model_state.specs.Steps.{place_live}
 use Rattle.model_state.proofs.Orders.{id_order, nat_order, attr_order}
 use Rattle.model_state.proofs.StepTests.{place_equality}
 use Rattle.model_graph.specs.declared.element.Node.{Node}
-use Rattle.ranked_lists.specs.Ranks.{Ranks}
+use Rattle.ranked_lists.specs.Ranks.{Ranks, stood}
 use Rattle.model_graph.specs.Parts.{ListKey, list_key_cmp}
-use Rattle.model_graph.specs.Seen.{Elements, nodes_state, placed_at, standing, stood, IsMirrored, IsHoused, IsPlaceThere, Rewrites, IsListWritten, bare_part}
+use Rattle.model_graph.specs.Seen.{Elements, nodes_state, placed_at, standing, IsMirrored, IsHoused, IsPlaceThere, Rewrites, IsListWritten, bare_part}
 use Rattle.model_graph.proofs.Changed.{kept, attr_written, placed_written, made, gone, some_is, no_node, live_after}
 use Rattle.model_graph.proofs.Emptied.{no_values, no_rows, no_children, part_none}
 use Rattle.model_graph.proofs.ListLaws.{list_key_order}

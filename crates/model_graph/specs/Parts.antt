@@ -13,7 +13,7 @@ use Rattle.ecore_meta.specs.declared.meta.Value.{Value}
 use Rattle.ecore_meta.specs.contracts.meta.Value as value_type
 use Rattle.model_state.specs.declared.entry.Incoming.{Incoming}
 use Rattle.model_state.specs.Keys.{IdBytes, AttrKey, id_cmp, attr_cmp}
-use Rattle.ranked_lists.specs.Ranks.{Ranks, coded_name}
+use Rattle.ranked_lists.specs.Ranks.{Ranks, coded_id}
 
 -- a feature and an element
 abbrev pub ListKey : Type 0
@@ -29,7 +29,7 @@ Lists = FinMap list_key_cmp ℕ
 
 -- the code of the lists
 abbrev pub lists_code : Coded Lists
-lists_code = code (coded× coded_ℕ coded_name) coded_ℕ
+lists_code = code (coded× coded_ℕ coded_id) coded_ℕ
 
 -- a key of the lists is a feature, and an element of its list
 abbrev pub by_list : Joined ℕ IdBytes ListKey
@@ -67,7 +67,7 @@ Sources = FinMap attr_cmp ℕ
 
 -- the code of those references
 abbrev pub sources_code : Coded Sources
-sources_code = code (coded× coded_name coded_ℕ) coded_ℕ
+sources_code = code (coded× coded_id coded_ℕ) coded_ℕ
 
 -- a reference to an element, with its rank
 abbrev pub arrived : AttrKey × ℕ → Incoming

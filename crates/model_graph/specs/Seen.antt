@@ -11,7 +11,7 @@ use Rattle.model_state.specs.declared.step.Placed.{Placed}
 use Rattle.model_state.specs.Keys.{IdBytes, AttrKey, RowKey, id_cmp, attr_cmp, row_cmp}
 use Rattle.model_state.specs.State.{State, place_eq}
 use Rattle.model_graph.specs.declared.element.Node.{Node}
-use Rattle.ranked_lists.specs.Ranks.{Ranks}
+use Rattle.ranked_lists.specs.Ranks.{Ranks, stood}
 use Rattle.model_graph.specs.Parts.{ListKey}
 
 -- the elements by their ids
@@ -44,11 +44,6 @@ placed_at m x = option_map (λ (n : Node). n.placed) (get m x)
 abbrev pub standing : Ranks → Elements → Place → IdBytes → Option ℕ
 standing roots m Root x = get roots x
 standing roots m (Inside a f) x = inner (λ (n : Node). n.inside) (get m a) (f, x)
-
--- the rank in a place of the element that stands as given
-abbrev pub stood : Place → Option Placed → Option ℕ
-stood p None = None
-stood p (Some x) = cond (place_eq p x.place) (Some x.rank) None
 
 -- each list has the elements that stand there, and no others
 abbrev pub IsHoused : Ranks → Elements → Type 0

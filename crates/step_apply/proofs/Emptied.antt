@@ -23,7 +23,8 @@ use Rattle.model_state.specs.State.{place_eq, is_inside}
 use Rattle.model_state.proofs.Orders.{id_order, row_order}
 use Rattle.model_state.proofs.StepTests.{place_equality}
 use Rattle.step_apply.specs.declared.groups.Groups.{Groups}
-use Rattle.step_apply.specs.Groups.{members_of, stood, arriving, IsGrouped, IsOut, IsInto}
+use Rattle.ranked_lists.specs.Ranks.{stood}
+use Rattle.step_apply.specs.Groups.{members_of, arriving, IsGrouped, IsOut, IsInto}
 use Rattle.step_apply.specs.Spots.{Members}
 use Rattle.step_apply.proofs.Grouped.{no_items}
 

@@ -22,8 +22,8 @@ use Rattle.model_state.specs.Listing.{rank_at}
 use Rattle.model_state.proofs.Orders.{id_order}
 use Rattle.model_state.proofs.StepTests.{place_equality}
 use Rattle.step_apply.specs.declared.groups.Groups.{Groups}
-use Rattle.step_apply.specs.Groups.{standing, stood, IsGrouped}
-use Rattle.ranked_lists.specs.Ranks.{ranked_entry}
+use Rattle.step_apply.specs.Groups.{standing, IsGrouped}
+use Rattle.ranked_lists.specs.Ranks.{ranked_entry, stood}
 use Rattle.spread_maps.proofs.PartLaws.{part, entries-part}
 
 over_stood : (p : Place) (b : Bool) (w o : Option Placed) → cond b (stood p w) (stood p o) ≡ stood p (cond b w o)

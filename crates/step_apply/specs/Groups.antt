@@ -11,6 +11,7 @@ use Rattle.model_state.specs.declared.step.Place.TheVariants.{Root, Inside}
 use Rattle.model_state.specs.declared.step.Placed.{Placed}
 use Rattle.model_state.specs.Keys.{IdBytes, RowKey, id_cmp, row_cmp}
 use Rattle.model_state.specs.State.{place_eq}
+use Rattle.ranked_lists.specs.Ranks.{stood}
 use Rattle.step_apply.specs.Spots.{Members}
 use Rattle.step_apply.specs.declared.groups.Groups.{Groups}
 
@@ -32,11 +33,6 @@ members_of t a f = fan_of (tree.get id_cmp t a) f
 abbrev pub standing : Groups → Place → Members
 standing s Root = s.roots
 standing s (Inside a f) = members_of s.inside a f
-
--- the rank in a place of the element that stands as given
-abbrev pub stood : Place → Option Placed → Option ℕ
-stood p None = None
-stood p (Some x) = cond (place_eq p x.place) (Some x.rank) None
 
 -- each place has the elements that stand there, and no others
 abbrev pub IsGrouped : BTreeMap IdBytes Placed → Groups → Type 0

@@ -2,7 +2,8 @@
 ghost use Rattle.std.specs.Prelude.{◌≡◌, Some, None, OnOk, OnErr, IfOk, is_some, true, false};
 ghost use Rattle.model_state.specs.Listing.{children, last_rank};
 ghost use Rattle.model_state.specs.declared.step.Place.{Place as PlaceValue};
-ghost use Rattle.step_apply.specs.Groups.{standing, stood};
+ghost use Rattle.ranked_lists.specs.Ranks.{stood};
+ghost use Rattle.step_apply.specs.Groups.{standing};
 ghost use Rattle.std.specs.Option.{option_copied, option_map};
 ghost use Rattle.std.specs.FinMap.{get, empty};
 ghost use Rattle.finite_maps.specs.Maps.{set, count};

@@ -3,7 +3,8 @@ use Rattle.std.specs.Prelude.{None}
 use Rattle.finite_maps.proofs.MapLaws.{set_here}
 use Rattle.model_state.proofs.Orders.{id_order}
 use Rattle.model_state.specs.declared.step.Place.{Place}
-use Rattle.step_apply.specs.Groups.{standing, stood}
+use Rattle.ranked_lists.specs.Ranks.{stood}
+use Rattle.step_apply.specs.Groups.{standing}
 use Rattle.step_apply.proofs.Regrouped.{out_of_one}
 use Rattle.step_apply.proofs.places.leave.Goals as goal
 

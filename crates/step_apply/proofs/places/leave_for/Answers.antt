@@ -2,7 +2,8 @@ use Rattle.std.proofs.Common.{sym, ap, ◌∙◌}
 use Rattle.std.specs.Prelude.{None}
 use Rattle.finite_maps.proofs.MapLaws.{set_here}
 use Rattle.model_state.proofs.Orders.{id_order}
-use Rattle.step_apply.specs.Groups.{standing, stood}
+use Rattle.ranked_lists.specs.Ranks.{stood}
+use Rattle.step_apply.specs.Groups.{standing}
 use Rattle.step_apply.proofs.Regrouped.{out_of, stays}
 use Rattle.step_apply.proofs.places.leave_for.Goals as goal
 

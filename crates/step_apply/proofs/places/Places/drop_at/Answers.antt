@@ -3,7 +3,7 @@ use Rattle.std.specs.Prelude.{None}
 use Rattle.finite_maps.specs.Maps.{set}
 use Rattle.finite_maps.proofs.TableLaws.{table_of_updates}
 use Rattle.model_state.proofs.Orders.{id_order}
-use Rattle.step_apply.specs.Groups.{stood}
+use Rattle.ranked_lists.specs.Ranks.{stood}
 use Rattle.step_apply.proofs.Regrouped.{regrouped}
 use Rattle.step_apply.proofs.places.Places.drop_at.Goals as goal
 

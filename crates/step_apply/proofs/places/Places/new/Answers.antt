@@ -3,7 +3,7 @@ use Rattle.std.specs.FinMap.{get, get-empty}
 use Rattle.std.specs.Map.{lookup}
 use Rattle.std.specs.BTreeMap.{is_at}
 use Rattle.model_state.specs.Keys.{id_cmp}
-use Rattle.step_apply.specs.Groups.{stood}
+use Rattle.ranked_lists.specs.Ranks.{stood}
 use Rattle.step_apply.proofs.places.Places.new.Goals as goal
 
 pub invariant_of-result : goal.invariant_of-result

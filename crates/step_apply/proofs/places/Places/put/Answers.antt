@@ -5,7 +5,8 @@ use Rattle.finite_maps.specs.Maps.{set}
 use Rattle.finite_maps.proofs.TableLaws.{table_of_updates}
 use Rattle.model_state.specs.State.{place_eq}
 use Rattle.model_state.proofs.Orders.{id_order}
-use Rattle.step_apply.specs.Groups.{standing, stood}
+use Rattle.ranked_lists.specs.Ranks.{stood}
+use Rattle.step_apply.specs.Groups.{standing}
 use Rattle.step_apply.proofs.Regrouped.{regrouped, same_grouped, into_one, undone}
 use Rattle.step_apply.proofs.places.Places.put.Goals as goal
 
