@@ -9,3 +9,5 @@ mod inputs;
 mod records;
 #[cfg(test)]
 mod spelling;
+#[cfg(test)]
+mod states;

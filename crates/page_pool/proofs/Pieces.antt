@@ -1,10 +1,10 @@
 -- The pieces of a byte string in frames.
-use Rattle.std.proofs.Common.{◌≡◌, inl, inr, ℕ, zero, suc, ◌+◌, ◌-◌, ◌*◌, ◌<◌, ◌≤◌, List, [], ◌∷◌, length, get_or, take, drop, sym, ap, subst, ◌∙◌, arith}
+use Rattle.std.proofs.Common.{◌≡◌, inl, inr, ℕ, zero, suc, ◌+◌, ◌-◌, ◌*◌, ◌<◌, ◌≤◌, List, [], ◌∷◌, ◌++◌, length, get_or, take, drop, sym, ap, subst, ◌∙◌, arith}
 use Rattle.std.specs.Prelude.{Some, Option, unwrap_or}
-use Rattle.std.proofs.lemmas.List.{length-take, take_at, drop_at, take-take, take_all, drop-take, drop-drop}
+use Rattle.std.proofs.lemmas.List.{append-nil, length-take, take_at, drop_at, take-take, take_all, drop-take, take_more, drop-drop}
 use Rattle.page_pool.specs.Frames.{Frames, frame_at, IsOut}
 use Rattle.page_pool.specs.Paged.{IsAmong, AreOut, joined, content, PagedState}
-use Rattle.page_pool.proofs.Among.{out_each}
+use Rattle.page_pool.proofs.Among.{out_each, joined_append}
 
 pub nth_among : (fs : List ℕ) (i k : ℕ) → i < length fs → k ≡ get_or fs i k → IsAmong k fs
 nth_among [] i k h is = absurd (omega (arith, h))
@@ -44,6 +44,13 @@ module _ (ps : Frames) (paged : PagedState) (i : ℕ) (page : List ℕ) (piece :
       ap (λ (p : List ℕ). take (paged.size - 4096 * i) p) (sym piece)
       ∙ take-take (paged.size - 4096 * i) 4096 (drop (4096 * i) (joined ps paged.frames)) (omega (arith, less))
       ∙ sym (ap (λ (p : List ℕ). take 4096 p) (rest h) ∙ take_all 4096 (take (paged.size - 4096 * i) (drop (4096 * i) (joined ps paged.frames))) (omega (arith, l, less)))
+
+-- one more page read
+pub one_read : (ps : Frames) (fs : List ℕ) (i k : ℕ) (page : List ℕ) → i < length fs → k ≡ get_or fs i k → frame_at ps k ≡ Some page → joined ps (take (i + 1) fs) ≡ joined ps (take i fs) ++ page
+one_read ps fs i k page h is at =
+    ap (joined ps) (take_more fs i k h ∙ ap (λ (j : ℕ). take i fs ++ j ∷ []) (sym is))
+    ∙ joined_append ps (take i fs) (k ∷ [])
+    ∙ ap (λ (l : List ℕ). joined ps (take i fs) ++ l) (append-nil (unwrap_or (frame_at ps k) []) ∙ page_is ps k page at)
 
 -- the same where the frames are those of a value
 module _ (ps : Frames) (paged : PagedState) (fs : List ℕ) (size i k : ℕ) (value : ◌≡◌ {A = PagedState} (record { frames = fs; size = size }) paged) (out : AreOut ps paged.frames) (h : i < length fs) (is : k ≡ get_or fs i k) where

@@ -6,5 +6,5 @@ mod paged;
 mod pool;
 
 pub use fault::PoolFault;
-pub use paged::{PagedBytes, count_frames};
+pub use paged::{PagedBytes, Room, count_frames};
 pub use pool::{FRAME_SIZE, Frame, POOL_LIMIT, Pool};

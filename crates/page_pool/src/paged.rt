@@ -1,5 +1,5 @@
 //! Byte strings in frames of a pool.
-ghost use Rattle.std.specs.Prelude.{◌≡◌, ◌+◌, ◌*◌, ◌<◌, ◌≤◌, ◌^◌, length, take, drop, IfOk, OnOk, OnErr};
+ghost use Rattle.std.specs.Prelude.{ℕ, ◌≡◌, ◌+◌, ◌*◌, ◌<◌, ◌≤◌, ◌^◌, [], length, take, drop, IfOk, OnOk, OnErr};
 ghost use Rattle.page_pool.specs.Frames.{out_of, free_of, SameFrames};
 ghost use Rattle.page_pool.specs.Paged.{AreOut, AreFree, KeepsOthers, frames_for, content, HoldsBytes};
 
@@ -46,9 +46,9 @@ fn piece_of(bytes: &[u8], i: usize) -> &[u8]
     &rest[..FRAME_SIZE]
 }
 
-// Room for the frames of a byte string. Contracts see for how many.
+/// Room for the frames of a byte string. Contracts see for how many.
 #[derive(Drop)]
-struct Room {
+pub struct Room {
     frames: Vec<Frame>,
 }
 
@@ -63,15 +63,16 @@ impl Model for Room {
 }
 
 impl Room {
-    fn new(alloc: Global, count: usize) -> Result<Room, AllocError>
+    /// Room for so many frames.
+    pub fn new(alloc: Global, count: usize) -> Result<Room, AllocError>
         ensures { IfOk result (λ room. room ≡ count) }
     {
         let frames = Vec::with_capacity(alloc, count)?;
         Ok(Room { frames })
     }
 
-    // Writes bytes into frames that it takes from a pool. It takes no memory.
-    fn fill(self, pool: &mut Pool, bytes: &[u8]) -> PagedBytes
+    /// Writes bytes into frames that it takes from a pool. It takes no memory.
+    pub fn fill(self, pool: &mut Pool, bytes: &[u8]) -> PagedBytes
         requires room { frames_for (length bytes.now) ≤ self }
         requires free { frames_for (length bytes.now) ≤ free_of pool.old }
         ensures holds { HoldsBytes pool.new result bytes.now }
@@ -97,6 +98,16 @@ impl Room {
 }
 
 impl PagedBytes {
+    /// No bytes, in no frames.
+    pub fn empty(alloc: Global) -> PagedBytes
+        ensures { result ≡ record { frames = []; size = 0 } }
+    {
+        PagedBytes {
+            frames: Vec::new(alloc),
+            size: 0,
+        }
+    }
+
     /// Writes bytes into frames that it takes from a pool. When out of memory the pool's frames are as before.
     pub fn store(alloc: Global, pool: &mut Pool, bytes: &[u8]) -> Result<PagedBytes, AllocError>
         requires room { out_of pool.old + frames_for (length bytes.now) ≤ 8192 }
@@ -142,6 +153,19 @@ impl PagedBytes {
             return &page[..left];
         }
         page
+    }
+
+    /// Reads the bytes.
+    pub fn read(&self, alloc: Global, pool: &Pool) -> Result<Vec<u8>, AllocError>
+        requires out { AreOut pool.now self.now.frames }
+        ensures read { IfOk result (λ bytes. bytes.items ≡ content pool.now self.now) }
+    {
+        let mut bytes = Vec::new(alloc);
+        for frame in &self.frames {
+            bytes.extend_from_slice(pool.bytes(frame))?;
+        }
+        bytes.truncate(self.size);
+        Ok(bytes)
     }
 
     /// Gives each frame back.

@@ -1,0 +1,5 @@
+pub mod Alone
+pub mod Listed
+pub mod Popping
+pub mod Releasing
+pub mod Storing
