@@ -12,8 +12,6 @@ use Rattle.history_tree.specs.History.{History}
 use Rattle.std.specs.Prelude.{IfOk}
 use Rattle.std.proofs.lemmas.Option.{same_Some}
 use Rattle.model_state.specs.Good.{Good}
-use Rattle.step_apply.specs.declared.plain.Plain.{Plain}
-use Rattle.step_apply.specs.View.{plain_state}
 use Rattle.plain_repository.specs.Laws.{IsThere}
 use Rattle.plain_repository.specs.Orderly.{IsOrderly}
 use Rattle.plain_repository.proofs.Reached.{models_are_defined}
@@ -22,6 +20,7 @@ use Rattle.plain_repository.specs.State.{State, Workspace, workspace_of, there, 
 use Rattle.repo_core.specs.declared.repo.Begun.{Begun}
 use Rattle.repo_core.specs.declared.workspace.Workspace.{Workspace as Kept}
 use Rattle.repo_core.specs.Keeping.{FitsAny, ModelFits, AllFit, meta_of, history_of, plain_any, plain_of}
+use Rattle.model_state.specs.State as models
 
 pub below_is : (s : State) (ws : List (Option Kept)) (i : ℕ) → map plain_any ws ≡ s.workspaces → i < length s.workspaces → i < length ws
 below_is s ws i is below = subst (λ (n : ℕ). i < n) (sym (ap (λ (l : List (Option Workspace)). length l) is) ∙ length-map ws plain_any) below
@@ -80,22 +79,22 @@ pub view_same : (b : Option Begun) (ws new : List (Option Kept)) (events end : �
 view_same b ws new events end s same is = ap (λ (l : List (Option Workspace)). held b l events end) same ∙ is
 
 -- a model that is the working model is so by whatever names the metamodel and the workspace have
-pub working_is : (s : State) (k : ℕ) (meta : Meta) (h : History) (w : Workspace) (m : Plain) → s.meta ≡ Some meta → s.history ≡ h → workspace_of s k ≡ Some w → plain_state m ≡ model_of meta h w → Good meta (plain_state m) → IsWorkingModel s k m
+pub working_is : (s : State) (k : ℕ) (meta : Meta) (h : History) (w : Workspace) (m : models.State) → s.meta ≡ Some meta → s.history ≡ h → workspace_of s k ≡ Some w → m ≡ model_of meta h w → Good meta m → IsWorkingModel s k m
 working_is s k meta h w m begun hist at model good n v is found =
-    subst (λ (x : Meta). (plain_state m ≡ model_of x s.history v) × Good x (plain_state m)) (same_Some meta n (sym begun ∙ is))
+    subst (λ (x : Meta). (m ≡ model_of x s.history v) × Good x m) (same_Some meta n (sym begun ∙ is))
     (model ∙ ap (λ (g : History). model_of meta g w) (sym hist) ∙ ap (λ (x : Workspace). model_of meta s.history x) (same_Some w v (sym at ∙ found)), good)
 
-pub working : (s : State) (k : ℕ) (meta : Meta) (h : History) (w : Workspace) {E : Type 0} (r : Result Plain E) → s.meta ≡ Some meta → s.history ≡ h → workspace_of s k ≡ Some w → IfOk r (λ m. plain_state m ≡ model_of meta h w)
-    → IfOk r (λ m. Good meta (plain_state m)) → IfOk r (λ m. IsWorkingModel s k m)
+pub working : (s : State) (k : ℕ) (meta : Meta) (h : History) (w : Workspace) {E : Type 0} (r : Result models.State E) → s.meta ≡ Some meta → s.history ≡ h → workspace_of s k ≡ Some w → IfOk r (λ m. m ≡ model_of meta h w)
+    → IfOk r (λ m. Good meta m) → IfOk r (λ m. IsWorkingModel s k m)
 working s k meta h w (Ok m) begun hist at model good = working_is s k meta h w m begun hist at model good
 working s k meta h w (Err e) begun hist at model good = tt
 
 -- a working model that is kept fits
-pub kept_fits : (s : State) (k : ℕ) (meta : Meta) (h : History) (w new : Kept) (m : Plain) → s.meta ≡ Some meta → s.history ≡ h → IsThere s meta (plain_of w) → workspace_of s k ≡ Some (plain_of w) → IsWorkingModel s k m → plain_of new ≡ plain_of w → new.model ≡ Some m → ModelFits meta h new
+pub kept_fits : (s : State) (k : ℕ) (meta : Meta) (h : History) (w new : Kept) (m : models.State) → s.meta ≡ Some meta → s.history ≡ h → IsThere s meta (plain_of w) → workspace_of s k ≡ Some (plain_of w) → IsWorkingModel s k m → plain_of new ≡ plain_of w → new.model ≡ Some m → ModelFits meta h new
 kept_fits s k meta h w new m begun hist there at is same kept n now =
     let both = is meta (plain_of w) begun at in
-    let folds : folded meta h (plain_of new) ≡ Some (plain_state m) = ap (λ (v : Workspace). folded meta h v) same ∙ ap (λ (g : History). folded meta g (plain_of w)) (sym hist) ∙ models_are_defined s meta (plain_of w) there ∙ ap Some (sym both.0) in
-    subst (λ (x : Plain). (folded meta h (plain_of new) ≡ Some (plain_state x)) × Good meta (plain_state x)) (same_Some m n (sym kept ∙ now)) (folds, both.1)
+    let folds : folded meta h (plain_of new) ≡ Some m = ap (λ (v : Workspace). folded meta h v) same ∙ ap (λ (g : History). folded meta g (plain_of w)) (sym hist) ∙ models_are_defined s meta (plain_of w) there ∙ ap Some (sym both.0) in
+    subst (λ (x : models.State). (folded meta h (plain_of new) ≡ Some x) × Good meta x) (same_Some m n (sym kept ∙ now)) (folds, both.1)
 
 -- no model fits
 pub none_fits : (meta : Meta) (h : History) (w : Kept) → w.model ≡ None → ModelFits meta h w

@@ -7,8 +7,6 @@ use Rattle.model_state.specs.Good.{Good}
 use Rattle.model_state.specs.Names.{is_name}
 use Rattle.model_state.specs.Packages.{fold_package}
 use Rattle.model_state.specs.declared.operation.Operation.{Operation}
-use Rattle.step_apply.specs.declared.plain.Plain.{Plain}
-use Rattle.step_apply.specs.View.{plain_state}
 use Rattle.history_tree.specs.History.{History}
 use Rattle.history_tree.specs.States.{state_of}
 use Rattle.op_form.specs.declared.event.Event.TheVariants.{Begin, Branch, Commit, Discard, Drop, Edit, End, Undo}
@@ -26,6 +24,7 @@ use Rattle.repo_core.specs.Making.{LeadTo}
 use Rattle.repo_core.proofs.Effects.{could_with}
 use Rattle.repo_core.proofs.Models.{fits_now, more_leads}
 use Rattle.repo_core.proofs.Ordered.{is_there}
+use Rattle.model_state.specs.State as models
 
 pub begin_closed : (s : State) (meta : Meta) (ws : ℕ) (name : List ℕ) (w : Workspace) → s.meta ≡ Some meta → workspace_of s ws ≡ Some w → playable_with s s.meta (Begin ws name) ≡ true → is_closed (Some w) ≡ true
 begin_closed s meta ws name w begun there could =
@@ -47,13 +46,13 @@ base_good s meta h ws w begun hist there orderly sound =
     subst (λ (g : History). Good meta (state_of meta g w.base)) hist (versions_are_good s meta (record { orderly = orderly; begun = begun }) w.base (workspaces_stand s meta w (is_there s meta ws w orderly begun there)).base)
 
 -- the model after operations that are recorded fits
-pub installed_fits : (s : State) (meta : Meta) (h : History) (ws : ℕ) (w new : Kept) (os : List Operation) (m : Plain) → s.meta ≡ Some meta → s.history ≡ h → workspace_of s ws ≡ Some (plain_of w) → IsOrderly s → LeadTo s ws os m
+pub installed_fits : (s : State) (meta : Meta) (h : History) (ws : ℕ) (w new : Kept) (os : List Operation) (m : models.State) → s.meta ≡ Some meta → s.history ≡ h → workspace_of s ws ≡ Some (plain_of w) → IsOrderly s → LeadTo s ws os m
     → plain_of new ≡ with_more os (plain_of w) → new.model ≡ Some m → ModelFits meta h new
 installed_fits s meta h ws w new os m begun hist there orderly leads is kept =
     let lead = leads meta (plain_of w) begun there in
     subst (λ (g : History). ModelFits meta g new) hist
     (fits_now meta s.history new m kept
-    (ap (folded meta s.history) is ∙ more_leads meta s.history os (plain_of w) (model_of meta s.history (plain_of w)) (plain_state m) (models_are_defined s meta (plain_of w) (is_there s meta ws (plain_of w) orderly begun there)) lead.0) lead.1)
+    (ap (folded meta s.history) is ∙ more_leads meta s.history os (plain_of w) (model_of meta s.history (plain_of w)) m (models_are_defined s meta (plain_of w) (is_there s meta ws (plain_of w) orderly begun there)) lead.0) lead.1)
 
 -- ---- the workspace of an event that could be made is there
 pub tested : (test : Option Workspace → Bool) → test None ≡ false → (o : Option Workspace) → test o ≡ true → is_some o ≡ true

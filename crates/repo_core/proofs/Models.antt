@@ -14,8 +14,6 @@ use Rattle.model_state.specs.Packages.{fold_package, steps_of, steps_all, rev_op
 use Rattle.model_state.specs.declared.step.Step.{Step}
 use Rattle.model_state.specs.declared.operation.Operation.{Operation}
 use Rattle.model_laws.proofs.Runs.{fold_append, steps_keep_good}
-use Rattle.step_apply.specs.declared.plain.Plain.{Plain}
-use Rattle.step_apply.specs.View.{plain_state}
 use Rattle.history_tree.specs.History.{History, with_version}
 use Rattle.history_tree.specs.States.{operations_to, state_of}
 use Rattle.op_form.proofs.Reversals.{packages_undone}
@@ -38,8 +36,8 @@ pub fits_same : (meta : Meta) (h g : History) (w new : Kept) → folded meta g (
 fits_same meta h g w new same model fits m is = let old = fits m (sym model ∙ is) in (same ∙ old.0, old.1)
 
 -- a model that is put into the workspace
-pub fits_now : (meta : Meta) (h : History) (new : Kept) (m : Plain) → new.model ≡ Some m → folded meta h (plain_of new) ≡ Some (plain_state m) → Good meta (plain_state m) → ModelFits meta h new
-fits_now meta h new m kept folds good n is = subst (λ (x : Plain). (folded meta h (plain_of new) ≡ Some (plain_state x)) × Good meta (plain_state x)) (same_Some m n (sym kept ∙ is)) (folds, good)
+pub fits_now : (meta : Meta) (h : History) (new : Kept) (m : models.State) → new.model ≡ Some m → folded meta h (plain_of new) ≡ Some m → Good meta m → ModelFits meta h new
+fits_now meta h new m kept folds good n is = subst (λ (x : models.State). (folded meta h (plain_of new) ≡ Some x) × Good meta x) (same_Some m n (sym kept ∙ is)) (folds, good)
 
 -- ---- Edit
 more_folded : (meta : Meta) (h : History) (os : List Operation) (w : Workspace) (c : Option Composite) → w.composite ≡ c → folded meta h (added os c w) ≡ fold meta (state_of meta h w.base) (recorded_steps w ++ steps_all os)
@@ -74,13 +72,13 @@ undone_leads meta sound h w front o m n closed is good folds back =
     ap (λ (l : List Step). fold meta base l) (closed_steps_are (record w { operations = front }) w.composite refl closed) ∙ at.first ∙ ap Some (sym same)
 
 -- what the workspace keeps then
-pub undone_fits : (meta : Meta) → Sound meta → (h : History) (w : Kept) (front : List Operation) (o : Operation) (m : Plain) (r : Option Plain) (n : Plain) → r ≡ Some n → IfSome r (λ n. fold meta (plain_state m) (steps_of (rev_op o)) ≡ Some (plain_state n))
-    → IfSome r (λ n. Good meta (plain_state n)) → can_undo (Some (plain_of w)) ≡ true → w.operations.items ≡ front ++ o ∷ [] → Good meta (state_of meta h w.base) → ModelFits meta h w → w.model ≡ Some m
-    → (folded meta h (record (plain_of w) { operations = front }) ≡ Some (plain_state n)) × Good meta (plain_state n)
+pub undone_fits : (meta : Meta) → Sound meta → (h : History) (w : Kept) (front : List Operation) (o : Operation) (m : models.State) (r : Option models.State) (n : models.State) → r ≡ Some n → IfSome r (λ n. fold meta m (steps_of (rev_op o)) ≡ Some n)
+    → IfSome r (λ n. Good meta n) → can_undo (Some (plain_of w)) ≡ true → w.operations.items ≡ front ++ o ∷ [] → Good meta (state_of meta h w.base) → ModelFits meta h w → w.model ≡ Some m
+    → (folded meta h (record (plain_of w) { operations = front }) ≡ Some n) × Good meta n
 undone_fits meta sound h w front o m None n is back good can items base fits model = absurd cc
 undone_fits meta sound h w front o m (Some x) n is back good can items base fits model =
-    subst (λ (x : Plain). (folded meta h (record (plain_of w) { operations = front }) ≡ Some (plain_state x)) × Good meta (plain_state x)) (same_Some x n is)
-    (undone_leads meta sound h (plain_of w) front o (plain_state m) (plain_state x) (and_left (is_closed (Some (plain_of w))) (has_operations (Some (plain_of w))) can) items base (fits m model).0 back, good)
+    subst (λ (x : models.State). (folded meta h (record (plain_of w) { operations = front }) ≡ Some x) × Good meta x) (same_Some x n is)
+    (undone_leads meta sound h (plain_of w) front o m x (and_left (is_closed (Some (plain_of w))) (has_operations (Some (plain_of w))) can) items base (fits m model).0 back, good)
 
 -- ---- Commit
 -- a commit that could be made leaves what is folded

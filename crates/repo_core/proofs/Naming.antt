@@ -12,8 +12,6 @@ use Rattle.edits.specs.declared.edit.Destination.{Destination}
 use Rattle.edits.specs.declared.edit.Edit.TheVariants.{Create}
 use Rattle.edits.specs.Edits.{effect_of, recorded_of}
 use Rattle.recorder.specs.Recording.{recorded}
-use Rattle.step_apply.specs.declared.plain.Plain.{Plain}
-use Rattle.step_apply.specs.View.{plain_state}
 use Rattle.script_lang.specs.declared.command.Command.{Command}
 use Rattle.script_lang.specs.declared.command.Command.TheVariants as commands
 use Rattle.script_lang.specs.Spelling.{IsCommand, IsWord}
@@ -47,13 +45,13 @@ unfolding effect_of recorded_of
 edit_alike s meta k class destination m None is = refl
 edit_alike s meta k class destination m (Some w) is = ap (λ x. edited s k (recorded meta (model_of meta s.history w) k (Create class destination (Some (fresh_id x k))))) (is w refl)
 
-with_alike : (s : State) (block : Option (List ℕ)) (k : ℕ) (class : List ℕ) (destination : Destination) (m : Plain) (o : Option Meta) → s.meta ≡ o → IsWorkingModel s k m
-    → decide_with s o block (commands.Edit k (Create class destination (Some (fresh_id (plain_state m) k)))) ≡ decide_with s o block (commands.Edit k (Create class destination None))
+with_alike : (s : State) (block : Option (List ℕ)) (k : ℕ) (class : List ℕ) (destination : Destination) (m : models.State) (o : Option Meta) → s.meta ≡ o → IsWorkingModel s k m
+    → decide_with s o block (commands.Edit k (Create class destination (Some (fresh_id m k)))) ≡ decide_with s o block (commands.Edit k (Create class destination None))
 unfolding decide_edit
 with_alike s block k class destination m None begun model = refl
-with_alike s block k class destination m (Some meta) begun model = edit_alike s meta k class destination (plain_state m) (workspace_of s k) (λ w there. (model meta w begun there).0)
+with_alike s block k class destination m (Some meta) begun model = edit_alike s meta k class destination m (workspace_of s k) (λ w there. (model meta w begun there).0)
 
-pub decided_alike : (s : State) (block : Option (List ℕ)) (command : Command) (ws : ℕ) (m : Plain) → model_for command ≡ Some ws → IsWorkingModel s ws m → decide_command s block (with_id (plain_state m) command) ≡ decide_command s block command
+pub decided_alike : (s : State) (block : Option (List ℕ)) (command : Command) (ws : ℕ) (m : models.State) → model_for command ≡ Some ws → IsWorkingModel s ws m → decide_command s block (with_id m command) ≡ decide_command s block command
 unfolding decide_command
 decided_alike s block (commands.Edit k (Create class destination None)) ws m needs model = with_alike s block k class destination m s.meta refl (subst (λ n. IsWorkingModel s n m) (sym (same_Some k ws needs)) model)
 decided_alike s block command ws m needs model = refl

@@ -7,8 +7,6 @@ use Rattle.model_state.specs.State as models
 use Rattle.model_state.specs.Good.{Good}
 use Rattle.model_state.specs.Packages.{fold_package}
 use Rattle.model_state.specs.declared.operation.Operation.{Operation}
-use Rattle.step_apply.specs.declared.plain.Plain.{Plain}
-use Rattle.step_apply.specs.View.{plain_state}
 use Rattle.op_form.specs.declared.event.Event.TheVariants.{Edit}
 use Rattle.plain_repository.specs.State.{State, Workspace, model_of, workspace_of}
 use Rattle.plain_repository.specs.Edits.{can_follow}
@@ -48,20 +46,20 @@ not_taken s ws [] (Some meta) (Some w) begun there can = ap (λ (m : Option Meta
 not_taken s ws (x ∷ xs) (Some meta) (Some w) begun there can =
     ap (λ (m : Option Meta). playable_with s m (Edit ws (x ∷ xs))) begun ∙ ap (λ (o : Option Workspace). can_follow meta s.history o (x ∷ xs)) there ∙ ap (λ (b : Bool). b && is_some (fold_package meta (model_of meta s.history w) (x ∷ xs))) can
 
-module _ (s : State) (meta : Meta) (ws : ℕ) (os : List Operation) (begun : s.meta ≡ Some meta) (t : Taker s meta ws os) (m : Plain) (is : IsWorkingModel s ws m) where
-  at : plain_state m ≡ model_of meta s.history t.workspace
+module _ (s : State) (meta : Meta) (ws : ℕ) (os : List Operation) (begun : s.meta ≡ Some meta) (t : Taker s meta ws os) (m : models.State) (is : IsWorkingModel s ws m) where
+  at : m ≡ model_of meta s.history t.workspace
   at = (is meta t.workspace begun t.there).0
 
-  pub model_good : Good meta (plain_state m)
+  pub model_good : Good meta m
   model_good = (is meta t.workspace begun t.there).1
 
-  pub taken_could : (n : models.State) → fold_package meta (plain_state m) os ≡ Some n → playable_with s s.meta (Edit ws os) ≡ true
+  pub taken_could : (n : models.State) → fold_package meta m os ≡ Some n → playable_with s s.meta (Edit ws os) ≡ true
   taken_could n done = t.tests ∙ ap (λ (x : models.State). is_some (fold_package meta x os)) (sym at) ∙ ap is_some done
 
-  pub taken_cannot : fold_package meta (plain_state m) os ≡ None → playable_with s s.meta (Edit ws os) ≡ false
+  pub taken_cannot : fold_package meta m os ≡ None → playable_with s s.meta (Edit ws os) ≡ false
   taken_cannot none = t.tests ∙ ap (λ (x : models.State). is_some (fold_package meta x os)) (sym at) ∙ ap is_some none
 
-  pub taken_lead : (n : Plain) → fold_package meta (plain_state m) os ≡ Some (plain_state n) → Good meta (plain_state n) → LeadTo s ws os n
+  pub taken_lead : (n : models.State) → fold_package meta m os ≡ Some n → Good meta n → LeadTo s ws os n
   taken_lead n done good meta' w' begun' there' =
-      let both = subst (λ (x : Meta). (fold_package x (plain_state m) os ≡ Some (plain_state n)) × Good x (plain_state n)) (same_Some meta meta' (sym begun ∙ begun')) (done, good) in
-      (subst (λ (x : models.State). fold_package meta' x os ≡ Some (plain_state n)) (is meta' w' begun' there').0 both.0, both.1)
+      let both = subst (λ (x : Meta). (fold_package x m os ≡ Some n) × Good x n) (same_Some meta meta' (sym begun ∙ begun')) (done, good) in
+      (subst (λ (x : models.State). fold_package meta' x os ≡ Some n) (is meta' w' begun' there').0 both.0, both.1)

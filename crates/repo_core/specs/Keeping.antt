@@ -3,14 +3,13 @@ use Rattle.std.specs.Prelude.{◌≡◌, List, All, Option, Some, None}
 use Rattle.std.specs.Option.{option_map}
 use Rattle.ecore_meta.specs.Meta.{Meta}
 use Rattle.model_state.specs.Good.{Good}
-use Rattle.step_apply.specs.declared.plain.Plain.{Plain}
-use Rattle.step_apply.specs.View.{plain_state}
 use Rattle.history_tree.specs.History.{History, no_history}
 use Rattle.plain_repository.specs.State.{folded}
 use Rattle.plain_repository.specs.State as plain
 use Rattle.repo_core.specs.declared.repo.Begun.{Begun}
 use Rattle.repo_core.specs.declared.workspace.Composite.{Composite}
 use Rattle.repo_core.specs.declared.workspace.Workspace.{Workspace}
+use Rattle.model_state.specs.State as models
 
 -- an open composite as the plain repository has it
 abbrev pub plain_composite : Composite → plain.Composite
@@ -26,7 +25,7 @@ plain_any w = option_map plain_of w
 
 -- the model that is kept, where one is, is the working model, and good
 abbrev pub ModelFits : Meta → History → Workspace → Type 0
-ModelFits meta h w = (m : Plain) → w.model ≡ Some m → (folded meta h (plain_of w) ≡ Some (plain_state m)) × Good meta (plain_state m)
+ModelFits meta h w = (m : models.State) → w.model ≡ Some m → (folded meta h (plain_of w) ≡ Some m) × Good meta m
 
 -- so it is, where the workspace is there
 abbrev pub FitsAny : Meta → History → Option Workspace → Type 0

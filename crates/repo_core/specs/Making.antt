@@ -4,13 +4,12 @@ use Rattle.ecore_meta.specs.Meta.{Meta}
 use Rattle.model_state.specs.Good.{Good}
 use Rattle.model_state.specs.Packages.{fold_package}
 use Rattle.model_state.specs.declared.operation.Operation.{Operation}
-use Rattle.step_apply.specs.declared.plain.Plain.{Plain}
-use Rattle.step_apply.specs.View.{plain_state}
 use Rattle.history_tree.specs.History.{History, head}
 use Rattle.op_form.specs.declared.event.Event.{Event}
 use Rattle.op_form.specs.declared.event.Event.TheVariants.{Init, Edit, Tidy, Update, Merge}
 use Rattle.plain_repository.specs.Edits.{takes}
 use Rattle.plain_repository.specs.State.{State, Workspace, workspace_of, model_of}
+use Rattle.model_state.specs.State as models
 
 -- the events whose test is a part of making them: a text is read, steps are taken, or operations are compared
 abbrev pub is_tested_late : Event → Bool
@@ -27,8 +26,8 @@ can_take (Some meta) (Some w) (o ∷ operations) = takes w.composite (o ∷ oper
 can_take meta w operations = false
 
 -- the operations lead from the working model of the workspace of that number to a model, which is good
-abbrev pub LeadTo : State → ℕ → List Operation → Plain → Type 0
-LeadTo s ws operations m = (meta : Meta) (w : Workspace) → s.meta ≡ Some meta → workspace_of s ws ≡ Some w → (fold_package meta (model_of meta s.history w) operations ≡ Some (plain_state m)) × Good meta (plain_state m)
+abbrev pub LeadTo : State → ℕ → List Operation → models.State → Type 0
+LeadTo s ws operations m = (meta : Meta) (w : Workspace) → s.meta ≡ Some meta → workspace_of s ws ≡ Some w → (fold_package meta (model_of meta s.history w) operations ≡ Some m) × Good meta m
 
 -- the workspace is there, and its base is the head of its branch
 abbrev pub is_at_head : History → Option Workspace → Bool

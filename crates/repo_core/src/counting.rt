@@ -102,7 +102,7 @@ impl Repo {
         begun.history.whole();
         let head = begun.history.head(TRUNK);
         let model = state_at(alloc, &begun.meta, &begun.history, head)?;
-        let ids = model.plain().ids(alloc)?;
+        let ids = model.graph().ids(alloc)?;
         Ok(ids.len() as u64)
     }
 }

@@ -24,10 +24,10 @@ use crate::repo::Repo;
 use answers::refuse;
 pub use answers::{Decision, Made};
 use ecore_meta::Text;
+use model_graph::Graph;
 use models::{model_for, name_creation};
 use script_lang::{Command, ParseFault, Refusal, parse_line};
 use std::alloc::{AllocError, Global};
-use step_apply::Plain;
 use working_model::Working;
 
 /// The text of a block, empty where there is none.
@@ -107,7 +107,7 @@ impl Repo {
         ensures made { IfOk result (λ d. CanMakeIt self.now d.made) }
     {
         name_creation(alloc, command, model)?;
-        self.decide_on(alloc, command, block, Some(model.plain()))
+        self.decide_on(alloc, command, block, Some(model.graph()))
     }
 
     /// The same, with the model of the workspace that needs it, where that is there.
@@ -117,7 +117,7 @@ impl Repo {
         alloc: Global,
         command: &Command,
         block: &Option<Text>,
-        model: Option<&Plain>,
+        model: Option<&Graph>,
     ) -> Result<Decision, AllocError>
         requires command { IsCommand command.now }
         requires block { IsShortBlock block.now }

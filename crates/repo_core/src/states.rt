@@ -5,7 +5,6 @@ ghost use Rattle.model_state.specs.Faults.{IsFault};
 ghost use Rattle.model_state.specs.Good.{Good};
 ghost use Rattle.model_state.specs.Packages.{fold_package, steps_all, steps_of};
 ghost use Rattle.model_state.specs.Steps.{fault_along, first_stop, fold};
-ghost use Rattle.step_apply.specs.View.{plain_state};
 ghost use Rattle.history_tree.specs.States.{state_folded, state_of};
 
 use ecore_meta::Metamodel;
@@ -31,10 +30,10 @@ pub(crate) fn take_steps(
     steps: &[Step],
 ) -> Result<(), StepFault>
     requires sound { Sound meta.now }
-    requires good { Good meta.now (plain_state model.old) }
-    ensures done { OnOk result (fold meta.now (plain_state model.old) steps.now ≡ Some (plain_state model.new)) }
-    ensures cannot { IfErr result (λ e. IsFault (fault_along meta.now (plain_state model.old) steps.now) e) }
-    ensures good { Good meta.now (plain_state model.new) }
+    requires good { Good meta.now model.old }
+    ensures done { OnOk result (fold meta.now model.old steps.now ≡ Some model.new) }
+    ensures cannot { IfErr result (λ e. IsFault (fault_along meta.now model.old steps.now) e) }
+    ensures good { Good meta.now model.new }
 {
     match model.replay(meta, steps) {
         Ok(()) => Ok(()),
@@ -49,10 +48,10 @@ pub(crate) fn follow(
     operations: &[Operation],
 ) -> Result<(), StepFault>
     requires sound { Sound meta.now }
-    requires good { Good meta.now (plain_state model.old) }
-    ensures done { OnOk result (fold_package meta.now (plain_state model.old) operations.now ≡ Some (plain_state model.new)) }
-    ensures cannot { IfErr result (λ e. e ≢ StepFault.Memory → fold_package meta.now (plain_state model.old) operations.now ≡ None) }
-    ensures good { Good meta.now (plain_state model.new) }
+    requires good { Good meta.now model.old }
+    ensures done { OnOk result (fold_package meta.now model.old operations.now ≡ Some model.new) }
+    ensures cannot { IfErr result (λ e. e ≢ StepFault.Memory → fold_package meta.now model.old operations.now ≡ None) }
+    ensures good { Good meta.now model.new }
 {
     for operation in operations {
         take_steps(model, meta, steps_in(operation))?;
@@ -67,9 +66,9 @@ pub(crate) fn stop_in(
     operations: &[Operation],
 ) -> Result<Option<u64>, AllocError>
     requires sound { Sound meta.now }
-    requires good { Good meta.now (plain_state model.old) }
+    requires good { Good meta.now model.old }
     requires few { length (steps_all operations.now) < 2 ^ 64 }
-    ensures stop { IfOk result (λ found. found ≡ option_map (λ x. x.at) (first_stop meta.now (plain_state model.old) (steps_all operations.now))) }
+    ensures stop { IfOk result (λ found. found ≡ option_map (λ x. x.at) (first_stop meta.now model.old (steps_all operations.now))) }
 {
     let mut before = 0;
     for operation in operations {
@@ -95,8 +94,8 @@ pub fn state_at(
     requires sound { Sound meta.now }
     requires there { v < length history.now.history.versions }
     requires leads { is_some (state_folded meta.now history.now.history v) ≡ true }
-    ensures state { IfOk result (λ m. plain_state m ≡ state_of meta.now history.now.history v) }
-    ensures good { IfOk result (λ m. Good meta.now (plain_state m)) }
+    ensures state { IfOk result (λ m. m ≡ state_of meta.now history.now.history v) }
+    ensures good { IfOk result (λ m. Good meta.now m) }
 {
     let mut model = Working::new(alloc);
     let path = history.path(alloc, v)?;

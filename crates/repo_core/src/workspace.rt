@@ -5,7 +5,6 @@ ghost use Rattle.ecore_meta.specs.Sound.{Sound};
 ghost use Rattle.model_state.specs.Good.{Good};
 ghost use Rattle.model_state.specs.Steps.{fold};
 ghost use Rattle.model_state.specs.Packages.{steps_of, rev_op};
-ghost use Rattle.step_apply.specs.View.{plain_state};
 ghost use Rattle.history_tree.specs.States.{state_folded, state_of};
 ghost use Rattle.plain_repository.specs.State.{model_of, folded, recorded_steps, untouched, has_operations, has_local, is_open};
 ghost use Rattle.plain_repository.specs.Commits.{version_of, committed};
@@ -52,9 +51,9 @@ fn take_back(
     operation: &Operation,
 ) -> Option<Working>
     requires sound { Sound meta.now }
-    requires good { Good meta.now (plain_state model) }
-    ensures back { IfSome result (λ m. fold meta.now (plain_state model) (steps_of (rev_op operation.now)) ≡ Some (plain_state m)) }
-    ensures good { IfSome result (λ m. Good meta.now (plain_state m)) }
+    requires good { Good meta.now model }
+    ensures back { IfSome result (λ m. fold meta.now model (steps_of (rev_op operation.now)) ≡ Some m) }
+    ensures good { IfSome result (λ m. Good meta.now m) }
 {
     let Ok(reversal) = reverse_op(alloc, operation) else {
         return None;
@@ -138,8 +137,8 @@ impl Workspace {
         requires fits { ModelFits meta.now history.now.history self.old }
         ensures same { plain_of self.new ≡ plain_of self.old }
         ensures taken { self.new.model ≡ None }
-        ensures model { IfOk result (λ m. plain_state m ≡ model_of meta.now history.now.history (plain_of self.old)) }
-        ensures good { IfOk result (λ m. Good meta.now (plain_state m)) }
+        ensures model { IfOk result (λ m. m ≡ model_of meta.now history.now.history (plain_of self.old)) }
+        ensures good { IfOk result (λ m. Good meta.now m) }
     {
         match self.model.take() {
             Some(model) => Ok(model),
@@ -303,8 +302,8 @@ impl Workspace {
         requires there { self.now.base < length history.now.history.versions }
         requires base { is_some (state_folded meta.now history.now.history self.now.base) ≡ true }
         requires leads { is_some (folded meta.now history.now.history (plain_of self.now)) ≡ true }
-        ensures model { IfOk result (λ m. plain_state m ≡ model_of meta.now history.now.history (plain_of self.now)) }
-        ensures good { IfOk result (λ m. Good meta.now (plain_state m)) }
+        ensures model { IfOk result (λ m. m ≡ model_of meta.now history.now.history (plain_of self.now)) }
+        ensures good { IfOk result (λ m. Good meta.now m) }
     {
         let mut model = state_at(alloc, meta, history, self.base)?;
         match self.retake(&mut model, meta) {
@@ -319,10 +318,10 @@ impl Workspace {
     /// Takes all that is recorded on the state of the base. After an error the model is of no use.
     fn retake(&self, model: &mut Working, meta: &Metamodel) -> Result<(), StepFault>
         requires sound { Sound meta.now }
-        requires good { Good meta.now (plain_state model.old) }
-        ensures done { OnOk result (fold meta.now (plain_state model.old) (recorded_steps (plain_of self.now)) ≡ Some (plain_state model.new)) }
-        ensures cannot { IfErr result (λ e. e ≢ StepFault.Memory → fold meta.now (plain_state model.old) (recorded_steps (plain_of self.now)) ≡ None) }
-        ensures good { OnOk result (Good meta.now (plain_state model.new)) }
+        requires good { Good meta.now model.old }
+        ensures done { OnOk result (fold meta.now model.old (recorded_steps (plain_of self.now)) ≡ Some model.new) }
+        ensures cannot { IfErr result (λ e. e ≢ StepFault.Memory → fold meta.now model.old (recorded_steps (plain_of self.now)) ≡ None) }
+        ensures good { OnOk result (Good meta.now model.new) }
     {
         let operations = self.operations.as_slice();
         follow(model, meta, operations)?;

@@ -8,47 +8,45 @@ ghost use Rattle.model_state.specs.Good.{Good};
 ghost use Rattle.model_state.specs.Ident.{is_id};
 ghost use Rattle.model_state.specs.State.{nothing};
 ghost use Rattle.model_state.specs.Steps.{first_stop, fold};
-ghost use Rattle.step_apply.specs.View.{plain_state};
 ghost use Rattle.working_model.specs.Taken.{AreTaken};
 
 use crate::deletions::delete_any;
 use ecore_meta::Metamodel;
 use edits::numbered_id;
+use model_graph::Graph;
 use model_laws::replay;
 use model_state::{ApplyFault, Id, Look, Step};
 use std::alloc::{AllocError, Global};
 use std::marker::Model;
-use step_apply::Plain;
 
 /// A model, and a number of a workspace's ids: those of lesser numbers are live. Contracts see the model alone.
 #[derive(Drop)]
 pub struct Working {
-    model: Plain,
+    model: Graph,
     ws: u32,
     next: u64,
 }
 
 impl Model for Working {
-    ghost use Rattle.step_apply.specs.View.{plain_state};
-    ghost use Rattle.step_apply.specs.contracts.plain.Plain.{the_row};
-    ghost use Rattle.step_apply.specs.declared.plain.Plain.{Plain};
+    ghost use Rattle.model_graph.specs.contracts.graph.Graph.{the_row};
+    ghost use Rattle.model_state.specs.State.{State};
     ghost use Rattle.working_model.specs.Taken.{AreTaken};
 
-    ghost Value = { Plain };
+    ghost Value = { State };
 
     ghost coded = { the_row.coded };
 
     ghost view = { λ w. w.model };
 
-    ghost invariant = { λ w. AreTaken (plain_state w.model) w.ws w.next };
+    ghost invariant = { λ w. AreTaken w.model w.ws w.next };
 }
 
 /// The first id of a workspace, from a number on, that no live element has, and its number.
-fn free_from(alloc: Global, model: &Plain, ws: u32, from: u64) -> Result<(Id, u64), AllocError>
-    requires taken { AreTaken (plain_state model.now) ws from }
-    ensures id { IfOk result (λ r. r.0 ≡ fresh_id (plain_state model.now) ws) }
-    ensures form { OnOk result (is_id (fresh_id (plain_state model.now) ws) ≡ true) }
-    ensures taken { IfOk result (λ r. AreTaken (plain_state model.now) ws r.1) }
+fn free_from(alloc: Global, model: &Graph, ws: u32, from: u64) -> Result<(Id, u64), AllocError>
+    requires taken { AreTaken model.now ws from }
+    ensures id { IfOk result (λ r. r.0 ≡ fresh_id model.now ws) }
+    ensures form { OnOk result (is_id (fresh_id model.now ws) ≡ true) }
+    ensures taken { IfOk result (λ r. AreTaken model.now ws r.1) }
 {
     for k in from..u64::MAX {
         let id = numbered_id(alloc, ws, k)?;
@@ -63,18 +61,18 @@ fn free_from(alloc: Global, model: &Plain, ws: u32, from: u64) -> Result<(Id, u6
 impl Working {
     /// The model without elements.
     pub fn new(alloc: Global) -> Working
-        ensures empty { plain_state result ≡ nothing }
-        ensures good { (meta : Meta) → Good meta (plain_state result) }
+        ensures empty { result ≡ nothing }
+        ensures good { (meta : Meta) → Good meta result }
     {
         Working {
-            model: Plain::new(alloc),
+            model: Graph::new(alloc),
             ws: 0,
             next: 1,
         }
     }
 
     /// The model.
-    pub fn plain(&self) -> &Plain
+    pub fn graph(&self) -> &Graph
         ensures { result.now ≡ self.now }
     {
         &self.model
@@ -83,11 +81,11 @@ impl Working {
     /// Takes the steps one by one, up to the first that can't be taken, whose place, from 0, and fault it gives. The steps before it are taken then.
     pub fn replay(&mut self, meta: &Metamodel, steps: &[Step]) -> Result<(), ApplyFault>
         requires sound { Sound meta.now }
-        requires good { Good meta.now (plain_state self.old) }
-        ensures done { OnOk result (fold meta.now (plain_state self.old) steps.now ≡ Some (plain_state self.new)) }
-        ensures cannot { IfErr result (λ e. IsApplyFault (first_stop meta.now (plain_state self.old) steps.now) e) }
-        ensures taken { IfErr result (λ e. fold meta.now (plain_state self.old) (take e.at steps.now) ≡ Some (plain_state self.new)) }
-        ensures good { Good meta.now (plain_state self.new) }
+        requires good { Good meta.now self.old }
+        ensures done { OnOk result (fold meta.now self.old steps.now ≡ Some self.new) }
+        ensures cannot { IfErr result (λ e. IsApplyFault (first_stop meta.now self.old steps.now) e) }
+        ensures taken { IfErr result (λ e. fold meta.now self.old (take e.at steps.now) ≡ Some self.new) }
+        ensures good { Good meta.now self.new }
     {
         let next = if delete_any(steps) { 1 } else { self.next };
         self.next = 1;
@@ -99,8 +97,8 @@ impl Working {
     /// The first id of a workspace that no live element has, as `edits` has it. The search begins where it ended the last time, unless the workspace
     /// is another one, or an element was deleted since.
     pub fn fresh_id(&mut self, alloc: Global, ws: u32) -> Result<Id, AllocError>
-        ensures id { IfOk result (λ id. id ≡ fresh_id (plain_state self.old) ws) }
-        ensures form { OnOk result (is_id (fresh_id (plain_state self.old) ws) ≡ true) }
+        ensures id { IfOk result (λ id. id ≡ fresh_id self.old ws) }
+        ensures form { OnOk result (is_id (fresh_id self.old ws) ≡ true) }
         ensures same { self.new ≡ self.old }
     {
         let from = if ws == self.ws { self.next } else { 1 };

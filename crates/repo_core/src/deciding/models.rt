@@ -2,7 +2,6 @@
 ghost use Rattle.std.specs.Prelude.{◌≡◌, OnOk, Some};
 ghost use Rattle.plain_repository.specs.State.{model_of, workspace_of};
 ghost use Rattle.model_state.specs.Good.{Good};
-ghost use Rattle.step_apply.specs.View.{plain_state};
 ghost use Rattle.repo_core.specs.Keeping.{plain_of};
 ghost use Rattle.repo_core.specs.Working.{IsWorkingModel, creation_without_id, given_id, model_for, with_id};
 ghost use Rattle.script_lang.specs.Spelling.{IsCommand};
@@ -11,9 +10,9 @@ use crate::repo::{Begun, Repo};
 use crate::workspace::Workspace;
 use ecore_meta::Text;
 use edits::Edit;
+use model_graph::Graph;
 use script_lang::Command;
 use std::alloc::{AllocError, Global};
-use step_apply::Plain;
 use working_model::Working;
 
 /// The workspace whose working model a command needs.
@@ -64,7 +63,7 @@ pub(crate) fn name_creation(
     model: &mut Working,
 ) -> Result<(), AllocError>
     requires command { IsCommand command.old }
-    ensures named { OnOk result (command.new ≡ with_id (plain_state model.old) command.old) }
+    ensures named { OnOk result (command.new ≡ with_id model.old command.old) }
     ensures command { OnOk result (IsCommand command.new) }
     ensures model { model.new ≡ model.old }
 {
@@ -79,12 +78,12 @@ pub(crate) fn name_creation(
 
 impl Repo {
     /// What is known of a working model, said of the workspace that it is of. It does nothing.
-    pub(crate) fn settle(&self, _begun: &Begun, _ws: u32, _workspace: &Workspace, _model: &Plain)
+    pub(crate) fn settle(&self, _begun: &Begun, _ws: u32, _workspace: &Workspace, _model: &Graph)
         requires meta { self.now.meta ≡ Some _begun.now.meta }
         requires there { workspace_of self.now _ws ≡ Some (plain_of _workspace.now) }
         requires model { IsWorkingModel self.now _ws _model.now }
-        ensures model { plain_state _model.now ≡ model_of _begun.now.meta self.now.history (plain_of _workspace.now) }
-        ensures good { Good _begun.now.meta (plain_state _model.now) }
+        ensures model { _model.now ≡ model_of _begun.now.meta self.now.history (plain_of _workspace.now) }
+        ensures good { Good _begun.now.meta _model.now }
     {
         // Only the contract needs it.
     }

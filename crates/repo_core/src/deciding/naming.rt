@@ -52,7 +52,7 @@ impl Repo {
         begun.meta.sound();
         let model = state_at(alloc, &begun.meta, &begun.history, v)?;
         let mut lines = List::new(alloc);
-        lines.push(write_model(alloc, model.plain(), &begun.meta)?)?;
+        lines.push(write_model(alloc, model.graph(), &begun.meta)?)?;
         Ok(lines)
     }
 }

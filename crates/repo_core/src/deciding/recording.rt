@@ -12,13 +12,13 @@ use ecore_meta::{List, Text};
 use edit_laws::EditFault;
 use edits::{Edit, Recorded};
 use emfjson_model::{ModelFault, read_model};
+use model_graph::Graph;
 use model_import::import_doc;
 use model_state::{Id, Operation};
 use op_form::Event;
 use recorder::take_edit;
 use script_lang::Refusal;
 use std::alloc::{AllocError, Global};
-use step_apply::Plain;
 
 /// The refusal that an edit's fault is; out of memory is none.
 fn refusal_of(fault: EditFault) -> Option<Refusal>
@@ -62,7 +62,7 @@ impl Repo {
         begun: &Begun,
         ws: u32,
         edit: &Edit,
-        model: Option<&Plain>,
+        model: Option<&Graph>,
     ) -> Result<Decision, AllocError>
         requires meta { self.now.meta ≡ Some begun.now.meta }
         requires history { self.now.history ≡ begun.now.history.history }
@@ -98,7 +98,7 @@ impl Repo {
         begun: &Begun,
         ws: u32,
         text: &str,
-        model: Option<&Plain>,
+        model: Option<&Graph>,
     ) -> Result<Decision, AllocError>
         requires meta { self.now.meta ≡ Some begun.now.meta }
         requires history { self.now.history ≡ begun.now.history.history }

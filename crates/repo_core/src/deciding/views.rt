@@ -15,10 +15,10 @@ use crate::workspace::Composite;
 use data_lines::{log_lines, open_lines, operation_lines, package_lines, validate_lines};
 use ecore_meta::{List, Metamodel, Text};
 use emfjson_text::write_model;
+use model_graph::Graph;
 use op_form::is_package;
 use script_lang::{Refusal, Spec};
 use std::alloc::{AllocError, Global};
-use step_apply::Plain;
 
 /// Lines come after others.
 fn push_lines(alloc: Global, lines: &mut List<Text>, more: &List<Text>) -> Result<(), AllocError>
@@ -78,7 +78,7 @@ impl Repo {
         alloc: Global,
         begun: &Begun,
         ws: u32,
-        model: Option<&Plain>,
+        model: Option<&Graph>,
     ) -> Result<Decision, AllocError>
         requires meta { self.now.meta ≡ Some begun.now.meta }
         requires history { self.now.history ≡ begun.now.history.history }
@@ -106,7 +106,7 @@ impl Repo {
         alloc: Global,
         begun: &Begun,
         ws: u32,
-        model: Option<&Plain>,
+        model: Option<&Graph>,
     ) -> Result<Decision, AllocError>
         requires meta { self.now.meta ≡ Some begun.now.meta }
         requires history { self.now.history ≡ begun.now.history.history }

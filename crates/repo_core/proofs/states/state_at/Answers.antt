@@ -5,7 +5,6 @@ use Rattle.std.specs.Option.{option_map_or}
 use Rattle.model_state.specs.State.{State}
 use Rattle.model_state.specs.declared.operation.Operation.{Operation}
 use Rattle.model_state.specs.Packages.{fold_package}
-use Rattle.step_apply.specs.View.{plain_state}
 use Rattle.history_tree.specs.declared.version.Version.{Version}
 use Rattle.history_tree.specs.States.{package_at, operations_of}
 use Rattle.repo_core.proofs.Folding.{version_on, version_none}
@@ -17,7 +16,7 @@ unreachable-requires c =
     let h = c.args.history.now.history in
     let us = c.as_slice-u-items.result.now in
     let at : package_at h.versions (slice_index_or us c.loop-u.u-index 0) ≡ c.as_slice.result.now = ap (λ (o : Option Version). option_map_or (λ v. v.«package») o []) c.version.ensures.version ∙ sym c.as_slice.ensures in
-    let none : fold_package meta (plain_state c.loop-u.model) (operations_of h.versions (drop c.loop-u.u-index us)) ≡ None = version_none meta (plain_state c.loop-u.model) h.versions us c.loop-u.u-index 0 c.loop-u-test.true (subst (λ (p : List Operation). fold_package meta (plain_state c.loop-u.model) p ≡ None) (sym at) (c.in-Err.ensures.cannot c.in_default.not-Memory)) in
+    let none : fold_package meta c.loop-u.model (operations_of h.versions (drop c.loop-u.u-index us)) ≡ None = version_none meta c.loop-u.model h.versions us c.loop-u.u-index 0 c.loop-u-test.true (subst (λ (p : List Operation). fold_package meta c.loop-u.model p ≡ None) (sym at) (c.in-Err.ensures.cannot c.in_default.not-Memory)) in
     false≢true (ap (λ (o : Option State). is_some o) (sym none ∙ sym c.loop-u.invariant.same) ∙ c.requires.leads)
 
 pub loop-u-preserved : goal.loop-u-preserved
@@ -27,7 +26,7 @@ loop-u-preserved c =
     let us = c.as_slice-u-items.result.now in
     let at : package_at h.versions (slice_index_or us c.loop-u.u-index 0) ≡ c.as_slice.result.now = ap (λ (o : Option Version). option_map_or (λ v. v.«package») o []) c.version.ensures.version ∙ sym c.as_slice.ensures in
     record {
-      same = c.loop-u.invariant.same ∙ version_on meta (plain_state c.loop-u.model) (plain_state c.follow.new.model) h.versions us c.loop-u.u-index 0 c.loop-u-test.true
-          (subst (λ (p : List Operation). fold_package meta (plain_state c.loop-u.model) p ≡ Some (plain_state c.follow.new.model)) (sym at) c.in-Ok.ensures.done);
+      same = c.loop-u.invariant.same ∙ version_on meta c.loop-u.model c.follow.new.model h.versions us c.loop-u.u-index 0 c.loop-u-test.true
+          (subst (λ (p : List Operation). fold_package meta c.loop-u.model p ≡ Some c.follow.new.model) (sym at) c.in-Ok.ensures.done);
       good = c.follow.ensures.good;
     }

@@ -4,14 +4,13 @@ use Rattle.model_state.specs.declared.step.ApplyFault.{ApplyFault}
 use Rattle.model_state.specs.declared.step.Step.{Step}
 use Rattle.model_state.specs.Packages.{steps_all, steps_of}
 use Rattle.model_state.specs.Steps.{first_stop, fold, further_on}
-use Rattle.step_apply.specs.View.{plain_state}
 use Rattle.repo_core.proofs.Stopping.{stop_fits, stop_here, stop_on, total_on}
 use Rattle.repo_core.proofs.states.stop_in.Goals as goal
 
 pub overflow_add-result : goal.overflow_add-result
 overflow_add-result c =
     let meta = c.args.meta.now in
-    let m = plain_state c.loop-operation.model in
+    let m = c.loop-operation.model in
     let at = ⊎_elim (λ memory. absurd (c.in_default-fault.not-Memory memory)) (λ at. at) c.in-Err.ensures.cannot in
     let fits = stop_fits meta m c.args.operations.now c.loop-operation.operation-index c.loop-operation.before c.operation-item.result c.in-Err.stop c.loop-operation-test.true c.loop-operation.invariant.total c.requires.few
     (subst (λ (l : List Step). first_stop meta m l ≡ Some c.in-Err.stop) (c.steps_in-steps.ensures ∙ ap steps_of c.operation-item.is) at) in
@@ -20,7 +19,7 @@ overflow_add-result c =
 pub returns-in_default-fault : goal.returns-in_default-fault
 returns-in_default-fault c =
     let meta = c.args.meta.now in
-    let m = plain_state c.loop-operation.model in
+    let m = c.loop-operation.model in
     let at = ⊎_elim (λ memory. absurd (c.in_default-fault.not-Memory memory)) (λ at. at) c.in-Err.ensures.cannot in
     let here = stop_here meta m c.args.operations.now c.loop-operation.operation-index c.loop-operation.before c.operation-item.result c.in-Err.stop c.loop-operation-test.true
     (subst (λ (l : List Step). first_stop meta m l ≡ Some c.in-Err.stop) (c.steps_in-steps.ensures ∙ ap steps_of c.operation-item.is) at) in
@@ -32,8 +31,8 @@ loop-operation-preserved c =
     let os = c.args.operations.now in
     let i = c.loop-operation.operation-index in
     let before = c.loop-operation.before in
-    let m = plain_state c.loop-operation.model in
-    let n = plain_state c.replay.new.self in
+    let m = c.loop-operation.model in
+    let n = c.replay.new.self in
     let same = c.steps_in-steps.ensures ∙ ap steps_of c.operation-item.is in
     record {
       good = c.replay.ensures.good;

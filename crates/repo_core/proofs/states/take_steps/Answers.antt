@@ -7,7 +7,6 @@ use Rattle.model_state.specs.State.{State}
 use Rattle.model_state.specs.Steps.{fault_along, first_stop}
 use Rattle.model_state.specs.Faults.{IsApplyFault, IsFault}
 use Rattle.model_laws.proofs.Stops.{stop_is_fault}
-use Rattle.step_apply.specs.View.{plain_state}
 use Rattle.repo_core.proofs.states.take_steps.Goals as goal
 
 fault_of_stop : (meta : Meta) (m : State) (ss : List Step) (x : ApplyFault) → IsApplyFault (first_stop meta m ss) x → IsFault (fault_along meta m ss) x.fault
@@ -15,4 +14,4 @@ fault_of_stop meta m ss x (inl memory) = inl memory
 fault_of_stop meta m ss x (inr stops) = inr (sym (stop_is_fault meta m ss) ∙ ap (option_map (λ (y : ApplyFault). y.fault)) stops)
 
 pub returns-in-Err-clause-cannot : goal.returns-in-Err-clause-cannot
-returns-in-Err-clause-cannot c = fault_of_stop c.args.meta.now (plain_state c.args.model.now) c.args.steps.now c.in-Err.stop c.in-Err.ensures.cannot
+returns-in-Err-clause-cannot c = fault_of_stop c.args.meta.now c.args.model.now c.args.steps.now c.in-Err.stop c.in-Err.ensures.cannot

@@ -3,12 +3,11 @@ use Rattle.std.specs.Prelude.{is_some}
 use Rattle.model_state.specs.Ident.{is_id}
 use Rattle.model_state.specs.State.{is_live}
 use Rattle.edits.proofs.Fresh.{first_is_fresh}
-use Rattle.step_apply.specs.View.{plain_state}
 use Rattle.working_model.proofs.working.free_from.Goals as goal
 
 pub returns-then-is_none-clause-id : goal.returns-then-is_none-clause-id
 returns-then-is_none-clause-id c =
-    let m = plain_state c.args.model.now in
+    let m = c.args.model.now in
     let k = c.loop-k.k in
     let small : k < 2 ^ 64 = omega (arith, c.loop-k-test.true) in
     c.in_ok-id.ensures.id ∙ sym (first_is_fresh m c.args.ws k small (record {

@@ -2,7 +2,6 @@ use Rattle.std.proofs.Common.{◌≡◌, List, None, Some, subst}
 use Rattle.model_state.specs.declared.operation.Operation.{Operation}
 use Rattle.repo_core.specs.declared.fault.ReplayFault.TheVariants.{NotPlayable}
 use Rattle.model_state.specs.Packages.{fold_package}
-use Rattle.step_apply.specs.View.{plain_state}
 use Rattle.repo_core.proofs.Effects.{begun_is}
 use Rattle.repo_core.proofs.Taking.{model_good, taken_cannot, taken_could, taken_lead, taker}
 use Rattle.repo_core.proofs.repo.Repo.advance.Goals as goal
@@ -20,8 +19,8 @@ returns-in-Ok-clause-could c =
     let meta = c.in-Some.begun.meta in
     let begun = begun_is c.self.inside.begun c.in-Some.begun _ c.self.inside.events c.self.inside.end s c.self.view_is c.in-Some.is in
     let t = taker s meta c.args.ws c.args.package.now begun c.requires.takes in
-    let done = subst (λ (os : List Operation). fold_package meta (plain_state c.args.model.now) os ≡ Some (plain_state c.follow.new.model)) c.as_slice.ensures c.in-Ok.ensures.done in
-    taken_could s meta c.args.ws c.args.package.now begun t c.args.model.now c.requires.model (plain_state c.follow.new.model) done
+    let done = subst (λ (os : List Operation). fold_package meta c.args.model.now os ≡ Some c.follow.new.model) c.as_slice.ensures c.in-Ok.ensures.done in
+    taken_could s meta c.args.ws c.args.package.now begun t c.args.model.now c.requires.model c.follow.new.model done
 
 pub returns-in-Ok-clause-leads : goal.returns-in-Ok-clause-leads
 returns-in-Ok-clause-leads c =
@@ -29,7 +28,7 @@ returns-in-Ok-clause-leads c =
     let meta = c.in-Some.begun.meta in
     let begun = begun_is c.self.inside.begun c.in-Some.begun _ c.self.inside.events c.self.inside.end s c.self.view_is c.in-Some.is in
     let t = taker s meta c.args.ws c.args.package.now begun c.requires.takes in
-    let done = subst (λ (os : List Operation). fold_package meta (plain_state c.args.model.now) os ≡ Some (plain_state c.follow.new.model)) c.as_slice.ensures c.in-Ok.ensures.done in
+    let done = subst (λ (os : List Operation). fold_package meta c.args.model.now os ≡ Some c.follow.new.model) c.as_slice.ensures c.in-Ok.ensures.done in
     taken_lead s meta c.args.ws c.args.package.now begun t c.args.model.now c.requires.model c.follow.new.model done c.follow.ensures.good
 
 pub returns-in-Err-clause-cannot : goal.returns-in-Err-clause-cannot
@@ -40,4 +39,4 @@ returns-in-Err-clause-cannot c =
     let t = taker s meta c.args.ws c.args.package.now begun c.requires.takes in
     λ is. let same : c.package_fault.result ≡ NotPlayable = cc in
     taken_cannot s meta c.args.ws c.args.package.now begun t c.args.model.now c.requires.model
-    (subst (λ (os : List Operation). fold_package meta (plain_state c.args.model.now) os ≡ None) c.as_slice.ensures (c.in-Err.ensures.cannot (c.package_fault.ensures.other same)))
+    (subst (λ (os : List Operation). fold_package meta c.args.model.now os ≡ None) c.as_slice.ensures (c.in-Err.ensures.cannot (c.package_fault.ensures.other same)))

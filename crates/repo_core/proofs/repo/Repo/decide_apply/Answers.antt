@@ -6,7 +6,6 @@ use Rattle.model_state.specs.declared.operation.Operation.{Operation}
 use Rattle.op_form.proofs.Codes.{whole_spelled}
 use Rattle.op_form.proofs.PackageCodes.{package_codes}
 use Rattle.plain_repository.specs.State.{folded, model_of}
-use Rattle.step_apply.specs.View.{plain_state}
 use Rattle.repo_core.specs.Keeping.{plain_of}
 use Rattle.repo_core.proofs.Ordered.{is_there, model_leads}
 use Rattle.repo_core.proofs.Reverted.{applied_could}
@@ -30,7 +29,7 @@ with_operations-requires c =
     let s = c.args.self.now in
     let meta = c.args.begun.now.meta in
     let w = plain_of c.in-Some.workspace.now in
-    let taken = none_stops meta (plain_state c.in_ok-model.model) c.as_slice.result.now (sym c.in-None.is ∙ c.in_ok-step.ensures.stop) in
+    let taken = none_stops meta c.in_ok-model.model c.as_slice.result.now (sym c.in-None.is ∙ c.in_ok-step.ensures.stop) in
     let on_model = subst (λ (m : models.State). is_some (fold_package meta m c.as_slice.result.now) ≡ true) (c.in_ok-model.ensures.model ∙ ap (λ (h : History). model_of meta h w) (sym c.requires.history)) taken in
     record {
       could = applied_could s meta c.args.ws w c.requires.meta (sym c.in-Some.ensures.found) (sym c.is_open.ensures.open ∙ c.if-is_open.false) c.in-Ok.«package»

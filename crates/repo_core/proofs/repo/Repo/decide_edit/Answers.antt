@@ -2,7 +2,6 @@ use Rattle.std.proofs.Common.{◌≡◌, subst, sym, true, is_some, [], ◌∷�
 use Rattle.std.specs.Prelude.{IfSome}
 use Rattle.model_state.specs.State as models
 use Rattle.model_state.specs.Packages.{fold_package}
-use Rattle.step_apply.specs.View.{plain_state}
 use Rattle.repo_core.specs.Keeping.{plain_of}
 use Rattle.repo_core.specs.Working.{IsWorkingModel}
 use Rattle.repo_core.proofs.Playable.{each_could, edit_could}
@@ -25,5 +24,5 @@ with_operation-requires c =
       could = each_could c.in-Ok.recorded.operation _ (λ o is.
           edit_could s s.meta meta c.args.ws w o c.requires.meta (sym c.in-Some.ensures.found)
           (subst (λ (n : models.State). is_some (fold_package meta n (o ∷ [])) ≡ true) c.settle.ensures.model
-          (recorded_follows meta c.sound.ensures (plain_state c.in-Some-model.model.now) c.settle.ensures.good c.args.ws c.args.edit.now c.in-Ok.recorded o c.in-Ok.ensures.recorded is)));
+          (recorded_follows meta c.sound.ensures c.in-Some-model.model.now c.settle.ensures.good c.args.ws c.args.edit.now c.in-Ok.recorded o c.in-Ok.ensures.recorded is)));
     }

@@ -5,7 +5,6 @@ use Rattle.model_state.specs.Packages.{fold_package}
 use Rattle.model_state.specs.declared.operation.Operation.{Operation}
 use Rattle.emfjson_model.proofs.Fitting.{documents_fit}
 use Rattle.model_import.specs.Import.{Imports}
-use Rattle.step_apply.specs.View.{plain_state}
 use Rattle.repo_core.specs.Keeping.{plain_of}
 use Rattle.repo_core.specs.Working.{IsWorkingModel}
 use Rattle.repo_core.proofs.Playable.{each_could, edit_could}
@@ -31,6 +30,6 @@ with_operation-requires c =
       could = each_could c.in-Ok-import_doc.operation _ (λ o is.
           edit_could s s.meta meta c.args.ws w o c.requires.meta (sym c.in-Some.ensures.found)
           (subst (λ (n : models.State). is_some (fold_package meta n (o ∷ [])) ≡ true) c.settle.ensures.model
-          (imported_follows meta c.sound.ensures (plain_state c.in-Some-model.model.now) c.settle.ensures.good c.args.ws c.args.text.now c.in-Ok.doc.rows o c.in-Ok.ensures.read
-          (subst (λ (p : Option Operation). Imports meta (plain_state c.in-Some-model.model.now) c.args.ws c.in-Ok.doc.rows (Ok p)) is c.in-Ok-import_doc.ensures.made))));
+          (imported_follows meta c.sound.ensures c.in-Some-model.model.now c.settle.ensures.good c.args.ws c.args.text.now c.in-Ok.doc.rows o c.in-Ok.ensures.read
+          (subst (λ (p : Option Operation). Imports meta c.in-Some-model.model.now c.args.ws c.in-Ok.doc.rows (Ok p)) is c.in-Ok-import_doc.ensures.made))));
     }

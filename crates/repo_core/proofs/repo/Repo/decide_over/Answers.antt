@@ -1,7 +1,5 @@
 use Rattle.std.proofs.Common.{◌≡◌, refl, sym, ap, ◌∙◌, subst}
 use Rattle.std.specs.Prelude.{IfOk}
-use Rattle.step_apply.specs.View.{plain_state}
-use Rattle.step_apply.specs.declared.plain.Plain.{Plain}
 use Rattle.plain_repository.specs.Answers.{Decision}
 use Rattle.plain_repository.specs.Repository.{decide_command}
 use Rattle.repo_core.specs.Decisions.{seen}
@@ -9,14 +7,15 @@ use Rattle.repo_core.specs.Working.{IsWorkingModel, model_for}
 use Rattle.repo_core.proofs.Naming.{decided_alike, needs_alike}
 use Rattle.repo_core.proofs.Needed.{for_command}
 use Rattle.repo_core.proofs.repo.Repo.decide_over.Goals as goal
+use Rattle.model_state.specs.State as models
 
 pub decide_on-requires-clause-model : goal.decide_on-requires-clause-model
 decide_on-requires-clause-model c =
-    let m = plain_state c.args.model.now in
+    let m = c.args.model.now in
     let command = c.args.command.now in
     for_command c.args.self.now c.args.self.now c.name_creation.new.command c.args.ws c.plain.result.now refl
     (ap model_for c.in_ok-name_creation.ensures.named ∙ needs_alike m command ∙ c.requires.needs)
-    (subst (λ (x : Plain). IsWorkingModel c.args.self.now c.args.ws x) (sym (c.plain.ensures ∙ c.name_creation.ensures.model)) c.requires.model)
+    (subst (λ (x : models.State). IsWorkingModel c.args.self.now c.args.ws x) (sym (c.graph.ensures ∙ c.name_creation.ensures.model)) c.requires.model)
 
 pub returns-clause-decision : goal.returns-clause-decision
 returns-clause-decision c =

@@ -1,5 +1,4 @@
 use Rattle.std.proofs.Common.{ℕ, sym, ◌∙◌, subst}
-use Rattle.step_apply.specs.View.{plain_state}
 use Rattle.working_model.proofs.Kept.{none_taken, still_taken}
 use Rattle.working_model.proofs.working.Working.replay.Goals as goal
 use Rattle.working_model.proofs.working.Working.replay.Goals.{then-delete_any, else-delete_any}
@@ -7,8 +6,8 @@ use Rattle.working_model.specs.Taken.{AreTaken}
 
 pub invariant_of-self-2 : goal.invariant_of-self-2
 invariant_of-self-2 c =
-    let m = plain_state c.self.inside.model in
-    let n = plain_state c.replay.new.model in
+    let m = c.self.inside.model in
+    let n = c.replay.new.model in
     let ws = c.self.inside.ws in
     elim c.if-delete_any.branch [
       | then-delete_any w ↦ subst (λ (k : ℕ). AreTaken n ws k) (sym w.next-is) (none_taken n ws)
