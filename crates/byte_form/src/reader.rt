@@ -1,5 +1,5 @@
 //! Fields, read from the first byte on.
-ghost use Rattle.std.specs.Prelude.{◌≡◌, ◌≢◌, ◌≤◌, length, take, IfOk, IfErr, MatchResult, Ok, Err, string_bytes};
+ghost use Rattle.std.specs.Prelude.{◌≡◌, ◌≢◌, ◌≤◌, length, take, IfOk, IfErr, OnErr, MatchResult, Ok, Err, string_bytes};
 ghost use Rattle.std.specs.Int.{w32, w64, from_be_bytes};
 ghost use Rattle.byte_form.specs.Fields.{Reads, byte_at, number_at, text_at, ends_at, past};
 
@@ -61,6 +61,8 @@ impl<'a> Reader<'a> {
     /// One byte.
     pub fn take_u8(&mut self) -> Result<u8, ReadFault>
         ensures read { Reads (λ n. n) self.old self.new result (byte_at self.old) }
+        ensures err { OnErr result (self.new ≡ self.old) }
+        ensures never { IfErr result (λ e. e ≢ ReadFault.Memory) }
     {
         match byte_field(&self.bytes[self.at..], self.at as u64) {
             Err(fault) => Err(fault),
@@ -75,6 +77,8 @@ impl<'a> Reader<'a> {
     #[tactic(auto, unfolding(crate::specs::Fields::number_at))]
     pub fn take_u32(&mut self) -> Result<u32, ReadFault>
         ensures read { Reads (λ n. n) self.old self.new result (number_at w32 self.old) }
+        ensures err { OnErr result (self.new ≡ self.old) }
+        ensures never { IfErr result (λ e. e ≢ ReadFault.Memory) }
     {
         let rest = &self.bytes[self.at..];
         if rest.len() < 4 {
@@ -88,6 +92,8 @@ impl<'a> Reader<'a> {
     /// A number of eight bytes.
     pub fn take_u64(&mut self) -> Result<u64, ReadFault>
         ensures read { Reads (λ n. n) self.old self.new result (number_at w64 self.old) }
+        ensures err { OnErr result (self.new ≡ self.old) }
+        ensures never { IfErr result (λ e. e ≢ ReadFault.Memory) }
     {
         match long_field(&self.bytes[self.at..], self.at as u64) {
             Err(fault) => Err(fault),
@@ -101,6 +107,7 @@ impl<'a> Reader<'a> {
     /// A text: the count of its bytes, and the bytes.
     pub fn take_text(&mut self, alloc: Global) -> Result<String, ReadFault>
         ensures read { Reads (λ t. string_bytes t) self.old self.new result (text_at self.old) }
+        ensures err { OnErr result (self.new ≡ self.old) }
     {
         match text_field(&self.bytes[self.at..], self.at as u64) {
             Err(fault) => Err(fault),
