@@ -13,7 +13,7 @@ pub decide_on-requires-clause-model : goal.decide_on-requires-clause-model
 decide_on-requires-clause-model c =
     let m = c.args.model.now in
     let command = c.args.command.now in
-    for_command c.args.self.now c.args.self.now c.name_creation.new.command c.args.ws c.plain.result.now refl
+    for_command c.args.self.now c.args.self.now c.name_creation.new.command c.args.ws c.graph.result.now refl
     (ap model_for c.in_ok-name_creation.ensures.named ∙ needs_alike m command ∙ c.requires.needs)
     (subst (λ (x : models.State). IsWorkingModel c.args.self.now c.args.ws x) (sym (c.graph.ensures ∙ c.name_creation.ensures.model)) c.requires.model)
 
