@@ -8,7 +8,6 @@ mod drafts;
 mod fault;
 mod faults;
 mod features;
-mod list;
 mod literals;
 mod meta;
 mod metamodel;
@@ -16,15 +15,13 @@ mod names;
 mod rows;
 mod supers;
 mod tables;
-mod text;
 mod values;
 
 pub use building::build;
 pub use fault::{MetaFault, ValueFault};
-pub use list::List;
 pub use meta::{Class, EnumLiteral, Feature, Kind, Scalar, Value};
 pub use metamodel::Metamodel;
 pub use rows::{
     ClassRow, ClassifierRow, EnumRow, FeatureRow, LiteralRow, MetaRows, OppositeRow, TypeName,
 };
-pub use text::Text;
+pub use texts::{List, Text};
