@@ -4,4 +4,5 @@ pub mod Walking
 pub mod Sizes
 pub mod Counts
 pub mod Gives
-pub mod ReadSound
+pub mod NamesFit
+pub mod ReadHolds

@@ -4,6 +4,7 @@ ghost use Rattle.serde_json.specs.View.{view};
 ghost use Rattle.serde_json.specs.Find.{as_array};
 ghost use Rattle.ecore_meta.specs.Build.{Numbered};
 ghost use Rattle.ecore_meta.specs.Faults.{fault};
+ghost use Rattle.ecore_meta.specs.Named.{NamesFit};
 ghost use Rattle.ecore_json.specs.Metamodel.{root_of, package_of, built, of_package, metamodel_of, GivesMetamodel};
 ghost use Rattle.ecore_json.specs.Rows.{rows_of};
 
@@ -47,7 +48,8 @@ fn package_of(document: &Value) -> Option<&Value>
 
 /// The metamodel of the rows, or their first fault.
 fn built(alloc: Global, rows: &MetaRows) -> Result<Metamodel, EcoreFault>
-    requires { Numbered rows.now.classifiers }
+    requires numbered { Numbered rows.now.classifiers }
+    requires fit { NamesFit rows.now.classifiers }
     ensures { GivesMetamodel result (built (fault rows.now.classifiers) rows.now) }
 {
     match build(alloc, rows) {

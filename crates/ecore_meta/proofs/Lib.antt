@@ -7,4 +7,8 @@ mod TableLaws
 mod BuildLaws
 mod OwnerLaws
 pub mod SoundLaws
+mod EndLaws
+mod BuiltNames
+pub mod PromiseLaws
 mod NumberedLaws
+mod FitLaws

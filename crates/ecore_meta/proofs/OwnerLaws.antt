@@ -1,24 +1,29 @@
 -- A class has a feature exactly where the class that declares it is that class or above it.
-use Rattle.std.proofs.Common.{◌≡◌, ℕ, zero, suc, ◌+◌, ◌-◌, ◌<◌, ◌≤◌, Bool, true, false, List, [], ◌∷◌, ◌++◌, ◌||◌, ◌&&◌, ◌⊎◌, inl, inr, refl, sym, ap, subst, ◌∙◌, arith, length, length-append, map, nat_eq}
+use Rattle.std.proofs.Common.{◌≡◌, ℕ, zero, suc, ◌+◌, ◌-◌, ◌<◌, ◌≤◌, Bool, true, false, List, [], ◌∷◌, ◌++◌, ◌||◌, ◌&&◌, ◌⊎◌, inl, inr, refl, sym, ap, subst, ◌∙◌, arith, length, length-append, map, nat_eq, Less}
 use Rattle.std.specs.Prelude.{Option, None, Some, slice_get}
-use Rattle.std.specs.List.{list_any, filter, flat_map, range_with_len}
+use Rattle.std.specs.List.{list_any, filter, flat_map, range_with_len, AllByRecursion}
 use Rattle.std.specs.Option.{option_map_or}
 use Rattle.std.proofs.lemmas.List.{length-map}
 use Rattle.std.proofs.lemmas.List.Folds.{list_any-append}
 use Rattle.std.proofs.lemmas.Map.Views.{any-filter_same}
 use Rattle.std.proofs.lemmas.Bool.{or_left, or_right}
-use Rattle.ecore_meta.specs.Build.{classes_from, meta_of}
+use Rattle.ecore_meta.specs.Build.{classes_from, feature_from, meta_of}
 use Rattle.ecore_meta.specs.Document.{ClassifierRows, supers_in}
 use Rattle.ecore_meta.specs.Drafts.{draft, drafts, drafts_from}
-use Rattle.ecore_meta.specs.Faults.{features_of, inherited, own_features, own_of}
-use Rattle.ecore_meta.specs.Meta.{has_feature}
+use Rattle.ecore_meta.specs.Faults.{features_of, inherited, literals_in, own_features, own_of}
+use Rattle.ecore_meta.specs.Meta.{Meta, features_of as class_features, has_feature, is_a}
+use Rattle.ecore_meta.specs.declared.meta.Feature.{Feature}
 use Rattle.ecore_meta.specs.Supers.{is_above}
+use Rattle.ecore_meta.specs.Promised.{ListsDeclared}
 use Rattle.ecore_meta.specs.declared.drafts.Draft.{Draft}
 use Rattle.ecore_meta.specs.declared.meta.Class.{Class as Made}
 use Rattle.ecore_meta.specs.declared.rows.FeatureRow.{FeatureRow}
 use Rattle.ecore_meta.specs.declared.rows.MetaRows.{MetaRows}
 use Rattle.ecore_meta.specs.declared.rows.ClassifierRow.TheVariants.{Class, Enum, Plain}
-use Rattle.ecore_meta.proofs.RisingLaws.{in_range}
+use Rattle.ecore_meta.proofs.RisingLaws.{after, in_range, is_less, rising_range, same_rising}
+use Rattle.std.specs.List.Sorted.{IsStrictlySortedBy}
+use Rattle.std.specs.Ordering.{nat_cmp}
+use Rattle.std.proofs.lemmas.List.Kept.{IsStrictlySortedBy-filter}
 use Rattle.ecore_meta.proofs.SuperLaws.{nat_itself, nat_same, or_split, same_bool}
 use Rattle.ecore_meta.proofs.TableLaws.{above_none}
 
@@ -209,3 +214,156 @@ module _ (rows : MetaRows) (c f : ℕ) (d : Draft) (is : slice_get (drafts rows.
           ∙ ap (λ fs. list_any (nat_eq f) fs) (ranged (inherited supers own) 0 (length supers) c lt)
           ∙ ap (λ k. list_any (nat_eq f) (inherited supers own k)) (sym (none_less c)) ∙ inherits
       by_place (inr le) = class_none all 0 (features_of all) all c f le ∙ sym (above_none supers c d.owner le)
+
+in_list : {X : Type 0} (xs : List X) (k : ℕ) → k < length xs → slice_get xs k ≡ None → ⊥
+in_list [] k h is = absurd (omega arith)
+in_list (x ∷ xs) zero h is = cc
+in_list (x ∷ xs) (suc k) h is = in_list xs k (omega arith) is
+
+-- a number that a class declares is one of a feature
+own_drafted : (all : ClassifierRows) (n : ℕ) (rows : ClassifierRows) (f k x b : ℕ) → x ≡ f + k → list_any (nat_eq x) (own_of (own_features f rows) b) ≡ true → slice_get (drafts_from all n rows) k ≡ None → ⊥
+own_drafted all n [] f k x b e m is = cc
+own_drafted all n (Class c ∷ rows) f k x zero e m is =
+    let in_it = range_bounds f (length c.features) x m in
+    let long : length (map (draft all n) c.features) ≡ length c.features = length-map c.features (draft all n) in
+    let lt : k < length (map (draft all n) c.features) = omega (arith, in_it.1, e, long) in
+    in_list (map (draft all n) c.features) k lt (sym (get_left (map (draft all n) c.features) (drafts_from all (suc n) rows) k lt) ∙ is)
+own_drafted all n (Class c ∷ rows) f k x (suc b) e m is =
+    let from = own_from (f + length c.features) rows b x m in
+    let long : length (map (draft all n) c.features) ≡ length c.features = length-map c.features (draft all n) in
+    own_drafted all (suc n) rows (f + length c.features) (k - length c.features) x b (omega (arith, e, from)) m
+    (sym (get_right (map (draft all n) c.features) (drafts_from all (suc n) rows) k (k - length c.features) (omega (arith, long, e, from))) ∙ is)
+own_drafted all n (Enum r ∷ rows) f k x b e m is = own_drafted all n rows f k x b e m is
+own_drafted all n (Plain t ∷ rows) f k x b e m is = own_drafted all n rows f k x b e m is
+
+got_test : {X Y : Type 0} (h : Y → Bool) (g : X → Y) (xs : List X) (k : ℕ) → option_map_or h (slice_get (map g xs) k) false ≡ option_map_or (λ x. h (g x)) (slice_get xs k) false
+got_test h g [] k = refl
+got_test h g (x ∷ xs) zero = refl
+got_test h g (x ∷ xs) (suc k) = got_test h g xs k
+
+none_has : (rows : MetaRows) (c f : ℕ) → slice_get (drafts_from rows.classifiers 0 rows.classifiers) f ≡ None → has_feature (meta_of rows) c f ≡ true → ⊥
+unfolding inherited
+none_has rows c f is has = by_place (split c (length supers))
+  where
+    all : ClassifierRows
+    all = rows.classifiers
+
+    supers : List (List ℕ)
+    supers = supers_in all all
+
+    none_less : (n : ℕ) → n ≡ 0 + n
+    none_less n = omega arith
+
+    by_place : (c < length supers) ⊎ (length supers ≤ c) → ⊥
+    by_place (inl lt) =
+        let m : list_any (nat_eq f) (inherited supers (own_features 0 all) c) ≡ true =
+        ap (λ k. list_any (nat_eq f) (inherited supers (own_features 0 all) k)) (none_less c)
+        ∙ sym (ap (λ fs. list_any (nat_eq f) fs) (ranged (inherited supers (own_features 0 all)) 0 (length supers) c lt))
+        ∙ ap (λ k. list_any (nat_eq f) (own_of (features_of all) k)) (none_less c)
+        ∙ sym (class_has all 0 (features_of all) all c f lt) ∙ has in
+        let at = flat_from (own_of (own_features 0 all)) f (filter (is_above supers c) (range_with_len 0 (length supers))) m in
+        own_drafted all 0 all 0 f f at.0 (none_less f) at.2 is
+    by_place (inr le) = let e : false ≡ true = sym (class_none all 0 (features_of all) all c f le) ∙ has in cc
+
+-- a class has exactly the features that it or a class above it declares
+pub declares : (rows : MetaRows) (c f : ℕ) → has_feature (meta_of rows) c f ≡ option_map_or (λ (feature : Feature). is_a (meta_of rows) c feature.owner) (slice_get (meta_of rows).features f) false
+unfolding drafts
+declares rows c f = by_draft (slice_get (drafts rows.classifiers) f) refl
+  where
+    g : Draft → Feature
+    g = feature_from (literals_in rows.classifiers) (drafts rows.classifiers)
+
+    got : option_map_or (λ (feature : Feature). is_a (meta_of rows) c feature.owner) (slice_get (meta_of rows).features f) false ≡ option_map_or (λ d. is_a (meta_of rows) c d.owner) (slice_get (drafts rows.classifiers) f) false
+    got = got_test (λ (feature : Feature). is_a (meta_of rows) c feature.owner) g (drafts rows.classifiers) f
+
+    by_draft : (o : Option Draft) → slice_get (drafts rows.classifiers) f ≡ o → has_feature (meta_of rows) c f ≡ option_map_or (λ (feature : Feature). is_a (meta_of rows) c feature.owner) (slice_get (meta_of rows).features f) false
+    by_draft None is = same_bool _ _ (λ h. absurd (none_has rows c f is h)) (λ h. let e : false ≡ true = sym (got ∙ ap (λ x. option_map_or (λ (d : Draft). is_a (meta_of rows) c d.owner) x false) is) ∙ h in cc)
+    by_draft (Some d) is = has_is rows c f d is ∙ sym (got ∙ ap (λ x. option_map_or (λ (d : Draft). is_a (meta_of rows) c d.owner) x false) is)
+
+all_append : (P : ℕ → Type 0) (xs ys : List ℕ) → AllByRecursion P xs → AllByRecursion P ys → AllByRecursion P (xs ++ ys)
+all_append P [] ys h g = g
+all_append P (x ∷ xs) ys h g = (h.0, all_append P xs ys h.1 g)
+
+all_less : (x : ℕ) (ys : List ℕ) → ((y : ℕ) → list_any (nat_eq y) ys ≡ true → x < y) → AllByRecursion (λ y. nat_cmp x y ≡ Less) ys
+all_less x [] h = tt
+all_less x (y ∷ ys) h = (is_less x y (h y (or_left (nat_eq y y) _ (nat_itself y))), all_less x ys (λ z m. h z (or_right (nat_eq z y) _ m)))
+
+rising_append : (xs ys : List ℕ) → IsStrictlySortedBy nat_cmp xs → IsStrictlySortedBy nat_cmp ys → ((x y : ℕ) → list_any (nat_eq x) xs ≡ true → list_any (nat_eq y) ys ≡ true → x < y) → IsStrictlySortedBy nat_cmp (xs ++ ys)
+unfolding IsStrictlySortedBy
+rising_append [] ys r s h = s
+rising_append (x ∷ xs) ys r s h = (
+  all_append (λ y. nat_cmp x y ≡ Less) xs ys r.0 (all_less x ys (λ y m. h x y (or_left (nat_eq x x) _ (nat_itself x)) m)),
+  rising_append xs ys r.1 s (λ a b m k. h a b (or_right (nat_eq a x) _ m) k),
+)
+
+-- a class declares its features before those of the classes after it
+own_order : (f : ℕ) (rows : ClassifierRows) (b d x y : ℕ) → b < d → list_any (nat_eq x) (own_of (own_features f rows) b) ≡ true → list_any (nat_eq y) (own_of (own_features f rows) d) ≡ true → x < y
+own_order f [] b d x y lt m k = cc
+own_order f (Class c ∷ rows) b zero x y lt m k = absurd (omega arith)
+own_order f (Class c ∷ rows) zero (suc d) x y lt m k =
+    let in_it = range_bounds f (length c.features) x m in
+    let from = own_from (f + length c.features) rows d y k in
+    omega (arith, in_it.1, from)
+own_order f (Class c ∷ rows) (suc b) (suc d) x y lt m k = own_order (f + length c.features) rows b d x y (omega arith) m k
+own_order f (Enum e ∷ rows) b d x y lt m k = own_order f rows b d x y lt m k
+own_order f (Plain t ∷ rows) b d x y lt m k = own_order f rows b d x y lt m k
+
+own_rises : (f : ℕ) (rows : ClassifierRows) (b : ℕ) → IsStrictlySortedBy nat_cmp (own_of (own_features f rows) b)
+unfolding IsStrictlySortedBy
+own_rises f [] b = tt
+own_rises f (Class c ∷ rows) zero = rising_range f (length c.features)
+own_rises f (Class c ∷ rows) (suc b) = own_rises (f + length c.features) rows b
+own_rises f (Enum e ∷ rows) b = own_rises f rows b
+own_rises f (Plain t ∷ rows) b = own_rises f rows b
+
+flat_rises : (f : ℕ) (rows : ClassifierRows) (bs : List ℕ) → IsStrictlySortedBy nat_cmp bs → IsStrictlySortedBy nat_cmp (flat_map (own_of (own_features f rows)) bs)
+unfolding IsStrictlySortedBy
+flat_rises f rows [] r = tt
+flat_rises f rows (b ∷ bs) r =
+    rising_append (own_of (own_features f rows) b) (flat_map (own_of (own_features f rows)) bs) (own_rises f rows b) (flat_rises f rows bs r.1)
+    (λ x y m k. let at = flat_from (own_of (own_features f rows)) y bs k in own_order f rows b at.0 x y (after b at.0 bs r.0 at.1) m at.2)
+
+inherited_rises : (supers : List (List ℕ)) (rows : ClassifierRows) (c : ℕ) → IsStrictlySortedBy nat_cmp (inherited supers (own_features 0 rows) c)
+unfolding inherited
+inherited_rises supers rows c = flat_rises 0 rows (filter (is_above supers c) (range_with_len 0 (length supers))) (IsStrictlySortedBy-filter nat_cmp (is_above supers c) (range_with_len 0 (length supers)) (rising_range 0 (length supers)))
+
+mapped_rises : (ups : List (List ℕ)) (rows : ClassifierRows) (a n c : ℕ) → IsStrictlySortedBy nat_cmp (own_of (map (inherited ups (own_features 0 rows)) (range_with_len a n)) c)
+unfolding IsStrictlySortedBy
+mapped_rises ups rows a zero c = tt
+mapped_rises ups rows a (suc n) zero = inherited_rises ups rows a
+mapped_rises ups rows a (suc n) (suc c) = mapped_rises ups rows (a + 1) n c
+
+-- the features of a class rise
+class_rises : (fs : List (List ℕ)) → ((c : ℕ) → IsStrictlySortedBy nat_cmp (own_of fs c)) → (n : ℕ) (rows : ClassifierRows) (c : ℕ) → IsStrictlySortedBy nat_cmp (option_map_or (λ (class : Made). class.features) (slice_get (classes_from n fs rows) c) [])
+unfolding IsStrictlySortedBy
+class_rises fs h n [] c = tt
+class_rises fs h n (Class r ∷ rows) zero = h n
+class_rises fs h n (Class r ∷ rows) (suc c) = class_rises fs h (suc n) rows c
+class_rises fs h n (Enum e ∷ rows) c = class_rises fs h n rows c
+class_rises fs h n (Plain t ∷ rows) c = class_rises fs h n rows c
+
+pub features_rise : (rows : MetaRows) (c : ℕ) → IsStrictlySortedBy nat_cmp (class_features (meta_of rows) c)
+features_rise rows c = class_rises (features_of rows.classifiers) (mapped_rises (supers_in rows.classifiers rows.classifiers) rows.classifiers 0 (length (supers_in rows.classifiers rows.classifiers))) 0 rows.classifiers c
+
+has_any : (meta : Meta) (c f : ℕ) → has_feature meta c f ≡ list_any (nat_eq f) (class_features meta c)
+has_any meta c f = elim (slice_get meta.classes c) as (λ x. option_map_or (λ (class : Made). list_any (nat_eq f) class.features) x false ≡ list_any (nat_eq f) (option_map_or (λ (class : Made). class.features) x [])) [
+  | None ↦ refl
+  | Some k ↦ refl
+]
+
+low_feature : (xs : List Feature) (f : ℕ) (h : Feature → Bool) → option_map_or h (slice_get xs f) false ≡ true → f < length xs
+low_feature [] f h e = cc
+low_feature (x ∷ xs) zero h e = omega arith
+low_feature (x ∷ xs) (suc f) h e = let more = low_feature xs f h e in omega (arith, more)
+
+-- the features of a class are, by number, those that it or a class above it declares
+pub lists_declared : (rows : MetaRows) → ListsDeclared (meta_of rows)
+lists_declared rows c =
+    let meta : Meta = meta_of rows in
+    let p : ℕ → Bool = λ f. option_map_or (λ (feature : Feature). is_a meta c feature.owner) (slice_get meta.features f) false in
+    same_rising (class_features meta c) (filter p (range_with_len 0 (length meta.features))) (features_rise rows c) (IsStrictlySortedBy-filter nat_cmp p (range_with_len 0 (length meta.features)) (rising_range 0 (length meta.features)))
+    (λ f. sym (has_any meta c f) ∙ declares rows c f ∙ by_test meta p f (low_feature meta.features f (λ feature. is_a meta c feature.owner)) (p f) refl ∙ sym (any-filter_same (nat_eq f) p (p f) (λ k e. ap p (sym (nat_same f k e))) (range_with_len 0 (length meta.features))))
+  where
+    by_test : (meta : Meta) (p : ℕ → Bool) (f : ℕ) → (p f ≡ true → f < length meta.features) → (b : Bool) → p f ≡ b → b ≡ b && list_any (nat_eq f) (range_with_len 0 (length meta.features))
+    by_test meta p f low true e = sym (in_range 0 (length meta.features) f (omega arith) (omega (arith, low e)))
+    by_test meta p f low false e = refl

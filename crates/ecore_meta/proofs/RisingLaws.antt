@@ -14,10 +14,10 @@ use Rattle.ecore_meta.proofs.SuperLaws.{nat_same, nat_itself, or_split, same_boo
 less : (a b : ℕ) → nat_cmp a b ≡ Less → a < b
 less a b h = search rules
 
-is_less : (a b : ℕ) → a < b → nat_cmp a b ≡ Less
+pub is_less : (a b : ℕ) → a < b → nat_cmp a b ≡ Less
 is_less a b h = search rules
 
-after : (x d : ℕ) (xs : List ℕ) → AllByRecursion (λ y. nat_cmp x y ≡ Less) xs → list_any (nat_eq d) xs ≡ true → x < d
+pub after : (x d : ℕ) (xs : List ℕ) → AllByRecursion (λ y. nat_cmp x y ≡ Less) xs → list_any (nat_eq d) xs ≡ true → x < d
 after x d [] all h = cc
 after x d (y ∷ ys) all h = or_split (nat_eq d y) (list_any (nat_eq d) ys) h
     (λ e. subst (λ z. x < z) (sym (nat_same d y e)) (less x y all.0))

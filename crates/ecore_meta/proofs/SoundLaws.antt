@@ -4,7 +4,7 @@ use Rattle.std.specs.Prelude.{negsuc, pos, Option, None, Some, slice_get}
 use Rattle.std.specs.Ordering.{int_eq}
 use Rattle.std.specs.List.{list_any}
 use Rattle.std.specs.Option.{option_map_or}
-use Rattle.ecore_meta.specs.Build.{classes_from, container, end_number, feature_from, kind_in, meta_of, plain}
+use Rattle.ecore_meta.specs.Build.{container, end_number, feature_from, kind_in, meta_of, plain}
 use Rattle.ecore_meta.specs.Document.{ClassifierRows, supers_in}
 use Rattle.ecore_meta.specs.Drafts.{drafts}
 use Rattle.ecore_meta.specs.Faults.{answers, any_from, bad_bound, bad_default, bad_end, clash, contains_back, dup_name, fault, features_of, no_type, super_cycle, unsupported, first_true, is_at, is_self, is_to, is_unanswered, last_fault, literals_in}
@@ -66,7 +66,7 @@ none_from p n (e ∷ ds) h (suc k) d is = ap (λ i. p i d) (plus_one n k) ∙ no
     plus_one : (n k : ℕ) → n + suc k ≡ suc n + k
     plus_one n k = omega arith
 
-none_at : (p : ℕ → Draft → Bool) (ds : List Draft) → any_from p 0 ds ≡ false → (k : ℕ) (d : Draft) → slice_get ds k ≡ Some d → p k d ≡ false
+pub none_at : (p : ℕ → Draft → Bool) (ds : List Draft) → any_from p 0 ds ≡ false → (k : ℕ) (d : Draft) → slice_get ds k ≡ Some d → p k d ≡ false
 none_at p ds h k d is = ap (λ i. p i d) (plus k) ∙ none_from p 0 ds h k d is
   where
     plus : (k : ℕ) → k ≡ 0 + k
@@ -132,23 +132,23 @@ module _ (literals : List (List EnumLiteral)) (ds : List Draft) (d : Draft) wher
       by_target (Elements c) is h = by_inside c is d.containment refl h
       by_target (Values s) is h = let e = no_value (int_eq d.upper (pos 1)) _ _ g refl refl h in cc
 
-at_is : (n : ℕ) (e : End) → is_at n e ≡ true → e ≡ At n
+pub at_is : (n : ℕ) (e : End) → is_at n e ≡ true → e ≡ At n
 at_is n Open h = cc
 at_is n Nowhere h = cc
 at_is n (At g) h = ap (λ x. At x) (sym (nat_same n g h))
 
-to_is : (c : ℕ) (t : Target) → is_to c t ≡ true → t ≡ Elements c
+pub to_is : (c : ℕ) (t : Target) → is_to c t ≡ true → t ≡ Elements c
 to_is c Skipped h = cc
 to_is c Unsupported h = cc
 to_is c Missing h = cc
 to_is c (Elements d) h = ap (λ x. Elements x) (sym (nat_same c d h))
 to_is c (Values s) h = cc
 
-not_false : (a : Bool) → not a ≡ false → a ≡ true
+pub not_false : (a : Bool) → not a ≡ false → a ≡ true
 not_false true h = refl
 not_false false h = cc
 
-and_two : (a b : Bool) → a && b ≡ true → (a ≡ true) × (b ≡ true)
+pub and_two : (a b : Bool) → a && b ≡ true → (a ≡ true) × (b ≡ true)
 and_two true b h = (refl, h)
 and_two false b h = cc
 
@@ -181,7 +181,7 @@ mirrored ds none f d is g c p = by_other (slice_get ds g) refl (not_false _ (sub
           },
         )
 
-got_of : {X Y : Type 0} (h : Y → Kind) (g : X → Y) (xs : List X) (k : ℕ) → option_map_or h (slice_get (map g xs) k) Skip ≡ option_map_or (λ x. h (g x)) (slice_get xs k) Skip
+pub got_of : {X Y : Type 0} (h : Y → Kind) (g : X → Y) (xs : List X) (k : ℕ) → option_map_or h (slice_get (map g xs) k) Skip ≡ option_map_or (λ x. h (g x)) (slice_get xs k) Skip
 got_of h g [] k = refl
 got_of h g (x ∷ xs) zero = refl
 got_of h g (x ∷ xs) (suc k) = got_of h g xs k
@@ -199,13 +199,13 @@ module _ (rows : MetaRows) (none : fault rows.classifiers ≡ None) where
   abbrev after : Option MetaFault
   after = first_true ((list_any (bad_bound ds) ds, BadBound) ∷ (list_any (bad_default literals) ds, BadDefault) ∷ [])
 
-  no_self : any_from is_self 0 ds ≡ false
+  pub no_self : any_from is_self 0 ds ≡ false
   no_self = (passed (any_from is_self 0 ds) SelfOpposite (cond (any_from (is_unanswered ds) 0 ds) (Some BadOpposite) after) last).0
 
-  all_answer : any_from (is_unanswered ds) 0 ds ≡ false
+  pub all_answer : any_from (is_unanswered ds) 0 ds ≡ false
   all_answer = (passed (any_from (is_unanswered ds) 0 ds) BadOpposite after (passed (any_from is_self 0 ds) SelfOpposite (cond (any_from (is_unanswered ds) 0 ds) (Some BadOpposite) after) last).1).0
 
-  kind_at : (f : ℕ) (d : Draft) → slice_get ds f ≡ Some d → kind_of (meta_of rows) f ≡ kind_in literals ds d d.target
+  pub kind_at : (f : ℕ) (d : Draft) → slice_get ds f ≡ Some d → kind_of (meta_of rows) f ≡ kind_in literals ds d d.target
   kind_at f d is = got_of (λ (x : Feature). x.kind) (feature_from literals ds) ds f ∙ ap (λ o. option_map_or (λ (x : Draft). kind_in literals ds x x.target) o Skip) is
 
   -- what an opposite shows
@@ -246,9 +246,3 @@ module _ (rows : MetaRows) (none : fault rows.classifiers ≡ None) where
           both_true _ _
           (has_is rows x g other m.there ∙ sym (plain_goes (meta_of rows) d other.owner x) ∙ ap (λ k. plain_to (meta_of rows) k x) (sym (kind_here f g d other is m)) ∙ linked.1)
           (ap (λ k. plain_to (meta_of rows) k c) (kind_back f g d other m) ∙ plain_goes (meta_of rows) other d.owner c ∙ sym (has_is rows c f d is) ∙ linked.0)
-
-pub sound_of : (rows : MetaRows) → fault rows.classifiers ≡ None → (meta : Meta) → meta.uri ≡ rows.uri → meta.classes ≡ classes_from 0 (features_of rows.classifiers) rows.classifiers → meta.features ≡ map (feature_from (literals_in rows.classifiers) (drafts rows.classifiers)) (drafts rows.classifiers) → meta.supers ≡ supers_in rows.classifiers rows.classifiers → meta.literals ≡ literals_in rows.classifiers → Sound meta
-sound_of rows none meta u c f s l = subst Sound (sym is) (sound rows none)
-  where
-    is : meta ≡ meta_of rows
-    is = λ i. record { uri = u i; classes = c i; features = f i; supers = s i; literals = l i }

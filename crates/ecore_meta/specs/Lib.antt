@@ -2,9 +2,12 @@ pub mod Build
 pub mod Classifiers
 pub mod Document
 pub mod Drafts
+pub mod Ends
 pub mod Faults
 pub mod Meta
+pub mod Named
 pub mod Names
+pub mod Promised
 pub mod Sound
 pub mod Supers
 pub mod Tables

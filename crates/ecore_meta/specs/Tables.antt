@@ -5,7 +5,7 @@ use Rattle.std.specs.Ordering.{nat_cmp}
 use Rattle.std.specs.BTreeSet.{BTreeSet, contains}
 use Rattle.std.specs.Option.{option_map_or}
 use Rattle.ecore_meta.specs.Meta.{Meta}
-use Rattle.ecore_meta.specs.Sound.{Sound}
+use Rattle.ecore_meta.specs.Promised.{IsMetamodel}
 use Rattle.ecore_meta.specs.Supers.{Inside, is_above}
 use Rattle.ecore_meta.specs.Values.{AreShort}
 
@@ -26,4 +26,4 @@ pub record HasTable (meta : Meta) (above : List (BTreeSet ℕ)) : Type 0 where
   pub few_features : length meta.features < 4294967296
   pub few_enums : length meta.literals < 4294967296
   pub short : AreShort meta.literals
-  pub sound : Sound meta
+  pub is : IsMetamodel meta

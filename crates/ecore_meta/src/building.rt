@@ -4,6 +4,7 @@ ghost use Rattle.ecore_meta.specs.Build.{Numbered, meta_of};
 ghost use Rattle.ecore_meta.specs.Document.{supers_in};
 ghost use Rattle.ecore_meta.specs.Drafts.{drafts};
 ghost use Rattle.ecore_meta.specs.Tables.{Agrees};
+ghost use Rattle.ecore_meta.specs.Named.{NamesFit};
 ghost use Rattle.ecore_meta.specs.Faults.{IsFault, fault, features_of, last_fault, literals_in};
 
 use crate::classifiers::Classifiers;
@@ -75,9 +76,11 @@ fn checked(alloc: Global, rows: &[ClassifierRow]) -> Result<Parts, MetaFault>
     })
 }
 
-/// The metamodel that a document's rows stand for, or the first fault of the document.
+/// The metamodel that a document's rows stand for, or the first fault of the document. `MetaRows::is_numbered` and
+/// `MetaRows::has_fit_names` test what is asked.
 pub fn build(alloc: Global, rows: &MetaRows) -> Result<Metamodel, MetaFault>
-    requires { Numbered rows.now.classifiers }
+    requires numbered { Numbered rows.now.classifiers }
+    requires fit { NamesFit rows.now.classifiers }
     ensures fault { IfErr result (IsFault (fault rows.now.classifiers)) }
     ensures none { IfOk result (λ _. fault rows.now.classifiers ≡ None) }
     ensures built { IfOk result (λ m. m ≡ meta_of rows.now) }
@@ -103,6 +106,7 @@ pub fn build(alloc: Global, rows: &MetaRows) -> Result<Metamodel, MetaFault>
 
 fn assemble(alloc: Global, rows: &MetaRows, parts: Parts) -> Result<Metamodel, AllocError>
     requires few { Numbered rows.now.classifiers }
+    requires fit { NamesFit rows.now.classifiers }
     requires none { fault rows.now.classifiers ≡ None }
     requires drafts { parts.drafts.items ≡ drafts rows.now.classifiers }
     requires supers { map (λ ups. ups.items) parts.supers.items ≡ supers_in rows.now.classifiers rows.now.classifiers }

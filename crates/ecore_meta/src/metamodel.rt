@@ -4,6 +4,7 @@ ghost use Rattle.std.specs.Prelude.{◌≡◌, ◌<◌, ◌↔◌, IfErr, IfOk, 
 ghost use Rattle.std.specs.List.{list_any};
 ghost use Rattle.std.specs.Option.{option_copied, option_map_or};
 ghost use Rattle.ecore_meta.specs.Meta.{class_named, feature_named, features_of, first_named, has_feature, is_a, name_at};
+ghost use Rattle.ecore_meta.specs.Promised.{IsMetamodel};
 ghost use Rattle.ecore_meta.specs.Sound.{Sound};
 ghost use Rattle.ecore_meta.specs.Supers.{Leads};
 ghost use Rattle.ecore_meta.specs.Typing.{literal_count, literal_text, literals_of};
@@ -135,6 +136,15 @@ impl Metamodel {
     /// link back. A holder of any metamodel has it by this call, which does nothing.
     pub fn sound(&self)
         ensures { Sound self.now }
+    {
+        // For what the type's invariant says.
+        let _uri = &self.uri;
+    }
+
+    /// What holds of every metamodel: the law of opposites, the lists of features, opposites of both sorts, and names. A
+    /// holder of any metamodel has it by this call, which does nothing.
+    pub fn promised(&self)
+        ensures { IsMetamodel self.now }
     {
         // For what the type's invariant says.
         let _uri = &self.uri;

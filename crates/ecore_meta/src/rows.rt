@@ -4,6 +4,7 @@ ghost use Rattle.std.specs.List.{list_any};
 ghost use Rattle.ecore_meta.specs.Build.{Numbered, is_numbered};
 ghost use Rattle.ecore_meta.specs.Document.{classifier_name, feature_total, features_in};
 ghost use Rattle.ecore_meta.specs.Faults.{is_many};
+ghost use Rattle.ecore_meta.specs.Named.{NamesFit, has_slash, is_misnamed, is_reserved};
 
 use crate::{List, Text};
 
@@ -117,6 +118,44 @@ impl ClassifierRow {
             ClassifierRow::Plain(_) => false,
         }
     }
+
+    fn is_misnamed(&self) -> bool
+        ensures { result ≡ is_misnamed self.now }
+    {
+        match self {
+            ClassifierRow::Class(row) => {
+                has_slash(row.name.as_str()) || any_is_reserved(row.features.as_slice())
+            }
+            ClassifierRow::Enum(_) => false,
+            ClassifierRow::Plain(_) => false,
+        }
+    }
+}
+
+fn has_slash(name: &str) -> bool
+    ensures { result ≡ has_slash name.now }
+{
+    name.as_bytes().iter().any(|b| *b == b'/')
+}
+
+fn is_reserved(name: &str) -> bool
+    ensures { result ≡ is_reserved name.now }
+{
+    name == "eClass" || name == "_id"
+}
+
+fn any_is_reserved(features: &[FeatureRow]) -> bool
+    ensures { result ≡ list_any (λ f. is_reserved f.name) features.now }
+{
+    features
+        .iter()
+        .any(|feature| is_reserved(feature.name.as_str()))
+}
+
+fn any_is_misnamed(rows: &[ClassifierRow]) -> bool
+    ensures { result ≡ list_any is_misnamed rows.now }
+{
+    rows.iter().any(|row| row.is_misnamed())
 }
 
 fn features_are_few(rows: &[ClassifierRow]) -> bool
@@ -152,5 +191,12 @@ impl MetaRows {
         ensures { IsTrue result ↔ Numbered self.now.classifiers }
     {
         is_numbered(self.classifiers.as_slice())
+    }
+
+    /// Whether no class has a slash in its name and no feature is named `eClass` or `_id`, which `build` asks for.
+    pub fn has_fit_names(&self) -> bool
+        ensures { IsTrue result ↔ NamesFit self.now.classifiers }
+    {
+        !any_is_misnamed(self.classifiers.as_slice())
     }
 }

@@ -7,13 +7,14 @@ use Rattle.serde_json.specs.Find.{of_integer}
 use Rattle.serde_json.specs.Read.{read}
 use Rattle.serde_json.specs.Written.{compact_text}
 use Rattle.ecore_meta.specs.Meta.{Meta}
+use Rattle.ecore_meta.specs.Named.{TextsAreApart}
 use Rattle.ecore_meta.specs.Typing.{fits, in_width, literal_count, literals_of, literal_text}
 use Rattle.ecore_meta.specs.Values.{narrow}
 use Rattle.ecore_meta.specs.declared.meta.Scalar.TheVariants.{Text as TextType, Flag as FlagType, Byte, Short, Int, Long, Literal as LiteralType}
 use Rattle.ecore_meta.specs.declared.meta.Value.{Value}
 use Rattle.ecore_meta.specs.declared.meta.Value.TheVariants.{Text, Flag, Whole, Literal}
 use Rattle.emfjson_io.specs.Values.{value_in, value_of, value_text, whole_in}
-use Rattle.emfjson_io.specs.Laws.{TextsAreApart, WrittenValuesAreRead}
+use Rattle.emfjson_io.specs.Laws.{WrittenValuesAreRead}
 use Rattle.emfjson_io.proofs.Fits.{count_is}
 use Rattle.emfjson_io.proofs.JsonTexts.{read_string, read_flag, read_natural, read_negative}
 use Rattle.emfjson_io.proofs.Literals.{named_again}

@@ -1,20 +1,13 @@
--- Literals of different texts are known by their texts, and those of a metamodel that is built have different texts.
-use Rattle.std.proofs.Common.{◌≡◌, ℕ, zero, suc, ◌<◌, Bool, true, false, cond, ◌||◌, List, [], ◌∷◌, Option, None, Some, length, map, refl, sym, ap, subst, ◌∙◌, arith, rules}
+-- Literals of different texts are known by their texts.
+use Rattle.std.proofs.Common.{◌≡◌, ℕ, zero, suc, ◌<◌, Bool, true, false, cond, ◌||◌, List, [], ◌∷◌, Some, length, map, refl, sym, ap, subst, ◌∙◌, arith, rules}
 use Rattle.std.specs.Prelude.{option_map, slice_get}
 use Rattle.std.specs.List.{list_any}
 use Rattle.std.specs.Option.{option_map_or}
 use Rattle.std.specs.Str.{bytes_eq}
 use Rattle.std.proofs.lemmas.Slice.Eq.{bytes_eq-Decides}
-use Rattle.ecore_meta.specs.Document.{ClassifierRows, classifier_name}
-use Rattle.ecore_meta.specs.Faults.{dup_name, literal, literals_in, repeats_within}
 use Rattle.ecore_meta.specs.Names.{Name, has_repeat, number_of}
 use Rattle.ecore_meta.specs.Values.{literal_in, or_else, text_in}
-use Rattle.ecore_meta.specs.declared.fault.MetaFault.{MetaFault}
-use Rattle.ecore_meta.specs.declared.fault.MetaFault.TheVariants.{DupName}
 use Rattle.ecore_meta.specs.declared.meta.EnumLiteral.{EnumLiteral}
-use Rattle.ecore_meta.specs.declared.rows.ClassifierRow.TheVariants.{Class, Enum, Plain}
-use Rattle.ecore_meta.specs.declared.rows.LiteralRow.{LiteralRow}
-use Rattle.emfjson_io.specs.Laws.{BuiltTextsAreApart}
 
 neither : (a b : Bool) → a || b ≡ false → (a ≡ false) × (b ≡ false)
 neither true b h = cc
@@ -68,31 +61,3 @@ named_again ls n apart h =
     let text : text_in ls n ≡ l.0.text = ap (λ o. option_map_or (λ l. l.text) o []) l.1 in
     let at : number_of l.0.text (map (λ l. l.text) ls) ≡ Some n = number_at (map (λ l. l.text) ls) n l.0.text apart (entry_of_map (λ l. l.text) ls n l.0 l.1) in
     ap (literal_in ls) text ∙ ap (λ o. or_else o (number_of l.0.text (map (λ l. l.name) ls))) at
-
-texts_of : (ls : List LiteralRow) → map (λ l. l.text) (map literal ls) ≡ map (λ l. l.literal) ls
-texts_of [] = refl
-texts_of (l ∷ ls) = ap (λ xs. l.literal ∷ xs) (texts_of ls)
-
-texts_at : List (List EnumLiteral) → ℕ → List Name
-texts_at literals e = map (λ l. l.text) (option_map_or (λ ls. ls) (slice_get literals e) [])
-
-rows_apart : (rows : ClassifierRows) → list_any repeats_within rows ≡ false → (e : ℕ) → has_repeat (texts_at (literals_in rows) e) ≡ false
-unfolding texts_at
-rows_apart [] h e = refl
-rows_apart (Class c ∷ rows) h e = rows_apart rows (neither (repeats_within (Class c)) (list_any repeats_within rows) h).1 e
-rows_apart (Plain t ∷ rows) h e = rows_apart rows (neither (repeats_within (Plain t)) (list_any repeats_within rows) h).1 e
-rows_apart (Enum r ∷ rows) h zero =
-    let own = (neither (repeats_within (Enum r)) (list_any repeats_within rows) h).0 in
-    ap has_repeat (texts_of r.literals) ∙ (neither (has_repeat (map (λ l. l.name) r.literals)) (has_repeat (map (λ l. l.literal) r.literals)) own).1
-rows_apart (Enum r ∷ rows) h (suc e) = rows_apart rows (neither (repeats_within (Enum r)) (list_any repeats_within rows) h).1 e
-
--- no fault, so no name or text stands twice
-none_twice : (b : Bool) (rest : Option MetaFault) → cond b (Some DupName) rest ≡ None → b ≡ false
-none_twice true rest h = cc
-none_twice false rest h = refl
-
-pub built_apart : BuiltTextsAreApart
-unfolding texts_at
-built_apart rows none e =
-    let single : dup_name rows.classifiers ≡ false = none_twice (dup_name rows.classifiers) _ none in
-    rows_apart rows.classifiers (neither (has_repeat (map classifier_name rows.classifiers)) (list_any repeats_within rows.classifiers) single).1 e

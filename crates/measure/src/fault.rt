@@ -15,6 +15,9 @@ pub enum MeasureFault {
     /// There are more classes or features than a metamodel numbers, or more versions, branches or tags than a history does.
     #[error("too many of what is numbered")]
     TooMany,
+    /// A class or a feature has a name of another form than a metamodel's.
+    #[error("a name of no metamodel")]
+    BadName,
     /// The rows are no metamodel.
     #[error("no metamodel: {0}")]
     Metamodel(MetaFault),

@@ -55,6 +55,9 @@ fn measure_building(
     if !rows.is_numbered() {
         return Err(MeasureFault::TooMany.into());
     }
+    if !rows.has_fit_names() {
+        return Err(MeasureFault::BadName.into());
+    }
     let start = Instant::now(rt)?;
     let built = build(rt.alloc(), rows)?;
     let building = start.elapsed(rt)?;

@@ -13,6 +13,9 @@ pub(crate) fn metamodel(alloc: Global) -> Result<Metamodel, MeasureFault> {
     if !rows.is_numbered() {
         return Err(MeasureFault::TooMany);
     }
+    if !rows.has_fit_names() {
+        return Err(MeasureFault::BadName);
+    }
     Ok(build(alloc, &rows)?)
 }
 

@@ -9,7 +9,7 @@ use Rattle.std.proofs.lemmas.Option.{slice_get_within, get_or_from_slice_get, sa
 use Rattle.command_runs.specs.Runs.{played}
 use Rattle.ecore_meta.specs.Meta.{Meta}
 use Rattle.ecore_json.specs.Metamodel.{metamodel_of}
-use Rattle.ecore_json.proofs.ReadSound.{read_sound}
+use Rattle.ecore_json.proofs.ReadHolds.{read_holds}
 use Rattle.ecore_json.specs.declared.fault.EcoreFault.{EcoreFault}
 use Rattle.model_state.specs.Names.{is_name}
 use Rattle.model_state.specs.State.{nothing}
@@ -78,7 +78,7 @@ more_in_order meta h more spelled w can r = by w.composite refl
 -- ---- events that leave the history
 -- what holds of the workspaces, with the history and the metamodel as they are
 with_workspaces : (meta : Meta) (s : State) (ws : List (Option Workspace)) → Orderly meta s → AllByRecursion (IfThere (InOrder meta s.history)) ws → Orderly meta (record s { workspaces = ws })
-with_workspaces meta s ws kept all = record { sound = kept.sound; whole = kept.whole; heads = kept.heads; versions = kept.versions; workspaces = all }
+with_workspaces meta s ws kept all = record { metamodel = kept.metamodel; whole = kept.whole; heads = kept.heads; versions = kept.versions; workspaces = all }
 
 changed_kept : (meta : Meta) (s : State) (change : Workspace → Workspace) (k : ℕ) → Orderly meta s
     → ((w : Workspace) → workspace_of s k ≡ Some w → InOrder meta s.history w → InOrder meta s.history (change w)) → Orderly meta (with_changed change k s)
@@ -217,7 +217,7 @@ module _ (meta : Meta) (s : State) (kept : Orderly meta s) (message : List ℕ) 
 
   commit_kept : (k : ℕ) → workspace_of s k ≡ Some w → Orderly meta (with_commit k message (Some w) s)
   commit_kept k there = record {
-    sound = kept.sound;
+    metamodel = kept.metamodel;
     whole = commit_whole;
     heads = commit_heads;
     versions = commit_versions;
@@ -234,7 +234,7 @@ branch_kept meta s kept name w r k there =
     let new_head : head more (length h.branches) ≡ w.base = head_new h kept.whole name w.base in
     let branches = recursion_from_All (λ (v : Version). v.branch < length h.branches) h.versions kept.whole.branches in
     record {
-      sound = kept.sound;
+      metamodel = kept.metamodel;
       whole = whole_branch h kept.whole name w.base r.stands.base;
       heads = λ v version at. subst (λ k. Contains (path h k) v) (sym (head_kept h name w.base version.branch (All-at (λ (v : Version). v.branch < length h.branches) h.versions v version at kept.whole.branches))) (kept.heads v version at);
       versions = kept.versions;
@@ -266,7 +266,7 @@ branch_kept meta s kept name w r k there =
 -- ---- Tag
 tag_kept : (meta : Meta) (s : State) → Orderly meta s → (name : List ℕ) (version : ℕ) → version < length s.history.versions → Orderly meta (with_new_tag name version s)
 tag_kept meta s kept name version within = record {
-  sound = kept.sound;
+  metamodel = kept.metamodel;
   whole = whole_tag s.history kept.whole name version within;
   heads = kept.heads;
   versions = kept.versions;
@@ -283,7 +283,7 @@ first_heads (suc v) version there = absurd cc
 
 first_kept : (meta : Meta) (s : State) (text : List ℕ) → metamodel_of text ≡ Ok meta → s.workspaces ≡ [] → Orderly meta (record s { meta = Some meta; history = first_history })
 first_kept meta s text is none = record {
-  sound = read_sound text meta is;
+  metamodel = read_holds text meta is;
   whole = whole_first;
   heads = first_heads;
   versions = λ v within. let is_zero : 0 ≡ v = omega (arith, within) in subst (λ k. RunsTo meta first_history k) is_zero (record { model = nothing; run = refl; spelled = tt });
@@ -298,7 +298,7 @@ init_kept s text (Err e) is ok none = absurd cc
 tidied_in_order : (meta : Meta) (s : State) → Orderly meta s → (w : Workspace) → can_tidy meta (Some w) ≡ true → InOrder meta s.history w → InOrder meta s.history (tidied meta w)
 tidied_in_order meta s kept w can q =
     in_order meta s.history (tidied meta w) w refl refl refl q.stands
-    (tidied_led meta kept.sound s.history kept.whole kept.versions w q (and_left (is_closed (Some w)) (not (is_tidy meta w.operations)) can)).runs_to
+    (tidied_led meta kept.metamodel.sound s.history kept.whole kept.versions w q (and_left (is_closed (Some w)) (not (is_tidy meta w.operations)) can)).runs_to
 
 updated_in_order : (meta : Meta) (s : State) → Orderly meta s → (letters : List ℕ) (w : Workspace) → can_update meta s.history letters (Some w) ≡ true → InOrder meta s.history w → InOrder meta s.history (updated meta s.history letters w)
 updated_in_order meta s kept letters w can q =
@@ -308,7 +308,7 @@ updated_in_order meta s kept letters w can q =
     let there : head h w.branch < length h.versions = head_within h w.branch kept.whole in
     record {
       stands = record { branch = q.stands.branch; base = there; on_path = path_ends h kept.whole (head h w.branch) there; pending = q.stands.pending };
-      runs = (updated_led meta kept.sound h kept.whole kept.versions w q (and_left (is_closed (Some w)) apart (and_left (is_closed (Some w) && apart) fit can)) letters (and_right (is_closed (Some w) && apart) fit can)).runs_to;
+      runs = (updated_led meta kept.metamodel.sound h kept.whole kept.versions w q (and_left (is_closed (Some w)) apart (and_left (is_closed (Some w) && apart) fit can)) letters (and_right (is_closed (Some w) && apart) fit can)).runs_to;
     }
 
 merged_in_order : (meta : Meta) (s : State) → Orderly meta s → (branch : ℕ) (letters : List ℕ) (w : Workspace) → can_merge meta s.history branch letters (Some w) ≡ true → InOrder meta s.history w
@@ -323,7 +323,7 @@ merged_in_order meta s kept branch letters w can q =
     let there : other < length h.versions = head_within h branch kept.whole in
     record {
       stands = record { branch = q.stands.branch; base = q.stands.base; on_path = q.stands.on_path; pending = All-push (λ v. v < length h.versions) w.pending other q.stands.pending there };
-      runs = (merged_led meta kept.sound h kept.whole kept.versions w q (and_left closed apart (and_left (closed && apart) some (and_left (closed && apart && some) fit can))) other there letters (and_right (closed && apart && some) fit can)).runs_to;
+      runs = (merged_led meta kept.metamodel.sound h kept.whole kept.versions w q (and_left closed apart (and_left (closed && apart) some (and_left (closed && apart && some) fit can))) other there letters (and_right (closed && apart && some) fit can)).runs_to;
     }
 
 -- ---- each event
@@ -420,7 +420,7 @@ effect_keeps s (Some meta) e is could spelled all =
 -- the numbers that every event raises are no part of it
 numbers_kept : (m : Option Meta) (s : State) (events end : ℕ) → AllOrderly m s → AllOrderly m (record s { events = events; end = end })
 numbers_kept None s events end all = all
-numbers_kept (Some meta) s events end all = record { sound = all.sound; whole = all.whole; heads = all.heads; versions = all.versions; workspaces = all.workspaces }
+numbers_kept (Some meta) s events end all = record { metamodel = all.metamodel; whole = all.whole; heads = all.heads; versions = all.versions; workspaces = all.workspaces }
 
 -- an event that could be made keeps all in order
 pub play_keeps : (s : State) (e : Event) → IsTrue (playable s e) → IsOrderly s → IsOrderly (play s e)

@@ -65,7 +65,7 @@ tidying_keeps_models s meta ws before after c =
     let can : can_tidy meta (Some before) ≡ true = subst (λ (o : Option Workspace). can_tidy meta o ≡ true) c.there (could_with s meta ws (Tidy ws) before after c) in
     let closed : is_closed (Some before) ≡ true = and_left (is_closed (Some before)) (not (is_tidy meta before.operations)) can in
     subst (λ (w : Workspace). model_of meta s.history w ≡ model_of meta s.history before) (tidied_after s meta ws before after c)
-    (tidied_led meta k.sound s.history k.whole k.versions before (in_order_of s meta ws (Tidy ws) before after c) closed).model_is
+    (tidied_led meta k.metamodel.sound s.history k.whole k.versions before (in_order_of s meta ws (Tidy ws) before after c) closed).model_is
 
 -- ---- Update
 updated_after : (s : State) (meta : Meta) (ws : ℕ) (letters : List ℕ) (before after : Workspace) → Changes s meta ws (Update ws letters) before after → updated meta s.history letters before ≡ after
@@ -85,8 +85,8 @@ updates_merge s meta ws letters before after c =
     let fit : Bool = are_choices letters (update_buckets meta h before) in
     let closed : is_closed (Some before) ≡ true = and_left (is_closed (Some before)) apart (and_left (is_closed (Some before) && apart) fit can) in
     let fits : fit ≡ true = and_right (is_closed (Some before) && apart) fit can in
-    (update_leads meta k.sound h k.whole k.versions before q closed letters fits).2
-    ∙ ap Some (sym (updated_led meta k.sound h k.whole k.versions before q closed letters fits).model_is)
+    (update_leads meta k.metamodel.sound h k.whole k.versions before q closed letters fits).2
+    ∙ ap Some (sym (updated_led meta k.metamodel.sound h k.whole k.versions before q closed letters fits).model_is)
     ∙ ap (λ (w : Workspace). Some (model_of meta h w)) (updated_after s meta ws letters before after c)
 
 -- ---- Merge
@@ -112,8 +112,8 @@ merges_merge s meta ws branch letters before after c =
     let fit : Bool = are_choices letters (merge_buckets meta h before other) in
     let closed : closed_is ≡ true = and_left closed_is apart (and_left (closed_is && apart) some (and_left (closed_is && apart && some) fit can)) in
     let fits : fit ≡ true = and_right (closed_is && apart && some) fit can in
-    (merge_leads meta k.sound h k.whole k.versions before q closed other there letters fits).2
-    ∙ ap Some (sym (merged_led meta k.sound h k.whole k.versions before q closed other there letters fits).model_is)
+    (merge_leads meta k.metamodel.sound h k.whole k.versions before q closed other there letters fits).2
+    ∙ ap Some (sym (merged_led meta k.metamodel.sound h k.whole k.versions before q closed other there letters fits).model_is)
     ∙ ap (λ (w : Workspace). Some (model_of meta h w)) (merged_after s meta ws branch letters before after c)
 
 -- a version that is pending is where its merge begins, so nothing comes after

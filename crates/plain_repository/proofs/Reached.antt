@@ -10,7 +10,7 @@ use Rattle.model_state.specs.State.{nothing}
 use Rattle.model_laws.proofs.Start.{starts_good}
 use Rattle.model_laws.proofs.Runs.{steps_keep_good}
 use Rattle.plain_repository.specs.State.{State, Workspace, empty, recorded_steps}
-use Rattle.plain_repository.specs.Laws.{StaysInOrder, AllIsInOrder, HasMetamodel, IsThere, OfModels, OfVersions, HasIds as HaveIds, ModelsAreDefined, VersionsAreDefined, MetamodelsAreSound, HistoriesAreWhole, WorkspacesStand}
+use Rattle.plain_repository.specs.Laws.{StaysInOrder, AllIsInOrder, HasMetamodel, IsThere, OfModels, OfVersions, HasIds as HaveIds, ModelsAreDefined, VersionsAreDefined, MetamodelsHold, HistoriesAreWhole, WorkspacesStand}
 use Rattle.plain_repository.specs.Orderly.{IsRun, RunsTo, Runs, steps_to, InOrder, Orderly, AllOrderly, IsOrderly}
 use Rattle.plain_repository.proofs.Named.{HasIds, steps_named}
 use Rattle.plain_repository.proofs.Places.{at_number}
@@ -48,7 +48,7 @@ models_are_defined s meta w t =
 pub models_are_good : OfModels Good
 models_are_good s meta w t =
     let r : Runs meta s.history w = (in_order s meta w t).runs in
-    subst (Good meta) (sym (workspace_model meta s.history w r)) (run_good meta (kept s meta t.in_state).sound (steps_to s.history w.base ++ recorded_steps w) r)
+    subst (Good meta) (sym (workspace_model meta s.history w r)) (run_good meta (kept s meta t.in_state).metamodel.sound (steps_to s.history w.base ++ recorded_steps w) r)
 
 pub models_have_ids : OfModels HaveIds
 models_have_ids s meta w t =
@@ -63,15 +63,15 @@ versions_are_defined s meta has v within =
 pub versions_are_good : OfVersions Good
 versions_are_good s meta has v within =
     let r : RunsTo meta s.history v = (kept s meta has).versions v within in
-    subst (Good meta) (sym (version_model meta s.history v r)) (run_good meta (kept s meta has).sound (steps_to s.history v) r)
+    subst (Good meta) (sym (version_model meta s.history v r)) (run_good meta (kept s meta has).metamodel.sound (steps_to s.history v) r)
 
 pub versions_have_ids : OfVersions HaveIds
 versions_have_ids s meta has v within =
     let r : RunsTo meta s.history v = (kept s meta has).versions v within in
     subst HasIds (sym (version_model meta s.history v r)) (run_named meta (steps_to s.history v) r)
 
-pub metamodels_are_sound : MetamodelsAreSound
-metamodels_are_sound s r meta begun = (kept s meta (record { orderly = all_is_in_order s r; begun = begun })).sound
+pub metamodels_hold : MetamodelsHold
+metamodels_hold s r meta begun = (kept s meta (record { orderly = all_is_in_order s r; begun = begun })).metamodel
 
 pub histories_are_whole : HistoriesAreWhole
 histories_are_whole s meta has = (kept s meta has).whole

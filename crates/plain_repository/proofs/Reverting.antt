@@ -257,7 +257,7 @@ reverts_take_out s meta ws v block event before after decided c =
     let k : Orderly meta s = orderly_of s meta ws event before after c in
     let q : InOrder meta s.history before = in_order_of s meta ws event before after c in
     let closed : is_closed (Some before) ≡ true = ap not a.shut in
-    let out = taken_out_is meta k.sound s.history k.whole k.versions before q closed v (of_among (path s.history before.base) v a.on) a.free a.apart in
+    let out = taken_out_is meta k.metamodel.sound s.history k.whole k.versions before q closed v (of_among (path s.history before.base) v a.on) a.free a.apart in
     out.left
     ∙ ap Some (sym (subst (λ (e : Event). Changes s meta ws e before after → model_of meta (play s e).history after ≡ out.model) a.is
     (λ (d : Changes s meta ws (Edit ws (rev_package (package_at s.history.versions v))) before after). edit_leads s meta ws (rev_package (package_at s.history.versions v)) before after out.model d out.back) c))

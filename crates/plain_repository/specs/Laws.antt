@@ -2,7 +2,7 @@
 use Rattle.std.specs.Prelude.{◌≡◌, ◌≢◌, ◌↔◌, ℕ, ◌<◌, ◌≤◌, ◌||◌, List, [], ◌∷◌, ◌++◌, All, codes, map, take, Bool, true, false, Option, Some, None, IsTrue, length, slice_get}
 use Rattle.command_runs.specs.Runs.{played}
 use Rattle.ecore_meta.specs.Meta.{Meta}
-use Rattle.ecore_meta.specs.Sound.{Sound}
+use Rattle.ecore_meta.specs.Promised.{IsMetamodel}
 use Rattle.model_state.specs.Ident.{is_id}
 use Rattle.model_state.specs.Keys.{IdBytes}
 use Rattle.model_state.specs.State as models
@@ -77,9 +77,9 @@ ModelsAreDefined = (s : State) (meta : Meta) (workspace : Workspace) → IsThere
 abbrev pub VersionsAreDefined : Type 0
 VersionsAreDefined = (s : State) (meta : Meta) → HasMetamodel s meta → (v : ℕ) → v < length s.history.versions → state_folded meta s.history v ≡ Some (state_of meta s.history v)
 
--- the metamodel is sound after any events that could be made, as each that a text reads as is
-abbrev pub MetamodelsAreSound : Type 0
-MetamodelsAreSound = (s : State) → IsReached s → (meta : Meta) → s.meta ≡ Some meta → Sound meta
+-- what holds of every metamodel holds of the one that is there after any events that could be made
+abbrev pub MetamodelsHold : Type 0
+MetamodelsHold = (s : State) → IsReached s → (meta : Meta) → s.meta ≡ Some meta → IsMetamodel meta
 
 -- ---- the history
 -- each number that stands in the history names something

@@ -2,7 +2,7 @@
 use Rattle.std.specs.Prelude.{◌≡◌, ℕ, ◌<◌, List, [], ◌++◌, Option, None, Some, All, Contains, length, slice_get}
 use Rattle.std.specs.List.{AllByRecursion}
 use Rattle.ecore_meta.specs.Meta.{Meta}
-use Rattle.ecore_meta.specs.Sound.{Sound}
+use Rattle.ecore_meta.specs.Promised.{IsMetamodel}
 use Rattle.model_state.specs.State as models
 use Rattle.model_state.specs.State.{nothing}
 use Rattle.model_state.specs.Steps.{fold}
@@ -54,9 +54,9 @@ abbrev pub IfThere : (Workspace → Type 0) → Option Workspace → Type 0
 IfThere P None = Unit {0}
 IfThere P (Some w) = P w
 
--- so it is where there is a metamodel, a sound one
+-- so it is where there is a metamodel, of which what holds of every metamodel does
 pub record Orderly (meta : Meta) (s : State) : Type 0 where
-  pub sound : Sound meta
+  pub metamodel : IsMetamodel meta
   pub whole : IsWhole s.history
   pub heads : HeadsLead s.history
   pub versions : (v : ℕ) → v < length s.history.versions → RunsTo meta s.history v

@@ -32,7 +32,7 @@ revert_could s meta ws v w orderly begun there shut on free apart (o ∷ os) is 
     let t = is_there s meta ws w orderly begun there in
     let k : Orderly meta s = kept s meta t.in_state in
     let q : InOrder meta s.history w = in_order s meta w t in
-    edit_by s meta ws w (o ∷ os) begun there (revert_follows meta k.sound s.history k.whole k.versions w q (ap not shut) v (of_among (path s.history w.base) v on) free apart o os (sym is))
+    edit_by s meta ws w (o ∷ os) begun there (revert_follows meta k.metamodel.sound s.history k.whole k.versions w q (ap not shut) v (of_among (path s.history w.base) v on) free apart o os (sym is))
 
 pub applied_could : (s : State) (meta : Meta) (ws : ℕ) (w : Workspace) → s.meta ≡ Some meta → workspace_of s ws ≡ Some w → is_open (Some w) ≡ false → (os : List Operation) → is_some (fold_package meta (model_of meta s.history w) os) ≡ true → length os ≢ 0
     → playable_with s s.meta (Edit ws os) ≡ true

@@ -94,9 +94,9 @@ comes meta sound m good ws names rows read tells few =
     }
 
 pub texts_come_back : TextsComeBack
-texts_come_back meta sound named m good ids shallow short ws =
-    let told = texts_are_told meta named m good ids shallow in
-    comes meta sound m good ws told.0 told.1 told.2 told.3 (fewer (length told.1) (length (text meta m)) told.4 short)
+texts_come_back meta is m good ids shallow short ws =
+    let told = texts_are_told meta is.named m good ids shallow in
+    comes meta is.sound m good ws told.0 told.1 told.2 told.3 (fewer (length told.1) (length (text meta m)) told.4 short)
   where
     fewer : (a b : ℕ) → a ≤ b → b < 2 ^ 32 - 1 → a < 4294967295
     fewer a b le lt = omega (arith, le, lt)

@@ -21,7 +21,7 @@ use Rattle.ecore_meta.specs.declared.meta.Class.{Class as ClassOf}
 use Rattle.emfjson_model.specs.Classes.{class_after, class_spelt}
 use Rattle.emfjson_text.specs.Keys.{key_cmp, key_name, keys_of}
 use Rattle.emfjson_text.specs.Tree.{class_text, members, with_member}
-use Rattle.round_trip.specs.Named.{IsNamed}
+use Rattle.ecore_meta.specs.Named.{IsNamed}
 use Rattle.round_trip.proofs.KeysPairs.{bytes_own, bytes_same}
 use Rattle.round_trip.proofs.KeysRise.{InOrder, IsAfter}
 use Rattle.round_trip.proofs.KeysTypes.{Key, Ident, Class, Feature, keys_are}

@@ -31,5 +31,3 @@ pub mod ReadingMerged
 pub mod WalksShort
 pub mod ReadingTold
 pub mod Coming
-pub mod NamedBuilt
-pub mod NamedRead

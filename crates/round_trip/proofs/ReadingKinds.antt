@@ -28,7 +28,7 @@ use Rattle.emfjson_model.specs.Walk.{element_rows, feature_part, held_rows, item
 use Rattle.emfjson_model.proofs.Features.{single_set, many_read}
 use Rattle.model_state.specs.Listing.{values_at}
 use Rattle.emfjson_text.specs.Tree.{child_ids, content, first_value, is_single, listed, one_or_all, reference, target_ids}
-use Rattle.round_trip.specs.Named.{IsNamed}
+use Rattle.ecore_meta.specs.Named.{IsNamed}
 use Rattle.round_trip.proofs.KeysTypes.{Draft}
 use Rattle.round_trip.proofs.ReadingTrees.{AreOk, all_from}
 use Rattle.round_trip.proofs.WalksRows.{Come, forest, kind_attrs, kind_links, kind_rows, set_attr, set_links}

@@ -25,7 +25,7 @@ use Rattle.emfjson_model.specs.declared.fault.ModelFault.TheVariants.{BadValue}
 use Rattle.finite_maps.specs.Maps.{is_within}
 use Rattle.emfjson_model.specs.Attributes.{is_null, new_value, next_value}
 use Rattle.emfjson_model.specs.Reads.{«then», unless, collected}
-use Rattle.round_trip.specs.Named.{IsNamed}
+use Rattle.ecore_meta.specs.Named.{IsNamed}
 use Rattle.round_trip.proofs.ReadingPlain.{read_compact}
 use Rattle.round_trip.proofs.ReadingTrees.{plain_value}
 

@@ -24,7 +24,7 @@ use Rattle.emfjson_model.specs.Reads.{«then»}
 use Rattle.emfjson_text.specs.Laws.{IsNested}
 use Rattle.emfjson_text.specs.Tree.{child_ids, target_ids, text, tree, whole}
 use Rattle.emfjson_text.proofs.Nested.{text_is_whole}
-use Rattle.round_trip.specs.Named.{IsNamed}
+use Rattle.ecore_meta.specs.Named.{IsNamed}
 use Rattle.round_trip.specs.Describes.{Describes, DescribesElement, standing_in}
 use Rattle.round_trip.proofs.KeysFound.{Stands}
 use Rattle.round_trip.proofs.KeysPairs.{Pairs}

@@ -29,7 +29,7 @@ use Rattle.edit_laws.proofs.Lists.{all-in_order}
 use Rattle.emfjson_text.specs.Keys.{key_name, keys_of}
 use Rattle.model_state.specs.Listing.{values_at}
 use Rattle.emfjson_text.specs.Tree.{child_ids, content, element, first_value, is_single, listed, members, object_of, one_or_list, part, reference, target_ids, text, tree, whole, with_member}
-use Rattle.round_trip.specs.Named.{IsNamed}
+use Rattle.ecore_meta.specs.Named.{IsNamed}
 use Rattle.round_trip.proofs.KeysRise.{InOrder, IsAfter, keys_rise}
 use Rattle.round_trip.proofs.KeysTypes.{Key, Ident, Class, Feature}
 use Rattle.round_trip.proofs.ReadingPlain.{IsBelow, IsPlain, ArePlain, IsWhole, Rise, read_compact}

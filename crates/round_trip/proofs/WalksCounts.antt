@@ -23,7 +23,7 @@ use Rattle.model_state.specs.Listing.{children, targets, entry_cmp, rank_at, row
 use Rattle.model_state.specs.State.{State, place_eq}
 use Rattle.model_state.specs.Typing.{bounded_kind, contains_kind, child_upper, row_upper}
 use Rattle.emfjson_text.specs.Tree.{child_ids, is_single, target_ids}
-use Rattle.round_trip.specs.Named.{IsNamed}
+use Rattle.ecore_meta.specs.Named.{IsNamed}
 
 module _ {A : Type 0} where
   length-put_in : (cmp : A → A → Ordering) (x : A) (ys : List A) → length (put_in cmp x ys) ≡ suc (length ys)

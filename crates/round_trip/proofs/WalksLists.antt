@@ -17,7 +17,7 @@ use Rattle.emfjson_text.specs.Keys.{key_number, keys_of}
 use Rattle.emfjson_text.specs.Laws.{IsNested}
 use Rattle.emfjson_text.specs.Tree.{child_ids, whole}
 use Rattle.emfjson_text.proofs.Children.{each_child}
-use Rattle.round_trip.specs.Named.{IsNamed}
+use Rattle.ecore_meta.specs.Named.{IsNamed}
 use Rattle.round_trip.proofs.KeysApart.{NumbersApart, keys_apart}
 use Rattle.round_trip.proofs.KeysFound.{Stands, all_stand, feature_stands}
 use Rattle.round_trip.proofs.KeysPairs.{Pairs}

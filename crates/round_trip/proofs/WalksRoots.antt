@@ -17,7 +17,7 @@ use Rattle.emfjson_text.specs.Laws.{IsNested}
 use Rattle.emfjson_text.specs.Tree.{child_ids, listed, one_or_list, tree, whole}
 use Rattle.emfjson_text.proofs.Children.{each_child}
 use Rattle.emfjson_text.proofs.Nested.{text_is_whole}
-use Rattle.round_trip.specs.Named.{IsNamed}
+use Rattle.ecore_meta.specs.Named.{IsNamed}
 use Rattle.round_trip.proofs.KeysTypes.{Draft}
 use Rattle.round_trip.proofs.ReadingKinds.{IsObject}
 use Rattle.round_trip.proofs.WalksApart.{rows_come}

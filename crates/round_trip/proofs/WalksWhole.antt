@@ -31,7 +31,7 @@ use Rattle.emfjson_text.specs.Laws.{IsNested}
 use Rattle.model_state.specs.Listing.{values_at}
 use Rattle.emfjson_text.specs.Tree.{child_ids, class_text, content, is_single, listed, members, object_of, part, whole, with_member}
 use Rattle.emfjson_text.proofs.Children.{each_child}
-use Rattle.round_trip.specs.Named.{IsNamed}
+use Rattle.ecore_meta.specs.Named.{IsNamed}
 use Rattle.round_trip.proofs.KeysFound.{Stands, all_stand, class_again, class_stands, feature_found, feature_stands, ident_stands, member_at}
 use Rattle.round_trip.proofs.KeysRise.{keys_rise}
 use Rattle.round_trip.proofs.KeysTypes.{Draft, Key, Ident, Class, Feature}

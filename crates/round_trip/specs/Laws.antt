@@ -2,8 +2,9 @@
 use Rattle.std.specs.Prelude.{◌≡◌, ◌-◌, ◌^◌, ◌<◌, ◌≤◌, ℕ, List, Option, Some, Ok, length}
 use Rattle.serde_json.specs.Data.{depth}
 use Rattle.serde_json.specs.Read.{read, max_depth}
-use Rattle.ecore_json.specs.Metamodel.{metamodel_of}
 use Rattle.ecore_meta.specs.Meta.{Meta}
+use Rattle.ecore_meta.specs.Named.{IsNamed}
+use Rattle.ecore_meta.specs.Promised.{IsMetamodel}
 use Rattle.model_state.specs.Good.{Good, Sound}
 use Rattle.model_state.specs.Keys.{IdBytes}
 use Rattle.model_state.specs.State.{State, nothing}
@@ -15,7 +16,7 @@ use Rattle.emfjson_model.specs.Fits.{DocumentFits}
 use Rattle.emfjson_text.specs.Tree.{text, tree}
 use Rattle.model_import.specs.After.{import_after}
 use Rattle.model_import.specs.Import.{recorded_import}
-use Rattle.round_trip.specs.Named.{HasIds, IsNamed}
+use Rattle.round_trip.specs.Named.{HasIds}
 use Rattle.round_trip.specs.Describes.{Describes}
 use Rattle.edits.specs.Answers.{steps_in}
 
@@ -45,9 +46,5 @@ pub record ComesBack (meta : Meta) (ws : ℕ) (text_in : List ℕ) : Type 0 wher
 
 -- so it is with the text of a good model of elements with ids that nests no deeper than JSON is read, and is shorter than the texts that are read
 abbrev pub TextsComeBack : Type 0
-TextsComeBack = (meta : Meta) → Sound meta → IsNamed meta → (m : State) → Good meta m → HasIds m → depth (tree meta m) ≤ max_depth → length (text meta m) < 2 ^ 32 - 1
+TextsComeBack = (meta : Meta) → IsMetamodel meta → (m : State) → Good meta m → HasIds m → depth (tree meta m) ≤ max_depth → length (text meta m) < 2 ^ 32 - 1
     → (ws : ℕ) → ComesBack meta ws (text meta m)
-
--- what a metamodel is asked here for holds of each that is read
-abbrev pub MetamodelsAreNamed : Type 0
-MetamodelsAreNamed = (text : List ℕ) (meta : Meta) → metamodel_of text ≡ Ok meta → IsNamed meta

@@ -1,14 +1,5 @@
 //! The laws of the round trip from a model to its text and back, by the parts that make it up.
-ghost use Rattle.round_trip.specs.Laws.{MetamodelsAreNamed, DescriptionsAreShown, TextsDescribe, TextsComeBack, TextsReadBack};
-
-use emfjson_io::law_of_values;
-
-/// The law of names: what the laws of reading ask of a metamodel holds of each that is read.
-pub fn law_of_metamodels()
-    ensures { MetamodelsAreNamed }
-{
-    law_of_values();
-}
+ghost use Rattle.round_trip.specs.Laws.{DescriptionsAreShown, TextsDescribe, TextsComeBack, TextsReadBack};
 
 /// The law of texts that are read: the text of a good model reads as its tree.
 pub fn law_of_reading_back()
@@ -26,8 +17,8 @@ pub fn law_of_descriptions()
 {}
 
 /// The law of round trips: the text of a good model whose elements have ids of the form of ids, brought into the empty project,
-/// leaves a model that is shown as the same text. Each working model of the repository is good and has such ids, by the law of
-/// working models of `plain_repository`.
+/// leaves a model that is shown as the same text. What it asks of a metamodel holds of each, by `ecore_meta::Metamodel::promised`.
+/// Each working model of the repository is good and has such ids, by the law of working models of `plain_repository`.
 pub fn law_of_round_trips()
     ensures { TextsComeBack }
 {}

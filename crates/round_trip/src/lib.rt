@@ -4,6 +4,4 @@
 
 mod laws;
 
-pub use laws::{
-    law_of_descriptions, law_of_metamodels, law_of_reading, law_of_reading_back, law_of_round_trips,
-};
+pub use laws::{law_of_descriptions, law_of_reading, law_of_reading_back, law_of_round_trips};

@@ -5,7 +5,7 @@ use Rattle.ecore_meta.specs.declared.meta.EnumLiteral.{EnumLiteral}
 use Rattle.ecore_meta.specs.Build.{classes_from, feature_from}
 use Rattle.ecore_meta.specs.Faults.{features_of, literals_in}
 use Rattle.ecore_meta.proofs.BuildLaws.{classes_count, classes_supers, supers_inside, drafts_few, literals_count, literals_short}
-use Rattle.ecore_meta.proofs.SoundLaws.{sound_of}
+use Rattle.ecore_meta.proofs.PromiseLaws.{promised_of}
 use Rattle.ecore_meta.proofs.building.assemble.Goals as goal
 
 pub features_of-requires : goal.features_of-requires
@@ -22,8 +22,8 @@ invariant_of-result c =
       as_many =
           ap length c.requires.supers ∙ classes_supers c.args.rows.now.classifiers 0 (map (λ fs. fs.items) c.as_slice.result.now) c.args.rows.now.classifiers
           ∙ ap (λ rows. length (classes_from 0 (map (λ fs. fs.items) c.as_slice.result.now) rows)) (sym c.as_slice-2.ensures) ∙ sym (ap length c.in_ok-classes.ensures);
-      sound =
-          sound_of c.args.rows.now c.requires.none _ c.in_ok-uri.ensures
+      is =
+          promised_of c.args.rows.now c.requires.none c.requires.fit _ c.in_ok-uri.ensures
           (c.in_ok-classes.ensures
           ∙ ap (λ fs. classes_from 0 (map (λ ns. ns.items) fs) c.as_slice-2.result.now) c.as_slice.ensures.value
           ∙ ap (λ fs. classes_from 0 fs c.as_slice-2.result.now) c.requires.features

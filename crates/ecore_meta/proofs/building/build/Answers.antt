@@ -14,11 +14,11 @@ returns-in-Err-clause-fault c =
 
 pub any_self-requires : goal.any_self-requires
 any_self-requires c =
-    omega (arith, ap length c.as_slice-2.ensures.value, ap length c.in-Ok.ensures.drafts, drafts_few c.as_slice.result.now, ap feature_total c.as_slice.ensures, c.requires.features)
+    omega (arith, ap length c.as_slice-2.ensures.value, ap length c.in-Ok.ensures.drafts, drafts_few c.as_slice.result.now, ap feature_total c.as_slice.ensures, c.requires.numbered.features)
 
 pub any_unanswered-requires : goal.any_unanswered-requires
 any_unanswered-requires c =
-    omega (arith, ap length c.as_slice-3.ensures.value, ap length c.in-Ok.ensures.drafts, drafts_few c.as_slice.result.now, ap feature_total c.as_slice.ensures, c.requires.features)
+    omega (arith, ap length c.as_slice-3.ensures.value, ap length c.in-Ok.ensures.drafts, drafts_few c.as_slice.result.now, ap feature_total c.as_slice.ensures, c.requires.numbered.features)
 
 pub returns-then-any_bad_bound-clause-fault : goal.returns-then-any_bad_bound-clause-fault
 returns-then-any_bad_bound-clause-fault c =
@@ -33,7 +33,7 @@ any_bad_default-requires c =
     let P : List (List EnumLiteral) → Type 0 = λ ls. AreShort ls in
     let Q : ClassifierRows → Type 0 = λ rows. AreShort (literals_in rows) in
     subst P (sym (ap (map (λ ls. ls.items)) c.as_slice-5.ensures.value ∙ c.in-Ok.ensures.literals))
-    (subst Q (sym c.as_slice.ensures) (literals_short c.args.rows.now.classifiers c.requires.parts))
+    (subst Q (sym c.as_slice.ensures) (literals_short c.args.rows.now.classifiers c.requires.numbered.parts))
 
 pub returns-then-branch-clause-fault : goal.returns-then-branch-clause-fault
 returns-then-branch-clause-fault c =

@@ -1,5 +1,5 @@
 -- The law follows by induction on the events.
-use Rattle.plain_repository.proofs.Reached.{models_are_defined, models_are_good, models_have_ids, metamodels_are_sound}
+use Rattle.plain_repository.proofs.Reached.{models_are_defined, models_are_good, models_have_ids, metamodels_hold}
 use Rattle.plain_repository.proofs.laws.law_of_working_models.Goals as goal
 
 pub returns-clause-defined : goal.returns-clause-defined
@@ -11,5 +11,5 @@ returns-clause-good c = models_are_good
 pub returns-clause-ids : goal.returns-clause-ids
 returns-clause-ids c = models_have_ids
 
-pub returns-clause-sound : goal.returns-clause-sound
-returns-clause-sound c = metamodels_are_sound
+pub returns-clause-metamodel : goal.returns-clause-metamodel
+returns-clause-metamodel c = metamodels_hold

@@ -1,7 +1,7 @@
--- Every metamodel that is read has fit names.
-use Rattle.std.proofs.Common.{◌≡◌, ℕ, ◌==◌, Bool, true, false, cond, not, ◌&&◌, ◌||◌, List, [], ◌∷◌, length, map, refl, sym, ap, subst, ◌∙◌, codes, arith}
-use Rattle.std.specs.Prelude.{Option, None, Some, is_some, Ok, option_and_then, nat_le}
-use Rattle.std.specs.List.{AllByRecursion, list_all, list_any}
+-- Names of a package without a fault are of their form.
+use Rattle.std.proofs.Common.{◌≡◌, ℕ, ◌==◌, Bool, true, false, cond, not, ◌&&◌, ◌||◌, List, [], ◌∷◌, length, map, refl, sym, ap, subst, ◌∙◌, codes, rules}
+use Rattle.std.specs.Prelude.{Option, None, Some, is_some, option_and_then, nat_le}
+use Rattle.std.specs.List.{AllByRecursion, list_all}
 use Rattle.std.specs.Option.{option_map_or}
 use Rattle.std.specs.Char.{is_ascii_alphabetic}
 use Rattle.std.specs.Str.{bytes_eq}
@@ -11,61 +11,63 @@ use Rattle.std.specs.Ordering.{nat_cmp, match_ordering}
 use Rattle.std.specs.Cmp.Lexicographic.{slice_cmp}
 use Rattle.std.proofs.lemmas.Bool.{or_parts}
 use Rattle.std.proofs.lemmas.Map.Lookups.{exact_bytes}
-use Rattle.finite_maps.proofs.Cases.{no_some, not_so, not_true, true_false}
-use Rattle.finite_maps.proofs.EqualLaws.{and_first, and_second, nat_equality}
 use Rattle.serde_json.specs.Data.{Data, null, boolean, number, string, array, object, Items, no_items, item, Members, no_members, member}
 use Rattle.serde_json.specs.Find.{as_array, as_str, get, get_member}
-use Rattle.serde_json.specs.Read.{read}
-use Rattle.ecore_meta.specs.Build.{meta_of}
-use Rattle.ecore_meta.specs.Faults.{fault}
-use Rattle.ecore_meta.specs.Meta.{Meta}
-use Rattle.ecore_meta.specs.declared.fault.MetaFault.{MetaFault}
+use Rattle.ecore_meta.specs.Named.{NamesFit, has_slash, is_reserved}
+use Rattle.ecore_meta.specs.Names.{Name}
 use Rattle.ecore_meta.specs.declared.rows.ClassifierRow.{ClassifierRow}
 use Rattle.ecore_meta.specs.declared.rows.ClassifierRow.TheVariants.{Class, Enum, Plain}
 use Rattle.ecore_meta.specs.declared.rows.FeatureRow.{FeatureRow}
-use Rattle.ecore_meta.specs.declared.rows.MetaRows.{MetaRows}
+use Rattle.ecore_json.specs.declared.fault.WalkFault.{WalkFault}
+use Rattle.ecore_json.specs.declared.table.Position.{Position}
+use Rattle.ecore_json.specs.declared.table.Shape.{Shape}
 use Rattle.ecore_json.specs.Classes.{ecore_attribute, ecore_class, ecore_data_type, ecore_enum, ecore_reference}
-use Rattle.ecore_json.specs.Metamodel.{built, metamodel_of, of_document, of_package, package_of, walked}
-use Rattle.ecore_meta.specs.Names.{Name}
 use Rattle.ecore_json.specs.References.{is_feature_name, is_mark, is_name, is_name_byte}
 use Rattle.ecore_json.specs.Rows.{alone_or, class_row, classifier_row, elements, enum_row, feature_row, list_of, own_prefix, rows_of, text_at}
 use Rattle.ecore_json.specs.Table.{required, wants}
 use Rattle.ecore_json.specs.Walk as Walk
 use Rattle.ecore_json.specs.Walk.{array_fault, classifier_shape, feature_shape, first_lacking, has, is_a, items_fault, keys_fault, object_fault, package_fault, shape_at, value_fault}
-use Rattle.emfjson_io.specs.Laws.{BuiltTextsAreApart}
-use Rattle.round_trip.specs.Named.{IsNamed, NamesFit, is_reserved}
-use Rattle.round_trip.proofs.KeysTypes.{taken_by}
-use Rattle.round_trip.proofs.NamedBuilt.{built_named}
 
--- the type of the value of an option
-abbrev value_in : {A : Type 0} → Option A → Type 0
-value_in {A} o = A
+-- ---- tests
+no_some : {A : Type 0} (o : Option A) → is_some o ≡ false → o ≡ None
+no_some None h = refl
+no_some (Some v) h = cc
 
--- a fault of the walk
-abbrev Fault : Type 0
-Fault = value_in (package_fault [] null)
+not_so : (b : Bool) → (b ≡ true → ⊥) → b ≡ false
+not_so true h = absurd (h refl)
+not_so false h = refl
 
--- the shape of an object
-abbrev Shape : Type 0
-Shape = taken_by required
+true_false : (b : Bool) → b ≡ true → b ≡ false → ⊥
+true_false b h k = cc
 
--- a place of objects
-abbrev Place : Type 0
-Place = taken_by (object_fault [])
+not_true : (b : Bool) → not b ≡ true → b ≡ false
+not_true true h = cc
+not_true false h = refl
+
+and_first : (a b : Bool) → a && b ≡ true → a ≡ true
+and_first true b h = refl
+and_first false b h = h
+
+and_second : (a b : Bool) → a && b ≡ true → b ≡ true
+and_second true b h = h
+and_second false b h = cc
+
+same_byte : (b : ℕ) → (b == 47) ≡ true → b ≡ 47
+same_byte b h = search rules
 
 -- ---- no fault of two
-both_none : (a b : Option Fault) → Walk.«then» a b ≡ None → (a ≡ None) × (b ≡ None)
+both_none : (a b : Option WalkFault) → Walk.«then» a b ≡ None → (a ≡ None) × (b ≡ None)
 both_none None b h = (refl, h)
 both_none (Some e) b h = cc
 
-no_fail : (b : Bool) (e : Fault) → cond b (Some e) None ≡ None → b ≡ false
+no_fail : (b : Bool) (e : WalkFault) → cond b (Some e) None ≡ None → b ≡ false
 no_fail true e h = cc
 no_fail false e h = refl
 
 -- ---- an object without a fault
 module _ (own : Name) (s : Shape) (lacking : Option Name) where
   -- the fault of the value at a key
-  abbrev judged : Name → Data → Option Fault
+  abbrev judged : Name → Data → Option WalkFault
   judged k d = value_fault own (wants s k) d (λ p. object_fault own p d) (λ p. array_fault own p d)
 
   found_fault : (k l : Name) (e d : Data) (rest : Option Data) → (rest ≡ Some d → judged k d ≡ None) → judged l e ≡ None → (r : Ordering) → slice_cmp nat_cmp k l ≡ r → match_ordering r rest (Some e) rest ≡ Some d → judged k d ≡ None
@@ -98,7 +100,7 @@ all_there (k ∷ ks) d h = by_test (has k d) refl (all_there ks d) h
     by_test false is more h = cc
 
 -- what holds of an object of a shape that has no fault
-pub record IsFit (own : Name) (s : Shape) (d : Data) : Type 0 where
+record IsFit (own : Name) (s : Shape) (d : Data) : Type 0 where
   pub values : (k : Name) (v : Data) → get k d ≡ Some v → judged own s (first_lacking (required s) d) k v ≡ None
   pub there : AllByRecursion (λ k. has k d ≡ true) (required s)
 
@@ -112,7 +114,7 @@ module _ (own : Name) where
   shaped_fit None s ms is h = cc
   shaped_fit (Some t) s ms is h = let same : t ≡ s = cc in subst (λ x. IsFit own x (object ms)) same (members_fit t ms h)
 
-  object_fit : (p : Place) (d : Data) (s : Shape) → shape_at p d ≡ Some s → object_fault own p d ≡ None → IsFit own s d
+  object_fit : (p : Position) (d : Data) (s : Shape) → shape_at p d ≡ Some s → object_fault own p d ≡ None → IsFit own s d
   unfolding object_fault
   object_fit p (object ms) s is h = shaped_fit (shape_at p (object ms)) s ms is h
   object_fit p null s is h = cc
@@ -125,7 +127,7 @@ module _ (own : Name) where
   has_shape None ms is h = cc
   has_shape (Some s) ms is h = cc
 
-  object_shaped : (p : Place) (d : Data) → shape_at p d ≡ None → object_fault own p d ≡ None → ⊥
+  object_shaped : (p : Position) (d : Data) → shape_at p d ≡ None → object_fault own p d ≡ None → ⊥
   unfolding object_fault
   object_shaped p (object ms) is h = has_shape (shape_at p (object ms)) ms is h
   object_shaped p null is h = cc
@@ -134,13 +136,13 @@ module _ (own : Name) where
   object_shaped p (string t) is h = cc
   object_shaped p (array ds) is h = cc
 
-  items_fit : (p : Place) (ds : Items) → items_fault own p ds ≡ None → AllByRecursion (λ x. object_fault own p x ≡ None) (list_of ds)
+  items_fit : (p : Position) (ds : Items) → items_fault own p ds ≡ None → AllByRecursion (λ x. object_fault own p x ≡ None) (list_of ds)
   unfolding items_fault
   items_fit p no_items h = tt
   items_fit p (item d ds) h = let parts = both_none _ _ h in (parts.0, items_fit p ds parts.1)
 
   -- one or many objects
-  many_fit : (p : Place) (v : Data) → cond (is_some (as_array v)) (array_fault own p v) (object_fault own p v) ≡ None → AllByRecursion (λ x. object_fault own p x ≡ None) (alone_or v (as_array v))
+  many_fit : (p : Position) (v : Data) → cond (is_some (as_array v)) (array_fault own p v) (object_fault own p v) ≡ None → AllByRecursion (λ x. object_fault own p x ≡ None) (alone_or v (as_array v))
   unfolding array_fault
   many_fit p (array ds) h = items_fit p ds h
   many_fit p null h = (h, tt)
@@ -184,34 +186,34 @@ abbrev ReferenceShape : Shape
 ReferenceShape = the (feature_shape (said ecore_reference)) tt
 
 -- ---- names
-named_of : (d : Data) (v : Data) (p : Name → Bool) (o : Option Name) → get (codes "name") d ≡ Some v → as_str v ≡ o → option_map_or p o false ≡ true → p (text_at (codes "name") d) ≡ true
-named_of d v p None at is h = cc
-named_of d v p (Some t) at is h =
+name_is : (d : Data) (v : Data) (p : Name → Bool) (o : Option Name) → get (codes "name") d ≡ Some v → as_str v ≡ o → option_map_or p o false ≡ true → p (text_at (codes "name") d) ≡ true
+name_is d v p None at is h = cc
+name_is d v p (Some t) at is h =
     subst (λ o. p (option_map_or (λ t. t) (option_and_then as_str o) []) ≡ true) (sym at) (subst (λ o. p (option_map_or (λ t. t) o []) ≡ true) (sym is) h)
 
 name_there : (d : Data) (o : Option Data) → get (codes "name") d ≡ o → is_some o ≡ true → (v : Data) × (get (codes "name") d ≡ Some v)
 name_there d None at h = cc
 name_there d (Some v) at h = (v, at)
 
-not_failed : (b : Bool) (e : Fault) → cond (not b) (Some e) None ≡ None → b ≡ true
+not_failed : (b : Bool) (e : WalkFault) → cond (not b) (Some e) None ≡ None → b ≡ true
 not_failed true e h = refl
 not_failed false e h = cc
 
 -- no byte of a name is a slash
 free_byte : (p : ℕ → Bool) → p 47 ≡ false → (b : ℕ) → p b ≡ true → (b == 47) ≡ false
-free_byte p none b h = not_so (b == 47) (λ e. true_false (p b) h (ap p (nat_equality.exact b 47 e) ∙ none))
+free_byte p none b h = not_so (b == 47) (λ e. true_false (p b) h (ap p (same_byte b e) ∙ none))
 
-free_bytes : (bs : Name) → list_all is_name_byte bs ≡ true → list_any (λ b. b == 47) bs ≡ false
+free_bytes : (bs : Name) → list_all is_name_byte bs ≡ true → has_slash bs ≡ false
 free_bytes [] h = refl
 free_bytes (b ∷ bs) h =
-    ap (λ t. t || list_any (λ b. b == 47) bs) (free_byte is_name_byte refl b (and_first (is_name_byte b) (list_all is_name_byte bs) h)) ∙ free_bytes bs (and_second (is_name_byte b) (list_all is_name_byte bs) h)
+    ap (λ t. t || has_slash bs) (free_byte is_name_byte refl b (and_first (is_name_byte b) (list_all is_name_byte bs) h)) ∙ free_bytes bs (and_second (is_name_byte b) (list_all is_name_byte bs) h)
 
-no_slash : (t : Name) → is_name t ≡ true → list_any (λ b. b == 47) t ≡ false
+no_slash : (t : Name) → is_name t ≡ true → has_slash t ≡ false
 no_slash [] h = cc
 no_slash (b ∷ bs) h =
     let first = and_first (is_ascii_alphabetic b || is_mark b) (nat_le (length bs) 127 && list_all is_name_byte bs) h in
     let rest = and_second (nat_le (length bs) 127) (list_all is_name_byte bs) (and_second (is_ascii_alphabetic b || is_mark b) (nat_le (length bs) 127 && list_all is_name_byte bs) h) in
-    ap (λ t. t || list_any (λ b. b == 47) bs) (free_byte (λ b. is_ascii_alphabetic b || is_mark b) refl b first) ∙ free_bytes bs rest
+    ap (λ t. t || has_slash bs) (free_byte (λ b. is_ascii_alphabetic b || is_mark b) refl b first) ∙ free_bytes bs rest
 
 not_reserved : (t : Name) → is_feature_name t ≡ true → is_reserved t ≡ false
 not_reserved t h =
@@ -223,22 +225,22 @@ module _ (own : Name) where
   unfolding wants
   class_named d fit =
       let v = name_there d (get (codes "name") d) refl fit.there.0 in
-      named_of d v.0 is_name (as_str v.0) v.1 refl (not_failed _ _ (fit.values (codes "name") v.0 v.1))
+      name_is d v.0 is_name (as_str v.0) v.1 refl (not_failed _ _ (fit.values (codes "name") v.0 v.1))
 
   attribute_named : (d : Data) → IsFit own AttributeShape d → is_feature_name (text_at (codes "name") d) ≡ true
   unfolding wants
   attribute_named d fit =
       let v = name_there d (get (codes "name") d) refl fit.there.1.0 in
-      named_of d v.0 is_feature_name (as_str v.0) v.1 refl (not_failed _ _ (fit.values (codes "name") v.0 v.1))
+      name_is d v.0 is_feature_name (as_str v.0) v.1 refl (not_failed _ _ (fit.values (codes "name") v.0 v.1))
 
   reference_named : (d : Data) → IsFit own ReferenceShape d → is_feature_name (text_at (codes "name") d) ≡ true
   unfolding wants
   reference_named d fit =
       let v = name_there d (get (codes "name") d) refl fit.there.1.0 in
-      named_of d v.0 is_feature_name (as_str v.0) v.1 refl (not_failed _ _ (fit.values (codes "name") v.0 v.1))
+      name_is d v.0 is_feature_name (as_str v.0) v.1 refl (not_failed _ _ (fit.values (codes "name") v.0 v.1))
 
   -- a feature
-  feature_named : (p : Place) (y : Data) → shape_at p y ≡ feature_shape y → object_fault own p y ≡ None → is_feature_name (text_at (codes "name") y) ≡ true
+  feature_named : (p : Position) (y : Data) → shape_at p y ≡ feature_shape y → object_fault own p y ≡ None → is_feature_name (text_at (codes "name") y) ≡ true
   feature_named p y place h = by_class (is_a ecore_attribute y) (is_a ecore_reference y) place
     where
       by_class : (b c : Bool) → shape_at p y ≡ cond b (Some AttributeShape) (cond c (Some ReferenceShape) None) → is_feature_name (text_at (codes "name") y) ≡ true
@@ -246,7 +248,7 @@ module _ (own : Name) where
       by_class false true is = reference_named y (object_fit own p y ReferenceShape is h)
       by_class false false is = absurd (object_shaped own p y is h)
 
-  features_named : (p : Place) → ((y : Data) → shape_at p y ≡ feature_shape y) → (prefix : Name) (ys : List Data) → AllByRecursion (λ y. object_fault own p y ≡ None) ys → AllByRecursion (λ (f : FeatureRow). is_reserved f.name ≡ false) (map (feature_row prefix) ys)
+  features_named : (p : Position) → ((y : Data) → shape_at p y ≡ feature_shape y) → (prefix : Name) (ys : List Data) → AllByRecursion (λ y. object_fault own p y ≡ None) ys → AllByRecursion (λ (f : FeatureRow). is_reserved f.name ≡ false) (map (feature_row prefix) ys)
   features_named p place prefix [] all = tt
   features_named p place prefix (y ∷ ys) all = (not_reserved (text_at (codes "name") y) (feature_named p y (place y) all.0), features_named p place prefix ys all.1)
 
@@ -255,7 +257,7 @@ module _ (own : Name) where
   features_fit prefix x fit None at = tt
   features_fit prefix x fit (Some v) at = features_named _ (λ y. refl) prefix (alone_or v (as_array v)) (many_fit own _ v (fit.values (codes "eStructuralFeatures") v at))
 
-  classifier_fit : (p : Place) (prefix : Name) (x : Data) → shape_at p x ≡ classifier_shape x → object_fault own p x ≡ None → NamesFit (classifier_row prefix x ∷ [])
+  classifier_fit : (p : Position) (prefix : Name) (x : Data) → shape_at p x ≡ classifier_shape x → object_fault own p x ≡ None → NamesFit (classifier_row prefix x ∷ [])
   classifier_fit p prefix x place h = by_class (is_a ecore_class x) refl
     where
       by_class : (b : Bool) → is_a ecore_class x ≡ b → NamesFit (cond b (Class (class_row prefix x)) (cond (is_a ecore_enum x) (Enum (enum_row x)) (Plain (text_at (codes "name") x))) ∷ [])
@@ -275,7 +277,7 @@ module _ (own : Name) where
   one_more (Enum e) rows h g = g
   one_more (Plain t) rows h g = g
 
-  classifiers_fit : (p : Place) → ((x : Data) → shape_at p x ≡ classifier_shape x) → (prefix : Name) (xs : List Data) → AllByRecursion (λ x. object_fault own p x ≡ None) xs → NamesFit (map (classifier_row prefix) xs)
+  classifiers_fit : (p : Position) → ((x : Data) → shape_at p x ≡ classifier_shape x) → (prefix : Name) (xs : List Data) → AllByRecursion (λ x. object_fault own p x ≡ None) xs → NamesFit (map (classifier_row prefix) xs)
   classifiers_fit p place prefix [] all = tt
   classifiers_fit p place prefix (x ∷ xs) all = one_more (classifier_row prefix x) (map (classifier_row prefix) xs) (classifier_fit p prefix x (place x) all.0) (classifiers_fit p place prefix xs all.1)
 
@@ -286,31 +288,7 @@ module _ (own : Name) where
       let fit = object_fit own _ d _ refl h in
       classifiers_fit _ (λ x. refl) prefix (alone_or v (as_array v)) (many_fit own _ v (fit.values (codes "eClassifiers") v at))
 
-names_fit : (d : Data) → package_fault (own_prefix d) d ≡ None → NamesFit (rows_of d).classifiers
+-- the names of a document's rows are of their form, where its package has no fault
+pub names_fit : (d : Data) → package_fault (own_prefix d) d ≡ None → NamesFit (rows_of d).classifiers
 unfolding rows_of
 names_fit d h = package_fit (own_prefix d) (own_prefix d) d h (get (codes "eClassifiers") d) refl
-
--- ---- the metamodel
-no_fault : (e : Fault) (rows : MetaRows) (m : Meta) → walked (Some e) rows ≡ Ok m → ⊥
-no_fault e rows m h = grind arith
-
-module _ (literals_apart : BuiltTextsAreApart) (m : Meta) where
-  built_is : (rows : MetaRows) → NamesFit rows.classifiers → (o : Option MetaFault) → fault rows.classifiers ≡ o → built o rows ≡ Ok m → IsNamed m
-  built_is rows fit None is h = let same : meta_of rows ≡ m = cc in subst IsNamed same (built_named literals_apart rows is fit)
-  built_is rows fit (Some e) is h = cc
-
-  walked_is : (d : Data) (o : Option Fault) → package_fault (own_prefix d) d ≡ o → walked o (rows_of d) ≡ Ok m → IsNamed m
-  walked_is d None is h = built_is (rows_of d) (names_fit d is) (fault (rows_of d).classifiers) refl h
-  walked_is d (Some e) is h = absurd (no_fault e (rows_of d) m h)
-
-  package_is : (o : Option Data) → of_package o ≡ Ok m → IsNamed m
-  package_is None h = cc
-  package_is (Some d) h = walked_is d (package_fault (own_prefix d) d) refl h
-
-  document_is : (o : Option Data) → of_document o ≡ Ok m → IsNamed m
-  document_is None h = cc
-  document_is (Some d) h = package_is (package_of d) h
-
-pub read_named : BuiltTextsAreApart → (text : List ℕ) (m : Meta) → metamodel_of text ≡ Ok m → IsNamed m
-unfolding metamodel_of
-read_named literals_apart text m h = document_is literals_apart m (read text) h

@@ -1,0 +1,44 @@
+-- Opposites of both sorts: of links, and of containments and containers.
+use Rattle.std.specs.Prelude.{◌≡◌, ℕ, Bool, true, false, Option, None, Some, slice_get, nat_eq}
+use Rattle.std.specs.Option.{option_map}
+use Rattle.ecore_meta.specs.Meta.{Meta}
+use Rattle.ecore_meta.specs.Typing.{kind_of}
+use Rattle.ecore_meta.specs.declared.meta.Kind.{Kind}
+use Rattle.ecore_meta.specs.declared.meta.Kind.TheVariants.{Bounded, Free, Contains, Container}
+
+-- the opposite of a reference of any sort
+abbrev pub end_in : Kind → Option ℕ
+end_in (Bounded target opposite) = opposite
+end_in (Free target opposite) = opposite
+end_in (Contains target opposite) = opposite
+end_in (Container target opposite) = Some opposite
+end_in k = None
+
+-- the class whose elements a reference of any sort names
+abbrev pub target_in : Kind → Option ℕ
+target_in (Bounded target opposite) = Some target
+target_in (Free target opposite) = Some target
+target_in (Contains target opposite) = Some target
+target_in (Container target opposite) = Some target
+target_in k = None
+
+-- a containment
+abbrev pub is_containment : Kind → Bool
+is_containment (Contains target opposite) = true
+is_containment k = false
+
+-- a container
+abbrev pub is_container : Kind → Bool
+is_container (Container target opposite) = true
+is_container k = false
+
+-- the class that declares the feature of that number
+abbrev pub owner_of : Meta → ℕ → Option ℕ
+owner_of meta f = option_map (λ feature. feature.owner) (slice_get meta.features f)
+
+-- opposites name each other, and none is its own; each goes to the class that declares the other; a containment has a container, and no other has one
+pub record EndsMeet (meta : Meta) : Type 0 where
+  pub other : (f g : ℕ) → end_in (kind_of meta f) ≡ Some g → nat_eq f g ≡ false
+  pub both : (f g : ℕ) → end_in (kind_of meta f) ≡ Some g → end_in (kind_of meta g) ≡ Some f
+  pub goes : (f g : ℕ) → end_in (kind_of meta f) ≡ Some g → target_in (kind_of meta f) ≡ owner_of meta g
+  pub around : (f g : ℕ) → end_in (kind_of meta f) ≡ Some g → is_containment (kind_of meta f) ≡ is_container (kind_of meta g)

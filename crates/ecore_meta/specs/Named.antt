@@ -1,0 +1,47 @@
+-- Names of a metamodel: of their form, and apart where one is looked for; kinds that go with their bounds.
+use Rattle.std.specs.Prelude.{◌≡◌, ℕ, ◌==◌, ◌||◌, Bool, false, List, [], ◌∷◌, Option, None, Some, map, codes, slice_get}
+use Rattle.std.specs.List.{AllByRecursion, list_any}
+use Rattle.std.specs.Str.{bytes_eq}
+use Rattle.ecore_meta.specs.Meta.{Meta, features_of, name_at}
+use Rattle.ecore_meta.specs.Names.{Name, has_repeat}
+use Rattle.ecore_meta.specs.Typing.{kind_of, literals_of, upper_of}
+use Rattle.ecore_meta.specs.declared.meta.Class.{Class as ClassOf}
+use Rattle.ecore_meta.specs.declared.meta.Kind.TheVariants.{Free}
+use Rattle.ecore_meta.specs.declared.rows.ClassifierRow.{ClassifierRow}
+use Rattle.ecore_meta.specs.declared.rows.ClassifierRow.TheVariants.{Class, Enum, Plain}
+use Rattle.ecore_meta.specs.declared.rows.FeatureRow.{FeatureRow}
+
+-- a key of an object that is no feature's
+abbrev pub is_reserved : Name → Bool
+is_reserved t = bytes_eq t (codes "eClass") || bytes_eq t (codes "_id")
+
+-- the name has a slash
+abbrev pub has_slash : Name → Bool
+has_slash t = list_any (λ b. b == 47) t
+
+-- names of classes without a slash, and features that are not named as the class or the id
+abbrev pub NamesFit : List ClassifierRow → Type 0
+NamesFit [] = Unit {0}
+NamesFit (Class c ∷ rows) = (has_slash c.name ≡ false) × AllByRecursion (λ (f : FeatureRow). is_reserved f.name ≡ false) c.features × NamesFit rows
+NamesFit (Enum e ∷ rows) = NamesFit rows
+NamesFit (Plain t ∷ rows) = NamesFit rows
+
+-- the name of a classifier or of one of its features is of another form
+abbrev pub is_misnamed : ClassifierRow → Bool
+is_misnamed (Class c) = has_slash c.name || list_any (λ (f : FeatureRow). is_reserved f.name) c.features
+is_misnamed (Enum e) = false
+is_misnamed (Plain t) = false
+
+-- the literals of each enum have different texts
+abbrev pub TextsAreApart : Meta → Type 0
+TextsAreApart meta = (e : ℕ) → has_repeat (map (λ l. l.text) (literals_of meta e)) ≡ false
+
+-- names of classes differ and have no slash; the features of a class differ by name, and none is named as the class or the id; the literals of an enum
+-- differ by text; references of the kind that has no bound have none
+pub record IsNamed (meta : Meta) : Type 0 where
+  pub classes : has_repeat (map (λ c. c.name) meta.classes) ≡ false
+  pub slashes : (n : ℕ) (class : ClassOf) → slice_get meta.classes n ≡ Some class → has_slash class.name ≡ false
+  pub features : (c : ℕ) → has_repeat (map (name_at meta.features) (features_of meta c)) ≡ false
+  pub keys : (f : ℕ) → is_reserved (name_at meta.features f) ≡ false
+  pub literals : TextsAreApart meta
+  pub unbounded : (f target : ℕ) (opposite : Option ℕ) → kind_of meta f ≡ Free target opposite → upper_of meta f ≡ None
