@@ -58,7 +58,7 @@ impl<'a> Reader<'a> {
         self.at as u64
     }
 
-    /// One byte.
+    /// One byte. It takes no memory.
     pub fn take_u8(&mut self) -> Result<u8, ReadFault>
         ensures read { Reads (λ n. n) self.old self.new result (byte_at self.old) }
         ensures err { OnErr result (self.new ≡ self.old) }
@@ -73,7 +73,7 @@ impl<'a> Reader<'a> {
         }
     }
 
-    /// A number of four bytes.
+    /// A number of four bytes. It takes no memory.
     #[tactic(auto, unfolding(crate::specs::Fields::number_at))]
     pub fn take_u32(&mut self) -> Result<u32, ReadFault>
         ensures read { Reads (λ n. n) self.old self.new result (number_at w32 self.old) }
@@ -89,7 +89,7 @@ impl<'a> Reader<'a> {
         Ok(n)
     }
 
-    /// A number of eight bytes.
+    /// A number of eight bytes. It takes no memory.
     pub fn take_u64(&mut self) -> Result<u64, ReadFault>
         ensures read { Reads (λ n. n) self.old self.new result (number_at w64 self.old) }
         ensures err { OnErr result (self.new ≡ self.old) }
