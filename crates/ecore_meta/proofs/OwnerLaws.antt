@@ -1,5 +1,5 @@
 -- A class has a feature exactly where the class that declares it is that class or above it.
-use Rattle.std.proofs.Common.{◌≡◌, ℕ, zero, suc, ◌+◌, ◌-◌, ◌<◌, ◌≤◌, Bool, true, false, List, [], ◌∷◌, ◌++◌, ◌||◌, ◌&&◌, ◌⊎◌, inl, inr, refl, sym, ap, subst, ◌∙◌, arith, length, length-append, map, nat_eq, Less}
+use Rattle.std.proofs.Common.{◌≡◌, ℕ, zero, suc, ◌+◌, ◌-◌, ◌<◌, ◌≤◌, Bool, true, false, cond, List, [], ◌∷◌, ◌++◌, ◌&&◌, ◌⊎◌, inl, inr, refl, sym, ap, subst, ◌∙◌, arith, length, map, nat_eq, Less}
 use Rattle.std.specs.Prelude.{Option, None, Some, slice_get}
 use Rattle.std.specs.List.{list_any, filter, flat_map, range_with_len, AllByRecursion}
 use Rattle.std.specs.Option.{option_map_or}
@@ -10,7 +10,7 @@ use Rattle.std.proofs.lemmas.Bool.{or_left, or_right}
 use Rattle.ecore_meta.specs.Build.{classes_from, feature_from, meta_of}
 use Rattle.ecore_meta.specs.Document.{ClassifierRows, supers_in}
 use Rattle.ecore_meta.specs.Drafts.{draft, drafts, drafts_from}
-use Rattle.ecore_meta.specs.Faults.{features_of, inherited, literals_in, own_features, own_of}
+use Rattle.ecore_meta.specs.Faults.{all_inherited, features_in, features_of, inherited, is_declared, literals_in, own_features, own_of}
 use Rattle.ecore_meta.specs.Meta.{Meta, features_of as class_features, has_feature, is_a}
 use Rattle.ecore_meta.specs.declared.meta.Feature.{Feature}
 use Rattle.ecore_meta.specs.Supers.{is_above}
@@ -120,27 +120,6 @@ own_count all f (Class c ∷ rows) = ap (λ k. suc k) (own_count all (f + length
 own_count all f (Enum e ∷ rows) = own_count all f rows
 own_count all f (Plain t ∷ rows) = own_count all f rows
 
--- the class of a number has the features of that number
-class_has : (all : ClassifierRows) (n : ℕ) (fs : List (List ℕ)) (rows : ClassifierRows) (c f : ℕ) → c < length (supers_in all rows) → option_map_or (λ (class : Made). list_any (nat_eq f) class.features) (slice_get (classes_from n fs rows) c) false ≡ list_any (nat_eq f) (own_of fs (n + c))
-class_has all n fs [] c f h = absurd (omega arith)
-class_has all n fs (Class r ∷ rows) zero f h = ap (λ k. list_any (nat_eq f) (own_of fs k)) (plus_none n)
-  where
-    plus_none : (n : ℕ) → n ≡ n + 0
-    plus_none n = omega arith
-class_has all n fs (Class r ∷ rows) (suc c) f h = class_has all (suc n) fs rows c f (omega arith) ∙ ap (λ k. list_any (nat_eq f) (own_of fs k)) (shift n c)
-  where
-    shift : (n c : ℕ) → suc n + c ≡ n + suc c
-    shift n c = omega arith
-class_has all n fs (Enum e ∷ rows) c f h = class_has all n fs rows c f h
-class_has all n fs (Plain t ∷ rows) c f h = class_has all n fs rows c f h
-
-class_none : (all : ClassifierRows) (n : ℕ) (fs : List (List ℕ)) (rows : ClassifierRows) (c f : ℕ) → length (supers_in all rows) ≤ c → option_map_or (λ (class : Made). list_any (nat_eq f) class.features) (slice_get (classes_from n fs rows) c) false ≡ false
-class_none all n fs [] c f h = refl
-class_none all n fs (Class r ∷ rows) zero f h = absurd (omega arith)
-class_none all n fs (Class r ∷ rows) (suc c) f h = class_none all (suc n) fs rows c f (omega arith)
-class_none all n fs (Enum e ∷ rows) c f h = class_none all n fs rows c f h
-class_none all n fs (Plain t ∷ rows) c f h = class_none all n fs rows c f h
-
 ranged : (g : ℕ → List ℕ) (a n c : ℕ) → c < n → own_of (map g (range_with_len a n)) c ≡ g (a + c)
 ranged g a zero c h = absurd (omega arith)
 ranged g a (suc n) zero h = ap g (plus_none a)
@@ -169,10 +148,7 @@ flat_from h f (x ∷ xs) m = or_split (list_any (nat_eq f) (h x)) (list_any (nat
 kept_is : (p : ℕ → Bool) (b : ℕ) (xs : List ℕ) → list_any (nat_eq b) (filter p xs) ≡ p b && list_any (nat_eq b) xs
 kept_is p b xs = any-filter_same (nat_eq b) p (p b) (λ k e. ap p (sym (nat_same b k e))) xs
 
-module _ (rows : MetaRows) (c f : ℕ) (d : Draft) (is : slice_get (drafts rows.classifiers) f ≡ Some d) where
-  abbrev pub all : ClassifierRows
-  all = rows.classifiers
-
+module _ (all : ClassifierRows) (c f : ℕ) (d : Draft) (is : slice_get (drafts all) f ≡ Some d) where
   abbrev pub supers : List (List ℕ)
   supers = supers_in all all
 
@@ -205,16 +181,6 @@ module _ (rows : MetaRows) (c f : ℕ) (d : Draft) (is : slice_get (drafts rows.
           ∙ and_both _ _ (subst (λ b. is_above supers c b ≡ true) same m) (in_range 0 (length supers) at.0 (omega arith) (omega (arith, at.2, own_count all 0 all))))
           at.3
 
-  pub has_is : has_feature (meta_of rows) c f ≡ is_above supers c d.owner
-  has_is = by_place (split c (length supers))
-    where
-      by_place : (c < length supers) ⊎ (length supers ≤ c) → has_feature (meta_of rows) c f ≡ is_above supers c d.owner
-      by_place (inl lt) =
-          class_has all 0 (features_of all) all c f lt ∙ ap (λ k. list_any (nat_eq f) (own_of (features_of all) k)) (sym (none_less c))
-          ∙ ap (λ fs. list_any (nat_eq f) fs) (ranged (inherited supers own) 0 (length supers) c lt)
-          ∙ ap (λ k. list_any (nat_eq f) (inherited supers own k)) (sym (none_less c)) ∙ inherits
-      by_place (inr le) = class_none all 0 (features_of all) all c f le ∙ sym (above_none supers c d.owner le)
-
 in_list : {X : Type 0} (xs : List X) (k : ℕ) → k < length xs → slice_get xs k ≡ None → ⊥
 in_list [] k h is = absurd (omega arith)
 in_list (x ∷ xs) zero h is = cc
@@ -240,45 +206,6 @@ got_test : {X Y : Type 0} (h : Y → Bool) (g : X → Y) (xs : List X) (k : ℕ)
 got_test h g [] k = refl
 got_test h g (x ∷ xs) zero = refl
 got_test h g (x ∷ xs) (suc k) = got_test h g xs k
-
-none_has : (rows : MetaRows) (c f : ℕ) → slice_get (drafts_from rows.classifiers 0 rows.classifiers) f ≡ None → has_feature (meta_of rows) c f ≡ true → ⊥
-unfolding inherited
-none_has rows c f is has = by_place (split c (length supers))
-  where
-    all : ClassifierRows
-    all = rows.classifiers
-
-    supers : List (List ℕ)
-    supers = supers_in all all
-
-    none_less : (n : ℕ) → n ≡ 0 + n
-    none_less n = omega arith
-
-    by_place : (c < length supers) ⊎ (length supers ≤ c) → ⊥
-    by_place (inl lt) =
-        let m : list_any (nat_eq f) (inherited supers (own_features 0 all) c) ≡ true =
-        ap (λ k. list_any (nat_eq f) (inherited supers (own_features 0 all) k)) (none_less c)
-        ∙ sym (ap (λ fs. list_any (nat_eq f) fs) (ranged (inherited supers (own_features 0 all)) 0 (length supers) c lt))
-        ∙ ap (λ k. list_any (nat_eq f) (own_of (features_of all) k)) (none_less c)
-        ∙ sym (class_has all 0 (features_of all) all c f lt) ∙ has in
-        let at = flat_from (own_of (own_features 0 all)) f (filter (is_above supers c) (range_with_len 0 (length supers))) m in
-        own_drafted all 0 all 0 f f at.0 (none_less f) at.2 is
-    by_place (inr le) = let e : false ≡ true = sym (class_none all 0 (features_of all) all c f le) ∙ has in cc
-
--- a class has exactly the features that it or a class above it declares
-pub declares : (rows : MetaRows) (c f : ℕ) → has_feature (meta_of rows) c f ≡ option_map_or (λ (feature : Feature). is_a (meta_of rows) c feature.owner) (slice_get (meta_of rows).features f) false
-unfolding drafts
-declares rows c f = by_draft (slice_get (drafts rows.classifiers) f) refl
-  where
-    g : Draft → Feature
-    g = feature_from (literals_in rows.classifiers) (drafts rows.classifiers)
-
-    got : option_map_or (λ (feature : Feature). is_a (meta_of rows) c feature.owner) (slice_get (meta_of rows).features f) false ≡ option_map_or (λ d. is_a (meta_of rows) c d.owner) (slice_get (drafts rows.classifiers) f) false
-    got = got_test (λ (feature : Feature). is_a (meta_of rows) c feature.owner) g (drafts rows.classifiers) f
-
-    by_draft : (o : Option Draft) → slice_get (drafts rows.classifiers) f ≡ o → has_feature (meta_of rows) c f ≡ option_map_or (λ (feature : Feature). is_a (meta_of rows) c feature.owner) (slice_get (meta_of rows).features f) false
-    by_draft None is = same_bool _ _ (λ h. absurd (none_has rows c f is h)) (λ h. let e : false ≡ true = sym (got ∙ ap (λ x. option_map_or (λ (d : Draft). is_a (meta_of rows) c d.owner) x false) is) ∙ h in cc)
-    by_draft (Some d) is = has_is rows c f d is ∙ sym (got ∙ ap (λ x. option_map_or (λ (d : Draft). is_a (meta_of rows) c d.owner) x false) is)
 
 all_append : (P : ℕ → Type 0) (xs ys : List ℕ) → AllByRecursion P xs → AllByRecursion P ys → AllByRecursion P (xs ++ ys)
 all_append P [] ys h g = g
@@ -327,23 +254,114 @@ inherited_rises : (supers : List (List ℕ)) (rows : ClassifierRows) (c : ℕ) �
 unfolding inherited
 inherited_rises supers rows c = flat_rises 0 rows (filter (is_above supers c) (range_with_len 0 (length supers))) (IsStrictlySortedBy-filter nat_cmp (is_above supers c) (range_with_len 0 (length supers)) (rising_range 0 (length supers)))
 
-mapped_rises : (ups : List (List ℕ)) (rows : ClassifierRows) (a n c : ℕ) → IsStrictlySortedBy nat_cmp (own_of (map (inherited ups (own_features 0 rows)) (range_with_len a n)) c)
-unfolding IsStrictlySortedBy
-mapped_rises ups rows a zero c = tt
-mapped_rises ups rows a (suc n) zero = inherited_rises ups rows a
-mapped_rises ups rows a (suc n) (suc c) = mapped_rises ups rows (a + 1) n c
+low_draft : (ds : List Draft) (f : ℕ) (h : Draft → Bool) → option_map_or h (slice_get ds f) false ≡ true → f < length ds
+low_draft [] f h e = cc
+low_draft (x ∷ xs) zero h e = omega arith
+low_draft (x ∷ xs) (suc f) h e = let more = low_draft xs f h e in omega (arith, more)
 
--- the features of a class rise
-class_rises : (fs : List (List ℕ)) → ((c : ℕ) → IsStrictlySortedBy nat_cmp (own_of fs c)) → (n : ℕ) (rows : ClassifierRows) (c : ℕ) → IsStrictlySortedBy nat_cmp (option_map_or (λ (class : Made). class.features) (slice_get (classes_from n fs rows) c) [])
-unfolding IsStrictlySortedBy
-class_rises fs h n [] c = tt
-class_rises fs h n (Class r ∷ rows) zero = h n
-class_rises fs h n (Class r ∷ rows) (suc c) = class_rises fs h (suc n) rows c
-class_rises fs h n (Enum e ∷ rows) c = class_rises fs h n rows c
-class_rises fs h n (Plain t ∷ rows) c = class_rises fs h n rows c
+-- a list of numbers that the test keeps has those that pass it
+in_kept : (p : ℕ → Bool) (n f : ℕ) → (p f ≡ true → f < n) → list_any (nat_eq f) (filter p (range_with_len 0 n)) ≡ p f
+in_kept p n f low = kept_is p f (range_with_len 0 n) ∙ by_test (p f) refl
+  where
+    by_test : (b : Bool) → p f ≡ b → b && list_any (nat_eq f) (range_with_len 0 n) ≡ b
+    by_test true e = in_range 0 n f (omega arith) (omega (arith, low e))
+    by_test false e = refl
 
-pub features_rise : (rows : MetaRows) (c : ℕ) → IsStrictlySortedBy nat_cmp (class_features (meta_of rows) c)
-features_rise rows c = class_rises (features_of rows.classifiers) (mapped_rises (supers_in rows.classifiers rows.classifiers) rows.classifiers 0 (length (supers_in rows.classifiers rows.classifiers))) 0 rows.classifiers c
+-- what classes declare, class by class, is by number what the class or one above it declares
+module _ (all : ClassifierRows) (c : ℕ) where
+  abbrev declares : ℕ → Bool
+  declares = is_declared (supers_in all all) (drafts all) c
+
+  abbrev gathers : List ℕ
+  gathers = inherited (supers_in all all) (own_features 0 all) c
+
+  none_gathered : (f : ℕ) → slice_get (drafts all) f ≡ None → list_any (nat_eq f) gathers ≡ true → ⊥
+  unfolding inherited drafts
+  none_gathered f is m =
+      let at = flat_from (own_of (own_features 0 all)) f (filter (is_above (supers_in all all) c) (range_with_len 0 (length (supers_in all all)))) m in
+      own_drafted all 0 all 0 f f at.0 (omega arith) at.2 is
+
+  gathers_is : (f : ℕ) → list_any (nat_eq f) gathers ≡ declares f
+  gathers_is f = by_draft (slice_get (drafts all) f) refl
+    where
+      here : (o : Option Draft) → slice_get (drafts all) f ≡ o → declares f ≡ option_map_or (λ (d : Draft). is_above (supers_in all all) c d.owner) o false
+      here o is = ap (λ x. option_map_or (λ (d : Draft). is_above (supers_in all all) c d.owner) x false) is
+
+      by_draft : (o : Option Draft) → slice_get (drafts all) f ≡ o → list_any (nat_eq f) gathers ≡ declares f
+      by_draft None is = same_bool _ _ (λ h. absurd (none_gathered f is h)) (λ h. let e : false ≡ true = sym (here None is) ∙ h in cc)
+      by_draft (Some d) is = inherits all c f d is ∙ sym (here (Some d) is)
+
+  class_is : gathers ≡ features_in (supers_in all all) (drafts all) c
+  class_is =
+      let ds = drafts all in
+      same_rising gathers (filter declares (range_with_len 0 (length ds))) (inherited_rises (supers_in all all) all c)
+      (IsStrictlySortedBy-filter nat_cmp declares (range_with_len 0 (length ds)) (rising_range 0 (length ds)))
+      (λ f. gathers_is f ∙ sym (in_kept declares (length ds) f (low_draft ds f (λ (d : Draft). is_above (supers_in all all) c d.owner))))
+
+pub listed_is : (all : ClassifierRows) → all_inherited (supers_in all all) (own_features 0 all) ≡ features_of all
+listed_is all = λ i. map (λ c. class_is all c i) (range_with_len 0 (length (supers_in all all)))
+
+-- ---- the features of a class of the metamodel
+filter_none : (p : ℕ → Bool) → ((k : ℕ) → p k ≡ false) → (xs : List ℕ) → filter p xs ≡ []
+filter_none p none [] = refl
+filter_none p none (x ∷ xs) = ap (λ b. cond b (x ∷ filter p xs) (filter p xs)) (none x) ∙ filter_none p none xs
+
+class_listed : (all : ClassifierRows) (n : ℕ) (fs : List (List ℕ)) (rows : ClassifierRows) (c : ℕ) → c < length (supers_in all rows) → option_map_or (λ (class : Made). class.features) (slice_get (classes_from n fs rows) c) [] ≡ own_of fs (n + c)
+class_listed all n fs [] c h = absurd (omega arith)
+class_listed all n fs (Class r ∷ rows) zero h = ap (own_of fs) (plus_none n)
+  where
+    plus_none : (n : ℕ) → n ≡ n + 0
+    plus_none n = omega arith
+class_listed all n fs (Class r ∷ rows) (suc c) h = class_listed all (suc n) fs rows c (omega arith) ∙ ap (own_of fs) (shift n c)
+  where
+    shift : (n c : ℕ) → suc n + c ≡ n + suc c
+    shift n c = omega arith
+class_listed all n fs (Enum e ∷ rows) c h = class_listed all n fs rows c h
+class_listed all n fs (Plain t ∷ rows) c h = class_listed all n fs rows c h
+
+no_class : (all : ClassifierRows) (n : ℕ) (fs : List (List ℕ)) (rows : ClassifierRows) (c : ℕ) → length (supers_in all rows) ≤ c → option_map_or (λ (class : Made). class.features) (slice_get (classes_from n fs rows) c) [] ≡ []
+no_class all n fs [] c h = refl
+no_class all n fs (Class r ∷ rows) zero h = absurd (omega arith)
+no_class all n fs (Class r ∷ rows) (suc c) h = no_class all (suc n) fs rows c (omega arith)
+no_class all n fs (Enum e ∷ rows) c h = no_class all n fs rows c h
+no_class all n fs (Plain t ∷ rows) c h = no_class all n fs rows c h
+
+none_declared : (supers : List (List ℕ)) (ds : List Draft) (c : ℕ) → length supers ≤ c → (f : ℕ) → is_declared supers ds c f ≡ false
+none_declared supers ds c h f = by_draft (slice_get ds f)
+  where
+    by_draft : (o : Option Draft) → option_map_or (λ (d : Draft). is_above supers c d.owner) o false ≡ false
+    by_draft None = refl
+    by_draft (Some d) = above_none supers c d.owner h
+
+class_features_are : (rows : MetaRows) (c : ℕ) → class_features (meta_of rows) c ≡ features_in (supers_in rows.classifiers rows.classifiers) (drafts rows.classifiers) c
+class_features_are rows c = by_place (split c (length supers))
+  where
+    all : ClassifierRows
+    all = rows.classifiers
+
+    supers : List (List ℕ)
+    supers = supers_in all all
+
+    none_less : (n : ℕ) → n ≡ 0 + n
+    none_less n = omega arith
+
+    by_place : (c < length supers) ⊎ (length supers ≤ c) → class_features (meta_of rows) c ≡ features_in supers (drafts all) c
+    by_place (inl lt) =
+        class_listed all 0 (features_of all) all c lt ∙ ap (own_of (features_of all)) (sym (none_less c))
+        ∙ ranged (features_in supers (drafts all)) 0 (length supers) c lt ∙ ap (features_in supers (drafts all)) (sym (none_less c))
+    by_place (inr le) = no_class all 0 (features_of all) all c le ∙ sym (filter_none (is_declared supers (drafts all) c) (none_declared supers (drafts all) c le) (range_with_len 0 (length (drafts all))))
+
+-- the features of a class are, by number, those that it or a class above it declares
+pub lists_declared : (rows : MetaRows) → ListsDeclared (meta_of rows)
+lists_declared rows c =
+    class_features_are rows c
+    ∙ (λ i. filter (λ f. sym (got_test (λ (feature : Feature). is_a (meta_of rows) c feature.owner) g ds f) i) (range_with_len 0 (sym (length-map ds g) i)))
+  where
+    ds : List Draft
+    ds = drafts rows.classifiers
+
+    g : Draft → Feature
+    g = feature_from (literals_in rows.classifiers) ds
 
 has_any : (meta : Meta) (c f : ℕ) → has_feature meta c f ≡ list_any (nat_eq f) (class_features meta c)
 has_any meta c f = elim (slice_get meta.classes c) as (λ x. option_map_or (λ (class : Made). list_any (nat_eq f) class.features) x false ≡ list_any (nat_eq f) (option_map_or (λ (class : Made). class.features) x [])) [
@@ -351,19 +369,11 @@ has_any meta c f = elim (slice_get meta.classes c) as (λ x. option_map_or (λ (
   | Some k ↦ refl
 ]
 
-low_feature : (xs : List Feature) (f : ℕ) (h : Feature → Bool) → option_map_or h (slice_get xs f) false ≡ true → f < length xs
-low_feature [] f h e = cc
-low_feature (x ∷ xs) zero h e = omega arith
-low_feature (x ∷ xs) (suc f) h e = let more = low_feature xs f h e in omega (arith, more)
-
--- the features of a class are, by number, those that it or a class above it declares
-pub lists_declared : (rows : MetaRows) → ListsDeclared (meta_of rows)
-lists_declared rows c =
-    let meta : Meta = meta_of rows in
-    let p : ℕ → Bool = λ f. option_map_or (λ (feature : Feature). is_a meta c feature.owner) (slice_get meta.features f) false in
-    same_rising (class_features meta c) (filter p (range_with_len 0 (length meta.features))) (features_rise rows c) (IsStrictlySortedBy-filter nat_cmp p (range_with_len 0 (length meta.features)) (rising_range 0 (length meta.features)))
-    (λ f. sym (has_any meta c f) ∙ declares rows c f ∙ by_test meta p f (low_feature meta.features f (λ feature. is_a meta c feature.owner)) (p f) refl ∙ sym (any-filter_same (nat_eq f) p (p f) (λ k e. ap p (sym (nat_same f k e))) (range_with_len 0 (length meta.features))))
-  where
-    by_test : (meta : Meta) (p : ℕ → Bool) (f : ℕ) → (p f ≡ true → f < length meta.features) → (b : Bool) → p f ≡ b → b ≡ b && list_any (nat_eq f) (range_with_len 0 (length meta.features))
-    by_test meta p f low true e = sym (in_range 0 (length meta.features) f (omega arith) (omega (arith, low e)))
-    by_test meta p f low false e = refl
+-- a class has a feature exactly where the class that declares it is that class or above it
+pub has_is : (rows : MetaRows) (c f : ℕ) (d : Draft) → slice_get (drafts rows.classifiers) f ≡ Some d → has_feature (meta_of rows) c f ≡ is_above (supers_in rows.classifiers rows.classifiers) c d.owner
+has_is rows c f d is =
+    let supers = supers_in rows.classifiers rows.classifiers in
+    let ds = drafts rows.classifiers in
+    has_any (meta_of rows) c f ∙ ap (list_any (nat_eq f)) (class_features_are rows c)
+    ∙ in_kept (is_declared supers ds c) (length ds) f (low_draft ds f (λ (d : Draft). is_above supers c d.owner))
+    ∙ ap (λ x. option_map_or (λ (d : Draft). is_above supers c d.owner) x false) is

@@ -7,7 +7,7 @@ use Rattle.std.specs.Option.{option_map_or}
 use Rattle.ecore_meta.specs.Build.{container, end_number, feature_from, kind_in, meta_of, plain}
 use Rattle.ecore_meta.specs.Document.{ClassifierRows, supers_in}
 use Rattle.ecore_meta.specs.Drafts.{drafts}
-use Rattle.ecore_meta.specs.Faults.{answers, any_from, bad_bound, bad_default, bad_end, clash, contains_back, dup_name, fault, features_of, no_type, super_cycle, unsupported, first_true, is_at, is_self, is_to, is_unanswered, last_fault, literals_in}
+use Rattle.ecore_meta.specs.Faults.{answers, any_from, bad_bound, bad_default, bad_end, clash, contains_back, dup_name, fault, features_of, no_type, super_cycle, unsupported, first_true, is_at, is_self, is_to, is_unanswered, last_tests, literals_in}
 use Rattle.ecore_meta.specs.Meta.{Meta, has_feature, is_a}
 use Rattle.ecore_meta.specs.Sound.{Sound}
 use Rattle.ecore_meta.specs.Typing.{kind_of, links, opposite_in, opposite_of, plain_to}
@@ -22,7 +22,6 @@ use Rattle.ecore_meta.specs.declared.meta.EnumLiteral.{EnumLiteral}
 use Rattle.ecore_meta.specs.declared.meta.Feature.{Feature}
 use Rattle.ecore_meta.specs.declared.meta.Kind.{Kind}
 use Rattle.ecore_meta.specs.declared.meta.Kind.TheVariants.{Bounded, Contains, Free, Skip}
-use Rattle.ecore_meta.specs.declared.meta.Scalar.{Scalar}
 use Rattle.ecore_meta.specs.declared.rows.MetaRows.{MetaRows}
 use Rattle.ecore_meta.proofs.OwnerLaws.{has_is}
 use Rattle.ecore_meta.proofs.SuperLaws.{nat_same}
@@ -32,11 +31,11 @@ passed : {F : Type 0} (b : Bool) (x : F) (o : Option F) → cond b (Some x) o �
 passed true x o h = cc
 passed false x o h = (refl, h)
 
-no_last_fault : (rows : ClassifierRows) → fault rows ≡ None → last_fault (drafts rows) (literals_in rows) ≡ None
+no_last_fault : (rows : ClassifierRows) → fault rows ≡ None → first_true (last_tests (drafts rows) (literals_in rows)) ≡ None
 no_last_fault rows none =
     let ds = drafts rows in
     let supers = supers_in rows rows in
-    let last = last_fault ds (literals_in rows) in
+    let last = first_true (last_tests ds (literals_in rows)) in
     let clashes = cond (clash ds (features_of rows)) (Some Clash) last in
     let cycles = cond (super_cycle supers) (Some SuperCycle) clashes in
     let types = cond (no_type rows ds) (Some NoType) cycles in
@@ -193,7 +192,7 @@ module _ (rows : MetaRows) (none : fault rows.classifiers ≡ None) where
   abbrev literals : List (List EnumLiteral)
   literals = literals_in rows.classifiers
 
-  last : last_fault ds literals ≡ None
+  last : first_true (last_tests ds literals) ≡ None
   last = no_last_fault rows.classifiers none
 
   abbrev after : Option MetaFault

@@ -79,13 +79,25 @@ own_features f (Plain t ∷ rows) = own_features f rows
 abbrev pub own_of : List (List ℕ) → ℕ → List ℕ
 own_of own d = option_map_or (λ fs. fs) (slice_get own d) []
 
--- the features of a class: those that it and the classes above it declare, by number
+-- those that a class and the classes above it declare, class by class
 unfoldable pub inherited : List (List ℕ) → List (List ℕ) → ℕ → List ℕ
 inherited supers own c = flat_map (own_of own) (filter (is_above supers c) (range_with_len 0 (length supers)))
 
--- the features of every class
+-- the same of every class
 abbrev pub all_inherited : List (List ℕ) → List (List ℕ) → List (List ℕ)
 all_inherited supers own = map (inherited supers own) (range_with_len 0 (length supers))
+
+-- the class of that number, or one above it, declares the feature
+abbrev pub is_declared : List (List ℕ) → List Draft → ℕ → ℕ → Bool
+is_declared supers ds c f = option_map_or (λ d. is_above supers c d.owner) (slice_get ds f) false
+
+-- the features of a class: all features, by number, that it or a class above it declares
+abbrev pub features_in : List (List ℕ) → List Draft → ℕ → List ℕ
+features_in supers ds c = filter (is_declared supers ds c) (range_with_len 0 (length ds))
+
+-- the features of every class of a document
+abbrev pub features_of : ClassifierRows → List (List ℕ)
+features_of rows = map (features_in (supers_in rows rows) (drafts rows)) (range_with_len 0 (length (supers_in rows rows)))
 
 -- the name of the feature of that number
 abbrev pub draft_name : List Draft → ℕ → Name
@@ -187,32 +199,28 @@ abbrev pub first_true : List (Bool × MetaFault) → Option MetaFault
 first_true [] = None
 first_true (t ∷ ts) = cond t.0 (Some t.1) (first_true ts)
 
--- the first of the faults that are looked for last, in the resolved features alone
-abbrev pub last_fault : List Draft → List (List EnumLiteral) → Option MetaFault
-last_fault ds literals =
-    first_true
-    ((any_from is_self 0 ds, SelfOpposite)
+-- the last four tests, which look at the resolved features alone, each with its fault
+abbrev pub last_tests : List Draft → List (List EnumLiteral) → List (Bool × MetaFault)
+last_tests ds literals =
+    (any_from is_self 0 ds, SelfOpposite)
     ∷ (any_from (is_unanswered ds) 0 ds, BadOpposite)
     ∷ (list_any (bad_bound ds) ds, BadBound)
     ∷ (list_any (bad_default literals) ds, BadDefault)
-    ∷ [])
+    ∷ []
 
--- the first fault, where the last ones are known
-abbrev pub fault_of : ClassifierRows → List Draft → List (List ℕ) → List (List ℕ) → Option MetaFault → Option MetaFault
-fault_of rows ds supers features last =
-    cond (dup_name rows) (Some DupName)
-    (cond (unsupported ds) (Some UnsupportedFault)
-    (cond (no_type rows ds) (Some NoType)
-    (cond (super_cycle supers) (Some SuperCycle)
-    (cond (clash ds features) (Some Clash) last))))
-
--- the features of every class of a document
-abbrev pub features_of : ClassifierRows → List (List ℕ)
-features_of rows = all_inherited (supers_in rows rows) (own_features 0 rows)
+-- the nine tests of a document in their order, each with its fault
+abbrev pub tests : ClassifierRows → List (Bool × MetaFault)
+tests rows =
+    (dup_name rows, DupName)
+    ∷ (unsupported (drafts rows), UnsupportedFault)
+    ∷ (no_type rows (drafts rows), NoType)
+    ∷ (super_cycle (supers_in rows rows), SuperCycle)
+    ∷ (clash (drafts rows) (features_of rows), Clash)
+    ∷ last_tests (drafts rows) (literals_in rows)
 
 -- the first fault of a document
 abbrev pub fault : ClassifierRows → Option MetaFault
-fault rows = fault_of rows (drafts rows) (supers_in rows rows) (features_of rows) (last_fault (drafts rows) (literals_in rows))
+fault rows = first_true (tests rows)
 
 -- an answer of build but out of memory names the first fault
 abbrev pub IsFault : Option MetaFault → MetaFault → Type 0

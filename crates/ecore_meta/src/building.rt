@@ -1,11 +1,11 @@
 //! The building of a metamodel: names are resolved, faults looked for in their order, and then the tables assembled.
-ghost use Rattle.std.specs.Prelude.{◌≡◌, IfOk, IfErr, None, map};
+ghost use Rattle.std.specs.Prelude.{◌≡◌, ◌<◌, IfOk, IfErr, None, map};
 ghost use Rattle.ecore_meta.specs.Build.{Numbered, meta_of};
-ghost use Rattle.ecore_meta.specs.Document.{supers_in};
+ghost use Rattle.ecore_meta.specs.Document.{feature_total, supers_in};
 ghost use Rattle.ecore_meta.specs.Drafts.{drafts};
-ghost use Rattle.ecore_meta.specs.Tables.{Agrees};
+ghost use Rattle.ecore_meta.specs.Tables.{Agrees, all_above};
 ghost use Rattle.ecore_meta.specs.Named.{NamesFit};
-ghost use Rattle.ecore_meta.specs.Faults.{IsFault, fault, features_of, last_fault, literals_in};
+ghost use Rattle.ecore_meta.specs.Faults.{IsFault, fault, features_of, first_true, last_tests, literals_in};
 
 use crate::classifiers::Classifiers;
 use crate::drafts::Draft;
@@ -32,11 +32,28 @@ pub(crate) struct Parts {
     pub literals: Vec<Vec<EnumLiteral>>,
 }
 
+/// The features of each class, by number: those that it or a class above it declares.
+fn listed(
+    alloc: Global,
+    rows: &[ClassifierRow],
+    supers: &[Vec<u32>],
+    above: &[BTreeSet<u32>],
+) -> Result<Vec<Vec<u32>>, AllocError>
+    requires few { feature_total rows.now < 4294967295 }
+    requires supers { map (λ ups. ups.items) supers.now ≡ supers_in rows.now rows.now }
+    requires rising { map (λ s. s.keys) above.now ≡ all_above (map (λ ups. ups.items) supers.now) }
+    ensures { IfOk result (λ v. map (λ fs. fs.items) v.items ≡ features_of rows.now) }
+{
+    let own = own_features(alloc, rows)?;
+    let features = all_features(alloc, supers, above, own.as_slice())?;
+    Ok(features)
+}
+
 /// The parts of a document, or its first fault of those that the names and the supertypes show.
 fn checked(alloc: Global, rows: &[ClassifierRow]) -> Result<Parts, MetaFault>
     requires { Numbered rows.now }
     ensures fault { IfErr result (IsFault (fault rows.now)) }
-    ensures rest { IfOk result (λ p. fault rows.now ≡ last_fault p.drafts.items (map (λ ls. ls.items) p.literals.items)) }
+    ensures rest { IfOk result (λ p. fault rows.now ≡ first_true (last_tests p.drafts.items (map (λ ls. ls.items) p.literals.items))) }
     ensures drafts { IfOk result (λ p. p.drafts.items ≡ drafts rows.now) }
     ensures supers { IfOk result (λ p. map (λ ups. ups.items) p.supers.items ≡ supers_in rows.now rows.now) }
     ensures above { IfOk result (λ p. Agrees (map (λ ups. ups.items) p.supers.items) p.above.items) }
@@ -61,8 +78,7 @@ fn checked(alloc: Global, rows: &[ClassifierRow]) -> Result<Parts, MetaFault>
     if any_cycle(supers.as_slice(), above.as_slice()) {
         return Err(MetaFault::SuperCycle);
     }
-    let own = own_features(alloc, rows)?;
-    let features = all_features(alloc, supers.as_slice(), above.as_slice(), own.as_slice())?;
+    let features = listed(alloc, rows, supers.as_slice(), above.as_slice())?;
     if any_clash(alloc, drafts.as_slice(), features.as_slice())? {
         return Err(MetaFault::Clash);
     }

@@ -17,3 +17,8 @@ all_above-requires-clause-few c =
 pub any_cycle-requires-clause-few : goal.any_cycle-requires-clause-few
 any_cycle-requires-clause-few c =
     omega (arith, ap length c.as_slice-3.ensures.value, ap length c.in_ok-supers.ensures, length-map c.in_ok-supers.supers.items (λ ups. ups.items), supers_few c.in-Some.classifiers c.args.rows.now, c.requires.classifiers)
+
+pub listed-requires-clause-supers : goal.listed-requires-clause-supers
+listed-requires-clause-supers c =
+    let have = subst (MayHave c.args.rows.now) c.in-Some.is c.in_ok-classifiers.ensures in
+    ap (map (λ ups. ups.items)) c.as_slice-5.ensures.value ∙ c.in_ok-supers.ensures ∙ ap (λ k. supers_in k c.args.rows.now) have.1
