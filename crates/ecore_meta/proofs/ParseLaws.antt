@@ -9,11 +9,13 @@ use Rattle.std.proofs.lemmas.Bool.Decides.{nat_tests}
 use Rattle.std.specs.Str.Parse.{ParsesSigned}
 use Rattle.std.specs.Result.{OkIff}
 use Rattle.std.proofs.lemmas.Str.Parse.{IsNumeralModel, numerals_by_fold, parse_signed_plain, parse_signed_minus}
-use Rattle.ecore_meta.specs.Typing.{in_width}
+use Rattle.ecore_meta.specs.Typing.{half_of, in_width}
 use Rattle.ecore_meta.specs.Values.{digits_from, is_numeral, narrow, whole_of, wide}
 use Rattle.std.specs.Option.{option_and_then, option_map_or}
 use Rattle.ecore_meta.specs.Values.{AreShort, literals_at}
 use Rattle.ecore_meta.specs.declared.meta.EnumLiteral.{EnumLiteral}
+use Rattle.ecore_meta.specs.declared.meta.Scalar.{Scalar}
+use Rattle.ecore_meta.specs.declared.meta.Scalar.TheVariants.{Text as TextType, Flag as FlagType, Byte, Short, Int, Long, Literal as LiteralType}
 use Rattle.ecore_meta.specs.declared.meta.Value.TheVariants.{Whole}
 
 pub own : IsNumeralModel (λ ds. all_ascii_digits ds ≡ true) (digits_from 0)
@@ -140,13 +142,15 @@ narrowed half h o (Some n) is = ap (λ x. option_and_then (narrow half) x) is �
     by_width true e = refl
     by_width false e = sym (ap (λ b. cond b (Some (Whole n)) None) (in_less half h n e))
 
-pub long_narrow : (n : ℤ) (w : Option ℤ) → Some n ≡ wide w → Some (Whole n) ≡ option_and_then (narrow 9223372036854775808) w
-long_narrow n None is = cc
-long_narrow n (Some m) is = by_width (in_width 9223372036854775808 m) refl is
-  where
-    by_width : (b : Bool) → in_width 9223372036854775808 m ≡ b → Some n ≡ cond b (Some m) None → Some (Whole n) ≡ cond b (Some (Whole m)) None
-    by_width true e k = let same : n ≡ m = cc in ap (λ x. Some (Whole x)) same
-    by_width false e k = cc
+-- 64 bits hold the whole numbers of each type
+pub half_small : (s : Scalar) → half_of s ≤ 9223372036854775808
+half_small Byte = omega arith
+half_small Short = omega arith
+half_small Int = omega arith
+half_small Long = omega arith
+half_small TextType = omega arith
+half_small FlagType = omega arith
+half_small (LiteralType e) = omega arith
 
 -- the literals of an enum, by the table
 pub literals_is : {X : Type 0} (f : X → List EnumLiteral) (xs : List X) (i : ℕ) (o : Option X) → o ≡ slice_get xs i → option_map_or f o [] ≡ literals_at (map f xs) i

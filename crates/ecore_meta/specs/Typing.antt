@@ -15,6 +15,16 @@ abbrev pub in_width : ℕ → ℤ → Bool
 in_width half (pos n) = nat_lt n half
 in_width half (negsuc n) = nat_lt n half
 
+-- the power below the whole numbers of a type: 0 where it has none
+abbrev pub half_of : Scalar → ℕ
+half_of Byte = 128
+half_of Short = 32768
+half_of Int = 2147483648
+half_of Long = 9223372036854775808
+half_of TextType = 0
+half_of FlagType = 0
+half_of (LiteralType e) = 0
+
 -- the literals of an enum, none where there is no such enum
 abbrev pub literals_of : Meta → ℕ → List EnumLiteral
 literals_of meta e = option_map_or (λ ls. ls) (slice_get meta.literals e) []

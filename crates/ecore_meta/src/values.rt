@@ -3,7 +3,7 @@
 ghost use Rattle.std.specs.Prelude.{◌≡◌, IfOk, IfSome, FitsSigned, Some, None, cond, nat_eq, map, slice_get, slice_index};
 ghost use Rattle.std.specs.Option.{option_copied};
 ghost use mir.Syntax.{w64};
-ghost use Rattle.ecore_meta.specs.Typing.{in_width};
+ghost use Rattle.ecore_meta.specs.Typing.{half_of, in_width};
 ghost use Rattle.ecore_meta.specs.declared.meta.Value.TheVariants.{Whole};
 ghost use Rattle.ecore_meta.specs.Values.{AreShort, default_of, flag_of, named_of, value_of, whole_in, whole_of, wide};
 
@@ -53,6 +53,31 @@ fn fits_int(n: i64) -> bool
     -2147483648 <= n && n < 2147483648
 }
 
+fn fits_long(n: i64) -> bool
+    ensures { result ≡ in_width 9223372036854775808 n }
+{
+    // For the range of n, which the contract needs.
+    let _n = n;
+    true
+}
+
+impl Scalar {
+    /// Whether the type has the whole number; a type of other values has none.
+    pub fn has_whole(&self, n: i64) -> bool
+        ensures { result ≡ in_width (half_of self.now) n }
+    {
+        match self {
+            Scalar::Byte => fits_byte(n),
+            Scalar::Short => fits_short(n),
+            Scalar::Int => fits_int(n),
+            Scalar::Long => fits_long(n),
+            Scalar::Text => false,
+            Scalar::Flag => false,
+            Scalar::Literal(_) => false,
+        }
+    }
+}
+
 fn flag_of(text: &str) -> Option<Value>
     ensures { result ≡ flag_of text.now }
 {
@@ -71,38 +96,12 @@ fn chosen(n: i64, fits: bool) -> Option<Value>
     if fits { Some(Value::Whole(n)) } else { None }
 }
 
-fn byte_of(text: &str) -> Option<Value>
-    ensures { result ≡ whole_in 128 text.now }
+/// The whole number of the type that a text stands for.
+fn whole_in(scalar: &Scalar, text: &str) -> Option<Value>
+    ensures { result ≡ whole_in (half_of scalar.now) text.now }
 {
     match whole_of(text) {
-        Some(n) => chosen(n, fits_byte(n)),
-        None => None,
-    }
-}
-
-fn short_of(text: &str) -> Option<Value>
-    ensures { result ≡ whole_in 32768 text.now }
-{
-    match whole_of(text) {
-        Some(n) => chosen(n, fits_short(n)),
-        None => None,
-    }
-}
-
-fn int_of(text: &str) -> Option<Value>
-    ensures { result ≡ whole_in 2147483648 text.now }
-{
-    match whole_of(text) {
-        Some(n) => chosen(n, fits_int(n)),
-        None => None,
-    }
-}
-
-fn long_of(text: &str) -> Option<Value>
-    ensures { result ≡ whole_in 9223372036854775808 text.now }
-{
-    match whole_of(text) {
-        Some(n) => Some(Value::Whole(n)),
+        Some(n) => chosen(n, scalar.has_whole(n)),
         None => None,
     }
 }
@@ -139,10 +138,10 @@ pub(crate) fn value_of(
     match scalar {
         Scalar::Text => Ok(Some(Value::Text(Text::new(alloc, text)?))),
         Scalar::Flag => Ok(flag_of(text)),
-        Scalar::Byte => Ok(byte_of(text)),
-        Scalar::Short => Ok(short_of(text)),
-        Scalar::Int => Ok(int_of(text)),
-        Scalar::Long => Ok(long_of(text)),
+        Scalar::Byte => Ok(whole_in(scalar, text)),
+        Scalar::Short => Ok(whole_in(scalar, text)),
+        Scalar::Int => Ok(whole_in(scalar, text)),
+        Scalar::Long => Ok(whole_in(scalar, text)),
         Scalar::Literal(number) => Ok(named_of(literals, *number, text)),
     }
 }

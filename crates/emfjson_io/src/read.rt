@@ -2,7 +2,7 @@
 ghost use Rattle.std.specs.Prelude.{◌≡◌, IfOk, Some, None, cond, option_map, true};
 ghost use Rattle.serde_json.specs.View.{view};
 ghost use Rattle.serde_json.specs.Find.{as_str};
-ghost use Rattle.ecore_meta.specs.Typing.{fits};
+ghost use Rattle.ecore_meta.specs.Typing.{fits, half_of};
 ghost use Rattle.ecore_meta.specs.declared.meta.Value.TheVariants.{Text as TextValue, Whole};
 ghost use Rattle.emfjson_io.specs.Values.{GivesValue, value_in, value_of, whole_in};
 
@@ -48,39 +48,12 @@ fn chosen(n: i64, fits: bool) -> Option<Value>
     if fits { Some(Value::Whole(n)) } else { None }
 }
 
-fn byte_in(json: &Json) -> Option<Value>
-    ensures { result ≡ whole_in 128 (view json.now) }
+fn whole_in(json: &Json, scalar: &Scalar) -> Option<Value>
+    ensures { result ≡ whole_in (half_of scalar.now) (view json.now) }
 {
     match json.as_i64() {
         None => None,
-        Some(n) => chosen(n, -128 <= n && n < 128),
-    }
-}
-
-fn short_in(json: &Json) -> Option<Value>
-    ensures { result ≡ whole_in 32768 (view json.now) }
-{
-    match json.as_i64() {
-        None => None,
-        Some(n) => chosen(n, -32_768 <= n && n < 32_768),
-    }
-}
-
-fn int_in(json: &Json) -> Option<Value>
-    ensures { result ≡ whole_in 2147483648 (view json.now) }
-{
-    match json.as_i64() {
-        None => None,
-        Some(n) => chosen(n, -2_147_483_648 <= n && n < 2_147_483_648),
-    }
-}
-
-fn long_in(json: &Json) -> Option<Value>
-    ensures { result ≡ whole_in 9223372036854775808 (view json.now) }
-{
-    match json.as_i64() {
-        None => None,
-        Some(n) => Some(Value::Whole(n)),
+        Some(n) => chosen(n, scalar.has_whole(n)),
     }
 }
 
@@ -108,10 +81,10 @@ pub fn value_in(
             None => Ok(None),
             Some(flag) => Ok(Some(Value::Flag(flag))),
         },
-        Scalar::Byte => Ok(byte_in(json)),
-        Scalar::Short => Ok(short_in(json)),
-        Scalar::Int => Ok(int_in(json)),
-        Scalar::Long => Ok(long_in(json)),
+        Scalar::Byte => Ok(whole_in(json, scalar)),
+        Scalar::Short => Ok(whole_in(json, scalar)),
+        Scalar::Int => Ok(whole_in(json, scalar)),
+        Scalar::Long => Ok(whole_in(json, scalar)),
         Scalar::Literal(e) => match json.as_str() {
             None => Ok(None),
             Some(text) => match meta.literal_named(*e, text) {

@@ -1,7 +1,7 @@
 //! The typing rules: which features and values a metamodel lets an element have, and the bounds of its lists.
 ghost use Rattle.std.specs.Prelude.{◌≡◌, Some};
 ghost use Rattle.finite_maps.specs.Maps.{is_below};
-ghost use Rattle.model_state.specs.Typing.{is_concrete, contains_to, kind_of, upper_of, child_upper, row_upper, plain_to, opposite_of, is_plain, fits, in_width, is_attr, attr_fits, is_many, is_unique, many_fits, is_default, value_eq};
+ghost use Rattle.model_state.specs.Typing.{is_concrete, contains_to, kind_of, upper_of, child_upper, row_upper, plain_to, opposite_of, is_plain, fits, is_attr, attr_fits, is_many, is_unique, many_fits, is_default, value_eq};
 ghost use Rattle.model_state.specs.Steps.{class_has, may_link};
 ghost use Rattle.ecore_meta.specs.Typing.{is_one};
 
@@ -171,32 +171,6 @@ pub fn is_same_value(x: &Value, y: &Value) -> bool
     }
 }
 
-fn in_byte(n: i64) -> bool
-    ensures { result ≡ in_width 128 n }
-{
-    n >= -128 && n <= 127
-}
-
-fn in_short(n: i64) -> bool
-    ensures { result ≡ in_width 32768 n }
-{
-    n >= -32768 && n <= 32767
-}
-
-fn in_int(n: i64) -> bool
-    ensures { result ≡ in_width 2147483648 n }
-{
-    n >= -2147483648 && n <= 2147483647
-}
-
-fn in_long(n: i64) -> bool
-    ensures { result ≡ in_width 9223372036854775808 n }
-{
-    // Only the contract needs it.
-    let _n = n;
-    true
-}
-
 /// Whether a value is of the type.
 pub fn fits(meta: &Metamodel, scalar: &Scalar, v: &Value) -> bool
     ensures { result ≡ fits meta.now scalar.now v.now }
@@ -211,10 +185,10 @@ pub fn fits(meta: &Metamodel, scalar: &Scalar, v: &Value) -> bool
             _ => false,
         },
         Value::Whole(n) => match scalar {
-            Scalar::Byte => in_byte(*n),
-            Scalar::Short => in_short(*n),
-            Scalar::Int => in_int(*n),
-            Scalar::Long => in_long(*n),
+            Scalar::Byte => scalar.has_whole(*n),
+            Scalar::Short => scalar.has_whole(*n),
+            Scalar::Int => scalar.has_whole(*n),
+            Scalar::Long => scalar.has_whole(*n),
             _ => false,
         },
         Value::Literal(n) => match scalar {
