@@ -19,7 +19,7 @@ use Rattle.plain_repository.specs.Composites.{with_open, with_closed}
 use Rattle.plain_repository.specs.Local.{without_last, without_any}
 use Rattle.plain_repository.specs.Tidying.{tidied}
 use Rattle.plain_repository.specs.Merging.{updated, merged_with}
-use Rattle.plain_repository.specs.Events.{by_meta, effect, play, playable, playable_with}
+use Rattle.plain_repository.specs.Events.{by_meta, effect, is_of, play, playable, playable_with}
 use Rattle.plain_repository.specs.Laws.{WorkspacesStayApart, ModelsStayApart}
 use Rattle.plain_repository.proofs.Encodings.{and_right}
 use Rattle.plain_repository.proofs.Places.{of_number, is_of_number, other_number, more_number}
