@@ -10,12 +10,12 @@ use Rattle.merge_laws.specs.Merge.{merge_list, update_list}
 use Rattle.merge_plans.specs.Choices.{are_choices, side_of}
 use Rattle.merge_plans.specs.Plans.{incoming}
 use Rattle.model_state.specs.declared.operation.Operation.{Operation}
-use Rattle.op_form.specs.declared.event.Event.TheVariants.{Merge}
+use Rattle.op_form.specs.declared.event.Event.TheVariants.{Merge, Update}
 use Rattle.plain_repository.specs.Answers as plain
 use Rattle.plain_repository.specs.Answers.{told, with_room}
 use Rattle.plain_repository.specs.Choices.{chosen}
 use Rattle.plain_repository.specs.Events.{playable_with}
-use Rattle.plain_repository.specs.Merging.{has_theirs, is_other_branch, merge_buckets, merge_mine, merge_of, merge_tail, merge_theirs, update_buckets, updated}
+use Rattle.plain_repository.specs.Merging.{decide_update, has_theirs, is_other_branch, merge_buckets, merge_mine, merge_of, merge_tail, merge_theirs, update_buckets, updated}
 use Rattle.plain_repository.specs.State.{State, Workspace, is_closed, is_open, workspace_of}
 use Rattle.repo_core.specs.Decisions.{CanMakeIt, seen}
 use Rattle.repo_core.specs.declared.deciding.answers.Decision.{Decision}
@@ -90,3 +90,9 @@ passed_on o rows choices x is passed = subst (λ (y : Option Decision). IfNone y
 
 pub passed_fit : (o : Option Decision) (rows : List Bucket) (choices : Option (List ℕ)) → o ≡ None → IfNone o (are_choices (unwrap_or choices []) rows ≡ true) → are_choices (unwrap_or choices []) rows ≡ true
 passed_fit o rows choices is fit = subst (λ (y : Option Decision). IfNone y (are_choices (unwrap_or choices []) rows ≡ true)) is fit
+
+-- ---- what an update is answered, whose choices fit and whose base isn't the head
+pub update_goes : (s : State) (meta : Meta) (ws : ℕ) (w : Workspace) (choices : Option (List ℕ)) → workspace_of s ws ≡ Some w → is_open (Some w) ≡ false → w.base ≢ head s.history w.branch
+    → ((otherwise : plain.Decision) → chosen (update_buckets meta s.history w) choices otherwise ≡ otherwise) → with_room s [] (decimal (head s.history w.branch)) (Update ws (unwrap_or choices [])) ≡ decide_update s meta ws choices
+unfolding decide_update
+update_goes s meta ws w choices there closed other passed = sym (rw there (rw closed (passed _ ∙ rw (ne_eqb w.base (head s.history w.branch) other) refl)))
