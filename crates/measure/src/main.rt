@@ -13,7 +13,7 @@ mod rows;
 
 ghost use Rattle.std.specs.Prelude.{◌≡◌};
 ghost use Rattle.footprint.specs.Buckets.{buckets as buckets_of};
-ghost use Rattle.op_form.specs.Laws.{IsPackage};
+ghost use Rattle.op_form.specs.Formed.{IsPackage};
 ghost use Rattle.op_form.specs.Packages.{package_encoding};
 
 use anyhow::Result;
