@@ -5,10 +5,10 @@ use Rattle.std.proofs.lemmas.List.{append-nil}
 use Rattle.host_port.specs.Host.{Told, Disk, MayLeave, Throughout, KeepsDisk, KeepsSaid, AddsPart, disk_now, said_now, CrashLeaves}
 use Rattle.host_port.proofs.Course.{still_disk}
 use Rattle.page_pool.specs.Frames.{Frames}
-use Rattle.page_pool.specs.Paged.{PagedState, frames_for}
+use Rattle.page_pool.specs.Paged.{PagedState}
 use Rattle.commit_journal.specs.Journal.{StandsFor, IsAtRest, IsBeforeOrAfter, RecordFits, HoldsRecord}
 use Rattle.commit_journal.proofs.Torn.{left_settled}
-use Rattle.commit_journal.proofs.Ends.{stands, length-after_gate}
+use Rattle.commit_journal.proofs.Ends.{stands}
 use Rattle.command_runs.specs.Runs.{listed}
 use Rattle.command_runs.specs.Crashes.{IsStepping}
 use Rattle.command_runs.proofs.RunLaws.{played-append}
@@ -18,7 +18,7 @@ use Rattle.plain_repository.specs.State.{State, empty}
 use Rattle.plain_repository.specs.Events.{play, playable, are_playable}
 use Rattle.plain_repository.specs.Store.{StandsForEvents}
 use Rattle.plain_repository.proofs.Stores.{map-more, playable-more}
-use Rattle.emf_session.specs.Session.{IsStoreOf, IsEntering, IsRecordOf, frames_held}
+use Rattle.emf_session.specs.Session.{IsStoreOf, IsEntering, IsRecordOf}
 
 pub rest_leaves : (disk : Disk) (state : State) (made : List Event) → IsStoreOf disk state made → CrashLeaves (λ x. StandsForEvents x made) disk
 rest_leaves disk state made holds x left = record {
@@ -58,20 +58,6 @@ some_ready pool state (Some event) ready prepared some is =
     let there = is.0.is in
     let same : is.0.prepared ≡ prepared = cc in
     record { made = event; event_is = refl; holds = subst (λ (p : PagedState). HoldsRecord pool p (event_encoding event)) same is.0.holds; playable = is.1; fits = is.2 }
-
--- the frames that a record takes that is ready
-pub held_some : (ready : Option PagedState) (prepared : PagedState) → ready ≡ Some prepared → frames_held ready ≡ length prepared.frames
-held_some ready prepared is = ap frames_held is
-
--- of a record that alone is out
-pub held_alone : (pool : Frames) (prepared : PagedState) (form : List ℕ) (out out_now : ℕ) → HoldsRecord pool prepared form → out_now ≡ out + frames_for (length form + 5) → out ≡ 0 → out_now ≡ length prepared.frames
-held_alone pool prepared form out out_now holds more none =
-    let count = holds.count in
-    let size = length-after_gate form in
-    omega (arith, count, size, more, none)
-
-pub held_none : (ready : Option PagedState) → ready ≡ None → frames_held ready ≡ 0
-held_none ready is = ap frames_held is
 
 -- no event
 pub none_added : (disk : Disk) (state : State) (made : List Event) → IsStoreOf disk state made → IsStoreOf disk state (made ++ [])

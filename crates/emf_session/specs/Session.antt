@@ -1,8 +1,9 @@
 -- What the calls of a session do.
-use Rattle.std.specs.Prelude.{◌≡◌, ◌⊎◌, ℕ, List, ◌++◌, Bool, true, false, IsTrue, length, map, Option, Some, None, Result, Ok, Err}
+use Rattle.std.specs.Prelude.{◌≡◌, ◌⊎◌, ℕ, ◌+◌, List, ◌++◌, Bool, true, false, IsTrue, length, map, Option, Some, None, Result, Ok, Err}
 use Rattle.host_port.specs.Host.{Disk, CrashLeaves}
-use Rattle.page_pool.specs.Frames.{Frames}
-use Rattle.page_pool.specs.Paged.{PagedState}
+use Rattle.page_pool.specs.Frames.{Frames, out_of}
+use Rattle.page_pool.specs.Paged.{PagedState, IsAmong}
+use Rattle.state_cache.specs.Entries.{Entries, IsCached, held}
 use Rattle.commit_journal.specs.Journal.{RecordFits, HoldsRecord, IsWalked}
 use Rattle.commit_journal.specs.declared.fault.JournalFault.{JournalFault}
 use Rattle.commit_journal.specs.declared.fault.JournalFault.TheVariants as journals
@@ -63,6 +64,17 @@ IsRecordOf pool state (Some event) ready = IsReadyIn pool (event_encoding event)
 abbrev pub frames_held : Option PagedState → ℕ
 frames_held None = 0
 frames_held (Some prepared) = length prepared.frames
+
+-- no frame of the record that is ready is one that the cache holds
+abbrev pub IsRecordApart : Entries → Option PagedState → Type 0
+IsRecordApart cache None = Unit {0}
+IsRecordApart cache (Some prepared) = (k : ℕ) → IsAmong k prepared.frames → ¬ IsAmong k (held cache)
+
+-- the frames that the cache holds and those of the record that is ready are all that are out of the pool
+pub record HoldsBoth (pool : Frames) (cache : Entries) (ready : Option PagedState) : Type 0 where
+  pub out : IsCached pool cache
+  pub apart : IsRecordApart cache ready
+  pub count : out_of pool ≡ length (held cache) + frames_held ready
 
 -- all of a decision is prepared: its reply's bytes, and its event's record
 pub record IsPlan (pool : Frames) (state : State) (decision : plain.Decision) (plan : Plan) : Type 0 where

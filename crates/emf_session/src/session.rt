@@ -18,27 +18,31 @@ use ecore_meta::Text;
 use host_port::Host;
 use page_pool::Pool;
 use repo_core::{Counts, ReplayFault, Repo};
+use state_cache::Cache;
 use std::alloc::{AllocError, Global};
 use std::marker::Model;
 
-/// A store that is open, its repository, and the frames for its records, none of which is out between two commands.
+/// A store that is open, its repository, and a pool of frames for its records and for states of versions, which a cache keeps. Between two
+/// commands the cache's frames alone are out.
 #[derive(Drop)]
 pub struct Session {
     repo: Repo,
     journal: Journal,
     pool: Pool,
+    cache: Cache,
 }
 
 impl Model for Session {
     ghost use Rattle.std.specs.Prelude.{◌≡◌, false};
-    ghost use Rattle.page_pool.specs.Frames.{out_of};
+    ghost use Rattle.state_cache.specs.Entries.{HoldsAll};
+    ghost use Rattle.repo_core.specs.Cached.{HasForms};
     ghost use Rattle.emf_session.specs.State.{SessionState};
 
     ghost Value = { SessionState };
 
     ghost view = { λ s. record { state = s.repo; end = s.journal.end; broken = s.journal.broken } };
 
-    ghost invariant = { λ s. (s.journal.broken ≡ false → s.repo.end ≡ s.journal.end) × (out_of s.pool ≡ 0) };
+    ghost invariant = { λ s. (s.journal.broken ≡ false → s.repo.end ≡ s.journal.end) × HoldsAll s.pool s.cache × HasForms s.repo s.pool s.cache };
 }
 
 impl Session {
@@ -60,6 +64,10 @@ impl Session {
             Ok(walk) => walk,
             Err(fault) => return Err(session_fault(fault)),
         };
+        let Ok(mut cache) = Cache::new(alloc) else {
+            return Err(SessionFault::Memory);
+        };
+        let mut pool = Pool::new(alloc);
         let mut repo = Repo::new(alloc);
         'records: loop {
             match walk.next_bytes(alloc, host) {
@@ -68,10 +76,11 @@ impl Session {
                     return Ok(Session {
                         repo,
                         journal: walk.finish(),
-                        pool: Pool::new(alloc),
+                        pool,
+                        cache,
                     });
                 }
-                Ok(Some(bytes)) => match repo.replay(alloc, &bytes) {
+                Ok(Some(bytes)) => match repo.replay(alloc, &mut cache, &mut pool, &bytes) {
                     Ok(()) => {}
                     Err(ReplayFault::NotPlayable) => {
                         return Err(SessionFault::Damaged { at: walk.place() });
@@ -108,7 +117,7 @@ impl Session {
         ensures elements { IfOk result (λ n. n ≡ element_count self.old.state) }
         ensures same { self.new ≡ self.old }
     {
-        self.repo.elements(alloc)
+        self.repo.elements(alloc, &mut self.cache, &mut self.pool)
     }
 
     /// Answers a command: its event is in the file before its reply is printed.
@@ -160,6 +169,7 @@ impl Session {
             alloc,
             host,
             &mut self.pool,
+            &mut self.cache,
             &mut self.repo,
             &mut self.journal,
             line,
@@ -209,6 +219,7 @@ impl Session {
             alloc,
             host,
             &mut self.pool,
+            &mut self.cache,
             &mut self.repo,
             &mut self.journal,
             line,

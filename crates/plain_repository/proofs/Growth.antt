@@ -21,6 +21,31 @@ one_more xs x = (x ∷ [], refl)
 same_history : (h : History) → Grows h h
 same_history h = record { versions = same_list h.versions; branches = same_list h.branches; tags = same_list h.tags }
 
+-- where there is a metamodel
+pub grown : (s : State) (meta : Meta) (e : Event) → IsTrue (playable_with s (Some meta) e) → Grows s.history (effect s e).history
+grown s meta (Init text) could = absurd cc
+grown s meta (Checkout version branch) could = same_history s.history
+grown s meta (Edit k operations) could = same_history s.history
+grown s meta (Begin k name) could = same_history s.history
+grown s meta (End k) could = same_history s.history
+grown s meta (Undo k) could = same_history s.history
+grown s meta (Discard k) could = same_history s.history
+grown s meta (Tidy k) could = same_history s.history
+grown s meta (Commit k message) could = by (workspace_of s k)
+  where
+    by : (o : Option Workspace) → Grows s.history (with_commit k message o s).history
+    by None = same_history s.history
+    by (Some w) = record { versions = one_more s.history.versions (version_of w message); branches = same_list s.history.branches; tags = same_list s.history.tags }
+grown s meta (Branch k name) could = by (workspace_of s k)
+  where
+    by : (o : Option Workspace) → Grows s.history (with_new_branch k name o s).history
+    by None = same_history s.history
+    by (Some w) = record { versions = same_list s.history.versions; branches = one_more s.history.branches (record { name = name; start = w.base }); tags = same_list s.history.tags }
+grown s meta (Tag name version) could = record { versions = same_list s.history.versions; branches = same_list s.history.branches; tags = one_more s.history.tags (record { name = name; version = version }) }
+grown s meta (Update k letters) could = same_history s.history
+grown s meta (Merge k branch letters) could = same_history s.history
+grown s meta (Drop k) could = same_history s.history
+
 effect_grows : (s : State) (m : Option Meta) (e : Event) → s.meta ≡ m → AllOrderly m s → IsTrue (playable_with s m e) → Grows s.history (effect s e).history
 effect_grows s None (Init text) is kept could = subst (λ (h : History). Grows h first_history) (sym kept.1) (record { versions = (first_history.versions, refl); branches = (first_history.branches, refl); tags = ([], refl) })
 effect_grows s None (Checkout version branch) is kept could = absurd cc
@@ -36,28 +61,7 @@ effect_grows s None (Tag name version) is kept could = absurd cc
 effect_grows s None (Update k letters) is kept could = absurd cc
 effect_grows s None (Merge k branch letters) is kept could = absurd cc
 effect_grows s None (Drop k) is kept could = absurd cc
-effect_grows s (Some meta) (Init text) is kept could = absurd cc
-effect_grows s (Some meta) (Checkout version branch) is kept could = same_history s.history
-effect_grows s (Some meta) (Edit k operations) is kept could = same_history s.history
-effect_grows s (Some meta) (Begin k name) is kept could = same_history s.history
-effect_grows s (Some meta) (End k) is kept could = same_history s.history
-effect_grows s (Some meta) (Undo k) is kept could = same_history s.history
-effect_grows s (Some meta) (Discard k) is kept could = same_history s.history
-effect_grows s (Some meta) (Tidy k) is kept could = same_history s.history
-effect_grows s (Some meta) (Commit k message) is kept could = by (workspace_of s k)
-  where
-    by : (o : Option Workspace) → Grows s.history (with_commit k message o s).history
-    by None = same_history s.history
-    by (Some w) = record { versions = one_more s.history.versions (version_of w message); branches = same_list s.history.branches; tags = same_list s.history.tags }
-effect_grows s (Some meta) (Branch k name) is kept could = by (workspace_of s k)
-  where
-    by : (o : Option Workspace) → Grows s.history (with_new_branch k name o s).history
-    by None = same_history s.history
-    by (Some w) = record { versions = same_list s.history.versions; branches = one_more s.history.branches (record { name = name; start = w.base }); tags = same_list s.history.tags }
-effect_grows s (Some meta) (Tag name version) is kept could = record { versions = same_list s.history.versions; branches = same_list s.history.branches; tags = one_more s.history.tags (record { name = name; version = version }) }
-effect_grows s (Some meta) (Update k letters) is kept could = same_history s.history
-effect_grows s (Some meta) (Merge k branch letters) is kept could = same_history s.history
-effect_grows s (Some meta) (Drop k) is kept could = same_history s.history
+effect_grows s (Some meta) e is kept could = grown s meta e could
 
 pub history_only_grows : HistoryOnlyGrows
 unfolding play playable

@@ -7,7 +7,6 @@ pub mod Growth
 pub mod Kept
 pub mod Merged
 pub mod Merging
-pub mod Named
 pub mod Numbers
 pub mod Places
 pub mod Reached
@@ -18,5 +17,6 @@ pub mod Rows
 pub mod Runs
 pub mod Shown
 pub mod Spelled
+pub mod States
 pub mod Stores
 pub mod Undoing

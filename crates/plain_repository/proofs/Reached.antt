@@ -1,18 +1,20 @@
 -- What holds in every state that events lead to.
-use Rattle.std.proofs.Common.{◌≡◌, ℕ, List, ◌++◌, true, Option, Some, is_some, sym, ◌∙◌, ap, subst}
-use Rattle.std.specs.FinMap.{get-empty}
+use Rattle.std.proofs.Common.{List, ◌++◌, Option, Some, sym, ◌∙◌, ap, subst}
+use Rattle.std.specs.FinMap.{get}
 use Rattle.ecore_meta.specs.Meta.{Meta}
 use Rattle.ecore_meta.specs.Sound.{Sound}
 use Rattle.model_state.specs.Good.{Good}
-use Rattle.model_state.specs.Ident.{is_id}
-use Rattle.model_state.specs.Keys.{id_cmp}
+use Rattle.model_state.specs.State as models
 use Rattle.model_state.specs.State.{nothing}
 use Rattle.model_laws.proofs.Start.{starts_good}
 use Rattle.model_laws.proofs.Runs.{steps_keep_good}
-use Rattle.plain_repository.specs.State.{State, Workspace, empty, recorded_steps}
-use Rattle.plain_repository.specs.Laws.{StaysInOrder, AllIsInOrder, HasMetamodel, IsThere, OfModels, OfVersions, HasIds as HaveIds, ModelsAreDefined, VersionsAreDefined, MetamodelsHold, HistoriesAreWhole, WorkspacesStand}
+use Rattle.history_tree.specs.States.{state_of}
+use Rattle.state_form.specs.Spelled.{IsSpelled}
+use Rattle.state_form.proofs.Builds.{live_id}
+use Rattle.state_form.proofs.Keeps.{nothing_is_spelled, run_keeps}
+use Rattle.plain_repository.specs.State.{State, Workspace, empty, recorded_steps, model_of}
+use Rattle.plain_repository.specs.Laws.{StaysInOrder, AllIsInOrder, HasMetamodel, IsThere, OfModels, OfVersions, HasIds, ModelsAreDefined, VersionsAreDefined, MetamodelsHold, HistoriesAreWhole, WorkspacesStand}
 use Rattle.plain_repository.specs.Orderly.{IsRun, RunsTo, Runs, steps_to, InOrder, Orderly, AllOrderly, IsOrderly}
-use Rattle.plain_repository.proofs.Named.{HasIds, steps_named}
 use Rattle.plain_repository.proofs.Places.{at_number}
 use Rattle.plain_repository.proofs.Runs.{version_folded, version_model, workspace_folded, workspace_model}
 use Rattle.plain_repository.proofs.Kept.{played_keeps, play_keeps, empty_kept}
@@ -33,11 +35,12 @@ in_order s meta w t = at_number (InOrder meta s.history) s t.ws w t.there (kept 
 run_good : (meta : Meta) → Sound meta → (steps : List _) (r : IsRun meta steps) → Good meta r.model
 run_good meta sound steps r = steps_keep_good meta sound nothing r.model (starts_good meta) steps r.run
 
-none_named : HasIds nothing
-none_named e = subst (λ (o : Option ℕ). is_some o ≡ true → is_id e ≡ true) (sym (get-empty id_cmp e)) (λ live. absurd cc)
+run_spelled : (meta : Meta) → Sound meta → (steps : List _) (r : IsRun meta steps) → IsSpelled meta r.model
+run_spelled meta sound steps r = run_keeps meta sound nothing r.model steps r.spelled (nothing_is_spelled meta) r.run
 
-run_named : (meta : Meta) (steps : List _) (r : IsRun meta steps) → HasIds r.model
-run_named meta steps r = steps_named meta nothing r.model steps r.spelled none_named r.run
+-- the elements of a state that is spelled have ids of their form
+named : (meta : Meta) (m : models.State) → IsSpelled meta m → HasIds meta m
+named meta m is e live = live_id e (get m.kind e) live (is.kinds e)
 
 -- ---- the laws
 pub models_are_defined : ModelsAreDefined
@@ -50,10 +53,13 @@ models_are_good s meta w t =
     let r : Runs meta s.history w = (in_order s meta w t).runs in
     subst (Good meta) (sym (workspace_model meta s.history w r)) (run_good meta (kept s meta t.in_state).metamodel.sound (steps_to s.history w.base ++ recorded_steps w) r)
 
-pub models_have_ids : OfModels HaveIds
-models_have_ids s meta w t =
+pub models_are_spelled : OfModels IsSpelled
+models_are_spelled s meta w t =
     let r : Runs meta s.history w = (in_order s meta w t).runs in
-    subst HasIds (sym (workspace_model meta s.history w r)) (run_named meta (steps_to s.history w.base ++ recorded_steps w) r)
+    subst (IsSpelled meta) (sym (workspace_model meta s.history w r)) (run_spelled meta (kept s meta t.in_state).metamodel.sound (steps_to s.history w.base ++ recorded_steps w) r)
+
+pub models_have_ids : OfModels HasIds
+models_have_ids s meta w t = named meta (model_of meta s.history w) (models_are_spelled s meta w t)
 
 pub versions_are_defined : VersionsAreDefined
 versions_are_defined s meta has v within =
@@ -65,10 +71,13 @@ versions_are_good s meta has v within =
     let r : RunsTo meta s.history v = (kept s meta has).versions v within in
     subst (Good meta) (sym (version_model meta s.history v r)) (run_good meta (kept s meta has).metamodel.sound (steps_to s.history v) r)
 
-pub versions_have_ids : OfVersions HaveIds
-versions_have_ids s meta has v within =
+pub versions_are_spelled : OfVersions IsSpelled
+versions_are_spelled s meta has v within =
     let r : RunsTo meta s.history v = (kept s meta has).versions v within in
-    subst HasIds (sym (version_model meta s.history v r)) (run_named meta (steps_to s.history v) r)
+    subst (IsSpelled meta) (sym (version_model meta s.history v r)) (run_spelled meta (kept s meta has).metamodel.sound (steps_to s.history v) r)
+
+pub versions_have_ids : OfVersions HasIds
+versions_have_ids s meta has v within = named meta (state_of meta s.history v) (versions_are_spelled s meta has v within)
 
 pub metamodels_hold : MetamodelsHold
 metamodels_hold s r meta begun = (kept s meta (record { orderly = all_is_in_order s r; begun = begun })).metamodel

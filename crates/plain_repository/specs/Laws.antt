@@ -104,6 +104,10 @@ pub record Grows (before after : History) : Type 0 where
 abbrev pub HistoryOnlyGrows : Type 0
 HistoryOnlyGrows = (s : State) → IsOrderly s → (event : Event) → IsTrue (playable s event) → Grows s.history (play s event).history
 
+-- no event that could be made changes the state of a version
+abbrev pub StatesStay : Type 0
+StatesStay = (s : State) (meta : Meta) → HasMetamodel s meta → (event : Event) → IsTrue (playable s event) → (v : ℕ) → v < length s.history.versions → state_of meta (play s event).history v ≡ state_of meta s.history v
+
 -- each event that could be made changes something beside the numbers that every event raises
 abbrev pub EventsChange : Type 0
 EventsChange = (s : State) (event : Event) → IsTrue (playable s event) → effect s event ≢ s

@@ -1,6 +1,7 @@
 //! The laws of the plain repository: each is a function without a body, whose contract is the law.
 ghost use Rattle.model_state.specs.Good.{Good};
-ghost use Rattle.plain_repository.specs.Laws.{StartsInOrder, StaysInOrder, AllIsInOrder, OfModels, OfVersions, HasIds, ModelsAreDefined, VersionsAreDefined, MetamodelsHold, HistoriesAreWhole, WorkspacesStand, HistoryOnlyGrows, WorkspacesStayApart, ModelsStayApart, NumbersOnlyGrow, DroppedStayDropped, RefusalsMakeNone, LastLinesLook, DataLinesAreApart, EventsChange, CommitsAreStale, UndoGivesBack, CommitsKeepModels, ShownByOwn, ShownApart};
+ghost use Rattle.state_form.specs.Spelled.{IsSpelled};
+ghost use Rattle.plain_repository.specs.Laws.{StartsInOrder, StaysInOrder, AllIsInOrder, OfModels, OfVersions, HasIds, ModelsAreDefined, VersionsAreDefined, MetamodelsHold, HistoriesAreWhole, WorkspacesStand, HistoryOnlyGrows, StatesStay, WorkspacesStayApart, ModelsStayApart, NumbersOnlyGrow, DroppedStayDropped, RefusalsMakeNone, LastLinesLook, DataLinesAreApart, EventsChange, CommitsAreStale, UndoGivesBack, CommitsKeepModels, ShownByOwn, ShownApart};
 ghost use Rattle.plain_repository.specs.MergeLaws.{TidyingKeepsModels, UpdatesMerge, MergesMerge, MergesCount, RevertsTakeOut};
 
 /// The law of order: all is in order in the empty repository, and each event that could be made keeps it so. The other laws are about such a state, so a
@@ -12,27 +13,32 @@ pub fn law_of_order()
 {}
 
 /// The law of working models: the steps recorded in each workspace lead one by one from the state of its base to its
-/// working model; it is good, and its elements have ids of the form of ids; and what holds of every metamodel holds of
-/// the one that is there after any events that could be made.
+/// working model; it is good, its elements have ids of the form of ids, and each id, number and value that steps name of it
+/// has a spelling; and what holds of every metamodel holds of the one that is there after any events that could be made.
 pub fn law_of_working_models()
     ensures defined { ModelsAreDefined }
     ensures good { OfModels Good }
     ensures ids { OfModels HasIds }
+    ensures spelled { OfModels IsSpelled }
     ensures metamodel { MetamodelsHold }
 {}
 
 /// The law of versions: the operations on the path of each version lead one by one from the empty project to its
-/// state; it is good, and its elements have ids of the form of ids; and each number in the history names something.
+/// state; it is good, its elements have ids of the form of ids, and each id, number and value that steps name of it has a spelling; and each number in
+/// the history names something.
 pub fn law_of_versions()
     ensures defined { VersionsAreDefined }
     ensures good { OfVersions Good }
     ensures ids { OfVersions HasIds }
+    ensures spelled { OfVersions IsSpelled }
     ensures whole { HistoriesAreWhole }
 {}
 
-/// The law of growth: no event changes a version, a tag, or a branch's name and start; and the base of each workspace is on the path of its branch's head.
+/// The law of growth: no event changes a version, a version's state, a tag, or a branch's name and start; and the base of each workspace is on the path
+/// of its branch's head.
 pub fn law_of_growth()
     ensures grows { HistoryOnlyGrows }
+    ensures states { StatesStay }
     ensures stand { WorkspacesStand }
 {}
 

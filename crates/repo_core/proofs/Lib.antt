@@ -1,3 +1,4 @@
+pub mod Caching
 pub mod Changing
 pub mod Could
 pub mod Counted
@@ -14,5 +15,4 @@ pub mod Playable
 pub mod Putting
 pub mod Replaying
 pub mod Reverted
-pub mod Stopping
 pub mod Taking

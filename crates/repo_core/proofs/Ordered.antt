@@ -14,7 +14,8 @@ use Rattle.model_state.specs.declared.step.Step.{Step}
 use Rattle.model_state.specs.declared.operation.Operation.{Operation}
 use Rattle.model_laws.proofs.Start.{starts_good}
 use Rattle.model_laws.proofs.Runs.{steps_keep_good}
-use Rattle.history_tree.specs.States.{state_folded, operations_of, package_at}
+use Rattle.history_tree.specs.States.{state_folded, state_of, operations_of, package_at}
+use Rattle.state_form.specs.Spelled.{IsSpelled}
 use Rattle.history_tree.specs.Laws.{path_of_parent}
 use Rattle.history_tree.specs.Whole.{ComesBefore}
 use Rattle.history_tree.specs.declared.version.Version.{Version}
@@ -25,7 +26,7 @@ use Rattle.data_lines.proofs.Taken.{packages_typed, steps_typed}
 use Rattle.plain_repository.specs.State.{State, Workspace, open_steps, recorded_steps, workspace_of, folded}
 use Rattle.plain_repository.specs.Orderly.{IsOrderly, steps_to}
 use Rattle.plain_repository.specs.Laws.{IsThere}
-use Rattle.plain_repository.proofs.Reached.{in_order, kept, models_are_defined, versions_are_defined, workspaces_stand}
+use Rattle.plain_repository.proofs.Reached.{in_order, kept, models_are_defined, versions_are_defined, versions_are_spelled, workspaces_stand}
 use Rattle.plain_repository.proofs.Recorded.{ByWay, by_way, steps_append}
 use Rattle.repo_core.specs.declared.workspace.Composite.{Composite as Open}
 use Rattle.repo_core.specs.declared.workspace.Workspace.{Workspace as Kept}
@@ -37,6 +38,13 @@ is_there s meta ws w orderly begun there = record { in_state = record { orderly 
 -- the state of each version is defined
 pub version_leads : (s : State) (meta : Meta) → IsOrderly s → s.meta ≡ Some meta → (v : ℕ) → v < length s.history.versions → is_some (state_folded meta s.history v) ≡ true
 version_leads s meta orderly begun v below = ap is_some (versions_are_defined s meta (record { orderly = orderly; begun = begun }) v below)
+
+-- and has an encoding
+pub version_spelled : (s : State) (meta : Meta) → IsOrderly s → s.meta ≡ Some meta → (v : ℕ) → v < length s.history.versions → IsSpelled meta (state_of meta s.history v)
+version_spelled s meta orderly begun v below = versions_are_spelled s meta (record { orderly = orderly; begun = begun }) v below
+
+pub base_spelled : (s : State) (meta : Meta) (w : Workspace) → IsThere s meta w → IsSpelled meta (state_of meta s.history w.base)
+base_spelled s meta w there = version_spelled s meta there.in_state.orderly there.in_state.begun w.base (workspaces_stand s meta w there).base
 
 -- so is that of a base
 pub base_leads : (s : State) (meta : Meta) (w : Workspace) → IsThere s meta w → is_some (state_folded meta s.history w.base) ≡ true

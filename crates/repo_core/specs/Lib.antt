@@ -1,3 +1,4 @@
+pub mod Cached
 pub mod Counting
 pub mod Decisions
 pub mod Keeping

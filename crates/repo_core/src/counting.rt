@@ -2,13 +2,16 @@
 ghost use Rattle.std.specs.Prelude.{◌≡◌, ◌<◌, ◌^◌, IfOk, None, count_by, is_some};
 ghost use Rattle.std.specs.Option.{option_copied, option_map};
 ghost use Rattle.plain_repository.specs.State.{workspace_of};
+ghost use Rattle.version_states.specs.Cached.{MayUse, Uses};
+ghost use Rattle.repo_core.specs.Cached.{HasForms};
 ghost use Rattle.repo_core.specs.Counting.{AreCounts, element_count, live_workspaces, WorkspacesAreFew};
 
 use crate::repo::Repo;
-use crate::states::state_at;
 use ecore_meta::Metamodel;
 use history_tree::History;
 use model_state::Look;
+use page_pool::Pool;
+use state_cache::Cache;
 use std::alloc::{AllocError, Global};
 
 /// The number of the branch `trunk`.
@@ -91,17 +94,26 @@ impl Repo {
     }
 
     /// How many elements the state at trunk's head has; none before there is a metamodel.
-    pub fn elements(&self, alloc: Global) -> Result<u64, AllocError>
-        ensures { IfOk result (λ n. n ≡ element_count self.now) }
+    #[tactic(auto, using(version_states::proofs::Caching::uses_none))]
+    pub fn elements(
+        &self,
+        alloc: Global,
+        cache: &mut Cache,
+        pool: &mut Pool,
+    ) -> Result<u64, AllocError>
+        requires usable { MayUse pool.old cache.old }
+        requires forms { HasForms self.now pool.old cache.old }
+        ensures count { IfOk result (λ n. n ≡ element_count self.now) }
+        ensures uses { Uses pool.old pool.new cache.old cache.new }
+        ensures forms { HasForms self.now pool.new cache.new }
     {
         let Some(begun) = &self.begun else {
             return Ok(0);
         };
         self.orderly();
-        begun.meta.sound();
         begun.history.whole();
         let head = begun.history.head(TRUNK);
-        let model = state_at(alloc, &begun.meta, &begun.history, head)?;
+        let model = self.version_state(alloc, cache, pool, begun, head)?;
         let ids = model.graph().ids(alloc)?;
         Ok(ids.len() as u64)
     }

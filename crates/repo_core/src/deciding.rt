@@ -1,8 +1,11 @@
 //! What a command is answered, and the event that it makes: one line a command.
-ghost use Rattle.std.specs.Prelude.{◌≡◌, ◌-◌, ◌<◌, ◌^◌, IfOk, IfNone, IfSome, Some, length};
+ghost use Rattle.std.specs.Prelude.{◌≡◌, ◌-◌, ◌<◌, ◌^◌, IfOk, IfNone, IfSome, OnOk, Some, false, length, true};
 ghost use Rattle.plain_repository.specs.Repository.{decide_command, decide_line, block_text};
 ghost use Rattle.script_lang.specs.Spelling.{IsCommand};
 ghost use Rattle.repo_core.specs.Working.{IsModelFor, IsWorkingModel, NeedsNone, model_for};
+ghost use Rattle.script_lang.specs.Command.{command_of};
+ghost use Rattle.version_states.specs.Cached.{MayUse, Uses};
+ghost use Rattle.repo_core.specs.Cached.{HasForms, LineFirst, ShownFirst, reads_version};
 ghost use Rattle.repo_core.specs.Decisions.{seen, CanMakeIt, IsShortBlock};
 
 mod answers;
@@ -25,8 +28,10 @@ use answers::refuse;
 pub use answers::{Decision, Made};
 use ecore_meta::Text;
 use model_graph::Graph;
-use models::{model_for, name_creation};
+use models::{model_for, name_creation, reads_version};
+use page_pool::Pool;
 use script_lang::{Command, ParseFault, Refusal, parse_line};
+use state_cache::Cache;
 use std::alloc::{AllocError, Global};
 use working_model::Working;
 
@@ -44,46 +49,64 @@ fn block_text(block: &Option<Text>) -> &str
 
 impl Repo {
     /// The answer to a line that gets one, and to the block after it. Contracts see no change of the repository.
-    #[tactic(auto, unfolding(plain_repository::specs::Repository::decide_line))]
+    #[tactic(auto, unfolding(plain_repository::specs::Repository::decide_line), using(version_states::proofs::Caching::uses_none))]
     pub fn decide(
         &mut self,
         alloc: Global,
+        cache: &mut Cache,
+        pool: &mut Pool,
         line: &str,
         block: &Option<Text>,
     ) -> Result<Decision, AllocError>
         requires line { length line.now < 2 ^ 32 - 1 }
         requires block { IsShortBlock block.now }
+        requires usable { MayUse pool.old cache.old }
+        requires forms { HasForms self.old pool.old cache.old }
         ensures same { self.new ≡ self.old }
         ensures decision { IfOk result (λ d. seen d ≡ decide_line self.old line.now block.now) }
         ensures made { IfOk result (λ d. CanMakeIt self.old d.made) }
+        ensures first { OnOk result (LineFirst self.old (command_of line.now) cache.new) }
+        ensures uses { Uses pool.old pool.new cache.old cache.new }
+        ensures forms { HasForms self.old pool.new cache.new }
     {
         match parse_line(alloc, line) {
-            Ok(mut command) => self.decide_command(alloc, &mut command, block),
+            Ok(mut command) => self.decide_command(alloc, cache, pool, &mut command, block),
             Err(ParseFault::BadLine { column }) => Ok(refuse(alloc, Refusal::BadLine { column })),
             Err(ParseFault::Memory) => Err(AllocError),
         }
     }
 
     /// The answer to a command, which may need the working model of a workspace.
+    #[tactic(auto, using(version_states::proofs::Caching::uses_none))]
     fn decide_command(
         &mut self,
         alloc: Global,
+        cache: &mut Cache,
+        pool: &mut Pool,
         command: &mut Command,
         block: &Option<Text>,
     ) -> Result<Decision, AllocError>
         requires command { IsCommand command.old }
         requires block { IsShortBlock block.now }
+        requires usable { MayUse pool.old cache.old }
+        requires forms { HasForms self.old pool.old cache.old }
         ensures same { self.new ≡ self.old }
         ensures decision { IfOk result (λ d. seen d ≡ decide_command self.old block.now command.old) }
         ensures made { IfOk result (λ d. CanMakeIt self.old d.made) }
+        ensures first { OnOk result (ShownFirst self.old self.old.meta command.old cache.new) }
+        ensures uses { Uses pool.old pool.new cache.old cache.new }
+        ensures forms { HasForms self.old pool.new cache.new }
     {
+        if reads_version(command) {
+            return self.decide_reading(alloc, cache, pool, command, block);
+        }
         let Some(ws) = model_for(command) else {
             return self.decide_on(alloc, command, block, None);
         };
         if self.workspace(ws).is_none() {
             return self.decide_on(alloc, command, block, None);
         }
-        let mut model = self.take_model(alloc, ws)?;
+        let mut model = self.take_model(alloc, cache, pool, ws)?;
         let decision = self.decide_over(alloc, ws, command, block, &mut model);
         self.keep_model(ws, model);
         decision
@@ -110,7 +133,39 @@ impl Repo {
         self.decide_on(alloc, command, block, Some(model.graph()))
     }
 
-    /// The same, with the model of the workspace that needs it, where that is there.
+    /// The answer to a command that reads the state of a version.
+    #[tactic(auto, unfolding(plain_repository::specs::Repository::decide_command), using(version_states::proofs::Caching::uses_none))]
+    fn decide_reading(
+        &self,
+        alloc: Global,
+        cache: &mut Cache,
+        pool: &mut Pool,
+        command: &Command,
+        _block: &Option<Text>,
+    ) -> Result<Decision, AllocError>
+        requires reads { reads_version command.now ≡ true }
+        requires usable { MayUse pool.old cache.old }
+        requires forms { HasForms self.now pool.old cache.old }
+        ensures decision { IfOk result (λ d. seen d ≡ decide_command self.now _block.now command.now) }
+        ensures made { IfOk result (λ d. CanMakeIt self.now d.made) }
+        ensures first { OnOk result (ShownFirst self.now self.now.meta command.now cache.new) }
+        ensures uses { Uses pool.old pool.new cache.old cache.new }
+        ensures forms { HasForms self.now pool.new cache.new }
+    {
+        let Some(begun) = &self.begun else {
+            return Ok(refuse(alloc, Refusal::NotInit));
+        };
+        match command {
+            Command::Checkout { spec } => self.decide_checkout(alloc, cache, pool, begun, spec),
+            Command::Cat { spec } => self.decide_cat(alloc, cache, pool, begun, spec),
+            Command::Apply { ws, bytes } => {
+                self.decide_apply(alloc, cache, pool, begun, *ws, bytes.as_slice())
+            }
+            _ => unreachable!(),
+        }
+    }
+
+    /// The answer to another command, with the model of the workspace that needs it, where that is there.
     #[tactic(auto, unfolding(plain_repository::specs::Repository::decide_command, plain_repository::specs::Metamodels::decide_init))]
     fn decide_on(
         &self,
@@ -120,6 +175,7 @@ impl Repo {
         model: Option<&Graph>,
     ) -> Result<Decision, AllocError>
         requires command { IsCommand command.now }
+        requires other { reads_version command.now ≡ false }
         requires block { IsShortBlock block.now }
         requires model { IfSome model (λ m. IsModelFor self.now command.now m.now) }
         requires none { IfNone model (NeedsNone self.now command.now) }
@@ -134,7 +190,6 @@ impl Repo {
         };
         match command {
             Command::Init => Ok(refuse(alloc, Refusal::AlreadyInit)),
-            Command::Checkout { spec } => self.decide_checkout(alloc, begun, spec),
             Command::Edit { ws, edit } => self.decide_edit(alloc, begun, *ws, edit, model),
             Command::Import { ws } => {
                 self.decide_import(alloc, begun, *ws, block_text(block), model)
@@ -144,10 +199,8 @@ impl Repo {
             Command::Undo { ws } => self.decide_undo(alloc, *ws),
             Command::Discard { ws } => self.decide_discard(alloc, *ws),
             Command::Tidy { ws } => self.decide_tidy(alloc, begun, *ws),
-            Command::Apply { ws, bytes } => self.decide_apply(alloc, begun, *ws, bytes.as_slice()),
             Command::Changes { ws } => self.decide_changes(alloc, begun, *ws),
             Command::Show { ws } => self.decide_show(alloc, begun, *ws, model),
-            Command::Cat { spec } => self.decide_cat(alloc, begun, spec),
             Command::Validate { ws } => self.decide_validate(alloc, begun, *ws, model),
             Command::Commit { ws, message } => self.decide_commit(alloc, begun, *ws, message),
             Command::Branch { ws, name } => self.decide_branch(alloc, begun, *ws, name),
@@ -162,6 +215,9 @@ impl Repo {
             } => self.decide_merge(alloc, begun, *ws, branch, choices),
             Command::Revert { ws, version } => self.decide_revert(alloc, begun, *ws, *version),
             Command::Drop { ws } => self.decide_drop(alloc, *ws),
+            Command::Checkout { .. } | Command::Cat { .. } | Command::Apply { .. } => {
+                unreachable!()
+            }
         }
     }
 }

@@ -10,8 +10,9 @@ mod making;
 mod merged;
 mod planning;
 mod playing;
+mod recent;
 mod repo;
-mod states;
+mod versions;
 mod workspace;
 
 pub use counting::{Counts, law_of_counts};

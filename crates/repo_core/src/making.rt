@@ -8,18 +8,22 @@ ghost use Rattle.op_form.specs.Formed.{IsEvent};
 ghost use Rattle.plain_repository.specs.Events.{effect, playable_with};
 ghost use Rattle.plain_repository.specs.Metamodels.{is_metamodel};
 ghost use Rattle.plain_repository.specs.State.{workspace_of};
+ghost use Rattle.version_states.specs.Cached.{MayUse, Uses};
+ghost use Rattle.repo_core.specs.Cached.{HasForms};
 ghost use Rattle.repo_core.specs.Making.{LeadTo, can_take};
 ghost use Rattle.repo_core.specs.Working.{IsWorkingModel};
 
 use crate::fault::{ReplayFault, package_fault};
 use crate::repo::{Begun, Repo};
-use crate::states::follow;
 use crate::workspace::Workspace;
 use ecore_json::{EcoreFault, read_metamodel};
 use ecore_meta::Text;
 use history_tree::History;
 use model_state::Package;
+use page_pool::Pool;
+use state_cache::Cache;
 use std::alloc::{AllocError, Global};
+use version_states::follow;
 use working_model::Working;
 
 /// The metamodel of a text, and the history that begins with it.
@@ -82,22 +86,29 @@ impl Repo {
     }
 
     /// Takes the steps of operations on the working model of a workspace and records them there, where they can be taken.
+    #[tactic(auto, using(version_states::proofs::Caching::uses_none))]
     pub(crate) fn record(
         &mut self,
         alloc: Global,
+        cache: &mut Cache,
+        pool: &mut Pool,
         ws: u32,
         package: Package,
     ) -> Result<(), ReplayFault>
         requires spelled { IsEvent (Edit ws «package») }
+        requires usable { MayUse pool.old cache.old }
+        requires forms { HasForms self.old pool.old cache.old }
         ensures could { OnOk result (playable_with self.old self.old.meta (Edit ws «package») ≡ true) }
         ensures done { OnOk result (self.new ≡ effect self.old (Edit ws «package»)) }
         ensures same { OnErr result (self.new ≡ self.old) }
         ensures cannot { IsErrOf result ReplayFault.NotPlayable → playable_with self.old self.old.meta (Edit ws «package») ≡ false }
+        ensures uses { Uses pool.old pool.new cache.old cache.new }
+        ensures forms { HasForms self.old pool.new cache.new }
     {
         if !self.could_take(ws, &package) {
             return Err(ReplayFault::NotPlayable);
         }
-        let mut model = self.take_model(alloc, ws)?;
+        let mut model = self.take_model(alloc, cache, pool, ws)?;
         self.advance(ws, &mut model, &package)?;
         self.install(alloc, ws, package, model)?;
         Ok(())

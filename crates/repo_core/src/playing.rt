@@ -7,6 +7,8 @@ ghost use Rattle.op_form.specs.Events.{event_encoding};
 ghost use Rattle.op_form.specs.Formed.{is_event, IsEvent};
 ghost use Rattle.plain_repository.specs.State.{workspace_of, is_closed, is_open, has_operations, has_local};
 ghost use Rattle.plain_repository.specs.Events.{effect, play, playable, playable_with};
+ghost use Rattle.version_states.specs.Cached.{MayUse, Uses};
+ghost use Rattle.repo_core.specs.Cached.{HasForms};
 ghost use Rattle.repo_core.specs.Making.{can_take, is_at_head, is_tested_late};
 
 use crate::fault::ReplayFault;
@@ -15,6 +17,8 @@ use commit_journal::{MOST_BYTES, next_gate};
 use ecore_meta::Text;
 use model_state::{Package, is_name};
 use op_form::{Event, FormFault, decode_event};
+use page_pool::Pool;
+use state_cache::Cache;
 use std::alloc::{AllocError, Global};
 
 impl Repo {
@@ -185,19 +189,30 @@ impl Repo {
     }
 
     /// What an event changes beside the numbers that every event raises.
-    fn change(&mut self, alloc: Global, event: Event) -> Result<(), ReplayFault>
+    #[tactic(auto, using(version_states::proofs::Caching::uses_none))]
+    fn change(
+        &mut self,
+        alloc: Global,
+        cache: &mut Cache,
+        pool: &mut Pool,
+        event: Event,
+    ) -> Result<(), ReplayFault>
         requires tested { (is_tested_late event || playable_with self.old self.old.meta event) ≡ true }
         requires spelled { IsEvent event }
         requires short { length (event_encoding event) ≤ most_bytes }
+        requires usable { MayUse pool.old cache.old }
+        requires forms { HasForms self.old pool.old cache.old }
         ensures could { OnOk result (playable_with self.old self.old.meta event ≡ true) }
         ensures done { OnOk result (self.new ≡ effect self.old event) }
         ensures same { OnErr result (self.new ≡ self.old) }
         ensures cannot { IsErrOf result ReplayFault.NotPlayable → playable_with self.old self.old.meta event ≡ false }
+        ensures uses { Uses pool.old pool.new cache.old cache.new }
+        ensures forms { HasForms self.old pool.new cache.new }
     {
         match event {
             Event::Init { text } => self.begin(alloc, &text),
             Event::Checkout { version, branch } => Ok(self.check_out(alloc, version, branch)?),
-            Event::Edit { ws, package } => self.record(alloc, ws, package),
+            Event::Edit { ws, package } => self.record(alloc, cache, pool, ws, package),
             Event::Begin { ws, name } => {
                 self.open_composite(alloc, ws, name);
                 Ok(())
@@ -229,15 +244,26 @@ impl Repo {
     }
 
     /// Makes an event whose bytes are so many, where a command could make it.
-    #[tactic(auto, unfolding(plain_repository::specs::Events::play, plain_repository::specs::Events::playable))]
-    fn make(&mut self, alloc: Global, event: Event, size: usize) -> Result<(), ReplayFault>
+    #[tactic(auto, unfolding(plain_repository::specs::Events::play, plain_repository::specs::Events::playable), using(version_states::proofs::Caching::uses_none))]
+    fn make(
+        &mut self,
+        alloc: Global,
+        cache: &mut Cache,
+        pool: &mut Pool,
+        event: Event,
+        size: usize,
+    ) -> Result<(), ReplayFault>
         requires event { is_event event ≡ true }
         requires size { size ≡ length (event_encoding event) }
         requires room { next_gate self.old.end size < 2 ^ 40 }
+        requires usable { MayUse pool.old cache.old }
+        requires forms { HasForms self.old pool.old cache.old }
         ensures could { OnOk result (IsTrue (playable self.old event)) }
         ensures made { OnOk result (self.new ≡ play self.old event) }
         ensures same { OnErr result (self.new ≡ self.old) }
         ensures cannot { IsErrOf result ReplayFault.NotPlayable → playable self.old event ≡ false }
+        ensures uses { Uses pool.old pool.new cache.old cache.new }
+        ensures forms { HasForms self.new pool.new cache.new }
     {
         if self.is_full() || size as u64 > MOST_BYTES {
             return Err(ReplayFault::NotPlayable);
@@ -247,7 +273,7 @@ impl Repo {
         }
         let events = self.events + 1;
         let end = next_gate(self.end, size as u64);
-        self.change(alloc, event)?;
+        self.change(alloc, cache, pool, event)?;
         self.events = events;
         self.end = end;
         Ok(())
@@ -255,14 +281,25 @@ impl Repo {
 
     /// Makes an event that a command could make, whose bytes are so many. What the event has is moved into the repository. When out of memory
     /// the repository stays as it is.
-    pub fn play(&mut self, alloc: Global, event: Event, size: usize) -> Result<(), AllocError>
+    pub fn play(
+        &mut self,
+        alloc: Global,
+        cache: &mut Cache,
+        pool: &mut Pool,
+        event: Event,
+        size: usize,
+    ) -> Result<(), AllocError>
         requires can { IsTrue (playable self.old event) }
         requires size { size ≡ length (event_encoding event) }
         requires room { next_gate self.old.end size < 2 ^ 40 }
+        requires usable { MayUse pool.old cache.old }
+        requires forms { HasForms self.old pool.old cache.old }
         ensures played { OnOk result (self.new ≡ play self.old event) }
         ensures same { OnErr result (self.new ≡ self.old) }
+        ensures uses { Uses pool.old pool.new cache.old cache.new }
+        ensures forms { HasForms self.new pool.new cache.new }
     {
-        match self.make(alloc, event, size) {
+        match self.make(alloc, cache, pool, event, size) {
             Ok(()) => Ok(()),
             Err(ReplayFault::Memory) => Err(AllocError),
             Err(ReplayFault::NotPlayable) => unreachable!(),
@@ -274,17 +311,28 @@ impl Repo {
     /// # Errors
     ///
     /// `NotPlayable` where they are no event that a command could make here, and out of memory. The repository stays as it is.
-    pub fn replay(&mut self, alloc: Global, bytes: &[u8]) -> Result<(), ReplayFault>
+    #[tactic(auto, using(version_states::proofs::Caching::uses_none))]
+    pub fn replay(
+        &mut self,
+        alloc: Global,
+        cache: &mut Cache,
+        pool: &mut Pool,
+        bytes: &[u8],
+    ) -> Result<(), ReplayFault>
         requires room { next_gate self.old.end (length bytes.now) < 2 ^ 40 }
+        requires usable { MayUse pool.old cache.old }
+        requires forms { HasForms self.old pool.old cache.old }
         ensures played { OnOk result ((event : Event) × IsTrue (playable self.old event) × (bytes.now ≡ event_encoding event) × (self.new ≡ play self.old event)) }
         ensures refused { IsErrOf result ReplayFault.NotPlayable → (event : Event) → IsTrue (playable self.old event) → bytes.now ≢ event_encoding event }
         ensures same { OnErr result (self.new ≡ self.old) }
+        ensures uses { Uses pool.old pool.new cache.old cache.new }
+        ensures forms { HasForms self.new pool.new cache.new }
     {
         let event = match decode_event(alloc, bytes) {
             Ok(event) => event,
             Err(FormFault::NotForm { .. }) => return Err(ReplayFault::NotPlayable),
             Err(FormFault::Memory) => return Err(ReplayFault::Memory),
         };
-        self.make(alloc, event, bytes.len())
+        self.make(alloc, cache, pool, event, bytes.len())
     }
 }

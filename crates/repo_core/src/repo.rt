@@ -4,6 +4,8 @@ ghost use Rattle.std.specs.Bool.{OnTrue, OnFalse};
 ghost use Rattle.std.specs.Option.{option_copied, option_map};
 ghost use Rattle.plain_repository.specs.State.{empty, workspace_of};
 ghost use Rattle.plain_repository.specs.Orderly.{IsOrderly};
+ghost use Rattle.version_states.specs.Cached.{MayUse, Uses};
+ghost use Rattle.repo_core.specs.Cached.{HasForms};
 ghost use Rattle.repo_core.specs.Keeping.{plain_of};
 ghost use Rattle.repo_core.specs.Working.{IsWorkingModel};
 
@@ -11,6 +13,8 @@ use crate::workspace::Workspace;
 use commit_journal::FIRST_GATE;
 use ecore_meta::Metamodel;
 use history_tree::History;
+use page_pool::Pool;
+use state_cache::Cache;
 use std::alloc::{AllocError, Global};
 use std::marker::Model;
 use working_model::Working;
@@ -25,11 +29,12 @@ pub(crate) struct Begun {
 }
 
 /// The metamodel and the history once there are such, the workspaces, and how much of the journal is used. Contracts see all but the models that
-/// workspaces keep.
+/// workspaces keep, and which of these were used last.
 #[derive(Drop)]
 pub struct Repo {
     pub(crate) begun: Option<Begun>,
     pub(crate) workspaces: Vec<Option<Workspace>>,
+    pub(crate) recent: Vec<u32>,
     pub(crate) events: u32,
     pub(crate) end: u64,
 }
@@ -55,6 +60,7 @@ impl Repo {
         Repo {
             begun: None,
             workspaces: Vec::new(alloc),
+            recent: Vec::new(alloc),
             events: 0,
             end: FIRST_GATE,
         }
@@ -100,11 +106,41 @@ impl Repo {
         Some(ws as usize - 1)
     }
 
-    /// The working model of a workspace, which doesn't keep it meanwhile.
-    pub(crate) fn take_model(&mut self, alloc: Global, ws: u32) -> Result<Working, AllocError>
+    /// The working model of a workspace, which doesn't keep it meanwhile. Of the other workspaces those that were used last keep theirs.
+    #[tactic(auto, using(version_states::proofs::Caching::uses_none))]
+    pub(crate) fn take_model(
+        &mut self,
+        alloc: Global,
+        cache: &mut Cache,
+        pool: &mut Pool,
+        ws: u32,
+    ) -> Result<Working, AllocError>
         requires there { is_some (workspace_of self.old ws) ≡ true }
+        requires usable { MayUse pool.old cache.old }
+        requires forms { HasForms self.old pool.old cache.old }
         ensures same { self.new ≡ self.old }
         ensures model { IfOk result (λ m. IsWorkingModel self.old ws m) }
+        ensures uses { Uses pool.old pool.new cache.old cache.new }
+        ensures forms { HasForms self.old pool.new cache.new }
+    {
+        self.touch(ws)?;
+        self.model_out(alloc, cache, pool, ws)
+    }
+
+    fn model_out(
+        &mut self,
+        alloc: Global,
+        cache: &mut Cache,
+        pool: &mut Pool,
+        ws: u32,
+    ) -> Result<Working, AllocError>
+        requires there { is_some (workspace_of self.old ws) ≡ true }
+        requires usable { MayUse pool.old cache.old }
+        requires forms { HasForms self.old pool.old cache.old }
+        ensures same { self.new ≡ self.old }
+        ensures model { IfOk result (λ m. IsWorkingModel self.old ws m) }
+        ensures uses { Uses pool.old pool.new cache.old cache.new }
+        ensures forms { HasForms self.old pool.new cache.new }
     {
         let Some(at) = self.place_of(ws) else {
             unreachable!()
@@ -116,7 +152,7 @@ impl Repo {
             unreachable!()
         };
         begun.meta.sound();
-        workspace.take_model(alloc, &begun.meta, &begun.history)
+        workspace.take_model(alloc, cache, pool, &begun.meta, &begun.history)
     }
 
     /// The workspace keeps its working model.

@@ -11,18 +11,23 @@ ghost use Rattle.plain_repository.specs.Commits.{version_of, committed};
 ghost use Rattle.plain_repository.specs.Composites.{with_open, with_closed};
 ghost use Rattle.plain_repository.specs.Edits.{takes, with_more};
 ghost use Rattle.plain_repository.specs.Local.{can_discard, can_undo, without_any, without_last};
+ghost use Rattle.state_form.specs.Spelled.{IsSpelled};
+ghost use Rattle.state_cache.specs.Entries.{stands};
+ghost use Rattle.version_states.specs.Cached.{AreForms, MayUse, Uses};
 ghost use Rattle.repo_core.specs.Keeping.{plain_of, ModelFits};
 ghost use Rattle.repo_core.specs.Planning.{restarted, taken_up};
 
 use crate::lists::{append, items_of, steps_out};
 use crate::merged::{Local, Merged};
-use crate::states::{follow, state_at, steps_in, take_steps};
 use ecore_meta::{List, Metamodel, Text};
 use history_tree::{History, Version};
 use model_state::{Operation, Package, Step, StepFault};
 use op_form::reverse_op;
+use page_pool::Pool;
+use state_cache::Cache;
 use std::alloc::{AllocError, Global};
 use std::mem::replace;
+use version_states::{follow, state_at, steps_in, take_steps};
 use working_model::Working;
 
 /// A composite that is open: its name, and the steps recorded in it so far.
@@ -124,9 +129,12 @@ impl Workspace {
     }
 
     /// The working model, taken out of the workspace, or made anew where it is not kept.
+    #[tactic(auto, using(version_states::proofs::Caching::uses_none))]
     pub(crate) fn take_model(
         &mut self,
         alloc: Global,
+        cache: &mut Cache,
+        pool: &mut Pool,
         meta: &Metamodel,
         history: &History,
     ) -> Result<Working, AllocError>
@@ -134,15 +142,20 @@ impl Workspace {
         requires there { self.old.base < length history.now.history.versions }
         requires base { is_some (state_folded meta.now history.now.history self.old.base) ≡ true }
         requires leads { is_some (folded meta.now history.now.history (plain_of self.old)) ≡ true }
+        requires spelled { IsSpelled meta.now (state_of meta.now history.now.history self.old.base) }
         requires fits { ModelFits meta.now history.now.history self.old }
+        requires usable { MayUse pool.old cache.old }
+        requires forms { AreForms (Some meta.now) history.now.history (stands pool.old cache.old) }
         ensures same { plain_of self.new ≡ plain_of self.old }
         ensures taken { self.new.model ≡ None }
         ensures model { IfOk result (λ m. m ≡ model_of meta.now history.now.history (plain_of self.old)) }
         ensures good { IfOk result (λ m. Good meta.now m) }
+        ensures uses { Uses pool.old pool.new cache.old cache.new }
+        ensures forms { AreForms (Some meta.now) history.now.history (stands pool.new cache.new) }
     {
         match self.model.take() {
             Some(model) => Ok(model),
-            None => self.fold_model(alloc, meta, history),
+            None => self.fold_model(alloc, cache, pool, meta, history),
         }
     }
 
@@ -291,10 +304,20 @@ impl Workspace {
         self.model = Some(model);
     }
 
+    /// The workspace doesn't keep its model any more.
+    pub(crate) fn forget_model(&mut self)
+        ensures same { plain_of self.new ≡ plain_of self.old }
+        ensures gone { self.new.model ≡ None }
+    {
+        self.model = None;
+    }
+
     /// The working model, made anew.
     pub(crate) fn fold_model(
         &self,
         alloc: Global,
+        cache: &mut Cache,
+        pool: &mut Pool,
         meta: &Metamodel,
         history: &History,
     ) -> Result<Working, AllocError>
@@ -302,10 +325,15 @@ impl Workspace {
         requires there { self.now.base < length history.now.history.versions }
         requires base { is_some (state_folded meta.now history.now.history self.now.base) ≡ true }
         requires leads { is_some (folded meta.now history.now.history (plain_of self.now)) ≡ true }
+        requires spelled { IsSpelled meta.now (state_of meta.now history.now.history self.now.base) }
+        requires usable { MayUse pool.old cache.old }
+        requires forms { AreForms (Some meta.now) history.now.history (stands pool.old cache.old) }
         ensures model { IfOk result (λ m. m ≡ model_of meta.now history.now.history (plain_of self.now)) }
         ensures good { IfOk result (λ m. Good meta.now m) }
+        ensures uses { Uses pool.old pool.new cache.old cache.new }
+        ensures forms { AreForms (Some meta.now) history.now.history (stands pool.new cache.new) }
     {
-        let mut model = state_at(alloc, meta, history, self.base)?;
+        let mut model = state_at(alloc, cache, pool, meta, history, self.base)?;
         match self.retake(&mut model, meta) {
             Ok(()) => Ok(model),
             Err(fault) => match fault {

@@ -3,3 +3,4 @@ pub mod Listed
 pub mod Popping
 pub mod Releasing
 pub mod Storing
+pub mod Standing

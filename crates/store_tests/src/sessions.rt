@@ -1,5 +1,6 @@
 //! Whole sessions: the lines of a script, and what they are answered. In a table a line after `> ` is one of the script, below it
 //! stands what it is answered, and a session's last line is how it ends: the exit status and its name.
+mod cached;
 mod composites;
 mod crowds;
 mod faults;

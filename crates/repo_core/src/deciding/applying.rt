@@ -9,20 +9,24 @@ ghost use Rattle.op_form.specs.declared.event.Event.TheVariants.{Edit};
 ghost use Rattle.plain_repository.specs.Applying.{decide_apply, decide_revert, taken_out, with_operations};
 ghost use Rattle.plain_repository.specs.Events.{playable_with};
 ghost use Rattle.plain_repository.specs.State.{is_open, workspace_of};
+ghost use Rattle.version_states.specs.Cached.{MayUse, Uses};
+ghost use Rattle.repo_core.specs.Cached.{HasForms};
 ghost use Rattle.repo_core.specs.Decisions.{seen, CanMakeIt};
 ghost use Rattle.repo_core.specs.Keeping.{plain_of};
 
 use crate::deciding::answers::{Decision, refuse, tell};
 use crate::deciding::naming::unknown;
 use crate::repo::{Begun, Repo};
-use crate::states::stop_in;
 use crate::workspace::Workspace;
 use ecore_meta::{List, Text};
 use merge_plans::{copy_operations, first_interfering, have_pair, path_after};
 use model_state::Package;
 use op_form::{Event, FormFault, decode, reverse};
+use page_pool::Pool;
 use script_lang::Refusal;
+use state_cache::Cache;
 use std::alloc::{AllocError, Global};
+use version_states::stop_in;
 
 fn holds(versions: &[u32], version: u32) -> bool
     ensures { result ≡ is_among versions.now version }
@@ -32,18 +36,24 @@ fn holds(versions: &[u32], version: u32) -> bool
 
 impl Repo {
     /// `apply WS HEX`, with the bytes of a package: its operations are recorded, where all their steps can be taken.
-    #[tactic(auto, unfolding(plain_repository::specs::Applying::decide_apply))]
+    #[tactic(auto, unfolding(plain_repository::specs::Applying::decide_apply), using(version_states::proofs::Caching::uses_none))]
     pub(crate) fn decide_apply(
         &self,
         alloc: Global,
+        cache: &mut Cache,
+        pool: &mut Pool,
         begun: &Begun,
         ws: u32,
         bytes: &[u8],
     ) -> Result<Decision, AllocError>
         requires meta { self.now.meta ≡ Some begun.now.meta }
         requires history { self.now.history ≡ begun.now.history.history }
+        requires usable { MayUse pool.old cache.old }
+        requires forms { HasForms self.now pool.old cache.old }
         ensures decision { IfOk result (λ d. seen d ≡ decide_apply self.now begun.now.meta ws bytes.now) }
         ensures made { IfOk result (λ d. CanMakeIt self.now d.made) }
+        ensures uses { Uses pool.old pool.new cache.old cache.new }
+        ensures forms { HasForms self.now pool.new cache.new }
     {
         let Some(workspace) = self.workspace(ws) else {
             return Ok(refuse(alloc, Refusal::NoWorkspace));
@@ -56,9 +66,8 @@ impl Repo {
             Err(FormFault::NotForm { at }) => return Ok(refuse(alloc, Refusal::NotForm { at })),
             Err(FormFault::Memory) => return Err(AllocError),
         };
-        self.orderly();
         begun.meta.sound();
-        let mut model = workspace.fold_model(alloc, &begun.meta, &begun.history)?;
+        let mut model = self.model_anew(alloc, cache, pool, begun, ws, workspace)?;
         match stop_in(&mut model, &begun.meta, package.as_slice())? {
             Some(step) => Ok(refuse(alloc, Refusal::NotApplicable { step })),
             None => self.with_operations(alloc, ws, package),

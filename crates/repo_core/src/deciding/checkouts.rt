@@ -1,6 +1,9 @@
 //! The commands `checkout` and `drop`, and the text of a version.
-ghost use Rattle.std.specs.Prelude.{◌≡◌, ◌≢◌, IfOk, None, Some};
+ghost use Rattle.std.specs.Prelude.{◌≡◌, ◌≢◌, IfOk, None, OnOk, Some};
 ghost use Rattle.plain_repository.specs.Checkouts.{decide_checkout, decide_drop};
+ghost use Rattle.plain_repository.specs.Specs.{named};
+ghost use Rattle.version_states.specs.Cached.{MayUse, Uses};
+ghost use Rattle.repo_core.specs.Cached.{FoundFirst, HasForms};
 ghost use Rattle.repo_core.specs.Decisions.{seen, CanMakeIt};
 
 use crate::deciding::answers::{Decision, refuse};
@@ -8,29 +11,38 @@ use crate::deciding::naming::{find, unknown};
 use crate::repo::{Begun, Repo};
 use ecore_meta::{List, Text};
 use op_form::Event;
+use page_pool::Pool;
 use script_lang::{Refusal, Spec};
+use state_cache::Cache;
 use std::alloc::{AllocError, Global};
 use std::fmt::Write;
 
 impl Repo {
     /// `checkout SPEC`: a workspace at the version, whose text is printed.
-    #[tactic(auto, unfolding(plain_repository::specs::Checkouts::decide_checkout))]
+    #[tactic(auto, unfolding(plain_repository::specs::Checkouts::decide_checkout), using(version_states::proofs::Caching::uses_none))]
     pub(crate) fn decide_checkout(
         &self,
         alloc: Global,
+        cache: &mut Cache,
+        pool: &mut Pool,
         begun: &Begun,
         spec: &Spec,
     ) -> Result<Decision, AllocError>
         requires meta { self.now.meta ≡ Some begun.now.meta }
         requires history { self.now.history ≡ begun.now.history.history }
+        requires usable { MayUse pool.old cache.old }
+        requires forms { HasForms self.now pool.old cache.old }
         ensures decision { IfOk result (λ d. seen d ≡ decide_checkout self.now begun.now.meta spec.now) }
         ensures made { IfOk result (λ d. CanMakeIt self.now d.made) }
+        ensures first { OnOk result (FoundFirst begun.now.meta self.now.history (named self.now.history spec.now) cache.new) }
+        ensures uses { Uses pool.old pool.new cache.old cache.new }
+        ensures forms { HasForms self.now pool.new cache.new }
     {
         let found = match find(&begun.history, spec) {
             Ok(found) => found,
             Err(fault) => return Ok(refuse(alloc, unknown(fault))),
         };
-        let lines = self.text_of(alloc, begun, found.version)?;
+        let lines = self.text_of(alloc, cache, pool, begun, found.version)?;
         let number = self.workspaces.len() as u64 + 1;
         let branch = begun.history.branch_name(found.branch);
         let mut words = String::new(alloc);

@@ -2,6 +2,7 @@
 ghost use Rattle.std.specs.Prelude.{◌≡◌, OnOk, Some};
 ghost use Rattle.plain_repository.specs.State.{model_of, workspace_of};
 ghost use Rattle.model_state.specs.Good.{Good};
+ghost use Rattle.repo_core.specs.Cached.{reads_version};
 ghost use Rattle.repo_core.specs.Keeping.{plain_of};
 ghost use Rattle.repo_core.specs.Working.{IsWorkingModel, creation_without_id, given_id, model_for, with_id};
 ghost use Rattle.script_lang.specs.Spelling.{IsCommand};
@@ -25,6 +26,18 @@ pub(crate) fn model_for(command: &Command) -> Option<u32>
         Command::Show { ws } => Some(*ws),
         Command::Validate { ws } => Some(*ws),
         _ => None,
+    }
+}
+
+/// Whether a command reads the state of a version.
+pub(crate) fn reads_version(command: &Command) -> bool
+    ensures { result ≡ reads_version command.now }
+{
+    match command {
+        Command::Checkout { .. } => true,
+        Command::Cat { .. } => true,
+        Command::Apply { .. } => true,
+        _ => false,
     }
 }
 

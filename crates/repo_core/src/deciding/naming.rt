@@ -1,15 +1,18 @@
 //! The version that a word of a line names, and its text.
-ghost use Rattle.std.specs.Prelude.{◌≡◌, ◌<◌, [], ◌∷◌, IfOk, Some, length};
+ghost use Rattle.std.specs.Prelude.{◌≡◌, ◌<◌, [], ◌∷◌, IfOk, OnOk, Some, length};
 ghost use Rattle.emfjson_text.specs.Tree.{text};
 ghost use Rattle.history_tree.specs.States.{state_of};
 ghost use Rattle.plain_repository.specs.Specs.{named, unknown};
+ghost use Rattle.version_states.specs.Cached.{LeavesFirst, MayUse, Uses};
+ghost use Rattle.repo_core.specs.Cached.{HasForms};
 
 use crate::repo::{Begun, Repo};
-use crate::states::state_at;
 use ecore_meta::{List, Text};
 use emfjson_text::write_model;
 use history_tree::{FindFault, Found, History};
+use page_pool::Pool;
 use script_lang::{Refusal, Spec};
+use state_cache::Cache;
 use std::alloc::{AllocError, Global};
 
 /// The version that a word names, and its branch.
@@ -40,17 +43,22 @@ impl Repo {
     pub(crate) fn text_of(
         &self,
         alloc: Global,
+        cache: &mut Cache,
+        pool: &mut Pool,
         begun: &Begun,
         v: u32,
     ) -> Result<List<Text>, AllocError>
         requires meta { self.now.meta ≡ Some begun.now.meta }
         requires history { self.now.history ≡ begun.now.history.history }
-        requires there { v < length begun.now.history.history.versions }
-        ensures { IfOk result (λ lines. lines ≡ text begun.now.meta (state_of begun.now.meta self.now.history v) ∷ []) }
+        requires there { v < length self.now.history.versions }
+        requires usable { MayUse pool.old cache.old }
+        requires forms { HasForms self.now pool.old cache.old }
+        ensures lines { IfOk result (λ lines. lines ≡ text begun.now.meta (state_of begun.now.meta self.now.history v) ∷ []) }
+        ensures first { OnOk result (LeavesFirst begun.now.meta self.now.history v cache.new) }
+        ensures uses { Uses pool.old pool.new cache.old cache.new }
+        ensures forms { HasForms self.now pool.new cache.new }
     {
-        self.orderly();
-        begun.meta.sound();
-        let model = state_at(alloc, &begun.meta, &begun.history, v)?;
+        let model = self.version_state(alloc, cache, pool, begun, v)?;
         let mut lines = List::new(alloc);
         lines.push(write_model(alloc, model.graph(), &begun.meta)?)?;
         Ok(lines)

@@ -4,6 +4,9 @@ ghost use Rattle.std.specs.Option.{option_copied, option_map};
 ghost use Rattle.plain_repository.specs.State.{workspace_of};
 ghost use Rattle.plain_repository.specs.Views.{lines_of_open, decide_changes, decide_show, decide_cat, decide_validate, decide_log, decide_package};
 ghost use Rattle.data_lines.specs.Typed.{AreTyped};
+ghost use Rattle.plain_repository.specs.Specs.{named};
+ghost use Rattle.version_states.specs.Cached.{MayUse, Uses};
+ghost use Rattle.repo_core.specs.Cached.{FoundFirst, HasForms};
 ghost use Rattle.repo_core.specs.Keeping.{plain_composite};
 ghost use Rattle.repo_core.specs.Working.{IsWorkingModel};
 ghost use Rattle.repo_core.specs.Decisions.{seen, CanMakeIt};
@@ -17,7 +20,9 @@ use ecore_meta::{List, Metamodel, Text};
 use emfjson_text::write_model;
 use model_graph::Graph;
 use op_form::is_package;
+use page_pool::Pool;
 use script_lang::{Refusal, Spec};
+use state_cache::Cache;
 use std::alloc::{AllocError, Global};
 
 /// Lines come after others.
@@ -127,23 +132,30 @@ impl Repo {
     }
 
     /// `cat SPEC`: the text of the version.
-    #[tactic(auto, unfolding(plain_repository::specs::Views::decide_cat))]
+    #[tactic(auto, unfolding(plain_repository::specs::Views::decide_cat), using(version_states::proofs::Caching::uses_none))]
     pub(crate) fn decide_cat(
         &self,
         alloc: Global,
+        cache: &mut Cache,
+        pool: &mut Pool,
         begun: &Begun,
         spec: &Spec,
     ) -> Result<Decision, AllocError>
         requires meta { self.now.meta ≡ Some begun.now.meta }
         requires history { self.now.history ≡ begun.now.history.history }
+        requires usable { MayUse pool.old cache.old }
+        requires forms { HasForms self.now pool.old cache.old }
         ensures decision { IfOk result (λ d. seen d ≡ decide_cat self.now begun.now.meta spec.now) }
         ensures made { IfOk result (λ d. CanMakeIt self.now d.made) }
+        ensures first { OnOk result (FoundFirst begun.now.meta self.now.history (named self.now.history spec.now) cache.new) }
+        ensures uses { Uses pool.old pool.new cache.old cache.new }
+        ensures forms { HasForms self.now pool.new cache.new }
     {
         let found = match find(&begun.history, spec) {
             Ok(found) => found,
             Err(fault) => return Ok(refuse(alloc, unknown(fault))),
         };
-        let lines = self.text_of(alloc, begun, found.version)?;
+        let lines = self.text_of(alloc, cache, pool, begun, found.version)?;
         Ok(tell(lines, Text::new(alloc, "")?))
     }
 

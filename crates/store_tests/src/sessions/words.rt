@@ -44,7 +44,7 @@ fn a_check_counts_what_a_store_holds(rt: HostRuntime) -> Result<(), Fail> {
 }
 
 // What is printed with these words over a file, and the file after it.
-fn filled(
+pub(crate) fn filled(
     rt: &impl Abort,
     alloc: Global,
     words: &str,

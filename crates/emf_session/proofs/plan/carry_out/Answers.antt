@@ -6,6 +6,7 @@ use Rattle.plain_repository.specs.State.{State}
 use Rattle.plain_repository.specs.Repository.{decide_line}
 use Rattle.emf_session.specs.Session.{IsStoreOf}
 use Rattle.emf_session.proofs.Entering.{still_entering, event_ready, ready_none}
+use Rattle.emf_session.proofs.Holding.{forms_alike}
 use Rattle.emf_session.proofs.plan.carry_out.Goals as goal
 
 abbrev end_of : State → ℕ
@@ -56,3 +57,9 @@ returns-in-Err-clause-still g c = λ none. c.enter.ensures.still (ready_none c.p
 
 pub returns-in-Err-clause-faulted : goal.returns-in-Err-clause-faulted
 returns-in-Err-clause-faulted g c = λ is. c.in-Ok.ensures.state
+
+pub returns-in-Ok-enter-clause-forms : goal.returns-in-Ok-enter-clause-forms
+returns-in-Ok-enter-clause-forms g c = forms_alike c.prepare.new.repo c.prepare.new.pool c.enter.new.pool c.prepare.new.cache c.enter.ensures.stands c.prepare.ensures.forms
+
+pub returns-in-Err-clause-forms : goal.returns-in-Err-clause-forms
+returns-in-Err-clause-forms g c = forms_alike c.prepare.new.repo c.prepare.new.pool c.enter.new.pool c.prepare.new.cache c.enter.ensures.stands c.prepare.ensures.forms

@@ -5,7 +5,8 @@ use Rattle.host_port.proofs.Course.{still_disk}
 use Rattle.commit_journal.specs.Journal.{JournalState, IsAtRest, RecordFits}
 use Rattle.op_form.specs.Events.{event_encoding}
 use Rattle.plain_repository.specs.Events.{play}
-use Rattle.emf_session.proofs.Entering.{none_added, none_entering, event_added, event_entering, none_ready, some_ready, held_none, held_some}
+use Rattle.emf_session.proofs.Entering.{none_added, none_entering, event_added, event_entering, none_ready, some_ready}
+use Rattle.emf_session.proofs.Holding.{both_none, both_some, given_all, given_same}
 use Rattle.emf_session.proofs.Playing.{play_end}
 use Rattle.emf_session.proofs.plan.enter.Goals as goal
 
@@ -68,11 +69,21 @@ returns-in-Ok-clause-still g c = λ none. let some = c.in-Some.is in absurd (cc 
 pub returns-in-Err-clause-still : goal.returns-in-Err-clause-still
 returns-in-Err-clause-still g c = λ none. let some = c.in-Some.is in absurd (cc (some, none))
 
-pub returns-in_default-clause-none : goal.returns-in_default-clause-none
-returns-in_default-clause-none g c = c.requires.held ∙ held_none c.args.ready c.in_default.is
+pub returns-in_default-clause-all : goal.returns-in_default-clause-all
+returns-in_default-clause-all g c = both_none c.args.pool.now c.args._cache.now c.args.ready c.in_default.is c.requires.held
 
-pub returns-in-Ok-clause-none : goal.returns-in-Ok-clause-none
-returns-in-Ok-clause-none g c = let h = held_some c.args.ready c.in-Some.prepared c.in-Some.is in omega (arith, h, c.requires.held, c.append.ensures.out)
+pub returns-in-Ok-clause-all : goal.returns-in-Ok-clause-all
+returns-in-Ok-clause-all g c =
+    given_all c.args.pool.now c.append.new.pool c.args._cache.now c.in-Some.prepared (both_some c.args.pool.now c.args._cache.now c.args.ready c.in-Some.prepared c.in-Some.is c.requires.held) c.append.ensures.free c.append.ensures.others c.append.ensures.out
 
-pub returns-in-Err-clause-none : goal.returns-in-Err-clause-none
-returns-in-Err-clause-none g c = let h = held_some c.args.ready c.in-Some.prepared c.in-Some.is in omega (arith, h, c.requires.held, c.append.ensures.out)
+pub returns-in-Err-clause-all : goal.returns-in-Err-clause-all
+returns-in-Err-clause-all g c =
+    given_all c.args.pool.now c.append.new.pool c.args._cache.now c.in-Some.prepared (both_some c.args.pool.now c.args._cache.now c.args.ready c.in-Some.prepared c.in-Some.is c.requires.held) c.append.ensures.free c.append.ensures.others c.append.ensures.out
+
+pub returns-in-Ok-clause-stands : goal.returns-in-Ok-clause-stands
+returns-in-Ok-clause-stands g c =
+    given_same c.args.pool.now c.append.new.pool c.args._cache.now c.in-Some.prepared (both_some c.args.pool.now c.args._cache.now c.args.ready c.in-Some.prepared c.in-Some.is c.requires.held) c.append.ensures.free c.append.ensures.others c.append.ensures.out
+
+pub returns-in-Err-clause-stands : goal.returns-in-Err-clause-stands
+returns-in-Err-clause-stands g c =
+    given_same c.args.pool.now c.append.new.pool c.args._cache.now c.in-Some.prepared (both_some c.args.pool.now c.args._cache.now c.args.ready c.in-Some.prepared c.in-Some.is c.requires.held) c.append.ensures.free c.append.ensures.others c.append.ensures.out

@@ -1,12 +1,14 @@
-use Rattle.std.proofs.Common.{◌≡◌, length, arith}
-use Rattle.page_pool.specs.Frames.{out_of}
-use Rattle.emf_session.proofs.Entering.{held_alone}
+use Rattle.std.proofs.Common.{◌≡◌, sym, subst}
+use Rattle.plain_repository.specs.State.{State}
+use Rattle.repo_core.specs.Cached.{HasForms}
+use Rattle.emf_session.proofs.Holding.{all_may, all_on}
 use Rattle.emf_session.proofs.plan.prepare.Goals as goal
 
-pub returns-in-Ok-clause-held : goal.returns-in-Ok-clause-held
-returns-in-Ok-clause-held c = held_alone c.prepare.new.pool c.in_ok-prepared.prepared c.deref.result.now (out_of c.args.pool.now) (out_of c.prepare.new.pool) c.in_ok-prepared.ensures.holds c.in_ok-prepared.ensures.out c.requires.none
+pub decide-requires-clause-usable : goal.decide-requires-clause-usable
+decide-requires-clause-usable c = all_may c.args.pool.now c.args.cache.now c.requires.all
 
-pub returns-clause-none : goal.returns-clause-none
-returns-clause-none c =
-    let held : out_of c.prepare.new.pool ≡ length c.in_ok-prepared.prepared.frames = held_alone c.prepare.new.pool c.in_ok-prepared.prepared c.deref.result.now (out_of c.args.pool.now) (out_of c.prepare.new.pool) c.in_ok-prepared.ensures.holds c.in_ok-prepared.ensures.out c.requires.none in
-    omega (arith, held, c.give_up.ensures.out)
+pub make_ready-requires-clause-all : goal.make_ready-requires-clause-all
+make_ready-requires-clause-all c = all_on c.args.pool.now c.decide.new.pool c.args.cache.now c.decide.new.cache c.requires.all c.decide.ensures.uses
+
+pub make_ready-requires-clause-forms : goal.make_ready-requires-clause-forms
+make_ready-requires-clause-forms c = subst (λ (s : State). HasForms s c.decide.new.pool c.decide.new.cache) (sym c.decide.ensures.same) c.decide.ensures.forms

@@ -18,11 +18,14 @@ answer-requires-clause-end g c = c.self.invariant.0 (ap broken_of c.self.view_is
 pub answer-requires-clause-open : goal.answer-requires-clause-open
 answer-requires-clause-open g c = λ told. subst (λ (s : SessionState). (made : List Event) × IsStoreOf (disk_now (g.H.Host.told c.args.host.now)) s.state made) (sym c.self.view_is) (c.requires.open told)
 
-pub answer-requires-clause-none : goal.answer-requires-clause-none
-answer-requires-clause-none g c = c.self.invariant.1
+pub answer-requires-clause-all : goal.answer-requires-clause-all
+answer-requires-clause-all g c = c.self.invariant.1
+
+pub answer-requires-clause-forms : goal.answer-requires-clause-forms
+answer-requires-clause-forms g c = c.self.invariant.2
 
 pub invariant_of-self : goal.invariant_of-self
-invariant_of-self g c = (c.answer.ensures.end, c.answer.ensures.none)
+invariant_of-self g c = (c.answer.ensures.end, c.answer.ensures.all, c.answer.ensures.forms)
 
 pub returns-clause-refused : goal.returns-clause-refused
 returns-clause-refused g c = rw (sym c.self.view_is) c.answer.ensures.refused

@@ -18,11 +18,14 @@ answer_quietly-requires-clause-end g c = c.self.invariant.0 (ap broken_of c.self
 pub answer_quietly-requires-clause-open : goal.answer_quietly-requires-clause-open
 answer_quietly-requires-clause-open g c = λ told. subst (λ (s : SessionState). (made : List Event) × IsStoreOf (disk_now (g.H.Host.told c.args.host.now)) s.state made) (sym c.self.view_is) (c.requires.open told)
 
-pub answer_quietly-requires-clause-none : goal.answer_quietly-requires-clause-none
-answer_quietly-requires-clause-none g c = c.self.invariant.1
+pub answer_quietly-requires-clause-all : goal.answer_quietly-requires-clause-all
+answer_quietly-requires-clause-all g c = c.self.invariant.1
+
+pub answer_quietly-requires-clause-forms : goal.answer_quietly-requires-clause-forms
+answer_quietly-requires-clause-forms g c = c.self.invariant.2
 
 pub invariant_of-self : goal.invariant_of-self
-invariant_of-self g c = (c.answer_quietly.ensures.end, c.answer_quietly.ensures.none)
+invariant_of-self g c = (c.answer_quietly.ensures.end, c.answer_quietly.ensures.all, c.answer_quietly.ensures.forms)
 
 pub returns-clause-refused : goal.returns-clause-refused
 returns-clause-refused g c = rw (sym c.self.view_is) c.answer_quietly.ensures.refused

@@ -9,15 +9,11 @@ use Rattle.plain_repository.specs.State.{folded, model_of}
 use Rattle.repo_core.specs.Keeping.{plain_of}
 use Rattle.repo_core.proofs.Ordered.{is_there, model_leads}
 use Rattle.repo_core.proofs.Reverted.{applied_could}
-use Rattle.repo_core.proofs.Stopping.{none_stops, package_few}
+use Rattle.version_states.proofs.Stopping.{none_stops, package_few}
 use Rattle.repo_core.proofs.repo.Repo.decide_apply.Goals as goal
 
-pub fold_model-requires-clause-leads : goal.fold_model-requires-clause-leads
-fold_model-requires-clause-leads c =
-    let s = c.args.self.now in
-    let meta = c.args.begun.now.meta in
-    let w = plain_of c.in-Some.workspace.now in
-    subst (λ (h : History). is_some (folded meta h w) ≡ true) c.requires.history (model_leads s meta w (is_there s meta c.args.ws w c.orderly.ensures c.requires.meta (sym c.in-Some.ensures.found)))
+pub model_anew-requires-clause-there : goal.model_anew-requires-clause-there
+model_anew-requires-clause-there c = sym c.in-Some.ensures.found
 
 pub stop_in-requires-clause-few : goal.stop_in-requires-clause-few
 stop_in-requires-clause-few c =
@@ -30,7 +26,7 @@ with_operations-requires c =
     let meta = c.args.begun.now.meta in
     let w = plain_of c.in-Some.workspace.now in
     let taken = none_stops meta c.in_ok-model.model c.as_slice.result.now (sym c.in-None.is ∙ c.in_ok-step.ensures.stop) in
-    let on_model = subst (λ (m : models.State). is_some (fold_package meta m c.as_slice.result.now) ≡ true) (c.in_ok-model.ensures.model ∙ ap (λ (h : History). model_of meta h w) (sym c.requires.history)) taken in
+    let on_model = subst (λ (m : models.State). is_some (fold_package meta m c.as_slice.result.now) ≡ true) c.in_ok-model.ensures.model taken in
     record {
       could = applied_could s meta c.args.ws w c.requires.meta (sym c.in-Some.ensures.found) (sym c.is_open.ensures.open ∙ c.if-is_open.false) c.in-Ok.«package»
           (subst (λ (os : List Operation). is_some (fold_package meta (model_of meta s.history w) os) ≡ true) c.as_slice.ensures on_model);

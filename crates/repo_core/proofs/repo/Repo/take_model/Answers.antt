@@ -1,57 +1,18 @@
-use Rattle.std.proofs.Common.{◌≡◌, ◌∙◌, Option, Some, true, is_some, sym, ap, subst}
-use Rattle.ecore_meta.specs.Meta.{Meta}
-use Rattle.history_tree.specs.History.{History}
-use Rattle.plain_repository.specs.State.{State, workspace_of, folded}
-use Rattle.plain_repository.specs.Orderly.{IsOrderly}
-use Rattle.plain_repository.specs.Laws.{IsThere}
-use Rattle.repo_core.specs.Keeping.{FitsAny, meta_of, history_of, plain_any, plain_of}
-use Rattle.repo_core.proofs.Changing.{at_is, below_is, fit_at, fit_set, none_fits, order_same, same_at, view_same, working}
-use Rattle.repo_core.proofs.Ordered.{is_there, model_leads}
+use Rattle.std.proofs.Common.{◌≡◌, true, is_some, sym, ◌∙◌, subst}
+use Rattle.std.specs.Prelude.{IfOk}
+use Rattle.plain_repository.specs.State.{State, workspace_of}
+use Rattle.repo_core.specs.Cached.{HasForms}
+use Rattle.repo_core.specs.Working.{IsWorkingModel}
 use Rattle.repo_core.proofs.repo.Repo.take_model.Goals as goal
 
-abbrev meta_in : State → Option Meta
-meta_in s = s.meta
+pub model_out-requires-clause-there : goal.model_out-requires-clause-there
+model_out-requires-clause-there c = subst (λ (s : State). is_some (workspace_of s c.args.ws) ≡ true) (sym c.touch.ensures.same) c.requires.there
 
-abbrev history_in : State → History
-history_in s = s.history
-
-pub take_model-requires-clause-leads : goal.take_model-requires-clause-leads
-take_model-requires-clause-leads c =
-    let s = c.args.self.now in
-    let meta = c.in-Some-begun.begun.meta in
-    let w = c.in-Some-index_mut.workspace in
-    let begun : s.meta ≡ Some meta = sym (ap meta_in c.self.view_is) ∙ ap meta_of c.in-Some-begun.is in
-    let hist : s.history ≡ c.in-Some-begun.begun.history.history = sym (ap history_in c.self.view_is) ∙ ap history_of c.in-Some-begun.is in
-    let at : workspace_of s c.args.ws ≡ Some (plain_of w) = at_is s c.self.inside.workspaces.items c.args.ws c.in-Some.at c.index_mut.result.now _ (ap (λ (s : State). s.workspaces) c.self.view_is) c.in-Some.ensures.there.0 c.in-Some.ensures.there.1 c.index_mut.ensures.value ∙ ap plain_any c.in-Some-index_mut.is in
-    let there : IsThere s meta (plain_of w) = is_there s meta c.args.ws (plain_of w) (subst IsOrderly c.self.view_is c.self.invariant.2) begun at in
-    subst (λ (h : History). is_some (folded meta h (plain_of w)) ≡ true) hist (model_leads s meta (plain_of w) there)
-
-pub take_model-requires-clause-fits : goal.take_model-requires-clause-fits
-take_model-requires-clause-fits c =
-    let below = below_is c.args.self.now c.self.inside.workspaces.items c.in-Some.at (ap (λ (s : State). s.workspaces) c.self.view_is) c.in-Some.ensures.there.1 in
-    subst (FitsAny c.in-Some-begun.begun.meta c.in-Some-begun.begun.history.history) c.in-Some-index_mut.is
-    (fit_at c.self.inside.begun c.in-Some-begun.begun c.self.inside.workspaces.items c.in-Some.at c.index_mut.result.now _ c.in-Some-begun.is below c.index_mut.ensures.value c.self.invariant.1)
-
-pub invariant_of-self : goal.invariant_of-self
-invariant_of-self c =
-    let same = same_at c.self.inside.workspaces.items c.in-Some.at c.index_mut.result.now _ c.in-Some-index_mut.workspace c.take_model.new.self (below_is c.args.self.now c.self.inside.workspaces.items c.in-Some.at (ap (λ (s : State). s.workspaces) c.self.view_is) c.in-Some.ensures.there.1) c.index_mut.ensures.value c.in-Some-index_mut.is c.take_model.ensures.same in (
-      c.self.invariant.0,
-      fit_set c.self.inside.begun c.in-Some-begun.begun c.self.inside.workspaces.items c.in-Some.at (Some c.take_model.new.self) c.in-Some-begun.is (none_fits c.in-Some-begun.begun.meta c.in-Some-begun.begun.history.history c.take_model.new.self c.take_model.ensures.taken) c.self.invariant.1,
-      order_same c.self.inside.begun c.self.inside.workspaces.items _ c.self.inside.events c.self.inside.end same c.self.invariant.2,
-    )
-
-pub returns-clause-same : goal.returns-clause-same
-returns-clause-same c =
-    let same = same_at c.self.inside.workspaces.items c.in-Some.at c.index_mut.result.now _ c.in-Some-index_mut.workspace c.take_model.new.self (below_is c.args.self.now c.self.inside.workspaces.items c.in-Some.at (ap (λ (s : State). s.workspaces) c.self.view_is) c.in-Some.ensures.there.1) c.index_mut.ensures.value c.in-Some-index_mut.is c.take_model.ensures.same in
-    view_same c.self.inside.begun c.self.inside.workspaces.items _ c.self.inside.events c.self.inside.end c.args.self.now same c.self.view_is
+pub model_out-requires-clause-forms : goal.model_out-requires-clause-forms
+model_out-requires-clause-forms c = subst (λ (s : State). HasForms s c.args.pool.now c.args.cache.now) (sym c.touch.ensures.same) c.requires.forms
 
 pub returns-clause-model : goal.returns-clause-model
-returns-clause-model c =
-    let s = c.args.self.now in
-    let meta = c.in-Some-begun.begun.meta in
-    let w = c.in-Some-index_mut.workspace in
-    let begun : s.meta ≡ Some meta = sym (ap meta_in c.self.view_is) ∙ ap meta_of c.in-Some-begun.is in
-    let hist : s.history ≡ c.in-Some-begun.begun.history.history = sym (ap history_in c.self.view_is) ∙ ap history_of c.in-Some-begun.is in
-    let at : workspace_of s c.args.ws ≡ Some (plain_of w) = at_is s c.self.inside.workspaces.items c.args.ws c.in-Some.at c.index_mut.result.now _ (ap (λ (s : State). s.workspaces) c.self.view_is) c.in-Some.ensures.there.0 c.in-Some.ensures.there.1 c.index_mut.ensures.value ∙ ap plain_any c.in-Some-index_mut.is in
-    let there : IsThere s meta (plain_of w) = is_there s meta c.args.ws (plain_of w) (subst IsOrderly c.self.view_is c.self.invariant.2) begun at in
-    working s c.args.ws meta c.in-Some-begun.begun.history.history (plain_of w) c.take_model.result begun hist at c.take_model.ensures.model c.take_model.ensures.good
+returns-clause-model c = subst (λ (s : State). IfOk c.model_out.result (λ m. IsWorkingModel s c.args.ws m)) c.touch.ensures.same c.model_out.ensures.model
+
+pub returns-clause-forms : goal.returns-clause-forms
+returns-clause-forms c = subst (λ (s : State). HasForms s c.model_out.new.pool c.model_out.new.cache) c.touch.ensures.same c.model_out.ensures.forms

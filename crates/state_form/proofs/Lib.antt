@@ -1,0 +1,4 @@
+pub mod Keeps
+pub mod Builds
+pub mod Bytes
+pub mod Packages

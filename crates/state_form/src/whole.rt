@@ -1,0 +1,58 @@
+//! A state as a package, and as bytes.
+ghost use Rattle.std.specs.Prelude.{◌≡◌, ◌≤◌, ◌^◌, IfOk, IfSome, IfNone, Some};
+ghost use Rattle.model_state.specs.Good.{Good, Sound};
+ghost use Rattle.model_state.specs.Packages.{fold_package};
+ghost use Rattle.model_state.specs.State.{nothing};
+ghost use Rattle.state_form.specs.Form.{as_package, whole_package, state_encoding, state_size, IsStateForm};
+ghost use Rattle.state_form.specs.Spelled.{IsSpelled};
+
+use ecore_meta::{List, Metamodel};
+use model_state::{Look, OpKind, Operation, Package, Step};
+use op_form::encode;
+use state_steps::as_steps;
+use std::alloc::{AllocError, Global};
+
+/// One operation with all steps; none where there is no step.
+fn as_package(alloc: Global, steps: List<Step>) -> Result<Package, AllocError>
+    ensures { IfOk result (λ p. p ≡ as_package steps) }
+{
+    let mut made = List::new(alloc);
+    if steps.len() > 0 {
+        made.push(Operation::Simple {
+            kind: OpKind::Create,
+            steps,
+        })?;
+    }
+    Ok(made)
+}
+
+/// The package that builds the model from the empty project: one operation, or none where the model is empty.
+pub fn package_of<L: Look>(alloc: Global, look: &L, meta: &Metamodel) -> Result<Package, AllocError>
+    requires sound { Sound meta.now }
+    requires good { Good meta.now (L.state look.now) }
+    ensures whole { IfOk result (λ p. p ≡ whole_package meta.now (L.state look.now)) }
+    ensures leads { IfOk result (λ p. fold_package meta.now nothing p ≡ Some (L.state look.now)) }
+{
+    as_package(alloc, as_steps(alloc, look, meta)?)
+}
+
+/// The bytes of that package; none where it has 2^32 steps or more, and so as many bytes.
+pub fn encode_state<L: Look>(
+    alloc: Global,
+    look: &L,
+    meta: &Metamodel,
+) -> Result<Option<Vec<u8>>, AllocError>
+    requires sound { Sound meta.now }
+    requires good { Good meta.now (L.state look.now) }
+    requires spelled { IsSpelled meta.now (L.state look.now) }
+    ensures bytes { IfOk result (λ found. IfSome found (λ bytes. bytes.items ≡ state_encoding meta.now (L.state look.now))) }
+    ensures form { IfOk result (λ found. IfSome found (λ bytes. IsStateForm meta.now (L.state look.now) bytes.items)) }
+    ensures none { IfOk result (λ found. IfNone found (2 ^ 32 ≤ state_size meta.now (L.state look.now))) }
+{
+    let steps = as_steps(alloc, look, meta)?;
+    if steps.len() > u32::MAX as usize {
+        return Ok(None);
+    }
+    let made = as_package(alloc, steps)?;
+    Ok(Some(encode(alloc, &made)?))
+}

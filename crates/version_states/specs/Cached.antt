@@ -1,0 +1,35 @@
+-- What a cache has of a history: states of its versions, each as a package that leads to it.
+use Rattle.std.specs.Prelude.{◌≡◌, ℕ, ◌+◌, ◌<◌, ◌≤◌, List, [], length, All, Option, Some, None}
+use Rattle.ecore_meta.specs.Meta.{Meta}
+use Rattle.state_form.specs.Form.{IsStateForm, state_size}
+use Rattle.history_tree.specs.History.{History}
+use Rattle.history_tree.specs.States.{state_of}
+use Rattle.page_pool.specs.Frames.{Frames, out_of}
+use Rattle.state_cache.specs.Entries.{Entries, IsCached, IsFirst, KeepsApart, held}
+
+-- ---- what entries are
+-- the entry is of a version that is there, and has its state
+abbrev pub IsVersionForm : Meta → History → ℕ × List ℕ → Type 0
+IsVersionForm meta h e = (e.0 < length h.versions) × IsStateForm meta (state_of meta h e.0) e.1
+
+-- each entry is; before there is a metamodel there is none
+abbrev pub AreForms : Option Meta → History → List (ℕ × List ℕ) → Type 0
+AreForms None h entries = entries ≡ []
+AreForms (Some meta) h entries = All (IsVersionForm meta h) entries
+
+-- ---- what calls ask and leave
+-- the frames that the cache holds are out of the pool, each once, and not too many others are
+pub record MayUse (pool : Frames) (cache : Entries) : Type 0 where
+  pub out : IsCached pool cache
+  pub room : out_of pool ≤ 6144 + length (held cache)
+
+-- What a call leaves of a pool and a cache: the frames that the cache holds are out, each once; each frame that is out elsewhere stays so, with
+-- its bytes; and their number stays.
+pub record Uses (before after : Frames) (old new : Entries) : Type 0 where
+  pub out : IsCached after new
+  pub apart : KeepsApart before after old new
+  pub count : out_of after + length (held old) ≡ out_of before + length (held new)
+
+-- the version's entry stands first, where its state has not too many bytes
+abbrev pub LeavesFirst : Meta → History → ℕ → Entries → Type 0
+LeavesFirst meta h v cache = state_size meta (state_of meta h v) ≤ 8388608 → IsFirst v cache

@@ -1,0 +1,166 @@
+//! Steps and operations taken one by one, and the state of a version.
+ghost use Rattle.std.specs.Prelude.{◌≡◌, ◌≢◌, ◌<◌, ◌^◌, All, length, is_some, option_map, true, None, Some, IfOk, OnOk, IfErr};
+ghost use Rattle.ecore_meta.specs.Sound.{Sound};
+ghost use Rattle.model_state.specs.Faults.{IsFault};
+ghost use Rattle.model_state.specs.Good.{Good};
+ghost use Rattle.model_state.specs.Packages.{fold_package, steps_all, steps_of};
+ghost use Rattle.model_state.specs.Steps.{fault_along, first_stop, fold};
+ghost use Rattle.history_tree.specs.States.{operations_of, state_folded, state_of};
+ghost use Rattle.state_form.specs.Spelled.{IsSpelled};
+ghost use Rattle.state_cache.specs.Entries.{stands};
+ghost use Rattle.version_states.specs.Cached.{AreForms, LeavesFirst, MayUse, Uses};
+
+use crate::cached::{cached_state, keep_state, nearest};
+use ecore_meta::Metamodel;
+use history_tree::History;
+use model_state::{Operation, Step, StepFault};
+use page_pool::Pool;
+use state_cache::Cache;
+use std::alloc::{AllocError, Global};
+use working_model::Working;
+
+/// The steps of an operation, simple or composite.
+pub fn steps_in(operation: &Operation) -> &[Step]
+    ensures { result.now ≡ steps_of operation.now }
+{
+    match operation {
+        Operation::Simple { steps, .. } => steps.as_slice(),
+        Operation::Composite { steps, .. } => steps.as_slice(),
+    }
+}
+
+/// Takes the steps one by one, up to the first that can't be taken, whose fault it gives.
+pub fn take_steps(model: &mut Working, meta: &Metamodel, steps: &[Step]) -> Result<(), StepFault>
+    requires sound { Sound meta.now }
+    requires good { Good meta.now model.old }
+    ensures done { OnOk result (fold meta.now model.old steps.now ≡ Some model.new) }
+    ensures cannot { IfErr result (λ e. IsFault (fault_along meta.now model.old steps.now) e) }
+    ensures good { Good meta.now model.new }
+{
+    match model.replay(meta, steps) {
+        Ok(()) => Ok(()),
+        Err(stop) => Err(stop.fault),
+    }
+}
+
+/// Takes the steps of operations one by one, up to the first that can't be taken. After an error the model is of no use.
+pub fn follow(
+    model: &mut Working,
+    meta: &Metamodel,
+    operations: &[Operation],
+) -> Result<(), StepFault>
+    requires sound { Sound meta.now }
+    requires good { Good meta.now model.old }
+    ensures done { OnOk result (fold_package meta.now model.old operations.now ≡ Some model.new) }
+    ensures cannot { IfErr result (λ e. e ≢ StepFault.Memory → fold_package meta.now model.old operations.now ≡ None) }
+    ensures good { Good meta.now model.new }
+{
+    for operation in operations {
+        take_steps(model, meta, steps_in(operation))?;
+    }
+    Ok(())
+}
+
+/// The number, from 0 over all operations, of the first step that can't be taken, None where each can. The steps before it are taken on the model.
+pub fn stop_in(
+    model: &mut Working,
+    meta: &Metamodel,
+    operations: &[Operation],
+) -> Result<Option<u64>, AllocError>
+    requires sound { Sound meta.now }
+    requires good { Good meta.now model.old }
+    requires few { length (steps_all operations.now) < 2 ^ 64 }
+    ensures stop { IfOk result (λ found. found ≡ option_map (λ x. x.at) (first_stop meta.now model.old (steps_all operations.now))) }
+{
+    let mut before = 0;
+    for operation in operations {
+        let steps = steps_in(operation);
+        if let Err(stop) = model.replay(meta, steps) {
+            return match stop.fault {
+                StepFault::Memory => Err(AllocError),
+                _ => Ok(Some(before + stop.at)),
+            };
+        }
+        before += steps.len() as u64;
+    }
+    Ok(None)
+}
+
+/// Takes the operations of versions, one version after another. After an error the model is of no use.
+fn follow_versions(
+    model: &mut Working,
+    meta: &Metamodel,
+    history: &History,
+    versions: &[u32],
+) -> Result<(), StepFault>
+    requires sound { Sound meta.now }
+    requires good { Good meta.now model.old }
+    requires there { All (λ u. u < length history.now.history.versions) versions.now }
+    ensures done { OnOk result (fold_package meta.now model.old (operations_of history.now.history.versions versions.now) ≡ Some model.new) }
+    ensures cannot { IfErr result (λ e. e ≢ StepFault.Memory → fold_package meta.now model.old (operations_of history.now.history.versions versions.now) ≡ None) }
+    ensures good { Good meta.now model.new }
+{
+    for u in versions {
+        follow(model, meta, history.version(*u).package.as_slice())?;
+    }
+    Ok(())
+}
+
+/// The state of a version, from the nearest one before it that the cache has.
+fn build_state(
+    alloc: Global,
+    cache: &mut Cache,
+    pool: &Pool,
+    meta: &Metamodel,
+    history: &History,
+    v: u32,
+) -> Result<Working, AllocError>
+    requires sound { Sound meta.now }
+    requires there { v < length history.now.history.versions }
+    requires leads { is_some (state_folded meta.now history.now.history v) ≡ true }
+    requires usable { MayUse pool.now cache.old }
+    requires forms { AreForms (Some meta.now) history.now.history (stands pool.now cache.old) }
+    ensures state { IfOk result (λ m. m ≡ state_of meta.now history.now.history v) }
+    ensures good { IfOk result (λ m. Good meta.now m) }
+    ensures uses { Uses pool.now pool.now cache.old cache.new }
+    ensures forms { AreForms (Some meta.now) history.now.history (stands pool.now cache.new) }
+{
+    let (rest, model) = nearest(alloc, cache, pool, meta, history, v)?;
+    let mut model = model;
+    match follow_versions(&mut model, meta, history, &rest) {
+        Ok(()) => Ok(model),
+        Err(fault) => match fault {
+            StepFault::Memory => Err(AllocError),
+            _ => unreachable!(),
+        },
+    }
+}
+
+/// The state of a version whose operations can be taken. The cache keeps it, and its entry then stands first.
+pub fn state_at(
+    alloc: Global,
+    cache: &mut Cache,
+    pool: &mut Pool,
+    meta: &Metamodel,
+    history: &History,
+    v: u32,
+) -> Result<Working, AllocError>
+    requires sound { Sound meta.now }
+    requires there { v < length history.now.history.versions }
+    requires leads { is_some (state_folded meta.now history.now.history v) ≡ true }
+    requires spelled { IsSpelled meta.now (state_of meta.now history.now.history v) }
+    requires usable { MayUse pool.old cache.old }
+    requires forms { AreForms (Some meta.now) history.now.history (stands pool.old cache.old) }
+    ensures state { IfOk result (λ m. m ≡ state_of meta.now history.now.history v) }
+    ensures good { IfOk result (λ m. Good meta.now m) }
+    ensures first { OnOk result (LeavesFirst meta.now history.now.history v cache.new) }
+    ensures uses { Uses pool.old pool.new cache.old cache.new }
+    ensures forms { AreForms (Some meta.now) history.now.history (stands pool.new cache.new) }
+{
+    if let Some(model) = cached_state(alloc, cache, pool, meta, history, v)? {
+        return Ok(model);
+    }
+    let model = build_state(alloc, cache, pool, meta, history, v)?;
+    keep_state(alloc, cache, pool, meta, history, v, model.graph())?;
+    Ok(model)
+}
