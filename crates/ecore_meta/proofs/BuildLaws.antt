@@ -8,13 +8,13 @@ use Rattle.std.proofs.lemmas.List.{length-map}
 use Rattle.ecore_meta.specs.Names.{Name, number_of}
 use Rattle.ecore_meta.specs.Document.{ClassifierRows, classifier_name, classifier_named, class_in, class_number, numbered, supers_in, feature_total}
 use Rattle.ecore_meta.specs.Drafts.{draft, drafts, drafts_from}
-use Rattle.ecore_meta.specs.Faults.{own_of, inherited, all_inherited, literal, literals_in}
+use Rattle.ecore_meta.specs.Faults.{own_of, inherited, all_inherited, literal, enums_in}
 use Rattle.ecore_meta.specs.Faults.{first_true}
 use Rattle.ecore_meta.specs.declared.fault.MetaFault.{MetaFault}
 use Rattle.ecore_meta.specs.declared.fault.MetaFault.TheVariants.{SelfOpposite, BadOpposite, BadBound, BadDefault}
 use Rattle.ecore_meta.specs.Build.{AreFew, classes_from}
 use Rattle.ecore_meta.specs.Supers.{Inside, is_above, supers_of}
-use Rattle.ecore_meta.specs.Tables.{all_above}
+use Rattle.ecore_meta.specs.Supers.{all_above}
 use Rattle.ecore_meta.specs.Values.{AreShort}
 use Rattle.ecore_meta.specs.declared.classifiers.Classifier.{Classifier}
 use Rattle.ecore_meta.specs.declared.classifiers.Classifier.TheVariants.{Class as OfClass, Enum as OfEnum, Plain as OfPlain}
@@ -100,11 +100,11 @@ pub drafts_few : (rows : ClassifierRows) → length (drafts rows) ≡ feature_to
 unfolding drafts
 drafts_few rows = drafts_count rows 0 rows
 
-pub literals_short : (rows : ClassifierRows) → AreFew rows → AreShort (literals_in rows)
-literals_short [] few = tt
-literals_short (Class c ∷ rows) few = literals_short rows few.1
-literals_short (Enum e ∷ rows) few = (subst (λ k. k < 4294967296) (sym (length-map e.literals literal)) (omega (arith, few.0)), literals_short rows few.1)
-literals_short (Plain t ∷ rows) few = literals_short rows few.1
+pub enums_short : (rows : ClassifierRows) → AreFew rows → AreShort (enums_in rows)
+enums_short [] few = tt
+enums_short (Class c ∷ rows) few = enums_short rows few.1
+enums_short (Enum e ∷ rows) few = (subst (λ k. k < 4294967296) (sym (length-map e.literals literal)) (omega (arith, few.0)), enums_short rows few.1)
+enums_short (Plain t ∷ rows) few = enums_short rows few.1
 
 pub classes_count : (n : ℕ) (fs : List (List ℕ)) (rows : ClassifierRows) → length (classes_from n fs rows) ≤ length rows
 classes_count n fs [] = omega arith
@@ -118,11 +118,11 @@ classes_supers all n fs (Class c ∷ rows) = ap (λ k. suc k) (classes_supers al
 classes_supers all n fs (Enum e ∷ rows) = classes_supers all n fs rows
 classes_supers all n fs (Plain t ∷ rows) = classes_supers all n fs rows
 
-pub literals_count : (rows : ClassifierRows) → length (literals_in rows) ≤ length rows
-literals_count [] = omega arith
-literals_count (Class c ∷ rows) = let more = literals_count rows in omega (arith, more)
-literals_count (Enum e ∷ rows) = let more = literals_count rows in omega (arith, more)
-literals_count (Plain t ∷ rows) = let more = literals_count rows in omega (arith, more)
+pub enums_count : (rows : ClassifierRows) → length (enums_in rows) ≤ length rows
+enums_count [] = omega arith
+enums_count (Class c ∷ rows) = let more = enums_count rows in omega (arith, more)
+enums_count (Enum e ∷ rows) = let more = enums_count rows in omega (arith, more)
+enums_count (Plain t ∷ rows) = let more = enums_count rows in omega (arith, more)
 
 -- the last four faults by their tests
 abbrev pub last_of : Bool → Bool → Bool → Bool → Option MetaFault

@@ -9,7 +9,7 @@ use Rattle.std.proofs.lemmas.Bool.{or_parts}
 use Rattle.ecore_meta.specs.Build.{classes_from, container, end_number, feature_from, kind_in, meta_of, natural, plain, reference}
 use Rattle.ecore_meta.specs.Document.{ClassifierRows, classifier_name, supers_in}
 use Rattle.ecore_meta.specs.Drafts.{draft, drafts, drafts_from}
-use Rattle.ecore_meta.specs.Faults.{clash, contains_back, draft_name, dup_name, fault, features_of, is_skipped, literal, literals_in, no_type, own_of, repeats_within, super_cycle, unsupported}
+use Rattle.ecore_meta.specs.Faults.{clash, contains_back, draft_name, dup_name, fault, features_of, is_skipped, literal, enums_in, no_type, own_of, repeats_within, super_cycle, unsupported}
 use Rattle.ecore_meta.specs.Meta.{name_at}
 use Rattle.ecore_meta.specs.Named.{IsNamed, NamesFit, has_slash, is_reserved}
 use Rattle.ecore_meta.specs.Names.{Name, has_repeat}
@@ -21,7 +21,7 @@ use Rattle.ecore_meta.specs.declared.drafts.Target.TheVariants.{Skipped, Unsuppo
 use Rattle.ecore_meta.specs.declared.fault.MetaFault.{MetaFault}
 use Rattle.ecore_meta.specs.declared.fault.MetaFault.TheVariants.{DupName, Unsupported as UnsupportedFault, NoType, SuperCycle, Clash}
 use Rattle.ecore_meta.specs.declared.meta.Class.{Class as ClassOf}
-use Rattle.ecore_meta.specs.declared.meta.EnumLiteral.{EnumLiteral}
+use Rattle.ecore_meta.specs.declared.meta.Enum.{Enum as EnumOf}
 use Rattle.ecore_meta.specs.declared.meta.Feature.{Feature}
 use Rattle.ecore_meta.specs.declared.meta.Kind.TheVariants.{Attr, AttrMany, Bounded, Free, Contains, Skip}
 use Rattle.ecore_meta.specs.declared.meta.Scalar.{Scalar}
@@ -80,13 +80,13 @@ none_at p (xs ∷ fs) none h zero = (or_parts (p xs) (list_any p fs) h).0
 none_at p (xs ∷ fs) none h (suc k) = none_at p fs none (or_parts (p xs) (list_any p fs) h).1 k
 
 -- ---- drafts
-module _ (literals : List (List EnumLiteral)) (all : List Draft) where
-  same_name : (ds : List Draft) (f : ℕ) → name_at (map (feature_from literals all) ds) f ≡ draft_name ds f
+module _ (enums : List EnumOf) (all : List Draft) where
+  same_name : (ds : List Draft) (f : ℕ) → name_at (map (feature_from enums all) ds) f ≡ draft_name ds f
   same_name [] f = refl
   same_name (d ∷ ds) zero = refl
   same_name (d ∷ ds) (suc f) = same_name ds f
 
-  same_names : (ds : List Draft) (fs : List ℕ) → map (name_at (map (feature_from literals all) ds)) fs ≡ map (draft_name ds) fs
+  same_names : (ds : List Draft) (fs : List ℕ) → map (name_at (map (feature_from enums all) ds)) fs ≡ map (draft_name ds) fs
   same_names ds [] = refl
   same_names ds (f ∷ fs) = λ i. same_name ds f i ∷ same_names ds fs i
 
@@ -126,7 +126,7 @@ attribute_other : (b u : Bool) (s : Scalar) (v : Option Value) (t : ℕ) (o : Op
 attribute_other true u s v t o h = cc
 attribute_other false u s v t o h = cc
 
-module _ (literals : List (List EnumLiteral)) (ds : List Draft) (d : Draft) where
+module _ (enums : List EnumOf) (ds : List Draft) (d : Draft) where
   reference_free : (n t : ℕ) (o : Option ℕ) → reference ds d n ≡ Free t o → int_eq d.upper (negsuc 0) ≡ true
   reference_free n t o h = by_tests d.containment (contains_back ds d.end) h
     where
@@ -135,18 +135,18 @@ module _ (literals : List (List EnumLiteral)) (ds : List Draft) (d : Draft) wher
       by_tests false true h = absurd (no_container n t o d.end h)
       by_tests false false h = free_bound (int_eq d.upper (negsuc 0)) n t o (end_number d.end) h
 
-  unbounded : (x : Target) (t : ℕ) (o : Option ℕ) → kind_in literals ds d x ≡ Free t o → cond (is_skipped x) (Some 1) (cond (int_eq d.upper (negsuc 0)) None (Some (natural d.upper))) ≡ None
+  unbounded : (x : Target) (t : ℕ) (o : Option ℕ) → kind_in enums ds d x ≡ Free t o → cond (is_skipped x) (Some 1) (cond (int_eq d.upper (negsuc 0)) None (Some (natural d.upper))) ≡ None
   unbounded Skipped t o h = cc
   unbounded Unsupported t o h = cc
   unbounded Missing t o h = cc
   unbounded (Elements c) t o h = ap (λ b. cond b None (Some (natural d.upper))) (reference_free c t o h)
   unbounded (Values s) t o h = absurd (attribute_other (int_eq d.upper (pos 1)) d.unique s _ t o h)
 
-module _ (literals : List (List EnumLiteral)) (all : List Draft) where
+module _ (enums : List EnumOf) (all : List Draft) where
   upper_none : (ds : List Draft) (f t : ℕ) (o : Option ℕ)
-      → option_map_or (λ (x : Feature). x.kind) (slice_get (map (feature_from literals all) ds) f) Skip ≡ Free t o → option_map_or (λ (x : Feature). x.upper) (slice_get (map (feature_from literals all) ds) f) None ≡ None
+      → option_map_or (λ (x : Feature). x.kind) (slice_get (map (feature_from enums all) ds) f) Skip ≡ Free t o → option_map_or (λ (x : Feature). x.upper) (slice_get (map (feature_from enums all) ds) f) None ≡ None
   upper_none [] f t o is = cc
-  upper_none (d ∷ ds) zero t o is = unbounded literals all d d.target t o is
+  upper_none (d ∷ ds) zero t o is = unbounded enums all d d.target t o is
   upper_none (d ∷ ds) (suc f) t o is = upper_none ds f t o is
 
 -- ---- texts of literals
@@ -154,10 +154,10 @@ texts_of : (ls : List LiteralRow) → map (λ l. l.text) (map literal ls) ≡ ma
 texts_of [] = refl
 texts_of (l ∷ ls) = ap (λ xs. l.literal ∷ xs) (texts_of ls)
 
-texts_at : List (List EnumLiteral) → ℕ → List Name
-texts_at literals e = map (λ l. l.text) (option_map_or (λ ls. ls) (slice_get literals e) [])
+texts_at : List EnumOf → ℕ → List Name
+texts_at enums e = map (λ l. l.text) (option_map_or (λ (x : EnumOf). x.literals) (slice_get enums e) [])
 
-texts_apart : (rows : ClassifierRows) → list_any repeats_within rows ≡ false → (e : ℕ) → has_repeat (texts_at (literals_in rows) e) ≡ false
+texts_apart : (rows : ClassifierRows) → list_any repeats_within rows ≡ false → (e : ℕ) → has_repeat (texts_at (enums_in rows) e) ≡ false
 unfolding texts_at
 texts_apart [] h e = refl
 texts_apart (Class c ∷ rows) h e = texts_apart rows (or_parts (repeats_within (Class c)) (list_any repeats_within rows) h).1 e
@@ -172,7 +172,7 @@ pub built_named : (rows : MetaRows) → fault rows.classifiers ≡ None → Name
 unfolding drafts texts_at
 built_named rows none fit =
     let all = rows.classifiers in
-    let literals = literals_in all in
+    let enums = enums_in all in
     let ds = drafts all in
     let first = passed (dup_name all) DupName _ none in
     let second = passed (unsupported ds) UnsupportedFault _ first.1 in
@@ -184,9 +184,9 @@ built_named rows none fit =
       classes = names_apart 0 (features_of all) all single.0;
       slashes = no_slashes 0 (features_of all) all fit;
       features = λ c.
-          ap has_repeat (same_names literals ds ds (option_map_or (λ (x : ClassOf). x.features) (slice_get (classes_from 0 (features_of all) all) c) []))
+          ap has_repeat (same_names enums ds ds (option_map_or (λ (x : ClassOf). x.features) (slice_get (classes_from 0 (features_of all) all) c) []))
           ∙ class_features (λ fs. has_repeat (map (draft_name ds) fs) ≡ false) refl (features_of all) (none_at (λ fs. has_repeat (map (draft_name ds) fs)) (features_of all) refl fifth.0) 0 all c;
-      keys = λ f. ap is_reserved (same_name literals ds ds f) ∙ name_free ds (drafts_named all 0 all fit) f;
+      keys = λ f. ap is_reserved (same_name enums ds ds f) ∙ name_free ds (drafts_named all 0 all fit) f;
       literals = texts_apart all single.1;
-      unbounded = upper_none literals ds ds;
+      unbounded = upper_none enums ds ds;
     }

@@ -6,14 +6,14 @@ use Rattle.std.specs.Option.{option_map, option_map_or}
 use Rattle.ecore_meta.specs.Build.{container, end_number, feature_from, kind_in, meta_of}
 use Rattle.ecore_meta.specs.Drafts.{drafts}
 use Rattle.ecore_meta.specs.Ends.{EndsMeet, end_in, is_container, is_containment, owner_of, target_in}
-use Rattle.ecore_meta.specs.Faults.{answers, any_from, bad_end, contains_back, fault, is_at, is_self, is_unanswered, literals_in}
+use Rattle.ecore_meta.specs.Faults.{answers, any_from, bad_end, contains_back, fault, is_at, is_self, is_unanswered, enums_in}
 use Rattle.ecore_meta.specs.Typing.{kind_of}
 use Rattle.ecore_meta.specs.declared.drafts.Draft.{Draft}
 use Rattle.ecore_meta.specs.declared.drafts.End.{End}
 use Rattle.ecore_meta.specs.declared.drafts.End.TheVariants.{Open, Nowhere, At}
 use Rattle.ecore_meta.specs.declared.drafts.Target.{Target}
 use Rattle.ecore_meta.specs.declared.drafts.Target.TheVariants.{Skipped, Unsupported, Missing, Elements, Values}
-use Rattle.ecore_meta.specs.declared.meta.EnumLiteral.{EnumLiteral}
+use Rattle.ecore_meta.specs.declared.meta.Enum.{Enum}
 use Rattle.ecore_meta.specs.declared.meta.Feature.{Feature}
 use Rattle.ecore_meta.specs.declared.meta.Kind.{Kind}
 use Rattle.ecore_meta.specs.declared.meta.Kind.TheVariants.{Attr, AttrMany, Bounded, Free, Contains, Container, Skip}
@@ -72,20 +72,20 @@ record Ended (d : Draft) (g c : ℕ) : Type 0 where
   pub ends : d.end ≡ At g
   pub goes : d.target ≡ Elements c
 
-module _ (literals : List (List EnumLiteral)) (ds : List Draft) (d : Draft) where
-  ended : (g : ℕ) → end_in (kind_in literals ds d d.target) ≡ Some g → (c : ℕ) × Ended d g c
+module _ (enums : List Enum) (ds : List Draft) (d : Draft) where
+  ended : (g : ℕ) → end_in (kind_in enums ds d d.target) ≡ Some g → (c : ℕ) × Ended d g c
   ended g h = by_target d.target refl h
     where
-      by_target : (t : Target) → d.target ≡ t → end_in (kind_in literals ds d t) ≡ Some g → (c : ℕ) × Ended d g c
+      by_target : (t : Target) → d.target ≡ t → end_in (kind_in enums ds d t) ≡ Some g → (c : ℕ) × Ended d g c
       by_target Skipped is h = cc
       by_target Unsupported is h = cc
       by_target Missing is h = cc
       by_target (Elements c) is h = (c, record { ends = end_is d.end g (sym (reference_end d.containment (contains_back ds d.end) (int_eq d.upper (negsuc 0)) c d.end) ∙ h); goes = is })
       by_target (Values s) is h = absurd (no_end (int_eq d.upper (pos 1)) d.unique s _ g h)
 
-  ended_kind : (g c : ℕ) → Ended d g c → kind_in literals ds d d.target ≡ kind_as d.containment (contains_back ds (At g)) (int_eq d.upper (negsuc 0)) c g
+  ended_kind : (g c : ℕ) → Ended d g c → kind_in enums ds d d.target ≡ kind_as d.containment (contains_back ds (At g)) (int_eq d.upper (negsuc 0)) c g
   ended_kind g c p =
-      ap (kind_in literals ds d) p.goes
+      ap (kind_in enums ds d) p.goes
       ∙ ap (λ x. cond d.containment (Contains c (end_number x)) (cond (contains_back ds x) (container c x) (cond (int_eq d.upper (negsuc 0)) (Free c (end_number x)) (Bounded c (end_number x))))) p.ends
 
 -- a reference and its opposite, of which at most one is a containment
@@ -132,8 +132,8 @@ module _ (rows : MetaRows) (none : fault rows.classifiers ≡ None) where
   abbrev ds : List Draft
   ds = drafts rows.classifiers
 
-  abbrev literals : List (List EnumLiteral)
-  literals = literals_in rows.classifiers
+  abbrev enums : List Enum
+  enums = enums_in rows.classifiers
 
   -- what an opposite shows
   opposed : (P : Type 0) (f g : ℕ) → end_in (kind_of (meta_of rows) f) ≡ Some g → ((d other : Draft) → slice_get ds f ≡ Some d → Answered ds f d g other → P) → P
@@ -141,17 +141,17 @@ module _ (rows : MetaRows) (none : fault rows.classifiers ≡ None) where
     where
       by_draft : (o : Option Draft) → slice_get ds f ≡ o → P
       by_draft None is =
-          let e : None ≡ Some g = ap end_in (sym (got_of (λ (x : Feature). x.kind) (feature_from literals ds) ds f ∙ ap (λ o. option_map_or (λ (x : Draft). kind_in literals ds x x.target) o Skip) is)) ∙ h in cc
+          let e : None ≡ Some g = ap end_in (sym (got_of (λ (x : Feature). x.kind) (feature_from enums ds) ds f ∙ ap (λ o. option_map_or (λ (x : Draft). kind_in enums ds x x.target) o Skip) is)) ∙ h in cc
       by_draft (Some d) is =
-          let p = ended literals ds d g (ap end_in (sym (kind_at rows none f d is)) ∙ h) in
+          let p = ended enums ds d g (ap end_in (sym (kind_at rows none f d is)) ∙ h) in
           let a = answered ds (all_answer rows none) f d is g p.0 p.1 in
           more d a.0 is a.1
 
   kind_here : (f g : ℕ) (d other : Draft) → slice_get ds f ≡ Some d → Answered ds f d g other → kind_of (meta_of rows) f ≡ kind_as d.containment (contains_back ds (At g)) (int_eq d.upper (negsuc 0)) other.owner g
-  kind_here f g d other is a = kind_at rows none f d is ∙ ended_kind literals ds d g other.owner a.here
+  kind_here f g d other is a = kind_at rows none f d is ∙ ended_kind enums ds d g other.owner a.here
 
   kind_back : (f g : ℕ) (d other : Draft) → Answered ds f d g other → kind_of (meta_of rows) g ≡ kind_as other.containment (contains_back ds (At f)) (int_eq other.upper (negsuc 0)) d.owner f
-  kind_back f g d other a = kind_at rows none g other a.there ∙ ended_kind literals ds other f d.owner a.back
+  kind_back f g d other a = kind_at rows none g other a.there ∙ ended_kind enums ds other f d.owner a.back
 
   pub ends_meet : EndsMeet (meta_of rows)
   ends_meet = record {
@@ -161,7 +161,7 @@ module _ (rows : MetaRows) (none : fault rows.classifiers ≡ None) where
         opposed (target_in (kind_of (meta_of rows) f) ≡ owner_of (meta_of rows) g) f g h
         (λ d other is a.
         ap target_in (kind_here f g d other is a) ∙ as_target d.containment _ _ other.owner g
-        ∙ sym (owner_at (λ (x : Feature). x.owner) (feature_from literals ds) ds g ∙ ap (option_map (λ (x : Draft). x.owner)) a.there));
+        ∙ sym (owner_at (λ (x : Feature). x.owner) (feature_from enums ds) ds g ∙ ap (option_map (λ (x : Draft). x.owner)) a.there));
     around = λ f g h.
         opposed (is_containment (kind_of (meta_of rows) f) ≡ is_container (kind_of (meta_of rows) g)) f g h
         (λ d other is a.

@@ -9,6 +9,7 @@ mod OwnerLaws
 pub mod SoundLaws
 mod EndLaws
 mod BuiltNames
+mod ChainLaws
 pub mod PromiseLaws
 mod NumberedLaws
 mod FitLaws

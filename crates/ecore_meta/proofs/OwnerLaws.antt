@@ -5,12 +5,11 @@ use Rattle.std.specs.List.{list_any, filter, flat_map, range_with_len, AllByRecu
 use Rattle.std.specs.Option.{option_map_or}
 use Rattle.std.proofs.lemmas.List.{length-map}
 use Rattle.std.proofs.lemmas.List.Folds.{list_any-append}
-use Rattle.std.proofs.lemmas.Map.Views.{any-filter_same}
 use Rattle.std.proofs.lemmas.Bool.{or_left, or_right}
 use Rattle.ecore_meta.specs.Build.{classes_from, feature_from, meta_of}
 use Rattle.ecore_meta.specs.Document.{ClassifierRows, supers_in}
 use Rattle.ecore_meta.specs.Drafts.{draft, drafts, drafts_from}
-use Rattle.ecore_meta.specs.Faults.{all_inherited, features_in, features_of, inherited, is_declared, literals_in, own_features, own_of}
+use Rattle.ecore_meta.specs.Faults.{all_inherited, features_in, features_of, inherited, is_declared, enums_in, own_features, own_of}
 use Rattle.ecore_meta.specs.Meta.{Meta, features_of as class_features, has_feature, is_a}
 use Rattle.ecore_meta.specs.declared.meta.Feature.{Feature}
 use Rattle.ecore_meta.specs.Supers.{is_above}
@@ -20,12 +19,13 @@ use Rattle.ecore_meta.specs.declared.meta.Class.{Class as Made}
 use Rattle.ecore_meta.specs.declared.rows.FeatureRow.{FeatureRow}
 use Rattle.ecore_meta.specs.declared.rows.MetaRows.{MetaRows}
 use Rattle.ecore_meta.specs.declared.rows.ClassifierRow.TheVariants.{Class, Enum, Plain}
-use Rattle.ecore_meta.proofs.RisingLaws.{after, in_range, is_less, rising_range, same_rising}
+use Rattle.ecore_meta.proofs.RisingLaws.{after, in_kept, in_range, kept_is, is_less, rising_range, same_rising}
 use Rattle.std.specs.List.Sorted.{IsStrictlySortedBy}
 use Rattle.std.specs.Ordering.{nat_cmp}
 use Rattle.std.proofs.lemmas.List.Kept.{IsStrictlySortedBy-filter}
+use Rattle.ecore_meta.proofs.BuildLaws.{supers_inside}
 use Rattle.ecore_meta.proofs.SuperLaws.{nat_itself, nat_same, or_split, same_bool}
-use Rattle.ecore_meta.proofs.TableLaws.{above_none}
+use Rattle.ecore_meta.proofs.TableLaws.{above_none, table_is}
 
 split : (k n : ℕ) → (k < n) ⊎ (n ≤ k)
 split k zero = inr (omega arith)
@@ -145,9 +145,6 @@ flat_from h f (x ∷ xs) m = or_split (list_any (nat_eq f) (h x)) (list_any (nat
     (λ e. (x, or_left (nat_eq x x) _ (nat_itself x), e))
     (λ e. let more = flat_from h f xs e in (more.0, or_right (nat_eq more.0 x) _ more.1, more.2))
 
-kept_is : (p : ℕ → Bool) (b : ℕ) (xs : List ℕ) → list_any (nat_eq b) (filter p xs) ≡ p b && list_any (nat_eq b) xs
-kept_is p b xs = any-filter_same (nat_eq b) p (p b) (λ k e. ap p (sym (nat_same b k e))) xs
-
 module _ (all : ClassifierRows) (c f : ℕ) (d : Draft) (is : slice_get (drafts all) f ≡ Some d) where
   abbrev pub supers : List (List ℕ)
   supers = supers_in all all
@@ -259,14 +256,6 @@ low_draft [] f h e = cc
 low_draft (x ∷ xs) zero h e = omega arith
 low_draft (x ∷ xs) (suc f) h e = let more = low_draft xs f h e in omega (arith, more)
 
--- a list of numbers that the test keeps has those that pass it
-in_kept : (p : ℕ → Bool) (n f : ℕ) → (p f ≡ true → f < n) → list_any (nat_eq f) (filter p (range_with_len 0 n)) ≡ p f
-in_kept p n f low = kept_is p f (range_with_len 0 n) ∙ by_test (p f) refl
-  where
-    by_test : (b : Bool) → p f ≡ b → b && list_any (nat_eq f) (range_with_len 0 n) ≡ b
-    by_test true e = in_range 0 n f (omega arith) (omega (arith, low e))
-    by_test false e = refl
-
 -- what classes declare, class by class, is by number what the class or one above it declares
 module _ (all : ClassifierRows) (c : ℕ) where
   abbrev declares : ℕ → Bool
@@ -351,17 +340,22 @@ class_features_are rows c = by_place (split c (length supers))
         ∙ ranged (features_in supers (drafts all)) 0 (length supers) c lt ∙ ap (features_in supers (drafts all)) (sym (none_less c))
     by_place (inr le) = no_class all 0 (features_of all) all c le ∙ sym (filter_none (is_declared supers (drafts all) c) (none_declared supers (drafts all) c le) (range_with_len 0 (length (drafts all))))
 
+-- a class of the metamodel is another exactly where it is that class or below it
+pub is_a_is : (rows : MetaRows) (c d : ℕ) → is_a (meta_of rows) c d ≡ is_above (supers_in rows.classifiers rows.classifiers) c d
+is_a_is rows c d = table_is (supers_in rows.classifiers rows.classifiers) (supers_inside rows.classifiers _ refl) c d
+
 -- the features of a class are, by number, those that it or a class above it declares
 pub lists_declared : (rows : MetaRows) → ListsDeclared (meta_of rows)
 lists_declared rows c =
     class_features_are rows c
+    ∙ (λ i. filter (λ f. option_map_or (λ (d : Draft). sym (is_a_is rows c d.owner) i) (slice_get ds f) false) (range_with_len 0 (length ds)))
     ∙ (λ i. filter (λ f. sym (got_test (λ (feature : Feature). is_a (meta_of rows) c feature.owner) g ds f) i) (range_with_len 0 (sym (length-map ds g) i)))
   where
     ds : List Draft
     ds = drafts rows.classifiers
 
     g : Draft → Feature
-    g = feature_from (literals_in rows.classifiers) ds
+    g = feature_from (enums_in rows.classifiers) ds
 
 has_any : (meta : Meta) (c f : ℕ) → has_feature meta c f ≡ list_any (nat_eq f) (class_features meta c)
 has_any meta c f = elim (slice_get meta.classes c) as (λ x. option_map_or (λ (class : Made). list_any (nat_eq f) class.features) x false ≡ list_any (nat_eq f) (option_map_or (λ (class : Made). class.features) x [])) [
@@ -370,10 +364,10 @@ has_any meta c f = elim (slice_get meta.classes c) as (λ x. option_map_or (λ (
 ]
 
 -- a class has a feature exactly where the class that declares it is that class or above it
-pub has_is : (rows : MetaRows) (c f : ℕ) (d : Draft) → slice_get (drafts rows.classifiers) f ≡ Some d → has_feature (meta_of rows) c f ≡ is_above (supers_in rows.classifiers rows.classifiers) c d.owner
+pub has_is : (rows : MetaRows) (c f : ℕ) (d : Draft) → slice_get (drafts rows.classifiers) f ≡ Some d → has_feature (meta_of rows) c f ≡ is_a (meta_of rows) c d.owner
 has_is rows c f d is =
     let supers = supers_in rows.classifiers rows.classifiers in
     let ds = drafts rows.classifiers in
     has_any (meta_of rows) c f ∙ ap (list_any (nat_eq f)) (class_features_are rows c)
     ∙ in_kept (is_declared supers ds c) (length ds) f (low_draft ds f (λ (d : Draft). is_above supers c d.owner))
-    ∙ ap (λ x. option_map_or (λ (d : Draft). is_above supers c d.owner) x false) is
+    ∙ ap (λ x. option_map_or (λ (d : Draft). is_above supers c d.owner) x false) is ∙ sym (is_a_is rows c d.owner)

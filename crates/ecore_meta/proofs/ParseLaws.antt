@@ -13,7 +13,7 @@ use Rattle.ecore_meta.specs.Typing.{half_of, in_width}
 use Rattle.ecore_meta.specs.Values.{digits_from, is_numeral, narrow, whole_of, wide}
 use Rattle.std.specs.Option.{option_and_then, option_map_or}
 use Rattle.ecore_meta.specs.Values.{AreShort, literals_at}
-use Rattle.ecore_meta.specs.declared.meta.EnumLiteral.{EnumLiteral}
+use Rattle.ecore_meta.specs.declared.meta.Enum.{Enum}
 use Rattle.ecore_meta.specs.declared.meta.Scalar.{Scalar}
 use Rattle.ecore_meta.specs.declared.meta.Scalar.TheVariants.{Text as TextType, Flag as FlagType, Byte, Short, Int, Long, Literal as LiteralType}
 use Rattle.ecore_meta.specs.declared.meta.Value.TheVariants.{Whole}
@@ -153,21 +153,13 @@ half_small FlagType = omega arith
 half_small (LiteralType e) = omega arith
 
 -- the literals of an enum, by the table
-pub literals_is : {X : Type 0} (f : X → List EnumLiteral) (xs : List X) (i : ℕ) (o : Option X) → o ≡ slice_get xs i → option_map_or f o [] ≡ literals_at (map f xs) i
-literals_is f [] i o is = ap (λ x. option_map_or f x []) is
-literals_is f (x ∷ xs) zero o is = ap (λ x. option_map_or f x []) is
-literals_is f (x ∷ xs) (suc i) o is = literals_is f xs i o is
+pub literals_is : (enums : List Enum) (i : ℕ) (o : Option Enum) → o ≡ slice_get enums i → option_map_or (λ (x : Enum). x.literals) o [] ≡ literals_at enums i
+literals_is enums i o is = ap (λ x. option_map_or (λ (y : Enum). y.literals) x []) is
 
-pub short_at : {X : Type 0} (f : X → List EnumLiteral) (xs : List X) (i : ℕ) (x : X) → AreShort (map f xs) → Some x ≡ slice_get xs i → length (f x) < 4294967296
-short_at f [] i x short is = cc
-short_at f (y ∷ ys) zero x short is = subst (λ z. length (f z) < 4294967296) (same_some is) short.0
+pub short_at : (enums : List Enum) (i : ℕ) (x : Enum) → AreShort enums → Some x ≡ slice_get enums i → length x.literals < 4294967296
+short_at [] i x short is = cc
+short_at (y ∷ ys) zero x short is = subst (λ (z : Enum). length z.literals < 4294967296) (same_some is) short.0
   where
     same_some : Some x ≡ Some y → y ≡ x
     same_some h = cc
-short_at f (y ∷ ys) (suc i) x short is = short_at f ys i x short.1 is
-
--- how many literals an enum has, by the table
-pub count_is : {X : Type 0} (f : X → List EnumLiteral) (xs : List X) (i : ℕ) (o : Option X) → o ≡ slice_get xs i → option_map_or (λ x. length (f x)) o 0 ≡ option_map_or length (slice_get (map f xs) i) 0
-count_is f [] i o is = ap (λ x. option_map_or (λ y. length (f y)) x 0) is
-count_is f (x ∷ xs) zero o is = ap (λ y. option_map_or (λ z. length (f z)) y 0) is
-count_is f (x ∷ xs) (suc i) o is = count_is f xs i o is
+short_at (y ∷ ys) (suc i) x short is = short_at ys i x short.1 is

@@ -83,7 +83,8 @@ in_range a (suc n) d h k = by_first (nat_eq d a) refl (λ e. in_range (a + 1) n 
 at_is : (d y : ℕ) → is_at (nat_cmp d) y ≡ nat_eq d y
 at_is d y = search rules
 
-keys_any : (d : ℕ) (ks : List ℕ) → list_any (is_at (nat_cmp d)) ks ≡ list_any (nat_eq d) ks
+-- the search of a set of numbers is that among its keys
+pub keys_any : (d : ℕ) (ks : List ℕ) → list_any (is_at (nat_cmp d)) ks ≡ list_any (nat_eq d) ks
 keys_any d [] = refl
 keys_any d (k ∷ ks) = ap (λ b. b || list_any (is_at (nat_cmp d)) ks) (at_is d k) ∙ ap (λ b. nat_eq d k || b) (keys_any d ks)
 
@@ -96,3 +97,15 @@ keys_are s p n rising has below =
     by_test : (d : ℕ) (b : Bool) → p d ≡ b → b ≡ b && list_any (nat_eq d) (range_with_len 0 n)
     by_test d true e = sym (in_range 0 n d (omega arith) (omega (arith, below d e)))
     by_test d false e = refl
+
+-- a number is one of those that the test keeps exactly where it passes and is one of the list
+pub kept_is : (p : ℕ → Bool) (b : ℕ) (xs : List ℕ) → list_any (nat_eq b) (filter p xs) ≡ p b && list_any (nat_eq b) xs
+kept_is p b xs = any-filter_same (nat_eq b) p (p b) (λ k e. ap p (sym (nat_same b k e))) xs
+
+-- a list of numbers that the test keeps has those that pass it
+pub in_kept : (p : ℕ → Bool) (n f : ℕ) → (p f ≡ true → f < n) → list_any (nat_eq f) (filter p (range_with_len 0 n)) ≡ p f
+in_kept p n f low = kept_is p f (range_with_len 0 n) ∙ by_test (p f) refl
+  where
+    by_test : (b : Bool) → p f ≡ b → b && list_any (nat_eq f) (range_with_len 0 n) ≡ b
+    by_test true e = in_range 0 n f (omega arith) (omega (arith, low e))
+    by_test false e = refl

@@ -7,7 +7,7 @@ use Rattle.std.specs.Option.{option_map_or}
 use Rattle.ecore_meta.specs.Build.{container, end_number, feature_from, kind_in, meta_of, plain}
 use Rattle.ecore_meta.specs.Document.{ClassifierRows, supers_in}
 use Rattle.ecore_meta.specs.Drafts.{drafts}
-use Rattle.ecore_meta.specs.Faults.{answers, any_from, bad_bound, bad_default, bad_end, clash, contains_back, dup_name, fault, features_of, no_type, super_cycle, unsupported, first_true, is_at, is_self, is_to, is_unanswered, last_tests, literals_in}
+use Rattle.ecore_meta.specs.Faults.{answers, any_from, bad_bound, bad_default, bad_end, clash, contains_back, dup_name, fault, features_of, no_type, super_cycle, unsupported, first_true, is_at, is_self, is_to, is_unanswered, last_tests, enums_in}
 use Rattle.ecore_meta.specs.Meta.{Meta, has_feature, is_a}
 use Rattle.ecore_meta.specs.Sound.{Sound}
 use Rattle.ecore_meta.specs.Typing.{kind_of, links, opposite_in, opposite_of, plain_to}
@@ -18,7 +18,7 @@ use Rattle.ecore_meta.specs.declared.drafts.Target.{Target}
 use Rattle.ecore_meta.specs.declared.drafts.Target.TheVariants.{Skipped, Unsupported, Missing, Elements, Values}
 use Rattle.ecore_meta.specs.declared.drafts.End.{End}
 use Rattle.ecore_meta.specs.declared.drafts.End.TheVariants.{Open, Nowhere, At}
-use Rattle.ecore_meta.specs.declared.meta.EnumLiteral.{EnumLiteral}
+use Rattle.ecore_meta.specs.declared.meta.Enum.{Enum}
 use Rattle.ecore_meta.specs.declared.meta.Feature.{Feature}
 use Rattle.ecore_meta.specs.declared.meta.Kind.{Kind}
 use Rattle.ecore_meta.specs.declared.meta.Kind.TheVariants.{Bounded, Contains, Free, Skip}
@@ -31,11 +31,11 @@ passed : {F : Type 0} (b : Bool) (x : F) (o : Option F) → cond b (Some x) o �
 passed true x o h = cc
 passed false x o h = (refl, h)
 
-no_last_fault : (rows : ClassifierRows) → fault rows ≡ None → first_true (last_tests (drafts rows) (literals_in rows)) ≡ None
+no_last_fault : (rows : ClassifierRows) → fault rows ≡ None → first_true (last_tests (drafts rows) (enums_in rows)) ≡ None
 no_last_fault rows none =
     let ds = drafts rows in
     let supers = supers_in rows rows in
-    let last = first_true (last_tests ds (literals_in rows)) in
+    let last = first_true (last_tests ds (enums_in rows)) in
     let clashes = cond (clash ds (features_of rows)) (Some Clash) last in
     let cycles = cond (super_cycle supers) (Some SuperCycle) clashes in
     let types = cond (no_type rows ds) (Some NoType) cycles in
@@ -101,14 +101,14 @@ plain_goes meta d c x = by_bound (int_eq d.upper (negsuc 0))
     by_bound true = refl
     by_bound false = refl
 
-module _ (literals : List (List EnumLiteral)) (ds : List Draft) (d : Draft) where
-  paired_kind : (g c : ℕ) → Paired ds d g c → kind_in literals ds d d.target ≡ plain d c
+module _ (enums : List Enum) (ds : List Draft) (d : Draft) where
+  paired_kind : (g c : ℕ) → Paired ds d g c → kind_in enums ds d d.target ≡ plain d c
   paired_kind g c p =
-      ap (kind_in literals ds d) p.goes
+      ap (kind_in enums ds d) p.goes
       ∙ ap (λ b. cond b (Contains c (end_number d.end)) (cond (contains_back ds d.end) (container c d.end) (plain d c))) p.holds_none
       ∙ ap (λ b. cond b (container c d.end) (plain d c)) p.held_by_none
 
-  paired : (g : ℕ) → opposite_in (kind_in literals ds d d.target) ≡ Some g → (c : ℕ) × Paired ds d g c
+  paired : (g : ℕ) → opposite_in (kind_in enums ds d d.target) ≡ Some g → (c : ℕ) × Paired ds d g c
   paired g h = by_target d.target refl h
     where
       by_end : (c : ℕ) → d.target ≡ Elements c → d.containment ≡ false → contains_back ds d.end ≡ false → (e : End) → d.end ≡ e → end_number e ≡ Some g → (c : ℕ) × Paired ds d g c
@@ -124,7 +124,7 @@ module _ (literals : List (List EnumLiteral)) (ds : List Draft) (d : Draft) wher
       by_inside c t true is h = cc
       by_inside c t false is h = by_back c t is (contains_back ds d.end) refl h
 
-      by_target : (t : Target) → d.target ≡ t → opposite_in (kind_in literals ds d t) ≡ Some g → (c : ℕ) × Paired ds d g c
+      by_target : (t : Target) → d.target ≡ t → opposite_in (kind_in enums ds d t) ≡ Some g → (c : ℕ) × Paired ds d g c
       by_target Skipped is h = cc
       by_target Unsupported is h = cc
       by_target Missing is h = cc
@@ -189,14 +189,14 @@ module _ (rows : MetaRows) (none : fault rows.classifiers ≡ None) where
   abbrev ds : List Draft
   ds = drafts rows.classifiers
 
-  abbrev literals : List (List EnumLiteral)
-  literals = literals_in rows.classifiers
+  abbrev enums : List Enum
+  enums = enums_in rows.classifiers
 
-  last : first_true (last_tests ds literals) ≡ None
+  last : first_true (last_tests ds enums) ≡ None
   last = no_last_fault rows.classifiers none
 
   abbrev after : Option MetaFault
-  after = first_true ((list_any (bad_bound ds) ds, BadBound) ∷ (list_any (bad_default literals) ds, BadDefault) ∷ [])
+  after = first_true ((list_any (bad_bound ds) ds, BadBound) ∷ (list_any (bad_default enums) ds, BadDefault) ∷ [])
 
   pub no_self : any_from is_self 0 ds ≡ false
   no_self = (passed (any_from is_self 0 ds) SelfOpposite (cond (any_from (is_unanswered ds) 0 ds) (Some BadOpposite) after) last).0
@@ -204,8 +204,8 @@ module _ (rows : MetaRows) (none : fault rows.classifiers ≡ None) where
   pub all_answer : any_from (is_unanswered ds) 0 ds ≡ false
   all_answer = (passed (any_from (is_unanswered ds) 0 ds) BadOpposite after (passed (any_from is_self 0 ds) SelfOpposite (cond (any_from (is_unanswered ds) 0 ds) (Some BadOpposite) after) last).1).0
 
-  pub kind_at : (f : ℕ) (d : Draft) → slice_get ds f ≡ Some d → kind_of (meta_of rows) f ≡ kind_in literals ds d d.target
-  kind_at f d is = got_of (λ (x : Feature). x.kind) (feature_from literals ds) ds f ∙ ap (λ o. option_map_or (λ (x : Draft). kind_in literals ds x x.target) o Skip) is
+  pub kind_at : (f : ℕ) (d : Draft) → slice_get ds f ≡ Some d → kind_of (meta_of rows) f ≡ kind_in enums ds d d.target
+  kind_at f d is = got_of (λ (x : Feature). x.kind) (feature_from enums ds) ds f ∙ ap (λ o. option_map_or (λ (x : Draft). kind_in enums ds x x.target) o Skip) is
 
   -- what an opposite shows
   opposed : (P : Type 0) (f g : ℕ) → opposite_of (meta_of rows) f ≡ Some g → ((d other : Draft) → slice_get ds f ≡ Some d → Mirrored ds f d g other → P) → P
@@ -213,9 +213,9 @@ module _ (rows : MetaRows) (none : fault rows.classifiers ≡ None) where
     where
       by_draft : (o : Option Draft) → slice_get ds f ≡ o → P
       by_draft None is =
-          let e : None ≡ Some g = ap opposite_in (sym (got_of (λ (x : Feature). x.kind) (feature_from literals ds) ds f ∙ ap (λ o. option_map_or (λ (x : Draft). kind_in literals ds x x.target) o Skip) is)) ∙ h in cc
+          let e : None ≡ Some g = ap opposite_in (sym (got_of (λ (x : Feature). x.kind) (feature_from enums ds) ds f ∙ ap (λ o. option_map_or (λ (x : Draft). kind_in enums ds x x.target) o Skip) is)) ∙ h in cc
       by_draft (Some d) is =
-          let p = paired literals ds d g (ap opposite_in (sym (kind_at f d is)) ∙ h) in
+          let p = paired enums ds d g (ap opposite_in (sym (kind_at f d is)) ∙ h) in
           let m = mirrored ds all_answer f d is g p.0 p.1 in
           more d m.0 is m.1
 
@@ -224,17 +224,17 @@ module _ (rows : MetaRows) (none : fault rows.classifiers ≡ None) where
     other = λ f g h. opposed (nat_eq f g ≡ false) f g h (λ d other is m. subst (λ e. is_at f e ≡ false) m.here.ends (none_at is_self ds no_self f d is));
     both = λ f g h.
         opposed (opposite_of (meta_of rows) g ≡ Some f) f g h
-        (λ d other is m. ap opposite_in (kind_at g other m.there ∙ paired_kind literals ds other f d.owner m.back) ∙ plain_opposite other d.owner ∙ ap end_number m.back.ends);
+        (λ d other is m. ap opposite_in (kind_at g other m.there ∙ paired_kind enums ds other f d.owner m.back) ∙ plain_opposite other d.owner ∙ ap end_number m.back.ends);
     mirrors = λ c f x g h linked.
         opposed (links (meta_of rows) x g c ≡ true) f g h
         (λ d other is m. mirror c f x g d other is m (and_two _ _ linked));
   }
     where
       kind_here : (f g : ℕ) (d other : Draft) → slice_get ds f ≡ Some d → Mirrored ds f d g other → kind_of (meta_of rows) f ≡ plain d other.owner
-      kind_here f g d other is m = kind_at f d is ∙ paired_kind literals ds d g other.owner m.here
+      kind_here f g d other is m = kind_at f d is ∙ paired_kind enums ds d g other.owner m.here
 
       kind_back : (f g : ℕ) (d other : Draft) → Mirrored ds f d g other → kind_of (meta_of rows) g ≡ plain other d.owner
-      kind_back f g d other m = kind_at g other m.there ∙ paired_kind literals ds other f d.owner m.back
+      kind_back f g d other m = kind_at g other m.there ∙ paired_kind enums ds other f d.owner m.back
 
       both_true : (a b : Bool) → a ≡ true → b ≡ true → a && b ≡ true
       both_true true b h k = k

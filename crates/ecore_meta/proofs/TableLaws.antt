@@ -1,17 +1,17 @@
 -- The tables of a metamodel, one class more.
-use Rattle.std.proofs.Common.{◌≡◌, ℕ, zero, suc, ◌+◌, ◌<◌, ◌≤◌, Bool, true, false, List, [], ◌∷◌, ◌++◌, ◌||◌, ◌⊎◌, inl, inr, refl, sym, ap, ◌∙◌, arith, length, map, get_or}
-use Rattle.std.specs.Prelude.{None, Some, slice_get}
-use Rattle.std.specs.List.{list_any, range_with_len}
+use Rattle.std.proofs.Common.{◌≡◌, ℕ, zero, suc, ◌+◌, ◌<◌, ◌≤◌, Bool, true, false, List, [], ◌∷◌, ◌++◌, ◌||◌, ◌⊎◌, inl, inr, refl, sym, ap, subst, ◌∙◌, arith, length, map, get_or, nat_eq}
+use Rattle.std.specs.Prelude.{Option, None, Some, slice_get}
+use Rattle.std.specs.List.{filter, list_any, range_with_len}
 use Rattle.std.specs.Ordering.{nat_cmp}
 use Rattle.std.specs.BTreeSet.{BTreeSet, contains}
 use Rattle.std.specs.Option.{option_map_or}
-use Rattle.std.proofs.lemmas.List.{map-append}
+use Rattle.std.proofs.lemmas.List.{length-map, map-append}
 use Rattle.std.proofs.lemmas.List.Folds.{list_any-append}
 use Rattle.ecore_meta.specs.Faults.{is_cyclic, super_cycle}
-use Rattle.ecore_meta.specs.Supers.{is_above}
-use Rattle.ecore_meta.specs.Tables.{Agrees}
-use Rattle.ecore_meta.proofs.SuperLaws.{any_at, below_or_at, supers_at}
-use Rattle.ecore_meta.proofs.RisingLaws.{in_range}
+use Rattle.ecore_meta.specs.Meta.{is_in}
+use Rattle.ecore_meta.specs.Supers.{Inside, IsPath, all_above, is_above}
+use Rattle.ecore_meta.proofs.SuperLaws.{above_leads, any_at, supers_at}
+use Rattle.ecore_meta.proofs.RisingLaws.{in_kept, in_range, keys_any}
 
 range_suc : (a n : ℕ) → range_with_len a (suc n) ≡ range_with_len a n ++ (a + n) ∷ []
 range_suc a zero = ap (λ x. x ∷ []) (plus_none a)
@@ -38,28 +38,6 @@ map_more f xs n is =
     plus : (n : ℕ) → n ≡ 0 + n
     plus n = omega arith
 
-got : {X : Type 0} (xs : List X) (x : X) (i : ℕ) → i < length xs → slice_get (xs ++ x ∷ []) i ≡ slice_get xs i
-got [] x i h = absurd (omega arith)
-got (y ∷ ys) x zero h = refl
-got (y ∷ ys) x (suc i) h = got ys x i (omega arith)
-
-got_last : {X : Type 0} (xs : List X) (x : X) (i : ℕ) → i ≡ length xs → slice_get (xs ++ x ∷ []) i ≡ Some x
-got_last [] x zero h = refl
-got_last [] x (suc i) h = absurd (omega arith)
-got_last (y ∷ ys) x zero h = absurd (omega arith)
-got_last (y ∷ ys) x (suc i) h = got_last ys x i (omega arith)
-
--- the sets so far are those of the classes below n
-abbrev pub HasBelow : List (List ℕ) → List (BTreeSet ℕ) → ℕ → Type 0
-HasBelow supers sets n = (c d : ℕ) → c < n → option_map_or (λ s. contains nat_cmp s d) (slice_get sets c) false ≡ is_above supers c d
-
-pub has_more : (supers : List (List ℕ)) (sets : List (BTreeSet ℕ)) (s : BTreeSet ℕ) (n : ℕ) → length sets ≡ n → HasBelow supers sets n → ((d : ℕ) → contains nat_cmp s d ≡ is_above supers n d) → HasBelow supers (sets ++ s ∷ []) (n + 1)
-has_more supers sets s n long has told c d h = by_place (below_or_at c n h)
-  where
-    by_place : (c < n) ⊎ (c ≡ n) → option_map_or (λ s. contains nat_cmp s d) (slice_get (sets ++ s ∷ []) c) false ≡ is_above supers c d
-    by_place (inl lt) = ap (λ o. option_map_or (λ s. contains nat_cmp s d) o false) (got sets s c (omega arith)) ∙ has c d lt
-    by_place (inr e) = ap (λ o. option_map_or (λ s. contains nat_cmp s d) o false) (got_last sets s c (omega arith)) ∙ told d ∙ ap (λ k. is_above supers k d) (sym e)
-
 none_past : {X : Type 0} (xs : List X) (i : ℕ) → length xs ≤ i → slice_get xs i ≡ None
 none_past [] i h = refl
 none_past (x ∷ xs) zero h = absurd (omega arith)
@@ -69,26 +47,64 @@ pub above_none : (supers : List (List ℕ)) (c d : ℕ) → length supers ≤ c 
 unfolding is_above
 above_none supers c d h = rw (none_past supers c h) refl
 
-pub has_all : (supers : List (List ℕ)) (sets : List (BTreeSet ℕ)) → length sets ≡ length supers → HasBelow supers sets (length supers) → Agrees supers sets
-has_all supers sets long has c d = by_place c (split c (length supers))
+range_length : (a n : ℕ) → length (range_with_len a n) ≡ n
+range_length a zero = refl
+range_length a (suc n) = ap (λ k. suc k) (range_length (a + 1) n)
+
+got_range : {X : Type 0} (g : ℕ → X) (a n c : ℕ) → c < n → slice_get (map g (range_with_len a n)) c ≡ Some (g (a + c))
+got_range g a zero c h = absurd (omega arith)
+got_range g a (suc n) zero h = ap (λ (k : ℕ). Some (g k)) (plus_none a)
+  where
+    plus_none : (a : ℕ) → a ≡ a + 0
+    plus_none a = omega arith
+got_range g a (suc n) (suc c) h = got_range g (a + 1) n c (omega arith) ∙ ap (λ (k : ℕ). Some (g k)) (shift a c)
+  where
+    shift : (a c : ℕ) → a + 1 + c ≡ a + suc c
+    shift a c = omega arith
+
+-- a class that is led to is one of the package
+led_below : (supers : List (List ℕ)) → Inside supers → (d c : ℕ) (path : List ℕ) → c < length supers → IsPath supers c path d → d < length supers
+led_below supers all d c [] below at = subst (λ x. x < length supers) at below
+led_below supers all d c (b ∷ path) below at = led_below supers all d b path (all c b at.0) at.1
+
+-- the table of all classes above each says who is above whom
+pub table_is : (supers : List (List ℕ)) → Inside supers → (c d : ℕ) → is_in (all_above supers) c d ≡ is_above supers c d
+table_is supers inside c d = by_place (split c (length supers))
   where
     split : (c n : ℕ) → (c < n) ⊎ (n ≤ c)
     split c zero = inr (omega arith)
     split zero (suc n) = inl (omega arith)
     split (suc c) (suc n) = elim (split c n) [ inl h ↦ inl (omega arith) | inr h ↦ inr (omega arith) ]
 
-    by_place : (c : ℕ) → (c < length supers) ⊎ (length supers ≤ c) → option_map_or (λ s. contains nat_cmp s d) (slice_get sets c) false ≡ is_above supers c d
-    by_place c (inl h) = has c d h
-    by_place c (inr h) = ap (λ o. option_map_or (λ s. contains nat_cmp s d) o false) (none_past sets c (omega arith)) ∙ sym (above_none supers c d h)
+    none_less : (n : ℕ) → 0 + n ≡ n
+    none_less n = omega arith
+
+    low : c < length supers → is_above supers c d ≡ true → d < length supers
+    low h is = let led = above_leads supers c d is in led_below supers inside d c led.0 h led.1
+
+    by_place : (c < length supers) ⊎ (length supers ≤ c) → is_in (all_above supers) c d ≡ is_above supers c d
+    by_place (inl h) =
+        ap (λ o. option_map_or (list_any (nat_eq d)) o false) (got_range (λ k. filter (is_above supers k) (range_with_len 0 (length supers))) 0 (length supers) c h)
+        ∙ ap (λ k. list_any (nat_eq d) (filter (is_above supers k) (range_with_len 0 (length supers)))) (none_less c)
+        ∙ in_kept (is_above supers c) (length supers) d (low h)
+    by_place (inr h) =
+        ap (λ o. option_map_or (list_any (nat_eq d)) o false) (none_past (all_above supers) c (omega (arith, length-map (range_with_len 0 (length supers)) (λ k. filter (is_above supers k) (range_with_len 0 (length supers))), range_length 0 (length supers))))
+        ∙ sym (above_none supers c d h)
+
+-- what a set of the table says
+pub in_table : (sets : List (BTreeSet ℕ)) (c d : ℕ) (o : Option (BTreeSet ℕ)) → o ≡ slice_get sets c → option_map_or (λ s. contains nat_cmp s d) o false ≡ is_in (map (λ s. s.keys) sets) c d
+in_table [] c d o is = ap (λ x. option_map_or (λ s. contains nat_cmp s d) x false) is
+in_table (s ∷ sets) zero d o is = ap (λ x. option_map_or (λ s. contains nat_cmp s d) x false) is ∙ keys_any d s.keys
+in_table (s ∷ sets) (suc c) d o is = in_table sets c d o is
 
 any_same : (p q : ℕ → Bool) (xs : List ℕ) → ((b : ℕ) → p b ≡ q b) → list_any p xs ≡ list_any q xs
 any_same p q [] h = refl
 any_same p q (x ∷ xs) h = ap (λ b. b || list_any p xs) (h x) ∙ ap (λ b. q x || b) (any_same p q xs h)
 
 -- what the table says of the supertypes of a class
-pub cyclic_at : {X : Type 0} (f : X → List ℕ) (xs : List X) (sets : List (BTreeSet ℕ)) (c : ℕ) (d : X) → Agrees (map f xs) sets → c < length xs → list_any (λ b. option_map_or (λ s. contains nat_cmp s c) (slice_get sets b) false) (f (get_or xs c d)) ≡ is_cyclic (map f xs) c
-cyclic_at f xs sets c d agrees h =
-    any_same (λ b. option_map_or (λ s. contains nat_cmp s c) (slice_get sets b) false) (λ b. is_above (map f xs) b c) (f (get_or xs c d)) (λ b. agrees b c)
+pub cyclic_at : {X : Type 0} (f : X → List ℕ) (xs : List X) (c : ℕ) (d : X) → Inside (map f xs) → c < length xs → list_any (λ b. is_in (all_above (map f xs)) b c) (f (get_or xs c d)) ≡ is_cyclic (map f xs) c
+cyclic_at f xs c d inside h =
+    any_same (λ b. is_in (all_above (map f xs)) b c) (λ b. is_above (map f xs) b c) (f (get_or xs c d)) (λ b. table_is (map f xs) inside b c)
     ∙ ap (list_any (λ b. is_above (map f xs) b c)) (sym (supers_at f xs c d h))
 
 pub cycle_found : (supers : List (List ℕ)) (c : ℕ) → c < length supers → true ≡ is_cyclic supers c → true ≡ super_cycle supers

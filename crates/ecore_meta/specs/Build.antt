@@ -1,11 +1,12 @@
 -- The metamodel that a document without a fault stands for.
-use Rattle.std.specs.Prelude.{ℕ, ℤ, pos, negsuc, min, suc, ◌<◌, List, [], ◌∷◌, Option, None, Some, map, length, cond, Bool, nat_lt, not, ◌&&◌}
+use Rattle.std.specs.Prelude.{IsTrue, ◌↔◌, ℕ, ℤ, pos, negsuc, min, suc, ◌<◌, List, [], ◌∷◌, Option, None, Some, map, length, cond, Bool, nat_lt, not, ◌&&◌}
 use Rattle.std.specs.List.{list_any}
 use Rattle.std.specs.Ordering.{int_eq}
 use Rattle.ecore_meta.specs.Document.{ClassifierRows, supers_in, feature_total}
 use Rattle.ecore_meta.specs.Drafts.{drafts}
-use Rattle.ecore_meta.specs.Faults.{contains_back, is_skipped, own_of, features_of, literals_in, is_many, Few}
-use Rattle.ecore_meta.specs.Meta.{Meta}
+use Rattle.ecore_meta.specs.Faults.{contains_back, is_skipped, own_of, features_of, enums_in, is_many, Few}
+use Rattle.ecore_meta.specs.Meta.{Meta, is_a}
+use Rattle.ecore_meta.specs.Supers.{Leads, all_above}
 use Rattle.ecore_meta.specs.Values.{value_of, default_of}
 use Rattle.ecore_meta.specs.declared.drafts.Draft.{Draft}
 use Rattle.ecore_meta.specs.declared.drafts.Target.{Target}
@@ -13,7 +14,7 @@ use Rattle.ecore_meta.specs.declared.drafts.Target.TheVariants.{Skipped, Unsuppo
 use Rattle.ecore_meta.specs.declared.drafts.End.{End}
 use Rattle.ecore_meta.specs.declared.drafts.End.TheVariants.{Open, Nowhere, At}
 use Rattle.ecore_meta.specs.declared.meta.Class.{Class}
-use Rattle.ecore_meta.specs.declared.meta.EnumLiteral.{EnumLiteral}
+use Rattle.ecore_meta.specs.declared.meta.Enum.{Enum as EnumOf}
 use Rattle.ecore_meta.specs.declared.meta.Feature.{Feature}
 use Rattle.ecore_meta.specs.declared.meta.Kind.{Kind}
 use Rattle.ecore_meta.specs.declared.meta.Kind.TheVariants.{Attr, AttrMany, Bounded, Free, Contains, Container, Skip}
@@ -34,13 +35,13 @@ end_number Nowhere = None
 end_number (At g) = Some g
 
 -- the default of a single attribute: its text's value, or else that of its type
-abbrev pub default_in : List (List EnumLiteral) → Scalar → Option (List ℕ) → Option Value
-default_in literals s None = default_of s
-default_in literals s (Some text) = value_of literals s text
+abbrev pub default_in : List EnumOf → Scalar → Option (List ℕ) → Option Value
+default_in enums s None = default_of s
+default_in enums s (Some text) = value_of enums s text
 
 -- an attribute: single where its upper bound is 1, else many-valued
-abbrev pub attribute : List (List EnumLiteral) → Draft → Scalar → Kind
-attribute literals d s = cond (int_eq d.upper (pos 1)) (Attr s (default_in literals s d.default_text)) (AttrMany s d.unique)
+abbrev pub attribute : List EnumOf → Draft → Scalar → Kind
+attribute enums d s = cond (int_eq d.upper (pos 1)) (Attr s (default_in enums s d.default_text)) (AttrMany s d.unique)
 
 -- a reference to the container, by the containment that is its opposite
 abbrev pub container : ℕ → End → Kind
@@ -57,12 +58,12 @@ abbrev pub reference : List Draft → Draft → ℕ → Kind
 reference ds d c = cond d.containment (Contains c (end_number d.end)) (cond (contains_back ds d.end) (container c d.end) (plain d c))
 
 -- the kind of a feature, by what its type is
-abbrev pub kind_in : List (List EnumLiteral) → List Draft → Draft → Target → Kind
-kind_in literals ds d Skipped = Skip
-kind_in literals ds d Unsupported = Skip
-kind_in literals ds d Missing = Skip
-kind_in literals ds d (Elements c) = reference ds d c
-kind_in literals ds d (Values s) = attribute literals d s
+abbrev pub kind_in : List EnumOf → List Draft → Draft → Target → Kind
+kind_in enums ds d Skipped = Skip
+kind_in enums ds d Unsupported = Skip
+kind_in enums ds d Missing = Skip
+kind_in enums ds d (Elements c) = reference ds d c
+kind_in enums ds d (Values s) = attribute enums d s
 
 -- a skipped feature has the bounds 0 and 1
 abbrev pub lower_from : Draft → ℕ
@@ -73,8 +74,8 @@ abbrev pub upper_from : Draft → Option ℕ
 upper_from d = cond (is_skipped d.target) (Some 1) (cond (int_eq d.upper (negsuc 0)) None (Some (natural d.upper)))
 
 -- a feature of the metamodel, by its draft
-abbrev pub feature_from : List (List EnumLiteral) → List Draft → Draft → Feature
-feature_from literals ds d = record { owner = d.owner; name = d.name; lower = lower_from d; upper = upper_from d; kind = kind_in literals ds d d.target }
+abbrev pub feature_from : List EnumOf → List Draft → Draft → Feature
+feature_from enums ds d = record { owner = d.owner; name = d.name; lower = lower_from d; upper = upper_from d; kind = kind_in enums ds d d.target }
 
 -- the classes with the features of each
 abbrev pub classes_from : ℕ → List (List ℕ) → ClassifierRows → List Class
@@ -88,10 +89,14 @@ abbrev pub meta_of : MetaRows → Meta
 meta_of rows = record {
   uri = rows.uri;
   classes = classes_from 0 (features_of rows.classifiers) rows.classifiers;
-  features = map (feature_from (literals_in rows.classifiers) (drafts rows.classifiers)) (drafts rows.classifiers);
-  supers = supers_in rows.classifiers rows.classifiers;
-  literals = literals_in rows.classifiers;
+  above = all_above (supers_in rows.classifiers rows.classifiers);
+  features = map (feature_from (enums_in rows.classifiers) (drafts rows.classifiers)) (drafts rows.classifiers);
+  enums = enums_in rows.classifiers;
 }
+
+-- a class is another exactly where a list of classes leads there, each a direct supertype of the one before
+abbrev pub Chains : List (List ℕ) → Meta → Type 0
+Chains supers meta = (c d : ℕ) → c < length meta.classes → (IsTrue (is_a meta c d) ↔ Leads supers c d)
 
 -- the features or literals of each classifier can be numbered
 abbrev pub AreFew : ClassifierRows → Type 0

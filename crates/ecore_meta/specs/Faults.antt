@@ -10,6 +10,7 @@ use Rattle.ecore_meta.specs.Drafts.{drafts}
 use Rattle.ecore_meta.specs.Values.{value_of}
 use Rattle.ecore_meta.specs.declared.fault.MetaFault.{MetaFault}
 use Rattle.ecore_meta.specs.declared.fault.MetaFault.TheVariants.{DupName, Unsupported as UnsupportedFault, NoType, SuperCycle, Clash, SelfOpposite, BadOpposite, BadBound, BadDefault, Memory}
+use Rattle.ecore_meta.specs.declared.meta.Enum.{Enum as EnumOf}
 use Rattle.ecore_meta.specs.declared.meta.EnumLiteral.{EnumLiteral}
 use Rattle.ecore_meta.specs.declared.rows.ClassifierRow.{ClassifierRow}
 use Rattle.ecore_meta.specs.declared.rows.ClassifierRow.TheVariants.{Class, Enum, Plain}
@@ -171,28 +172,28 @@ abbrev pub bad_bound : List Draft → Draft → Bool
 bad_bound ds d = not (is_skipped d.target) && bad_bounds ds d
 
 -- the text stands for no value of the type
-abbrev pub no_value : List (List EnumLiteral) → Target → Option Name → Bool
-no_value literals (Values s) (Some text) = not (is_some (value_of literals s text))
-no_value literals (Values s) None = false
-no_value literals Skipped text = false
-no_value literals Unsupported text = false
-no_value literals Missing text = false
-no_value literals (Elements c) text = false
+abbrev pub no_value : List EnumOf → Target → Option Name → Bool
+no_value enums (Values s) (Some text) = not (is_some (value_of enums s text))
+no_value enums (Values s) None = false
+no_value enums Skipped text = false
+no_value enums Unsupported text = false
+no_value enums Missing text = false
+no_value enums (Elements c) text = false
 
 -- the default text of a single attribute gives no value
-abbrev pub bad_default : List (List EnumLiteral) → Draft → Bool
-bad_default literals d = int_eq d.upper (pos 1) && no_value literals d.target d.default_text
+abbrev pub bad_default : List EnumOf → Draft → Bool
+bad_default enums d = int_eq d.upper (pos 1) && no_value enums d.target d.default_text
 
 -- a literal by its name and its text
 abbrev pub literal : LiteralRow → EnumLiteral
 literal row = record { name = row.name; text = row.literal }
 
--- the literals of each enum
-abbrev pub literals_in : ClassifierRows → List (List EnumLiteral)
-literals_in [] = []
-literals_in (Class c ∷ rows) = literals_in rows
-literals_in (Enum e ∷ rows) = map literal e.literals ∷ literals_in rows
-literals_in (Plain t ∷ rows) = literals_in rows
+-- the enums with their literals
+abbrev pub enums_in : ClassifierRows → List EnumOf
+enums_in [] = []
+enums_in (Class c ∷ rows) = enums_in rows
+enums_in (Enum e ∷ rows) = record { name = e.name; literals = map literal e.literals } ∷ enums_in rows
+enums_in (Plain t ∷ rows) = enums_in rows
 
 -- the fault of the first test that holds
 abbrev pub first_true : List (Bool × MetaFault) → Option MetaFault
@@ -200,12 +201,12 @@ first_true [] = None
 first_true (t ∷ ts) = cond t.0 (Some t.1) (first_true ts)
 
 -- the last four tests, which look at the resolved features alone, each with its fault
-abbrev pub last_tests : List Draft → List (List EnumLiteral) → List (Bool × MetaFault)
-last_tests ds literals =
+abbrev pub last_tests : List Draft → List EnumOf → List (Bool × MetaFault)
+last_tests ds enums =
     (any_from is_self 0 ds, SelfOpposite)
     ∷ (any_from (is_unanswered ds) 0 ds, BadOpposite)
     ∷ (list_any (bad_bound ds) ds, BadBound)
-    ∷ (list_any (bad_default literals) ds, BadDefault)
+    ∷ (list_any (bad_default enums) ds, BadDefault)
     ∷ []
 
 -- the nine tests of a document in their order, each with its fault
@@ -216,7 +217,7 @@ tests rows =
     ∷ (no_type rows (drafts rows), NoType)
     ∷ (super_cycle (supers_in rows rows), SuperCycle)
     ∷ (clash (drafts rows) (features_of rows), Clash)
-    ∷ last_tests (drafts rows) (literals_in rows)
+    ∷ last_tests (drafts rows) (enums_in rows)
 
 -- the first fault of a document
 abbrev pub fault : ClassifierRows → Option MetaFault

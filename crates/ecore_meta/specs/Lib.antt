@@ -10,6 +10,6 @@ pub mod Names
 pub mod Promised
 pub mod Sound
 pub mod Supers
-pub mod Tables
+pub mod Holds
 pub mod Typing
 pub mod Values

@@ -5,21 +5,24 @@ use Rattle.std.specs.Str.{bytes_eq}
 use Rattle.std.specs.Option.{option_map_or}
 use Rattle.ecore_meta.specs.declared.meta.Class.{Class}
 use Rattle.ecore_meta.specs.declared.meta.Feature.{Feature}
-use Rattle.ecore_meta.specs.declared.meta.EnumLiteral.{EnumLiteral}
+use Rattle.ecore_meta.specs.declared.meta.Enum.{Enum}
 use Rattle.ecore_meta.specs.Names.{Name, number_of}
-use Rattle.ecore_meta.specs.Supers.{is_above}
 
--- classes and features by number, for each class its direct supertypes, and for each enum its literals
+-- classes, features and enums by number, and for each class, by number, the classes that it is: itself and all above it
 pub record Meta : Type 0 where
   pub uri : List ℕ
   pub classes : List Class
+  pub above : List (List ℕ)
   pub features : List Feature
-  pub supers : List (List ℕ)
-  pub literals : List (List EnumLiteral)
+  pub enums : List Enum
+
+-- d is one of the classes that c is, by the table
+abbrev pub is_in : List (List ℕ) → ℕ → ℕ → Bool
+is_in above c d = option_map_or (list_any (nat_eq d)) (slice_get above c) false
 
 -- c is d, or d is above it
 abbrev pub is_a : Meta → ℕ → ℕ → Bool
-is_a meta c d = is_above meta.supers c d
+is_a meta c d = is_in meta.above c d
 
 -- whether a class has a feature, its own or inherited
 abbrev pub has_feature : Meta → ℕ → ℕ → Bool

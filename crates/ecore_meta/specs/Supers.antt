@@ -1,6 +1,6 @@
 -- Classes above a class, by the lists of direct supertypes.
-use Rattle.std.specs.Prelude.{◌≡◌, ℕ, zero, suc, Bool, true, List, [], ◌∷◌, slice_get, nat_eq, is_some, length, take, ◌<◌, ◌≤◌, ◌&&◌, ◌||◌}
-use Rattle.std.specs.List.{list_any, IsDistinct}
+use Rattle.std.specs.Prelude.{◌≡◌, ℕ, zero, suc, Bool, true, List, [], ◌∷◌, slice_get, nat_eq, is_some, length, map, take, ◌<◌, ◌≤◌, ◌&&◌, ◌||◌}
+use Rattle.std.specs.List.{list_any, filter, range_with_len, IsDistinct}
 use Rattle.std.specs.List.Sorted.{IsStrictlySortedBy}
 use Rattle.std.specs.Ordering.{nat_cmp}
 use Rattle.std.specs.BTreeSet.{BTreeSet, contains}
@@ -27,6 +27,10 @@ within supers (suc n) c d = nat_eq c d || list_any (λ b. within supers n b d) (
 -- d is c or above it: no path needs more steps than there are classes
 unfoldable pub is_above : List (List ℕ) → ℕ → ℕ → Bool
 is_above supers c d = is_some (slice_get supers c) && within supers (length supers) c d
+
+-- the classes that each class is, by number: itself and all above it
+abbrev pub all_above : List (List ℕ) → List (List ℕ)
+all_above supers = map (λ c. filter (is_above supers c) (range_with_len 0 (length supers))) (range_with_len 0 (length supers))
 
 -- every supertype is a class of the package
 abbrev pub Inside : List (List ℕ) → Type 0

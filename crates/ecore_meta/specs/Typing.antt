@@ -27,11 +27,11 @@ half_of (LiteralType e) = 0
 
 -- the literals of an enum, none where there is no such enum
 abbrev pub literals_of : Meta → ℕ → List EnumLiteral
-literals_of meta e = option_map_or (λ ls. ls) (slice_get meta.literals e) []
+literals_of meta e = option_map_or (λ found. found.literals) (slice_get meta.enums e) []
 
 -- how many literals an enum has
 abbrev pub literal_count : Meta → ℕ → ℕ
-literal_count meta e = option_map_or length (slice_get meta.literals e) 0
+literal_count meta e = option_map_or (λ found. length found.literals) (slice_get meta.enums e) 0
 
 -- the text of a literal of an enum, empty for numbers that are none
 abbrev pub literal_text : Meta → ℕ → ℕ → List ℕ

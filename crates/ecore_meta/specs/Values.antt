@@ -6,6 +6,7 @@ use Rattle.ecore_meta.specs.Names.{number_of}
 use Rattle.ecore_meta.specs.Typing.{in_width}
 use Rattle.ecore_meta.specs.declared.fault.ValueFault.{ValueFault}
 use Rattle.ecore_meta.specs.declared.fault.ValueFault.TheVariants.{Bad, Memory}
+use Rattle.ecore_meta.specs.declared.meta.Enum.{Enum}
 use Rattle.ecore_meta.specs.declared.meta.EnumLiteral.{EnumLiteral}
 use Rattle.ecore_meta.specs.declared.meta.Scalar.{Scalar}
 use Rattle.ecore_meta.specs.declared.meta.Scalar.TheVariants.{Text as TextType, Flag as FlagType, Byte, Short, Int, Long, Literal as LiteralType}
@@ -50,8 +51,8 @@ abbrev pub flag_of : List ℕ → Option Value
 flag_of text = if bytes_eq text (codes "true") then Some (Flag true) else if bytes_eq text (codes "false") then Some (Flag false) else None
 
 -- the literals of the enum of that number, none where there is no such enum
-abbrev pub literals_at : List (List EnumLiteral) → ℕ → List EnumLiteral
-literals_at literals e = option_map_or (λ ls. ls) (slice_get literals e) []
+abbrev pub literals_at : List Enum → ℕ → List EnumLiteral
+literals_at enums e = option_map_or (λ found. found.literals) (slice_get enums e) []
 
 -- the text of the literal of that number, empty for a number that is none
 abbrev pub text_in : List EnumLiteral → ℕ → List ℕ
@@ -67,18 +68,18 @@ abbrev pub literal_in : List EnumLiteral → List ℕ → Option ℕ
 literal_in ls text = or_else (number_of text (map (λ l. l.text) ls)) (number_of text (map (λ l. l.name) ls))
 
 -- the literal that a text names, of the enum of that number
-abbrev pub named_of : List (List EnumLiteral) → ℕ → List ℕ → Option Value
-named_of literals e text = option_map (λ n. Literal n) (literal_in (literals_at literals e) text)
+abbrev pub named_of : List Enum → ℕ → List ℕ → Option Value
+named_of enums e text = option_map (λ n. Literal n) (literal_in (literals_at enums e) text)
 
 -- the value of the type that a text stands for
-abbrev pub value_of : List (List EnumLiteral) → Scalar → List ℕ → Option Value
-value_of literals TextType text = Some (Text text)
-value_of literals FlagType text = flag_of text
-value_of literals Byte text = whole_in 128 text
-value_of literals Short text = whole_in 32768 text
-value_of literals Int text = whole_in 2147483648 text
-value_of literals Long text = whole_in 9223372036854775808 text
-value_of literals (LiteralType e) text = named_of literals e text
+abbrev pub value_of : List Enum → Scalar → List ℕ → Option Value
+value_of enums TextType text = Some (Text text)
+value_of enums FlagType text = flag_of text
+value_of enums Byte text = whole_in 128 text
+value_of enums Short text = whole_in 32768 text
+value_of enums Int text = whole_in 2147483648 text
+value_of enums Long text = whole_in 9223372036854775808 text
+value_of enums (LiteralType e) text = named_of enums e text
 
 -- the default of a type: texts have none
 abbrev pub default_of : Scalar → Option Value
@@ -91,9 +92,9 @@ default_of Long = Some (Whole (pos 0))
 default_of (LiteralType e) = Some (Literal 0)
 
 -- the literals of each enum can be numbered
-abbrev pub AreShort : List (List EnumLiteral) → Type 0
+abbrev pub AreShort : List Enum → Type 0
 AreShort [] = Unit {0}
-AreShort (ls ∷ literals) = (length ls < 4294967296) × AreShort literals
+AreShort (found ∷ enums) = (length found.literals < 4294967296) × AreShort enums
 
 -- why a text was not read: it stands for no value, or there was no memory
 abbrev pub IsBad : Option Value → ValueFault → Type 0

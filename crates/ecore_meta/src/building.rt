@@ -1,11 +1,11 @@
 //! The building of a metamodel: names are resolved, faults looked for in their order, and then the tables assembled.
 ghost use Rattle.std.specs.Prelude.{◌≡◌, ◌<◌, IfOk, IfErr, None, map};
-ghost use Rattle.ecore_meta.specs.Build.{Numbered, meta_of};
+ghost use Rattle.ecore_meta.specs.Build.{Chains, Numbered, meta_of};
 ghost use Rattle.ecore_meta.specs.Document.{feature_total, supers_in};
 ghost use Rattle.ecore_meta.specs.Drafts.{drafts};
-ghost use Rattle.ecore_meta.specs.Tables.{Agrees, all_above};
+ghost use Rattle.ecore_meta.specs.Supers.{all_above};
 ghost use Rattle.ecore_meta.specs.Named.{NamesFit};
-ghost use Rattle.ecore_meta.specs.Faults.{IsFault, fault, features_of, first_true, last_tests, literals_in};
+ghost use Rattle.ecore_meta.specs.Faults.{IsFault, fault, features_of, first_true, last_tests, enums_in};
 
 use crate::classifiers::Classifiers;
 use crate::drafts::Draft;
@@ -14,8 +14,8 @@ use crate::faults::{
     any_bad_bound, any_missing, any_repeats_within, any_self, any_unanswered, any_unsupported,
 };
 use crate::features::{all_features, any_bad_default, any_clash, classes_of, features_of};
-use crate::literals::literals_of;
-use crate::meta::EnumLiteral;
+use crate::literals::enums_of;
+use crate::meta::Enum;
 use crate::metamodel::Metamodel;
 use crate::rows::{ClassifierRow, MetaRows};
 use crate::tables::{all_above, any_cycle, own_features};
@@ -26,10 +26,9 @@ use std::collections::BTreeSet;
 #[derive(Drop)]
 pub(crate) struct Parts {
     pub drafts: Vec<Draft>,
-    pub supers: Vec<Vec<u32>>,
     pub above: Vec<BTreeSet<u32>>,
     pub features: Vec<Vec<u32>>,
-    pub literals: Vec<Vec<EnumLiteral>>,
+    pub enums: Vec<Enum>,
 }
 
 /// The features of each class, by number: those that it or a class above it declares.
@@ -53,12 +52,11 @@ fn listed(
 fn checked(alloc: Global, rows: &[ClassifierRow]) -> Result<Parts, MetaFault>
     requires { Numbered rows.now }
     ensures fault { IfErr result (IsFault (fault rows.now)) }
-    ensures rest { IfOk result (λ p. fault rows.now ≡ first_true (last_tests p.drafts.items (map (λ ls. ls.items) p.literals.items))) }
+    ensures rest { IfOk result (λ p. fault rows.now ≡ first_true (last_tests p.drafts.items (p.enums.items))) }
     ensures drafts { IfOk result (λ p. p.drafts.items ≡ drafts rows.now) }
-    ensures supers { IfOk result (λ p. map (λ ups. ups.items) p.supers.items ≡ supers_in rows.now rows.now) }
-    ensures above { IfOk result (λ p. Agrees (map (λ ups. ups.items) p.supers.items) p.above.items) }
+    ensures above { IfOk result (λ p. map (λ s. s.keys) p.above.items ≡ all_above (supers_in rows.now rows.now)) }
     ensures features { IfOk result (λ p. map (λ fs. fs.items) p.features.items ≡ features_of rows.now) }
-    ensures literals { IfOk result (λ p. map (λ ls. ls.items) p.literals.items ≡ literals_in rows.now) }
+    ensures enums { IfOk result (λ p. p.enums.items ≡ enums_in rows.now) }
 {
     let Some(classifiers) = Classifiers::new(alloc, rows)? else {
         return Err(MetaFault::DupName);
@@ -82,13 +80,12 @@ fn checked(alloc: Global, rows: &[ClassifierRow]) -> Result<Parts, MetaFault>
     if any_clash(alloc, drafts.as_slice(), features.as_slice())? {
         return Err(MetaFault::Clash);
     }
-    let literals = literals_of(alloc, rows)?;
+    let enums = enums_of(alloc, rows)?;
     Ok(Parts {
         drafts,
-        supers,
         above,
         features,
-        literals,
+        enums,
     })
 }
 
@@ -100,6 +97,7 @@ pub fn build(alloc: Global, rows: &MetaRows) -> Result<Metamodel, MetaFault>
     ensures fault { IfErr result (IsFault (fault rows.now.classifiers)) }
     ensures none { IfOk result (λ _. fault rows.now.classifiers ≡ None) }
     ensures built { IfOk result (λ m. m ≡ meta_of rows.now) }
+    ensures chain { IfOk result (λ m. Chains (supers_in rows.now.classifiers rows.now.classifiers) m) }
 {
     let parts = match checked(alloc, rows.classifiers.as_slice()) {
         Ok(parts) => parts,
@@ -114,7 +112,7 @@ pub fn build(alloc: Global, rows: &MetaRows) -> Result<Metamodel, MetaFault>
     if any_bad_bound(parts.drafts.as_slice()) {
         return Err(MetaFault::BadBound);
     }
-    if any_bad_default(alloc, parts.literals.as_slice(), parts.drafts.as_slice())? {
+    if any_bad_default(alloc, parts.enums.as_slice(), parts.drafts.as_slice())? {
         return Err(MetaFault::BadDefault);
     }
     Ok(assemble(alloc, rows, parts)?)
@@ -125,10 +123,9 @@ fn assemble(alloc: Global, rows: &MetaRows, parts: Parts) -> Result<Metamodel, A
     requires fit { NamesFit rows.now.classifiers }
     requires none { fault rows.now.classifiers ≡ None }
     requires drafts { parts.drafts.items ≡ drafts rows.now.classifiers }
-    requires supers { map (λ ups. ups.items) parts.supers.items ≡ supers_in rows.now.classifiers rows.now.classifiers }
-    requires above { Agrees (map (λ ups. ups.items) parts.supers.items) parts.above.items }
+    requires above { map (λ s. s.keys) parts.above.items ≡ all_above (supers_in rows.now.classifiers rows.now.classifiers) }
     requires features { map (λ fs. fs.items) parts.features.items ≡ features_of rows.now.classifiers }
-    requires literals { map (λ ls. ls.items) parts.literals.items ≡ literals_in rows.now.classifiers }
+    requires enums { parts.enums.items ≡ enums_in rows.now.classifiers }
     ensures { IfOk result (λ m. m ≡ meta_of rows.now) }
 {
     let uri = rows.uri.copy(alloc)?;
@@ -137,13 +134,12 @@ fn assemble(alloc: Global, rows: &MetaRows, parts: Parts) -> Result<Metamodel, A
         parts.features.as_slice(),
         rows.classifiers.as_slice(),
     )?;
-    let features = features_of(alloc, parts.literals.as_slice(), parts.drafts.as_slice())?;
+    let features = features_of(alloc, parts.enums.as_slice(), parts.drafts.as_slice())?;
     Ok(Metamodel {
         uri,
         classes,
         features,
-        supers: parts.supers,
         above: parts.above,
-        literals: parts.literals,
+        enums: parts.enums,
     })
 }

@@ -3,13 +3,13 @@
 ghost use Rattle.std.specs.Prelude.{◌≡◌, ◌<◌, ◌++◌, IfOk, OnOk, Some, map};
 ghost use Rattle.std.specs.List.{flat_map, list_any};
 ghost use Rattle.ecore_meta.specs.Build.{attribute, classes_from, container, end_number, feature_from, kind_in, lower_from, natural, reference, upper_from};
-ghost use Rattle.ecore_meta.specs.Tables.{all_above};
+ghost use Rattle.ecore_meta.specs.Supers.{all_above};
 ghost use Rattle.ecore_meta.specs.Faults.{all_inherited, bad_default, clash, draft_name, no_value, own_of};
 ghost use Rattle.ecore_meta.specs.Values.{AreShort};
 
 use crate::drafts::{Draft, End, Target};
 use crate::faults::{at, contains_back, is_skipped, repeats};
-use crate::meta::{Class, EnumLiteral, Feature, Kind, Scalar};
+use crate::meta::{Class, Enum, Feature, Kind, Scalar};
 use crate::rows::ClassifierRow;
 use crate::values::{default_of, value_of};
 use crate::{List, Text};
@@ -95,16 +95,16 @@ pub(crate) fn any_clash(
 
 fn no_value(
     alloc: Global,
-    literals: &[Vec<EnumLiteral>],
+    enums: &[Enum],
     target: &Target,
     text: &Option<Text>,
 ) -> Result<bool, AllocError>
-    requires { AreShort (map (λ ls. ls.items) literals.now) }
-    ensures { IfOk result (λ b. b ≡ no_value (map (λ ls. ls.items) literals.now) target.now text.now) }
+    requires { AreShort enums.now }
+    ensures { IfOk result (λ b. b ≡ no_value enums.now target.now text.now) }
 {
     match target {
         Target::Values(scalar) => match text {
-            Some(text) => Ok(value_of(alloc, literals, scalar, text.as_str())?.is_none()),
+            Some(text) => Ok(value_of(alloc, enums, scalar, text.as_str())?.is_none()),
             None => Ok(false),
         },
         Target::Skipped | Target::Unsupported | Target::Missing | Target::Elements(_) => Ok(false),
@@ -114,14 +114,14 @@ fn no_value(
 /// Whether the default text of a single attribute gives no value.
 pub(crate) fn any_bad_default(
     alloc: Global,
-    literals: &[Vec<EnumLiteral>],
+    enums: &[Enum],
     drafts: &[Draft],
 ) -> Result<bool, AllocError>
-    requires { AreShort (map (λ ls. ls.items) literals.now) }
-    ensures { IfOk result (λ b. b ≡ list_any (bad_default (map (λ ls. ls.items) literals.now)) drafts.now) }
+    requires { AreShort enums.now }
+    ensures { IfOk result (λ b. b ≡ list_any (bad_default enums.now) drafts.now) }
 {
     for draft in drafts {
-        if draft.upper == 1 && no_value(alloc, literals, &draft.target, &draft.default_text)? {
+        if draft.upper == 1 && no_value(alloc, enums, &draft.target, &draft.default_text)? {
             return Ok(true);
         }
     }
@@ -152,17 +152,17 @@ fn end_number(end: End) -> Option<u32>
 
 fn attribute(
     alloc: Global,
-    literals: &[Vec<EnumLiteral>],
+    enums: &[Enum],
     draft: &Draft,
     scalar: &Scalar,
 ) -> Result<Kind, AllocError>
-    requires { AreShort (map (λ ls. ls.items) literals.now) }
-    ensures { IfOk result (λ k. k ≡ attribute (map (λ ls. ls.items) literals.now) draft.now scalar.now) }
+    requires { AreShort enums.now }
+    ensures { IfOk result (λ k. k ≡ attribute enums.now draft.now scalar.now) }
 {
     if draft.upper == 1 {
         let default = match &draft.default_text {
             None => default_of(scalar),
-            Some(text) => value_of(alloc, literals, scalar, text.as_str())?,
+            Some(text) => value_of(alloc, enums, scalar, text.as_str())?,
         };
         Ok(Kind::Attr {
             scalar: copy_scalar(scalar),
@@ -220,16 +220,16 @@ fn reference(drafts: &[Draft], draft: &Draft, target: u32) -> Kind
 
 fn kind(
     alloc: Global,
-    literals: &[Vec<EnumLiteral>],
+    enums: &[Enum],
     drafts: &[Draft],
     draft: &Draft,
 ) -> Result<Kind, AllocError>
-    requires { AreShort (map (λ ls. ls.items) literals.now) }
-    ensures { IfOk result (λ k. k ≡ kind_in (map (λ ls. ls.items) literals.now) drafts.now draft.now draft.now.target) }
+    requires { AreShort enums.now }
+    ensures { IfOk result (λ k. k ≡ kind_in enums.now drafts.now draft.now draft.now.target) }
 {
     match &draft.target {
         Target::Elements(class) => Ok(reference(drafts, draft, *class)),
-        Target::Values(scalar) => attribute(alloc, literals, draft, scalar),
+        Target::Values(scalar) => attribute(alloc, enums, draft, scalar),
         Target::Skipped | Target::Unsupported | Target::Missing => Ok(Kind::Skip),
     }
 }
@@ -258,33 +258,33 @@ fn upper(draft: &Draft) -> Option<u32>
 
 fn feature(
     alloc: Global,
-    literals: &[Vec<EnumLiteral>],
+    enums: &[Enum],
     drafts: &[Draft],
     draft: &Draft,
 ) -> Result<Feature, AllocError>
-    requires { AreShort (map (λ ls. ls.items) literals.now) }
-    ensures { IfOk result (λ f. f ≡ feature_from (map (λ ls. ls.items) literals.now) drafts.now draft.now) }
+    requires { AreShort enums.now }
+    ensures { IfOk result (λ f. f ≡ feature_from enums.now drafts.now draft.now) }
 {
     Ok(Feature {
         owner: draft.owner,
         name: draft.name.copy(alloc)?,
         lower: lower(draft),
         upper: upper(draft),
-        kind: kind(alloc, literals, drafts, draft)?,
+        kind: kind(alloc, enums, drafts, draft)?,
     })
 }
 
 pub(crate) fn features_of(
     alloc: Global,
-    literals: &[Vec<EnumLiteral>],
+    enums: &[Enum],
     drafts: &[Draft],
 ) -> Result<Vec<Feature>, AllocError>
-    requires { AreShort (map (λ ls. ls.items) literals.now) }
-    ensures { IfOk result (λ v. v.items ≡ map (feature_from (map (λ ls. ls.items) literals.now) drafts.now) drafts.now) }
+    requires { AreShort enums.now }
+    ensures { IfOk result (λ v. v.items ≡ map (feature_from enums.now drafts.now) drafts.now) }
 {
     let mut features = Vec::new(alloc);
     for draft in drafts {
-        features.push(feature(alloc, literals, drafts, draft)?)?;
+        features.push(feature(alloc, enums, drafts, draft)?)?;
     }
     Ok(features)
 }

@@ -19,7 +19,7 @@ mod values;
 
 pub use building::build;
 pub use fault::{MetaFault, ValueFault};
-pub use meta::{Class, EnumLiteral, Feature, Kind, Scalar, Value};
+pub use meta::{Class, Enum, EnumLiteral, Feature, Kind, Scalar, Value};
 pub use metamodel::Metamodel;
 pub use rows::{
     ClassRow, ClassifierRow, EnumRow, FeatureRow, LiteralRow, MetaRows, OppositeRow, TypeName,

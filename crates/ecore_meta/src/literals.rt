@@ -1,10 +1,11 @@
 //! The literals of enums, looked up by text and then by name.
 ghost use Rattle.std.specs.Prelude.{◌≡◌, ◌<◌, IfOk, IfSome, Some, None, length, map};
 ghost use Rattle.ecore_meta.specs.Names.{number_of};
-ghost use Rattle.ecore_meta.specs.Faults.{literal, literals_in};
+ghost use Rattle.ecore_meta.specs.Faults.{literal, enums_in};
 ghost use Rattle.ecore_meta.specs.Values.{literal_in};
 
-use crate::meta::EnumLiteral;
+use crate::meta::{Enum, EnumLiteral};
+use crate::List;
 use crate::rows::{ClassifierRow, LiteralRow};
 use std::alloc::{AllocError, Global};
 
@@ -27,24 +28,27 @@ fn all_literals(alloc: Global, rows: &[LiteralRow]) -> Result<Vec<EnumLiteral>, 
     Ok(literals)
 }
 
-/// The literals of each enum.
-pub(crate) fn literals_of(
+/// The enums with their names and literals.
+pub(crate) fn enums_of(
     alloc: Global,
     rows: &[ClassifierRow],
-) -> Result<Vec<Vec<EnumLiteral>>, AllocError>
-    ensures { IfOk result (λ v. map (λ ls. ls.items) v.items ≡ literals_in rows.now) }
+) -> Result<Vec<Enum>, AllocError>
+    ensures { IfOk result (λ v. v.items ≡ enums_in rows.now) }
 {
-    let mut literals = Vec::new(alloc);
+    let mut enums = Vec::new(alloc);
     for row in rows {
         match row {
             ClassifierRow::Enum(row) => {
-                literals.push(all_literals(alloc, row.literals.as_slice())?)?;
+                enums.push(Enum {
+                    name: row.name.copy(alloc)?,
+                    literals: List::from_vec(all_literals(alloc, row.literals.as_slice())?),
+                })?;
             }
             ClassifierRow::Class(_) => {}
             ClassifierRow::Plain(_) => {}
         }
     }
-    Ok(literals)
+    Ok(enums)
 }
 
 /// The place of the first literal of that text.

@@ -92,6 +92,13 @@ pub struct EnumLiteral {
     pub text: Text,
 }
 
+/// An enum of a metamodel: its name, and its literals in their order.
+#[derive(Debug, Drop)]
+pub struct Enum {
+    pub name: Text,
+    pub literals: List<EnumLiteral>,
+}
+
 impl Value {
     /// The same value, a text in memory of its own.
     pub fn copy(&self, alloc: Global) -> Result<Value, AllocError>

@@ -1,36 +1,33 @@
 //! A metamodel that was built, and its questions: classes and features by number and by name, subtyping, literals,
 //! defaults.
-ghost use Rattle.std.specs.Prelude.{◌≡◌, ◌<◌, ◌↔◌, IfErr, IfOk, IsTrue, IfSome, length, map, slice_get, Some, nat_eq};
+ghost use Rattle.std.specs.Prelude.{◌≡◌, ◌<◌, IfErr, IfOk, IfSome, length, map, slice_get, Some, nat_eq};
 ghost use Rattle.std.specs.List.{list_any};
 ghost use Rattle.std.specs.Option.{option_copied, option_map_or};
 ghost use Rattle.ecore_meta.specs.Meta.{class_named, feature_named, features_of, first_named, has_feature, is_a, name_at};
 ghost use Rattle.ecore_meta.specs.Promised.{IsMetamodel};
 ghost use Rattle.ecore_meta.specs.Sound.{Sound};
-ghost use Rattle.ecore_meta.specs.Supers.{Leads};
 ghost use Rattle.ecore_meta.specs.Typing.{literal_count, literal_text, literals_of};
 ghost use Rattle.ecore_meta.specs.Names.{number_of};
 ghost use Rattle.ecore_meta.specs.Values.{AreShort, IsBad, literal_in, literals_at, text_in, value_of};
 
 use crate::fault::ValueFault;
 use crate::literals::literal_in;
-use crate::meta::{Class, EnumLiteral, Feature, Scalar, Value};
+use crate::meta::{Class, Enum, EnumLiteral, Feature, Scalar, Value};
 use crate::values::{at, value_of};
 use crate::{Text, tables};
 use std::alloc::Global;
 use std::collections::BTreeSet;
 use std::marker::Model;
 
-/// A metamodel, which contracts see as its classes with their supertypes, its features and its enums.
+/// A metamodel, which contracts see as its classes, the classes above each, its features and its enums.
 #[derive(Debug, Drop)]
 pub struct Metamodel {
     pub(crate) uri: Text,
     pub(crate) classes: Vec<Class>,
     pub(crate) features: Vec<Feature>,
-    /// The direct supertypes of each class.
-    pub(crate) supers: Vec<Vec<u32>>,
     /// Each class and all those above it.
     pub(crate) above: Vec<BTreeSet<u32>>,
-    pub(crate) literals: Vec<Vec<EnumLiteral>>,
+    pub(crate) enums: Vec<Enum>,
 }
 
 fn holds(xs: &[u32], x: u32) -> bool
@@ -39,23 +36,23 @@ fn holds(xs: &[u32], x: u32) -> bool
     xs.iter().any(|y| x == *y)
 }
 
-fn count(literals: &[Vec<EnumLiteral>], e: u32) -> u32
-    requires there { e < length literals.now }
-    requires short { AreShort (map (λ ls. ls.items) literals.now) }
-    ensures { result ≡ option_map_or length (slice_get (map (λ ls. ls.items) literals.now) e) 0 }
+fn count(enums: &[Enum], e: u32) -> u32
+    requires there { e < length enums.now }
+    requires short { AreShort enums.now }
+    ensures { result ≡ option_map_or (λ found. length found.literals) (slice_get enums.now e) 0 }
 {
-    match at(literals, e) {
+    match at(enums, e) {
         None => 0,
-        Some(literals) => literals.len() as u32,
+        Some(found) => found.literals.len() as u32,
     }
 }
 
-fn text_at(literals: &[Vec<EnumLiteral>], e: u32, n: u32) -> &str
-    ensures { result.now ≡ text_in (literals_at (map (λ ls. ls.items) literals.now) e) n }
+fn text_at(enums: &[Enum], e: u32, n: u32) -> &str
+    ensures { result.now ≡ text_in (literals_at enums.now e) n }
 {
-    match at(literals, e) {
+    match at(enums, e) {
         None => "",
-        Some(literals) => text_in(literals.as_slice(), n),
+        Some(found) => text_in(found.literals.as_slice(), n),
     }
 }
 
@@ -77,13 +74,13 @@ fn literal_at(literals: &[EnumLiteral], n: u32) -> Option<&EnumLiteral>
 impl Model for Metamodel {
     ghost use Rattle.std.specs.Prelude.{map};
     ghost use Rattle.ecore_meta.specs.Meta.{Meta};
-    ghost use Rattle.ecore_meta.specs.Tables.{HasTable};
+    ghost use Rattle.ecore_meta.specs.Holds.{Holds};
 
     ghost Value = { Meta };
 
-    ghost view = { λ a. record { uri = a.uri; classes = a.classes.items; features = a.features.items; supers = map (λ v. v.items) a.supers.items; literals = map (λ v. v.items) a.literals.items } };
+    ghost view = { λ a. record { uri = a.uri; classes = a.classes.items; above = map (λ s. s.keys) a.above.items; features = a.features.items; enums = a.enums.items } };
 
-    ghost invariant = { λ a. HasTable (record { uri = a.uri; classes = a.classes.items; features = a.features.items; supers = map (λ v. v.items) a.supers.items; literals = map (λ v. v.items) a.literals.items }) a.above.items };
+    ghost invariant = { λ a. Holds (record { uri = a.uri; classes = a.classes.items; above = map (λ s. s.keys) a.above.items; features = a.features.items; enums = a.enums.items }) };
 }
 
 impl Metamodel {
@@ -110,26 +107,26 @@ impl Metamodel {
 
     /// How many enums there are; they are numbered from 0.
     pub fn enum_count(&self) -> u32
-        ensures { result ≡ length self.now.literals }
+        ensures { result ≡ length self.now.enums }
     {
-        self.literals.len() as u32
+        self.enums.len() as u32
     }
 
     /// How many literals an enum has.
     pub fn literal_count(&self, e: u32) -> u32
-        requires { e < length self.now.literals }
+        requires { e < length self.now.enums }
         ensures { result ≡ literal_count self.now e }
     {
-        count(self.literals.as_slice(), e)
+        count(self.enums.as_slice(), e)
     }
 
     /// The text that stands for a literal of an enum in a model.
     pub fn literal_text(&self, e: u32, n: u32) -> &str
-        requires there { e < length self.now.literals }
+        requires there { e < length self.now.enums }
         requires literal { n < literal_count self.now e }
         ensures { result.now ≡ literal_text self.now e n }
     {
-        text_at(self.literals.as_slice(), e, n)
+        text_at(self.enums.as_slice(), e, n)
     }
 
     /// The law of opposites: each names the other back, none is its own, and what one side may link the other may
@@ -150,10 +147,9 @@ impl Metamodel {
         let _uri = &self.uri;
     }
 
-    /// Whether the class c is d, or d is above it: a chain of supertypes leads from c to d.
+    /// Whether the class c is d, or d is above it.
     pub fn is_a(&self, c: u32, d: u32) -> bool
-        ensures found { result ≡ is_a self.now c d }
-        ensures chain { c < length self.now.classes → (IsTrue result ↔ Leads self.now.supers c d) }
+        ensures { result ≡ is_a self.now c d }
     {
         tables::is_a(self.above.as_slice(), c, d)
     }
@@ -237,7 +233,7 @@ impl Metamodel {
     pub fn literal_named(&self, e: u32, text: &str) -> Option<u32>
         ensures { result ≡ literal_in (literals_of self.now e) text.now }
     {
-        literal_number(self.literals.as_slice(), e, text)
+        literal_number(self.enums.as_slice(), e, text)
     }
 
     /// The value of the type that a default text stands for.
@@ -247,22 +243,22 @@ impl Metamodel {
         scalar: &Scalar,
         text: &str,
     ) -> Result<Value, ValueFault>
-        ensures value { IfOk result (λ v. value_of self.now.literals scalar.now text.now ≡ Some v) }
-        ensures bad { IfErr result (IsBad (value_of self.now.literals scalar.now text.now)) }
+        ensures value { IfOk result (λ v. value_of self.now.enums scalar.now text.now ≡ Some v) }
+        ensures bad { IfErr result (IsBad (value_of self.now.enums scalar.now text.now)) }
     {
-        match value_of(alloc, self.literals.as_slice(), scalar, text)? {
+        match value_of(alloc, self.enums.as_slice(), scalar, text)? {
             None => Err(ValueFault::Bad),
             Some(value) => Ok(value),
         }
     }
 }
 
-fn literal_number(literals: &[Vec<EnumLiteral>], e: u32, text: &str) -> Option<u32>
-    requires { AreShort (map (λ ls. ls.items) literals.now) }
-    ensures { result ≡ literal_in (literals_at (map (λ ls. ls.items) literals.now) e) text.now }
+fn literal_number(enums: &[Enum], e: u32, text: &str) -> Option<u32>
+    requires { AreShort enums.now }
+    ensures { result ≡ literal_in (literals_at enums.now e) text.now }
 {
-    match at(literals, e) {
-        Some(literals) => literal_in(literals.as_slice(), text),
+    match at(enums, e) {
+        Some(found) => literal_in(found.literals.as_slice(), text),
         None => None,
     }
 }

@@ -1,14 +1,13 @@
 //! The tables of inheritance: all classes above each class, cycles among them, and the features that each class
 //! declares.
-ghost use Rattle.std.specs.Prelude.{◌≡◌, ◌<◌, ◌+◌, IfOk, false, length, map, slice_get};
-ghost use Rattle.std.specs.Ordering.{nat_cmp};
+ghost use Rattle.std.specs.Prelude.{◌≡◌, ◌<◌, ◌+◌, IfOk, length, map, slice_get};
+ghost use Rattle.std.specs.Option.{option_copied};
 ghost use Rattle.std.specs.List.{list_any, range_with_len};
-ghost use Rattle.std.specs.BTreeSet.{contains};
-ghost use Rattle.std.specs.Option.{option_map_or};
 ghost use Rattle.ecore_meta.specs.Document.{feature_total};
 ghost use Rattle.ecore_meta.specs.Faults.{own_features, super_cycle};
 ghost use Rattle.ecore_meta.specs.Supers.{Inside};
-ghost use Rattle.ecore_meta.specs.Tables.{Agrees, all_above};
+ghost use Rattle.ecore_meta.specs.Meta.{is_in};
+ghost use Rattle.ecore_meta.specs.Supers.{all_above};
 
 use crate::rows::ClassifierRow;
 use crate::supers::above;
@@ -22,8 +21,7 @@ pub(crate) fn all_above(
 ) -> Result<Vec<BTreeSet<u32>>, AllocError>
     requires inside { Inside (map (λ ups. ups.items) supers.now) }
     requires few { length supers.now < 4294967296 }
-    ensures has { IfOk result (λ v. Agrees (map (λ ups. ups.items) supers.now) v.items) }
-    ensures rising { IfOk result (λ v. map (λ s. s.keys) v.items ≡ all_above (map (λ ups. ups.items) supers.now)) }
+    ensures { IfOk result (λ v. map (λ s. s.keys) v.items ≡ all_above (map (λ ups. ups.items) supers.now)) }
 {
     let mut table = Vec::new(alloc);
     for class in 0..supers.len() {
@@ -32,18 +30,24 @@ pub(crate) fn all_above(
     Ok(table)
 }
 
+fn set_at(above: &[BTreeSet<u32>], c: u32) -> Option<&BTreeSet<u32>>
+    ensures { option_copied result ≡ slice_get above.now c }
+{
+    above.get(c as usize)
+}
+
 /// Whether the class c is d, or d is above it.
 pub(crate) fn is_a(above: &[BTreeSet<u32>], c: u32, d: u32) -> bool
-    ensures { result ≡ option_map_or (λ s. contains nat_cmp s d) (slice_get above.now c) false }
+    ensures { result ≡ is_in (map (λ s. s.keys) above.now) c d }
 {
-    match above.get(c as usize) {
+    match set_at(above, c) {
         None => false,
         Some(set) => set.contains(&d),
     }
 }
 
 fn any_below(above: &[BTreeSet<u32>], ups: &[u32], class: u32) -> bool
-    ensures { result ≡ list_any (λ b. option_map_or (λ s. contains nat_cmp s class) (slice_get above.now b) false) ups.now }
+    ensures { result ≡ list_any (λ b. is_in (map (λ s. s.keys) above.now) b class) ups.now }
 {
     for up in ups {
         if is_a(above, *up, class) {
@@ -55,7 +59,8 @@ fn any_below(above: &[BTreeSet<u32>], ups: &[u32], class: u32) -> bool
 
 /// Whether a class is above itself.
 pub(crate) fn any_cycle(supers: &[Vec<u32>], above: &[BTreeSet<u32>]) -> bool
-    requires agrees { Agrees (map (λ ups. ups.items) supers.now) above.now }
+    requires above { map (λ s. s.keys) above.now ≡ all_above (map (λ ups. ups.items) supers.now) }
+    requires inside { Inside (map (λ ups. ups.items) supers.now) }
     requires few { length supers.now < 4294967296 }
     ensures { result ≡ super_cycle (map (λ ups. ups.items) supers.now) }
 {

@@ -9,7 +9,7 @@ ghost use Rattle.ecore_meta.specs.Values.{AreShort, default_of, flag_of, named_o
 
 use crate::Text;
 use crate::literals::literal_in;
-use crate::meta::{EnumLiteral, Scalar, Value};
+use crate::meta::{Enum, Scalar, Value};
 use std::alloc::{AllocError, Global};
 
 fn begins_with_plus(text: &[u8]) -> bool
@@ -106,18 +106,18 @@ fn whole_in(scalar: &Scalar, text: &str) -> Option<Value>
     }
 }
 
-pub(crate) fn at(literals: &[Vec<EnumLiteral>], number: u32) -> Option<&Vec<EnumLiteral>>
-    ensures { option_copied result ≡ slice_get literals.now number }
+pub(crate) fn at(enums: &[Enum], number: u32) -> Option<&Enum>
+    ensures { option_copied result ≡ slice_get enums.now number }
 {
-    literals.get(number as usize)
+    enums.get(number as usize)
 }
 
-fn named_of(literals: &[Vec<EnumLiteral>], number: u32, text: &str) -> Option<Value>
-    requires { AreShort (map (λ ls. ls.items) literals.now) }
-    ensures { result ≡ named_of (map (λ ls. ls.items) literals.now) number text.now }
+fn named_of(enums: &[Enum], number: u32, text: &str) -> Option<Value>
+    requires { AreShort enums.now }
+    ensures { result ≡ named_of enums.now number text.now }
 {
-    match at(literals, number) {
-        Some(literals) => match literal_in(literals.as_slice(), text) {
+    match at(enums, number) {
+        Some(found) => match literal_in(found.literals.as_slice(), text) {
             Some(n) => Some(Value::Literal(n)),
             None => None,
         },
@@ -128,12 +128,12 @@ fn named_of(literals: &[Vec<EnumLiteral>], number: u32, text: &str) -> Option<Va
 /// The value of the type that a text stands for.
 pub(crate) fn value_of(
     alloc: Global,
-    literals: &[Vec<EnumLiteral>],
+    enums: &[Enum],
     scalar: &Scalar,
     text: &str,
 ) -> Result<Option<Value>, AllocError>
-    requires { AreShort (map (λ ls. ls.items) literals.now) }
-    ensures { IfOk result (λ v. v ≡ value_of (map (λ ls. ls.items) literals.now) scalar.now text.now) }
+    requires { AreShort enums.now }
+    ensures { IfOk result (λ v. v ≡ value_of enums.now scalar.now text.now) }
 {
     match scalar {
         Scalar::Text => Ok(Some(Value::Text(Text::new(alloc, text)?))),
@@ -142,7 +142,7 @@ pub(crate) fn value_of(
         Scalar::Short => Ok(whole_in(scalar, text)),
         Scalar::Int => Ok(whole_in(scalar, text)),
         Scalar::Long => Ok(whole_in(scalar, text)),
-        Scalar::Literal(number) => Ok(named_of(literals, *number, text)),
+        Scalar::Literal(number) => Ok(named_of(enums, *number, text)),
     }
 }
 

@@ -174,7 +174,8 @@ Class { name: "Middle", is_abstract: false, features: List { items: [0, 2, 3] } 
 Class { name: "Named", is_abstract: true, features: List { items: [3] } }], features: [Feature { owner: 0, name: "title", lower: 0, upper: Some(1), kind: Attr { scalar: Text, default: None } },
 Feature { owner: 1, name: "low", lower: 0, upper: Some(1), kind: Attr { scalar: Int, default: Some(Whole(0)) } },
 Feature { owner: 2, name: "middle", lower: 0, upper: Some(1), kind: Attr { scalar: Literal(0), default: Some(Literal(0)) } },
-Feature { owner: 3, name: "name", lower: 1, upper: Some(1), kind: Attr { scalar: Text, default: None } }], supers: [[], [2], [3, 0], []], above: [{0}, {0, 1, 2, 3}, {0, 2, 3}, {3}], literals: [[EnumLiteral { name: "red", text: "r" }, EnumLiteral { name: "green", text: "g" }]] }"#;
+Feature { owner: 3, name: "name", lower: 1, upper: Some(1), kind: Attr { scalar: Text, default: None } }], above: [{0}, {0, 1, 2, 3}, {0, 2, 3}, {3}], enums: [Enum { name: "Colour", literals: List { items: [EnumLiteral { name: "red", text: "r" }, EnumLiteral { name: "green", text: "g" }] } }],
+class_index: {"Low": 1, "Middle": 2, "Named": 3, "Titled": 0}, literal_index: [{"g": 1, "green": 1, "r": 0, "red": 0}] }"#;
 
 const LIBRARY_SHOWN: &str =
     r#"Metamodel { uri: "http://lib/1", classes: [Class { name: "Library", is_abstract: false, features: List { items: [0] } },
@@ -192,14 +193,16 @@ Feature { owner: 2, name: "name", lower: 0, upper: Some(1), kind: Attr { scalar:
 Feature { owner: 2, name: "books", lower: 0, upper: None, kind: Free { target: 1, opposite: Some(4) } },
 Feature { owner: 2, name: "pair", lower: 0, upper: Some(2), kind: Bounded { target: 2, opposite: None } },
 Feature { owner: 3, name: "name", lower: 0, upper: Some(1), kind: Attr { scalar: Text, default: None } },
-Feature { owner: 3, name: "parts", lower: 0, upper: None, kind: Contains { target: 3, opposite: None } }], supers: [[], [], [], []], above: [{0}, {1}, {2}, {3}], literals: [] }"#;
+Feature { owner: 3, name: "parts", lower: 0, upper: None, kind: Contains { target: 3, opposite: None } }], above: [{0}, {1}, {2}, {3}], enums: [],
+class_index: {"Book": 1, "Library": 0, "Shelf": 3, "Writer": 2}, literal_index: [] }"#;
 
 // What a text is replaced by.
-const PLAIN: [(&str, &str); 4] = [
+const PLAIN: [(&str, &str); 5] = [
     (r#"Text { text: ""#, r#"""#),
     (r#"" }"#, r#"""#),
     (", Class", ",\nClass"),
     (", Feature", ",\nFeature"),
+    (", class_index", ",\nclass_index"),
 ];
 
 fn replace_all(alloc: Global, text: &mut String) -> Result<(), Fail> {

@@ -11,6 +11,7 @@ use Rattle.ecore_meta.specs.Meta.{Meta}
 use Rattle.ecore_meta.specs.Names.{Name, number_of}
 use Rattle.ecore_meta.specs.Typing.{fits, in_width, literals_of, literal_count}
 use Rattle.ecore_meta.specs.Values.{literal_in, narrow, or_else}
+use Rattle.ecore_meta.specs.declared.meta.Enum.{Enum}
 use Rattle.ecore_meta.specs.declared.meta.EnumLiteral.{EnumLiteral}
 use Rattle.ecore_meta.specs.declared.meta.Scalar.{Scalar}
 use Rattle.ecore_meta.specs.declared.meta.Scalar.TheVariants.{Text as TextType, Flag as FlagType, Byte, Short, Int, Long, Literal as LiteralType}
@@ -38,11 +39,11 @@ literal_below ls text n h = by_text (number_of text (map (λ l. l.text) ls)) ref
     by_text (Some m) is h = omega (arith, number_below text (map (λ l. l.text) ls) n (is ∙ h), length-map ls (λ l. l.text))
 
 pub count_is : (meta : Meta) (e : ℕ) → literal_count meta e ≡ length (literals_of meta e)
-count_is meta e = by_entry (slice_get meta.literals e)
+count_is meta e = by_entry (slice_get meta.enums e)
   where
-    by_entry : (o : Option (List EnumLiteral)) → option_map_or length o 0 ≡ length (option_map_or (λ ls. ls) o [])
+    by_entry : (o : Option Enum) → option_map_or (λ (x : Enum). length x.literals) o 0 ≡ length (option_map_or (λ (x : Enum). x.literals) o [])
     by_entry None = refl
-    by_entry (Some ls) = refl
+    by_entry (Some x) = refl
 
 flag_fits : (meta : Meta) (o : Option Bool) (v : Value) → option_map (λ b. Flag b) o ≡ Some v → fits meta FlagType v ≡ true
 flag_fits meta None v h = cc

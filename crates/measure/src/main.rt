@@ -69,8 +69,14 @@ fn measure_building(
     print_time(rt, is_timed, "build", building)
 }
 
-fn measure_metamodel(rt: &HostRuntime, is_timed: bool, classes: u32, features: u32) -> Result<()> {
-    let rows = rows_of(rt.alloc(), classes, features)?;
+fn measure_metamodel(
+    rt: &HostRuntime,
+    is_timed: bool,
+    is_chain: bool,
+    classes: u32,
+    features: u32,
+) -> Result<()> {
+    let rows = rows_of(rt.alloc(), classes, features, is_chain)?;
     measure_building(rt, is_timed, &rows, classes, features)
 }
 
@@ -361,7 +367,12 @@ fn measure_tidy(rt: &HostRuntime, is_timed: bool, edits: Edits, operations: u32)
 
 fn measure(rt: &HostRuntime, is_timed: bool, task: Task) -> Result<()> {
     match task {
-        Task::Metamodel { classes, features } => measure_metamodel(rt, is_timed, classes, features),
+        Task::Metamodel { classes, features } => {
+            measure_metamodel(rt, is_timed, false, classes, features)
+        }
+        Task::Chain { classes, features } => {
+            measure_metamodel(rt, is_timed, true, classes, features)
+        }
         Task::Forms { steps } => measure_forms(rt, is_timed, steps),
         Task::History {
             versions,

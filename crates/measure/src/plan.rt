@@ -9,8 +9,13 @@ use std::alloc::Global;
 /// What is measured.
 #[derive(Clone, Copy, Debug, PartialEq, Drop)]
 pub enum Task {
-    /// A metamodel of so many classes, each with so many features.
+    /// A metamodel of so many classes, each with so many features, in chains of four.
     Metamodel {
+        classes: u32,
+        features: u32,
+    },
+    /// The same in one chain, so that each class inherits from all before it.
+    Chain {
         classes: u32,
         features: u32,
     },
@@ -103,6 +108,10 @@ fn task_of_two(word: &str, first: &String, second: &String) -> Result<Task, Meas
     let second = number(second)?;
     match word {
         "metamodel" => Ok(Task::Metamodel {
+            classes: number(first)?,
+            features: second,
+        }),
+        "chain" => Ok(Task::Chain {
             classes: number(first)?,
             features: second,
         }),

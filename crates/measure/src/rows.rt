@@ -84,10 +84,10 @@ fn features_of(
     Ok(rows)
 }
 
-/// The classes stand in chains of four: each but the first of its four is right below the one before it.
-fn supers_of(alloc: Global, class: u32) -> Result<List<Text>, AllocError> {
+/// The classes stand in one chain, or in chains of four: each but the first of its chain is right below the one before it.
+fn supers_of(alloc: Global, class: u32, is_chain: bool) -> Result<List<Text>, AllocError> {
     let mut supers = List::new(alloc);
-    if class % 4 != 0 {
+    if class != 0 && (is_chain || class % 4 != 0) {
         supers.push(class_name(alloc, class - 1)?)?;
     }
     Ok(supers)
@@ -99,12 +99,13 @@ fn class_row(
     class: u32,
     classes: u32,
     features: u32,
+    is_chain: bool,
 ) -> Result<ClassifierRow, AllocError>
     requires { class < classes }
     ensures { IfOk result (λ row. length (features_in row) ≡ features) }
 {
     let name = class_name(alloc, class)?;
-    let supers = supers_of(alloc, class)?;
+    let supers = supers_of(alloc, class, is_chain)?;
     let features = features_of(alloc, class, partner_of(class, classes), features)?;
     Ok(ClassifierRow::Class(ClassRow {
         name,
@@ -115,13 +116,18 @@ fn class_row(
 }
 
 /// The rows of so many classes, each of which declares so many features.
-pub(crate) fn rows_of(alloc: Global, classes: u32, features: u32) -> Result<MetaRows, AllocError>
+pub(crate) fn rows_of(
+    alloc: Global,
+    classes: u32,
+    features: u32,
+    is_chain: bool,
+) -> Result<MetaRows, AllocError>
     ensures classes { IfOk result (λ rows. length rows.classifiers ≡ classes) }
     ensures features { IfOk result (λ rows. feature_total rows.classifiers ≡ classes * features) }
 {
     let mut classifiers = List::new(alloc);
     for class in 0..classes {
-        classifiers.push(class_row(alloc, class, classes, features)?)?;
+        classifiers.push(class_row(alloc, class, classes, features, is_chain)?)?;
     }
     Ok(MetaRows {
         name: Text::new(alloc, "measured")?,

@@ -27,7 +27,7 @@ Key = taken_by key_number
 
 -- ---- the keys of a class with one feature, whose name is empty: the feature, the id, the class
 abbrev probe : ℕ → Meta
-probe f = record { uri = []; classes = record { name = []; is_abstract = false; features = f ∷ [] } ∷ []; features = []; supers = []; literals = [] }
+probe f = record { uri = []; classes = record { name = []; is_abstract = false; features = f ∷ [] } ∷ []; above = []; features = []; enums = [] }
 
 -- the list has an item
 abbrev IsFull : {A : Type 0} → List A → Type 0

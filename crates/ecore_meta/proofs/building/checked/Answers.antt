@@ -22,3 +22,8 @@ pub listed-requires-clause-supers : goal.listed-requires-clause-supers
 listed-requires-clause-supers c =
     let have = subst (MayHave c.args.rows.now) c.in-Some.is c.in_ok-classifiers.ensures in
     ap (map (λ ups. ups.items)) c.as_slice-5.ensures.value ∙ c.in_ok-supers.ensures ∙ ap (λ k. supers_in k c.args.rows.now) have.1
+
+pub any_cycle-requires-clause-inside : goal.any_cycle-requires-clause-inside
+any_cycle-requires-clause-inside c =
+    let have = subst (MayHave c.args.rows.now) c.in-Some.is c.in_ok-classifiers.ensures in
+    supers_inside c.args.rows.now (map (λ ups. ups.items) c.as_slice-3.result.now) (ap (map (λ ups. ups.items)) c.as_slice-3.ensures.value ∙ c.in_ok-supers.ensures ∙ ap (λ k. supers_in k c.args.rows.now) have.1)

@@ -4,4 +4,4 @@ use Rattle.ecore_meta.specs.Faults.{bad_default}
 use Rattle.ecore_meta.proofs.features.any_bad_default.Given as goal
 
 abbrev pub invariant-loop-draft : goal.invariant-loop-draft
-invariant-loop-draft l = list_any (bad_default (map (λ ls. ls.items) l.literals)) (take l.draft-index l.drafts) ≡ false
+invariant-loop-draft l = list_any (bad_default l.enums) (take l.draft-index l.drafts) ≡ false

@@ -3,4 +3,4 @@ use Rattle.ecore_meta.specs.Build.{feature_from}
 use Rattle.ecore_meta.proofs.features.features_of.Given as goal
 
 abbrev pub invariant-loop-draft : goal.invariant-loop-draft
-invariant-loop-draft l = l.features.items ≡ map (feature_from (map (λ ls. ls.items) l.literals) l.drafts) (take l.draft-index l.drafts)
+invariant-loop-draft l = l.features.items ≡ map (feature_from l.enums l.drafts) (take l.draft-index l.drafts)

@@ -10,15 +10,15 @@ use Rattle.ecore_meta.proofs.values.named_of.Goals as goal
 pub literal_in-requires : goal.literal_in-requires
 literal_in-requires c =
     let P : List EnumLiteral → Type 0 = λ ls. length ls < 4294967296 in
-    subst P (sym c.as_slice.ensures.value) (short_at (λ ls. ls.items) c.args.literals.now c.args.number c.in-Some.literals.now c.requires c.in-Some.ensures)
+    subst P (sym c.as_slice.ensures) (short_at c.args.enums.now c.args.number c.in-Some.found.now c.requires c.in-Some.ensures)
 
 pub returns-in-Some-literal_in : goal.returns-in-Some-literal_in
 returns-in-Some-literal_in c =
-    ap (λ o. option_map (λ n. Literal n) o) (c.in-Some-literal_in.ensures ∙ ap (λ ls. literal_in ls c.args.text.now) (c.as_slice.ensures.value ∙ literals_is (λ ls. ls.items) c.args.literals.now c.args.number (Some c.in-Some.literals.now) c.in-Some.ensures))
+    ap (λ o. option_map (λ n. Literal n) o) (c.in-Some-literal_in.ensures ∙ ap (λ ls. literal_in ls c.args.text.now) (c.as_slice.ensures ∙ literals_is c.args.enums.now c.args.number (Some c.in-Some.found.now) c.in-Some.ensures))
 
 pub returns-in-None-literal_in : goal.returns-in-None-literal_in
 returns-in-None-literal_in c =
-    ap (λ o. option_map (λ n. Literal n) o) (c.in-None-literal_in.ensures ∙ ap (λ ls. literal_in ls c.args.text.now) (c.as_slice.ensures.value ∙ literals_is (λ ls. ls.items) c.args.literals.now c.args.number (Some c.in-Some.literals.now) c.in-Some.ensures))
+    ap (λ o. option_map (λ n. Literal n) o) (c.in-None-literal_in.ensures ∙ ap (λ ls. literal_in ls c.args.text.now) (c.as_slice.ensures ∙ literals_is c.args.enums.now c.args.number (Some c.in-Some.found.now) c.in-Some.ensures))
 
 pub returns-in-None : goal.returns-in-None
-returns-in-None c = ap (λ ls. option_map (λ n. Literal n) (literal_in ls c.args.text.now)) (literals_is (λ ls. ls.items) c.args.literals.now c.args.number None c.in-None.ensures)
+returns-in-None c = ap (λ ls. option_map (λ n. Literal n) (literal_in ls c.args.text.now)) (literals_is c.args.enums.now c.args.number None c.in-None.ensures)
