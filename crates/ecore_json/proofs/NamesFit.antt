@@ -9,11 +9,10 @@ use Rattle.std.specs.declared.cmp.Ordering.{Ordering}
 use Rattle.std.specs.declared.cmp.Ordering.TheVariants.{Less, Equal, Greater}
 use Rattle.std.specs.Ordering.{nat_cmp, match_ordering}
 use Rattle.std.specs.Cmp.Lexicographic.{slice_cmp}
-use Rattle.std.proofs.lemmas.Bool.{or_parts}
 use Rattle.std.proofs.lemmas.Map.Lookups.{exact_bytes}
 use Rattle.serde_json.specs.Data.{Data, null, boolean, number, string, array, object, Items, no_items, item, Members, no_members, member}
 use Rattle.serde_json.specs.Find.{as_array, as_str, get, get_member}
-use Rattle.ecore_meta.specs.Named.{NamesFit, has_slash, is_reserved}
+use Rattle.ecore_meta.specs.Named.{NamesFit, has_slash, is_taken}
 use Rattle.ecore_meta.specs.Names.{Name}
 use Rattle.ecore_meta.specs.declared.rows.ClassifierRow.{ClassifierRow}
 use Rattle.ecore_meta.specs.declared.rows.ClassifierRow.TheVariants.{Class, Enum, Plain}
@@ -215,10 +214,8 @@ no_slash (b ∷ bs) h =
     let rest = and_second (nat_le (length bs) 127) (list_all is_name_byte bs) (and_second (is_ascii_alphabetic b || is_mark b) (nat_le (length bs) 127 && list_all is_name_byte bs) h) in
     ap (λ t. t || has_slash bs) (free_byte (λ b. is_ascii_alphabetic b || is_mark b) refl b first) ∙ free_bytes bs rest
 
-not_reserved : (t : Name) → is_feature_name t ≡ true → is_reserved t ≡ false
-not_reserved t h =
-    let free = not_true (bytes_eq t (codes "eClass") || bytes_eq t (codes "_id") || bytes_eq t (codes "$ref")) (and_second (is_name t) (not (bytes_eq t (codes "eClass") || bytes_eq t (codes "_id") || bytes_eq t (codes "$ref"))) h) in
-    (or_parts (bytes_eq t (codes "eClass") || bytes_eq t (codes "_id")) (bytes_eq t (codes "$ref")) free).0
+not_taken : (t : Name) → is_feature_name t ≡ true → is_taken t ≡ false
+not_taken t h = not_true (bytes_eq t (codes "eClass") || bytes_eq t (codes "_id") || bytes_eq t (codes "$ref")) (and_second (is_name t) (not (bytes_eq t (codes "eClass") || bytes_eq t (codes "_id") || bytes_eq t (codes "$ref"))) h)
 
 module _ (own : Name) where
   class_named : (d : Data) → IsFit own ClassShape d → is_name (text_at (codes "name") d) ≡ true
@@ -248,11 +245,11 @@ module _ (own : Name) where
       by_class false true is = reference_named y (object_fit own p y ReferenceShape is h)
       by_class false false is = absurd (object_shaped own p y is h)
 
-  features_named : (p : Position) → ((y : Data) → shape_at p y ≡ feature_shape y) → (prefix : Name) (ys : List Data) → AllByRecursion (λ y. object_fault own p y ≡ None) ys → AllByRecursion (λ (f : FeatureRow). is_reserved f.name ≡ false) (map (feature_row prefix) ys)
+  features_named : (p : Position) → ((y : Data) → shape_at p y ≡ feature_shape y) → (prefix : Name) (ys : List Data) → AllByRecursion (λ y. object_fault own p y ≡ None) ys → AllByRecursion (λ (f : FeatureRow). is_taken f.name ≡ false) (map (feature_row prefix) ys)
   features_named p place prefix [] all = tt
-  features_named p place prefix (y ∷ ys) all = (not_reserved (text_at (codes "name") y) (feature_named p y (place y) all.0), features_named p place prefix ys all.1)
+  features_named p place prefix (y ∷ ys) all = (not_taken (text_at (codes "name") y) (feature_named p y (place y) all.0), features_named p place prefix ys all.1)
 
-  features_fit : (prefix : Name) (x : Data) → IsFit own ClassShape x → (o : Option Data) → get (codes "eStructuralFeatures") x ≡ o → AllByRecursion (λ (f : FeatureRow). is_reserved f.name ≡ false) (map (feature_row prefix) (elements o))
+  features_fit : (prefix : Name) (x : Data) → IsFit own ClassShape x → (o : Option Data) → get (codes "eStructuralFeatures") x ≡ o → AllByRecursion (λ (f : FeatureRow). is_taken f.name ≡ false) (map (feature_row prefix) (elements o))
   unfolding wants
   features_fit prefix x fit None at = tt
   features_fit prefix x fit (Some v) at = features_named _ (λ y. refl) prefix (alone_or v (as_array v)) (many_fit own _ v (fit.values (codes "eStructuralFeatures") v at))

@@ -1,5 +1,5 @@
 -- Every metamodel that is built of fit names has what holds of names.
-use Rattle.std.proofs.Common.{◌≡◌, ℕ, zero, suc, pos, negsuc, Bool, true, false, cond, ◌||◌, List, [], ◌∷◌, ◌++◌, map, refl, ap, subst, ◌∙◌}
+use Rattle.std.proofs.Common.{◌≡◌, ℕ, zero, suc, pos, negsuc, Bool, true, false, cond, ◌||◌, List, [], ◌∷◌, ◌++◌, map, refl, ap, subst, ◌∙◌, codes}
 use Rattle.std.specs.Prelude.{Option, None, Some, slice_get}
 use Rattle.std.specs.List.{AllByRecursion, list_any}
 use Rattle.std.specs.Option.{option_map_or}
@@ -11,7 +11,7 @@ use Rattle.ecore_meta.specs.Document.{ClassifierRows, classifier_name, supers_in
 use Rattle.ecore_meta.specs.Drafts.{draft, drafts, drafts_from}
 use Rattle.ecore_meta.specs.Faults.{clash, contains_back, draft_name, dup_name, fault, features_of, is_skipped, literal, enums_in, no_type, own_of, repeats_within, super_cycle, unsupported}
 use Rattle.ecore_meta.specs.Meta.{name_at}
-use Rattle.ecore_meta.specs.Named.{IsNamed, NamesFit, has_slash, is_reserved}
+use Rattle.ecore_meta.specs.Named.{IsNamed, NamesFit, has_slash, is_reserved, is_taken}
 use Rattle.ecore_meta.specs.Names.{Name, has_repeat}
 use Rattle.ecore_meta.specs.declared.drafts.Draft.{Draft}
 use Rattle.ecore_meta.specs.declared.drafts.End.{End}
@@ -99,15 +99,15 @@ all_drafts P Q all h n [] q = tt
 all_drafts P Q all h n (f ∷ fs) q = (h n f q.0, all_drafts P Q all h n fs q.1)
 
 -- ---- no draft has the name of a reserved key
-drafts_named : (all : ClassifierRows) (n : ℕ) (rows : ClassifierRows) → NamesFit rows → AllByRecursion (λ (d : Draft). is_reserved d.name ≡ false) (drafts_from all n rows)
+drafts_named : (all : ClassifierRows) (n : ℕ) (rows : ClassifierRows) → NamesFit rows → AllByRecursion (λ (d : Draft). is_taken d.name ≡ false) (drafts_from all n rows)
 drafts_named all n [] fit = tt
 drafts_named all n (Class c ∷ rows) fit =
-    all_append (λ (d : Draft). is_reserved d.name ≡ false) (map (draft all n) c.features) (drafts_from all (suc n) rows)
-    (all_drafts (λ (d : Draft). is_reserved d.name ≡ false) (λ (f : FeatureRow). is_reserved f.name ≡ false) all (λ n f q. q) n c.features fit.1) (drafts_named all (suc n) rows fit.2)
+    all_append (λ (d : Draft). is_taken d.name ≡ false) (map (draft all n) c.features) (drafts_from all (suc n) rows)
+    (all_drafts (λ (d : Draft). is_taken d.name ≡ false) (λ (f : FeatureRow). is_taken f.name ≡ false) all (λ n f q. q) n c.features fit.1) (drafts_named all (suc n) rows fit.2)
 drafts_named all n (Enum e ∷ rows) fit = drafts_named all n rows fit
 drafts_named all n (Plain t ∷ rows) fit = drafts_named all n rows fit
 
-name_free : (ds : List Draft) → AllByRecursion (λ (d : Draft). is_reserved d.name ≡ false) ds → (f : ℕ) → is_reserved (draft_name ds f) ≡ false
+name_free : (ds : List Draft) → AllByRecursion (λ (d : Draft). is_taken d.name ≡ false) ds → (f : ℕ) → is_taken (draft_name ds f) ≡ false
 name_free [] h f = refl
 name_free (d ∷ ds) h zero = h.0
 name_free (d ∷ ds) h (suc f) = name_free ds h.1 f
@@ -167,6 +167,36 @@ texts_apart (Enum r ∷ rows) h zero =
     ap has_repeat (texts_of r.literals) ∙ (or_parts (has_repeat (map (λ l. l.name) r.literals)) (has_repeat (map (λ l. l.literal) r.literals)) own).1
 texts_apart (Enum r ∷ rows) h (suc e) = texts_apart rows (or_parts (repeats_within (Enum r)) (list_any repeats_within rows) h).1 e
 
+names_of : (ls : List LiteralRow) → map (λ l. l.name) (map literal ls) ≡ map (λ l. l.name) ls
+names_of [] = refl
+names_of (l ∷ ls) = ap (λ xs. l.name ∷ xs) (names_of ls)
+
+literals_apart : (rows : ClassifierRows) → list_any repeats_within rows ≡ false → (e : ℕ) → has_repeat (map (λ l. l.name) (option_map_or (λ (x : EnumOf). x.literals) (slice_get (enums_in rows) e) [])) ≡ false
+literals_apart [] h e = refl
+literals_apart (Class c ∷ rows) h e = literals_apart rows (or_parts (repeats_within (Class c)) (list_any repeats_within rows) h).1 e
+literals_apart (Plain t ∷ rows) h e = literals_apart rows (or_parts (repeats_within (Plain t)) (list_any repeats_within rows) h).1 e
+literals_apart (Enum r ∷ rows) h zero =
+    let own = (or_parts (repeats_within (Enum r)) (list_any repeats_within rows) h).0 in
+    ap has_repeat (names_of r.literals) ∙ (or_parts (has_repeat (map (λ l. l.name) r.literals)) (has_repeat (map (λ l. l.literal) r.literals)) own).0
+literals_apart (Enum r ∷ rows) h (suc e) = literals_apart rows (or_parts (repeats_within (Enum r)) (list_any repeats_within rows) h).1 e
+
+-- ---- names of enums
+no_enum : (q : Name) (rows : ClassifierRows) → list_any (bytes_eq q) (map classifier_name rows) ≡ false → list_any (bytes_eq q) (map (λ (x : EnumOf). x.name) (enums_in rows)) ≡ false
+no_enum q [] h = refl
+no_enum q (Enum e ∷ rows) h =
+    let parts = or_parts (bytes_eq q e.name) (list_any (bytes_eq q) (map classifier_name rows)) h in
+    ap (λ b. b || list_any (bytes_eq q) (map (λ (x : EnumOf). x.name) (enums_in rows))) parts.0 ∙ no_enum q rows parts.1
+no_enum q (Class c ∷ rows) h = no_enum q rows (or_parts (bytes_eq q c.name) (list_any (bytes_eq q) (map classifier_name rows)) h).1
+no_enum q (Plain t ∷ rows) h = no_enum q rows (or_parts (bytes_eq q t) (list_any (bytes_eq q) (map classifier_name rows)) h).1
+
+enums_apart : (rows : ClassifierRows) → has_repeat (map classifier_name rows) ≡ false → has_repeat (map (λ (x : EnumOf). x.name) (enums_in rows)) ≡ false
+enums_apart [] h = refl
+enums_apart (Enum e ∷ rows) h =
+    let parts = or_parts (list_any (bytes_eq e.name) (map classifier_name rows)) (has_repeat (map classifier_name rows)) h in
+    ap (λ b. b || has_repeat (map (λ (x : EnumOf). x.name) (enums_in rows))) (no_enum e.name rows parts.0) ∙ enums_apart rows parts.1
+enums_apart (Class c ∷ rows) h = enums_apart rows (or_parts (list_any (bytes_eq c.name) (map classifier_name rows)) (has_repeat (map classifier_name rows)) h).1
+enums_apart (Plain t ∷ rows) h = enums_apart rows (or_parts (list_any (bytes_eq t) (map classifier_name rows)) (has_repeat (map classifier_name rows)) h).1
+
 -- ---- put together
 pub built_named : (rows : MetaRows) → fault rows.classifiers ≡ None → NamesFit rows.classifiers → IsNamed (meta_of rows)
 unfolding drafts texts_at
@@ -186,7 +216,12 @@ built_named rows none fit =
       features = λ c.
           ap has_repeat (same_names enums ds ds (option_map_or (λ (x : ClassOf). x.features) (slice_get (classes_from 0 (features_of all) all) c) []))
           ∙ class_features (λ fs. has_repeat (map (draft_name ds) fs) ≡ false) refl (features_of all) (none_at (λ fs. has_repeat (map (draft_name ds) fs)) (features_of all) refl fifth.0) 0 all c;
-      keys = λ f. ap is_reserved (same_name enums ds ds f) ∙ name_free ds (drafts_named all 0 all fit) f;
+      keys = λ f. ap is_reserved (same_name enums ds ds f) ∙ (or_parts (is_reserved (draft_name ds f)) (bytes_eq (draft_name ds f) (codes "$ref")) (name_free ds (drafts_named all 0 all fit) f)).0;
+      refs = λ f.
+          ap (λ t. bytes_eq t (codes "$ref")) (same_name enums ds ds f)
+          ∙ (or_parts (is_reserved (draft_name ds f)) (bytes_eq (draft_name ds f) (codes "$ref")) (name_free ds (drafts_named all 0 all fit) f)).1;
+      enums = enums_apart all single.0;
       literals = texts_apart all single.1;
+      literal_names = literals_apart all single.1;
       unbounded = upper_none enums ds ds;
     }

@@ -1,4 +1,6 @@
 mod NameLaws
+mod IndexLaws
+mod DeclaredLaws
 mod ClassifierLaws
 mod SuperLaws
 mod ParseLaws
@@ -10,6 +12,7 @@ pub mod SoundLaws
 mod EndLaws
 mod BuiltNames
 mod ChainLaws
+mod AboveLaws
 pub mod PromiseLaws
 mod NumberedLaws
 mod FitLaws

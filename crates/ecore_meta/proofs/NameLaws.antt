@@ -9,11 +9,12 @@ use Rattle.std.proofs.lemmas.Slice.Eq.{bytes_eq-Decides}
 use Rattle.std.proofs.lemmas.List.{take_more, map-append, take-append-drop, length-take-le, length-map}
 use Rattle.std.proofs.lemmas.List.Folds.{list_any-append}
 use Rattle.ecore_meta.specs.Names.{Name, has_repeat, number_of}
+use Rattle.ecore_meta.specs.Values.{or_else}
 
 same_some : (x y : ℕ) → Some x ≡ Some y → x ≡ y
 same_some x y h = cc
 
-same : (x y : Name) → bytes_eq x y ≡ true → x ≡ y
+pub same : (x y : Name) → bytes_eq x y ≡ true → x ≡ y
 same x y h = search (rules, bytes_eq-Decides)
 
 itself : (x : Name) → bytes_eq x x ≡ true
@@ -30,22 +31,17 @@ turned x y = by_first (bytes_eq x y) refl
     by_first true e = let k : bytes_eq y x ≡ true = subst (λ z. bytes_eq z x ≡ true) (same x y e) (itself x) in cc
     by_first false e = by_second (bytes_eq y x) refl e
 
--- the first of two that is there
-abbrev pub either : Option ℕ → Option ℕ → Option ℕ
-either None o = o
-either (Some n) o = Some n
+pub or_none : (o : Option ℕ) → or_else o None ≡ o
+or_none None = refl
+or_none (Some m) = refl
 
-with_none : (o : Option ℕ) → either o None ≡ o
-with_none None = refl
-with_none (Some m) = refl
-
-pub number_of-push : (q x : Name) (xs : List Name) → number_of q (xs ++ x ∷ []) ≡ either (number_of q xs) (cond (bytes_eq q x) (Some (length xs)) None)
+pub number_of-push : (q x : Name) (xs : List Name) → number_of q (xs ++ x ∷ []) ≡ or_else (number_of q xs) (cond (bytes_eq q x) (Some (length xs)) None)
 number_of-push q x [] = refl
 number_of-push q x (y ∷ ys) =
     ap (λ o. cond (bytes_eq q y) (Some 0) (option_map (λ n. suc n) o)) (number_of-push q x ys)
     ∙ by_tests (bytes_eq q y) (bytes_eq q x) (number_of q ys) (length ys)
   where
-    by_tests : (a b : Bool) (o : Option ℕ) (n : ℕ) → cond a (Some 0) (option_map (λ n. suc n) (either o (cond b (Some n) None))) ≡ either (cond a (Some 0) (option_map (λ n. suc n) o)) (cond b (Some (suc n)) None)
+    by_tests : (a b : Bool) (o : Option ℕ) (n : ℕ) → cond a (Some 0) (option_map (λ n. suc n) (or_else o (cond b (Some n) None))) ≡ or_else (cond a (Some 0) (option_map (λ n. suc n) o)) (cond b (Some (suc n)) None)
     by_tests true b o n = refl
     by_tests false true None n = refl
     by_tests false false None n = refl
@@ -59,10 +55,10 @@ told_more x q xs n o absent long is = by_test (bytes_eq x q) refl
     by_test true e =
         let k : number_of q xs ≡ None = subst (λ z. number_of z xs ≡ None) (same x q e) absent in
         let t : bytes_eq q x ≡ true = sym (turned x q) ∙ e in
-        ap (λ (i : ℕ). Some i) (sym long) ∙ sym (number_of-push q x xs ∙ ap (λ o. either o (cond (bytes_eq q x) (Some (length xs)) None)) k ∙ ap (λ b. cond b (Some (length xs)) None) t)
+        ap (λ (i : ℕ). Some i) (sym long) ∙ sym (number_of-push q x xs ∙ ap (λ o. or_else o (cond (bytes_eq q x) (Some (length xs)) None)) k ∙ ap (λ b. cond b (Some (length xs)) None) t)
     by_test false e =
         let t : bytes_eq q x ≡ false = sym (turned x q) ∙ e in
-        is ∙ sym (number_of-push q x xs ∙ ap (λ b. either (number_of q xs) (cond b (Some (length xs)) None)) t ∙ with_none (number_of q xs))
+        is ∙ sym (number_of-push q x xs ∙ ap (λ b. or_else (number_of q xs) (cond b (Some (length xs)) None)) t ∙ or_none (number_of q xs))
 
 or_assoc : (a b c : Bool) → a || b || c ≡ a || (b || c)
 or_assoc true b c = refl
@@ -125,7 +121,7 @@ pub still_apart : {X : Type 0} (name : X → Name) (xs : List X) (i : ℕ) (d : 
 still_apart name xs i d h apart new =
     ap has_repeat (next_names name xs i d h) ∙ has_repeat-push (map name (take i xs)) (name (get_or xs i d)) ∙ ap (λ b. b || is_some (number_of (name (get_or xs i d)) (map name (take i xs)))) apart ∙ sym new
 
-none_of : (o : Option ℕ) → false ≡ is_some o → o ≡ None
+pub none_of : (o : Option ℕ) → false ≡ is_some o → o ≡ None
 none_of None h = refl
 none_of (Some n) h = cc
 
@@ -156,7 +152,7 @@ first_place name q xs i d h before equal =
     here =
         ap (number_of q) (next_names name xs i d h)
         ∙ number_of-push q (name (get_or xs i d)) (map name (take i xs))
-        ∙ ap (λ o. either o (cond (bytes_eq q (name (get_or xs i d))) (Some (length (map name (take i xs)))) None)) before
+        ∙ ap (λ o. or_else o (cond (bytes_eq q (name (get_or xs i d))) (Some (length (map name (take i xs)))) None)) before
         ∙ ap (λ b. cond b (Some (length (map name (take i xs)))) None) (turned q (name (get_or xs i d)) ∙ sym equal)
         ∙ ap (λ (n : ℕ). Some n) (length-map (take i xs) name ∙ length-take-le i xs (omega arith))
 
@@ -165,7 +161,7 @@ pub still_absent : {X : Type 0} (name : X → Name) (q : Name) (xs : List X) (i 
 still_absent name q xs i d h before apart =
     ap (number_of q) (next_names name xs i d h)
     ∙ number_of-push q (name (get_or xs i d)) (map name (take i xs))
-    ∙ ap (λ o. either o (cond (bytes_eq q (name (get_or xs i d))) (Some (length (map name (take i xs)))) None)) before
+    ∙ ap (λ o. or_else o (cond (bytes_eq q (name (get_or xs i d))) (Some (length (map name (take i xs)))) None)) before
     ∙ ap (λ b. cond b (Some (length (map name (take i xs)))) None) (turned q (name (get_or xs i d)) ∙ sym apart)
 
 -- the number of a name is a place of the list

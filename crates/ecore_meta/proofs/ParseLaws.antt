@@ -163,3 +163,8 @@ short_at (y ∷ ys) zero x short is = subst (λ (z : Enum). length z.literals < 
     same_some : Some x ≡ Some y → y ≡ x
     same_some h = cc
 short_at (y ∷ ys) (suc i) x short is = short_at ys i x short.1 is
+
+pub short_in : (enums : List Enum) (i : ℕ) (d : Enum) → AreShort enums → i < length enums → length (get_or enums i d).literals < 4294967296
+short_in [] i d short h = absurd (omega arith)
+short_in (y ∷ ys) zero d short h = short.0
+short_in (y ∷ ys) (suc i) d short h = short_in ys i d short.1 (omega arith)

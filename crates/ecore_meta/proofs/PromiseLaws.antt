@@ -10,13 +10,14 @@ use Rattle.ecore_meta.specs.Named.{NamesFit}
 use Rattle.ecore_meta.specs.Promised.{IsMetamodel}
 use Rattle.ecore_meta.specs.Supers.{all_above}
 use Rattle.ecore_meta.specs.declared.rows.MetaRows.{MetaRows}
+use Rattle.ecore_meta.proofs.AboveLaws.{stands_above}
 use Rattle.ecore_meta.proofs.BuiltNames.{built_named}
 use Rattle.ecore_meta.proofs.EndLaws.{ends_meet}
 use Rattle.ecore_meta.proofs.OwnerLaws.{lists_declared}
 use Rattle.ecore_meta.proofs.SoundLaws.{sound}
 
 pub promised : (rows : MetaRows) → fault rows.classifiers ≡ None → NamesFit rows.classifiers → IsMetamodel (meta_of rows)
-promised rows none fit = record { sound = sound rows none; lists = lists_declared rows; ends = ends_meet rows none; named = built_named rows none fit }
+promised rows none fit = record { above = stands_above rows none; sound = sound rows none; lists = lists_declared rows; ends = ends_meet rows none; named = built_named rows none fit }
 
 -- the same of a metamodel by its parts
 pub promised_of : (rows : MetaRows) → fault rows.classifiers ≡ None → NamesFit rows.classifiers → (meta : Meta) → meta.uri ≡ rows.uri → meta.classes ≡ classes_from 0 (features_of rows.classifiers) rows.classifiers → meta.features ≡ map (feature_from (enums_in rows.classifiers) (drafts rows.classifiers)) (drafts rows.classifiers) → meta.above ≡ all_above (supers_in rows.classifiers rows.classifiers) → meta.enums ≡ enums_in rows.classifiers → IsMetamodel meta

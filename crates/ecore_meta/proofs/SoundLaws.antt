@@ -46,6 +46,20 @@ no_last_fault rows none =
     let rising = (passed (super_cycle supers) SuperCycle clashes typed).1 in
     (passed (clash ds (features_of rows)) Clash last rising).1
 
+-- no class is above itself
+pub no_cycle : (rows : ClassifierRows) → fault rows ≡ None → super_cycle (supers_in rows rows) ≡ false
+no_cycle rows none =
+    let ds = drafts rows in
+    let supers = supers_in rows rows in
+    let clashes = cond (clash ds (features_of rows)) (Some Clash) (first_true (last_tests ds (enums_in rows))) in
+    let cycles = cond (super_cycle supers) (Some SuperCycle) clashes in
+    let types = cond (no_type rows ds) (Some NoType) cycles in
+    let read = cond (unsupported ds) (Some UnsupportedFault) types in
+    let named = (passed (dup_name rows) DupName read none).1 in
+    let read_all = (passed (unsupported ds) UnsupportedFault types named).1 in
+    let typed = (passed (no_type rows ds) NoType cycles read_all).1 in
+    (passed (super_cycle supers) SuperCycle clashes typed).0
+
 or_neither : (a b : Bool) → a || b ≡ false → (a ≡ false) × (b ≡ false)
 or_neither true b h = cc
 or_neither false b h = (refl, h)

@@ -47,7 +47,7 @@ pub above_none : (supers : List (List ℕ)) (c d : ℕ) → length supers ≤ c 
 unfolding is_above
 above_none supers c d h = rw (none_past supers c h) refl
 
-range_length : (a n : ℕ) → length (range_with_len a n) ≡ n
+pub range_length : (a n : ℕ) → length (range_with_len a n) ≡ n
 range_length a zero = refl
 range_length a (suc n) = ap (λ k. suc k) (range_length (a + 1) n)
 
@@ -63,7 +63,7 @@ got_range g a (suc n) (suc c) h = got_range g (a + 1) n c (omega arith) ∙ ap (
     shift a c = omega arith
 
 -- a class that is led to is one of the package
-led_below : (supers : List (List ℕ)) → Inside supers → (d c : ℕ) (path : List ℕ) → c < length supers → IsPath supers c path d → d < length supers
+pub led_below : (supers : List (List ℕ)) → Inside supers → (d c : ℕ) (path : List ℕ) → c < length supers → IsPath supers c path d → d < length supers
 led_below supers all d c [] below at = subst (λ x. x < length supers) at below
 led_below supers all d c (b ∷ path) below at = led_below supers all d b path (all c b at.0) at.1
 

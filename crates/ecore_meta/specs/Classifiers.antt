@@ -1,16 +1,29 @@
 -- What an index of the classifiers holds.
-use Rattle.std.specs.Prelude.{String, ◌≡◌, ℕ, ◌<◌, ◌+◌, true, false, List, Option, None, Some, map, length}
-use Rattle.std.specs.BTreeMap.{BTreeMap, get_by_text}
-use Rattle.ecore_meta.specs.Names.{Name, has_repeat, number_of}
-use Rattle.ecore_meta.specs.Document.{ClassifierRows, classifier_name, numbered, feature_total}
+use Rattle.std.specs.Prelude.{◌≡◌, ℕ, ◌<◌, ◌+◌, true, false, List, [], ◌∷◌, Option, None, Some, map, length}
+use Rattle.std.specs.BTreeMap.{BTreeMap}
+use denote.Ref.{Bor}
+use Rattle.ecore_meta.specs.Names.{Name, has_repeat, number_of, place_in}
+use Rattle.ecore_meta.specs.Document.{ClassifierRows, classifier_name, feature_names, features_in, numbered, feature_total}
 use Rattle.ecore_meta.specs.declared.classifiers.Classifier.{Classifier}
 use Rattle.ecore_meta.specs.declared.classifiers.Classifier.TheVariants.{Class as OfClass}
 use Rattle.ecore_meta.specs.declared.rows.ClassifierRow.{ClassifierRow}
 use Rattle.ecore_meta.specs.declared.rows.ClassifierRow.TheVariants.{Class}
 
--- the place of each name, and what stands at each place
-pub record Tells {Y : Type 0} (rows : ClassifierRows) (index : BTreeMap (String Y) ℕ) (numbers : List Classifier) : Type 0 where
-  pub places : (q : Name) → get_by_text index q ≡ number_of q (map classifier_name rows)
+-- the place of each feature that the row declares, by its name
+abbrev pub Placed : ClassifierRow → BTreeMap (Bor Name) ℕ → Type 0
+Placed row index = (q : Name) → place_in index q ≡ number_of q (feature_names (features_in row))
+
+-- the same for each row
+abbrev pub AllPlaced : ClassifierRows → List (BTreeMap (Bor Name) ℕ) → Type 0
+AllPlaced [] [] = Unit {0}
+AllPlaced [] (m ∷ ms) = ⊥
+AllPlaced (row ∷ rows) [] = ⊥
+AllPlaced (row ∷ rows) (m ∷ ms) = Placed row m × AllPlaced rows ms
+
+-- the place of each name, what stands at each place, and the places of the features of each class
+pub record Tells (rows : ClassifierRows) (index : BTreeMap (Bor Name) ℕ) (numbers : List Classifier) (own : List (BTreeMap (Bor Name) ℕ)) : Type 0 where
+  pub places : (q : Name) → place_in index q ≡ number_of q (map classifier_name rows)
+  pub placed : AllPlaced rows own
   pub kinds : numbers ≡ numbered 0 0 0 rows
   pub features : feature_total rows < 4294967295
 

@@ -1,3 +1,4 @@
+pub mod Above
 pub mod Build
 pub mod Classifiers
 pub mod Document
@@ -7,9 +8,11 @@ pub mod Faults
 pub mod Meta
 pub mod Named
 pub mod Names
+pub mod Parts
 pub mod Promised
 pub mod Sound
 pub mod Supers
 pub mod Holds
+pub mod Indexes
 pub mod Typing
 pub mod Values

@@ -15,20 +15,24 @@ use Rattle.ecore_meta.specs.declared.rows.FeatureRow.{FeatureRow}
 abbrev pub is_reserved : Name → Bool
 is_reserved t = bytes_eq t (codes "eClass") || bytes_eq t (codes "_id")
 
+-- a name that no feature has: of a key of an object, or of a reference
+abbrev pub is_taken : Name → Bool
+is_taken t = is_reserved t || bytes_eq t (codes "$ref")
+
 -- the name has a slash
 abbrev pub has_slash : Name → Bool
 has_slash t = list_any (λ b. b == 47) t
 
--- names of classes without a slash, and features that are not named as the class or the id
+-- names of classes without a slash, and features that are not named as a key that has a meaning of its own
 abbrev pub NamesFit : List ClassifierRow → Type 0
 NamesFit [] = Unit {0}
-NamesFit (Class c ∷ rows) = (has_slash c.name ≡ false) × AllByRecursion (λ (f : FeatureRow). is_reserved f.name ≡ false) c.features × NamesFit rows
+NamesFit (Class c ∷ rows) = (has_slash c.name ≡ false) × AllByRecursion (λ (f : FeatureRow). is_taken f.name ≡ false) c.features × NamesFit rows
 NamesFit (Enum e ∷ rows) = NamesFit rows
 NamesFit (Plain t ∷ rows) = NamesFit rows
 
 -- the name of a classifier or of one of its features is of another form
 abbrev pub is_misnamed : ClassifierRow → Bool
-is_misnamed (Class c) = has_slash c.name || list_any (λ (f : FeatureRow). is_reserved f.name) c.features
+is_misnamed (Class c) = has_slash c.name || list_any (λ (f : FeatureRow). is_taken f.name) c.features
 is_misnamed (Enum e) = false
 is_misnamed (Plain t) = false
 
@@ -36,12 +40,15 @@ is_misnamed (Plain t) = false
 abbrev pub TextsAreApart : Meta → Type 0
 TextsAreApart meta = (e : ℕ) → has_repeat (map (λ l. l.text) (literals_of meta e)) ≡ false
 
--- names of classes differ and have no slash; the features of a class differ by name, and none is named as the class or the id; the literals of an enum
--- differ by text; references of the kind that has no bound have none
+-- names of classes differ and have no slash; the features of a class differ by name, and none is named as the class, the id or a reference; enums differ
+-- by name, and the literals of each by text and by name; references of the kind that has no bound have none
 pub record IsNamed (meta : Meta) : Type 0 where
   pub classes : has_repeat (map (λ c. c.name) meta.classes) ≡ false
   pub slashes : (n : ℕ) (class : ClassOf) → slice_get meta.classes n ≡ Some class → has_slash class.name ≡ false
   pub features : (c : ℕ) → has_repeat (map (name_at meta.features) (features_of meta c)) ≡ false
   pub keys : (f : ℕ) → is_reserved (name_at meta.features f) ≡ false
+  pub refs : (f : ℕ) → bytes_eq (name_at meta.features f) (codes "$ref") ≡ false
+  pub enums : has_repeat (map (λ e. e.name) meta.enums) ≡ false
   pub literals : TextsAreApart meta
+  pub literal_names : (e : ℕ) → has_repeat (map (λ l. l.name) (literals_of meta e)) ≡ false
   pub unbounded : (f target : ℕ) (opposite : Option ℕ) → kind_of meta f ≡ Free target opposite → upper_of meta f ≡ None

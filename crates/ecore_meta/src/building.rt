@@ -16,15 +16,15 @@ use crate::faults::{
 use crate::features::{all_features, any_bad_default, any_clash, classes_of, features_of};
 use crate::literals::enums_of;
 use crate::meta::Enum;
-use crate::metamodel::Metamodel;
+use crate::metamodel::{Metamodel, Parts};
 use crate::rows::{ClassifierRow, MetaRows};
 use crate::tables::{all_above, any_cycle, own_features};
 use std::alloc::{AllocError, Global};
 use std::collections::BTreeSet;
 
-/// The parts of a metamodel, of a document without a fault.
+/// What is known of a document once its names and supertypes show no fault.
 #[derive(Drop)]
-pub(crate) struct Parts {
+pub(crate) struct Resolved {
     pub drafts: Vec<Draft>,
     pub above: Vec<BTreeSet<u32>>,
     pub features: Vec<Vec<u32>>,
@@ -48,8 +48,8 @@ fn listed(
     Ok(features)
 }
 
-/// The parts of a document, or its first fault of those that the names and the supertypes show.
-fn checked(alloc: Global, rows: &[ClassifierRow]) -> Result<Parts, MetaFault>
+/// What is known of a document, or its first fault of those that the names and the supertypes show.
+fn checked(alloc: Global, rows: &[ClassifierRow]) -> Result<Resolved, MetaFault>
     requires { Numbered rows.now }
     ensures fault { IfErr result (IsFault (fault rows.now)) }
     ensures rest { IfOk result (λ p. fault rows.now ≡ first_true (last_tests p.drafts.items (p.enums.items))) }
@@ -81,7 +81,7 @@ fn checked(alloc: Global, rows: &[ClassifierRow]) -> Result<Parts, MetaFault>
         return Err(MetaFault::Clash);
     }
     let enums = enums_of(alloc, rows)?;
-    Ok(Parts {
+    Ok(Resolved {
         drafts,
         above,
         features,
@@ -99,47 +99,50 @@ pub fn build(alloc: Global, rows: &MetaRows) -> Result<Metamodel, MetaFault>
     ensures built { IfOk result (λ m. m ≡ meta_of rows.now) }
     ensures chain { IfOk result (λ m. Chains (supers_in rows.now.classifiers rows.now.classifiers) m) }
 {
-    let parts = match checked(alloc, rows.classifiers.as_slice()) {
-        Ok(parts) => parts,
+    let resolved = match checked(alloc, rows.classifiers.as_slice()) {
+        Ok(resolved) => resolved,
         Err(fault) => return Err(fault),
     };
-    if any_self(parts.drafts.as_slice()) {
+    if any_self(resolved.drafts.as_slice()) {
         return Err(MetaFault::SelfOpposite);
     }
-    if any_unanswered(parts.drafts.as_slice()) {
+    if any_unanswered(resolved.drafts.as_slice()) {
         return Err(MetaFault::BadOpposite);
     }
-    if any_bad_bound(parts.drafts.as_slice()) {
+    if any_bad_bound(resolved.drafts.as_slice()) {
         return Err(MetaFault::BadBound);
     }
-    if any_bad_default(alloc, parts.enums.as_slice(), parts.drafts.as_slice())? {
+    if any_bad_default(alloc, resolved.enums.as_slice(), resolved.drafts.as_slice())? {
         return Err(MetaFault::BadDefault);
     }
-    Ok(assemble(alloc, rows, parts)?)
+    Ok(assemble(alloc, rows, resolved)?)
 }
 
-fn assemble(alloc: Global, rows: &MetaRows, parts: Parts) -> Result<Metamodel, AllocError>
+fn assemble(alloc: Global, rows: &MetaRows, resolved: Resolved) -> Result<Metamodel, AllocError>
     requires few { Numbered rows.now.classifiers }
     requires fit { NamesFit rows.now.classifiers }
     requires none { fault rows.now.classifiers ≡ None }
-    requires drafts { parts.drafts.items ≡ drafts rows.now.classifiers }
-    requires above { map (λ s. s.keys) parts.above.items ≡ all_above (supers_in rows.now.classifiers rows.now.classifiers) }
-    requires features { map (λ fs. fs.items) parts.features.items ≡ features_of rows.now.classifiers }
-    requires enums { parts.enums.items ≡ enums_in rows.now.classifiers }
+    requires drafts { resolved.drafts.items ≡ drafts rows.now.classifiers }
+    requires above { map (λ s. s.keys) resolved.above.items ≡ all_above (supers_in rows.now.classifiers rows.now.classifiers) }
+    requires features { map (λ fs. fs.items) resolved.features.items ≡ features_of rows.now.classifiers }
+    requires enums { resolved.enums.items ≡ enums_in rows.now.classifiers }
     ensures { IfOk result (λ m. m ≡ meta_of rows.now) }
 {
     let uri = rows.uri.copy(alloc)?;
     let classes = classes_of(
         alloc,
-        parts.features.as_slice(),
+        resolved.features.as_slice(),
         rows.classifiers.as_slice(),
     )?;
-    let features = features_of(alloc, parts.enums.as_slice(), parts.drafts.as_slice())?;
-    Ok(Metamodel {
-        uri,
-        classes,
-        features,
-        above: parts.above,
-        enums: parts.enums,
-    })
+    let features = features_of(alloc, resolved.enums.as_slice(), resolved.drafts.as_slice())?;
+    Metamodel::of_parts(
+        alloc,
+        Parts {
+            uri,
+            classes,
+            above: resolved.above,
+            features,
+            enums: resolved.enums,
+        },
+    )
 }

@@ -1,9 +1,11 @@
 //! The symbol table of a package: its classes, enums and data types by name, each kind numbered by itself.
-ghost use Rattle.std.specs.Prelude.{◌≡◌, ◌<◌, ◌+◌, IfOk, IfSome, Some, length, slice_get};
+ghost use Rattle.std.specs.Prelude.{◌≡◌, ◌<◌, ◌+◌, IfOk, None, OnOk, Some, cond, length, slice_get};
 ghost use Rattle.std.specs.Option.{option_copied};
-ghost use Rattle.ecore_meta.specs.Names.{number_of};
+ghost use Rattle.std.specs.Str.{bytes_eq};
+ghost use Rattle.ecore_meta.specs.Names.{Name, number_of, place_in};
+ghost use Rattle.ecore_meta.specs.Values.{or_else};
 ghost use Rattle.ecore_meta.specs.Document.{classifier_named, class_number, feature_names, feature_number, feature_total, number_at, number_in, numbered};
-ghost use Rattle.ecore_meta.specs.Classifiers.{MayHave, FitsIn};
+ghost use Rattle.ecore_meta.specs.Classifiers.{AllPlaced, FitsIn, MayHave, Placed};
 
 use crate::names::{classifier_names, index};
 use crate::rows::{ClassifierRow, FeatureRow};
@@ -26,8 +28,10 @@ pub(crate) enum Classifier {
 #[derive(Drop)]
 pub(crate) struct Classifiers<'a> {
     rows: &'a [ClassifierRow],
-    index: BTreeMap<String, usize>,
+    index: BTreeMap<&'a str, usize>,
     numbered: Vec<Classifier>,
+    /// For each row, the place of each feature that it declares, by its name.
+    own: Vec<BTreeMap<&'a str, usize>>,
 }
 
 impl<'a> Model for Classifiers<'a> {
@@ -38,7 +42,7 @@ impl<'a> Model for Classifiers<'a> {
 
     ghost view = { λ a. a.rows.now };
 
-    ghost invariant = { λ a. Tells a.rows.now a.index a.numbered.items };
+    ghost invariant = { λ a. Tells a.rows.now a.index a.numbered.items a.own.items };
 }
 
 impl<'a> Classifiers<'a> {
@@ -53,12 +57,14 @@ impl<'a> Classifiers<'a> {
     {
         let names = classifier_names(alloc, rows)?;
         let numbered = number(alloc, rows)?;
+        let own = own_places(alloc, rows)?;
         match index(alloc, names.as_slice())? {
             None => Ok(None),
             Some(index) => Ok(Some(Classifiers {
                 rows,
                 index,
                 numbered,
+                own,
             })),
         }
     }
@@ -98,7 +104,13 @@ impl<'a> Classifiers<'a> {
     {
         match self.index.get(class) {
             None => None,
-            Some(place) => feature_at(self.rows, self.numbered.as_slice(), *place, feature),
+            Some(place) => feature_at(
+                self.rows,
+                self.numbered.as_slice(),
+                self.own.as_slice(),
+                *place,
+                feature,
+            ),
         }
     }
 }
@@ -106,39 +118,62 @@ impl<'a> Classifiers<'a> {
 fn feature_at(
     rows: &[ClassifierRow],
     kinds: &[Classifier],
+    own: &[BTreeMap<&str, usize>],
     place: usize,
     feature: &str,
 ) -> Option<u32>
     requires kinds { kinds.now ≡ numbered 0 0 0 rows.now }
     requires few { feature_total rows.now < 4294967295 }
+    requires own { AllPlaced rows.now own.now }
     ensures { result ≡ number_at rows.now place feature.now }
 {
     match row_at(rows, place) {
-        Some(row) => number_in(row, at(kinds, place), feature),
+        Some(row) => match places_at(own, place) {
+            Some(places) => number_in(row, at(kinds, place), places, feature),
+            None => None,
+        },
         None => None,
     }
 }
 
-fn number_in(row: &ClassifierRow, kind: Option<Classifier>, feature: &str) -> Option<u32>
-    requires { FitsIn row.now kind }
+fn number_in(
+    row: &ClassifierRow,
+    kind: Option<Classifier>,
+    places: &BTreeMap<&str, usize>,
+    feature: &str,
+) -> Option<u32>
+    requires fits { FitsIn row.now kind }
+    requires places { Placed row.now places.now }
     ensures { result ≡ number_in (Some row.now) kind feature.now }
 {
+    match kind {
+        None => None,
+        Some(kind) => number_of_kind(row, kind, places, feature),
+    }
+}
+
+/// The same of a row that has a number.
+fn number_of_kind(
+    row: &ClassifierRow,
+    kind: Classifier,
+    places: &BTreeMap<&str, usize>,
+    feature: &str,
+) -> Option<u32>
+    requires fits { FitsIn row.now (Some kind) }
+    requires places { Placed row.now places.now }
+    ensures { result ≡ number_in (Some row.now) (Some kind) feature.now }
+{
     match row {
-        ClassifierRow::Class(row) => match kind {
-            Some(Classifier::Class { number: _, first }) => {
-                match place_of(row.features.as_slice(), feature) {
-                    Some(n) => Some(first + n as u32),
-                    None => None,
-                }
-            }
-            Some(
-                Classifier::Enum {
-                    number: _,
-                    is_empty: _,
-                },
-            ) => None,
-            Some(Classifier::Plain) => None,
-            None => None,
+        ClassifierRow::Class(_) => match kind {
+            Classifier::Class { number: _, first } => match place_of(places, feature) {
+                Some(n) => Some(first + n as u32),
+                None => None,
+            },
+            Classifier::Enum {
+                number: _,
+                is_empty: _,
+            } => None,
+            Classifier::Plain => None,
         },
         ClassifierRow::Enum(_) => None,
         ClassifierRow::Plain(_) => None,
@@ -190,15 +225,73 @@ fn at(numbered: &[Classifier], place: usize) -> Option<Classifier>
     numbered.get(place).copied()
 }
 
-/// The place of the first feature of that name.
-fn place_of(features: &[FeatureRow], name: &str) -> Option<usize>
-    ensures place { result ≡ number_of name.now (feature_names features.now) }
-    ensures within { IfSome result (λ n. n < length features.now) }
+fn place_of(places: &BTreeMap<&str, usize>, name: &str) -> Option<usize>
+    ensures { result ≡ place_in places.now name.now }
 {
-    for (n, feature) in features.iter().enumerate() {
-        if feature.name.as_str() == name {
-            return Some(n);
-        }
+    places.get(name).copied()
+}
+
+fn places_at<'a, 'b>(
+    own: &'b [BTreeMap<&'a str, usize>],
+    place: usize,
+) -> Option<&'b BTreeMap<&'a str, usize>>
+    ensures { option_copied result ≡ slice_get own.now place }
+{
+    own.get(place)
+}
+
+/// Gives the name its place, where the index has none for it.
+fn place<'a>(
+    name: &'a str,
+    at: usize,
+    index: &mut BTreeMap<&'a str, usize>,
+) -> Result<(), AllocError>
+    ensures { OnOk result ((q : Name) → place_in index.new q ≡ or_else (place_in index.old q) (cond (bytes_eq q name.now) (Some at) None)) }
+{
+    if index.contains_key(name) {
+        return Ok(());
     }
-    None
+    index.insert(name, at)?;
+    Ok(())
+}
+
+/// The place of each feature by its name, the first of several.
+fn feature_places<'a>(
+    alloc: Global,
+    features: &'a [FeatureRow],
+) -> Result<BTreeMap<&'a str, usize>, AllocError>
+    ensures { IfOk result (λ m. (q : Name) → place_in m q ≡ number_of q (feature_names features.now)) }
+{
+    let mut index = BTreeMap::new(alloc);
+    for (n, feature) in features.iter().enumerate() {
+        place(feature.name.as_str(), n, &mut index)?;
+    }
+    Ok(index)
+}
+
+fn row_places<'a>(
+    alloc: Global,
+    row: &'a ClassifierRow,
+) -> Result<BTreeMap<&'a str, usize>, AllocError>
+    ensures { IfOk result (Placed row.now) }
+{
+    match row {
+        ClassifierRow::Class(row) => Ok(feature_places(alloc, row.features.as_slice())?),
+        ClassifierRow::Enum(_) => Ok(BTreeMap::new(alloc)),
+        ClassifierRow::Plain(_) => Ok(BTreeMap::new(alloc)),
+    }
+}
+
+/// For each row, the places of the features that it declares.
+fn own_places<'a>(
+    alloc: Global,
+    rows: &'a [ClassifierRow],
+) -> Result<Vec<BTreeMap<&'a str, usize>>, AllocError>
+    ensures { IfOk result (λ v. AllPlaced rows.now v.items) }
+{
+    let mut own = Vec::new(alloc);
+    for row in rows {
+        own.push(row_places(alloc, row)?)?;
+    }
+    Ok(own)
 }

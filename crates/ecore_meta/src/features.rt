@@ -218,12 +218,7 @@ fn reference(drafts: &[Draft], draft: &Draft, target: u32) -> Kind
     }
 }
 
-fn kind(
-    alloc: Global,
-    enums: &[Enum],
-    drafts: &[Draft],
-    draft: &Draft,
-) -> Result<Kind, AllocError>
+fn kind(alloc: Global, enums: &[Enum], drafts: &[Draft], draft: &Draft) -> Result<Kind, AllocError>
     requires { AreShort enums.now }
     ensures { IfOk result (λ k. k ≡ kind_in enums.now drafts.now draft.now draft.now.target) }
 {

@@ -8,6 +8,7 @@ mod drafts;
 mod fault;
 mod faults;
 mod features;
+mod indexes;
 mod literals;
 mod meta;
 mod metamodel;
@@ -20,7 +21,7 @@ mod values;
 pub use building::build;
 pub use fault::{MetaFault, ValueFault};
 pub use meta::{Class, Enum, EnumLiteral, Feature, Kind, Scalar, Value};
-pub use metamodel::Metamodel;
+pub use metamodel::{Metamodel, Parts};
 pub use rows::{
     ClassRow, ClassifierRow, EnumRow, FeatureRow, LiteralRow, MetaRows, OppositeRow, TypeName,
 };

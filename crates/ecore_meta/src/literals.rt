@@ -4,8 +4,8 @@ ghost use Rattle.ecore_meta.specs.Names.{number_of};
 ghost use Rattle.ecore_meta.specs.Faults.{literal, enums_in};
 ghost use Rattle.ecore_meta.specs.Values.{literal_in};
 
-use crate::meta::{Enum, EnumLiteral};
 use crate::List;
+use crate::meta::{Enum, EnumLiteral};
 use crate::rows::{ClassifierRow, LiteralRow};
 use std::alloc::{AllocError, Global};
 
@@ -29,10 +29,7 @@ fn all_literals(alloc: Global, rows: &[LiteralRow]) -> Result<Vec<EnumLiteral>, 
 }
 
 /// The enums with their names and literals.
-pub(crate) fn enums_of(
-    alloc: Global,
-    rows: &[ClassifierRow],
-) -> Result<Vec<Enum>, AllocError>
+pub(crate) fn enums_of(alloc: Global, rows: &[ClassifierRow]) -> Result<Vec<Enum>, AllocError>
     ensures { IfOk result (λ v. v.items ≡ enums_in rows.now) }
 {
     let mut enums = Vec::new(alloc);

@@ -1,39 +1,49 @@
 //! A metamodel that was built, and its questions: classes and features by number and by name, subtyping, literals,
 //! defaults.
-ghost use Rattle.std.specs.Prelude.{◌≡◌, ◌<◌, IfErr, IfOk, IfSome, length, map, slice_get, Some, nat_eq};
-ghost use Rattle.std.specs.List.{list_any};
-ghost use Rattle.std.specs.Option.{option_copied, option_map_or};
+ghost use Rattle.std.specs.Prelude.{◌≡◌, ◌<◌, IfErr, IfOk, length, slice_get, Some};
+ghost use Rattle.std.specs.BTreeMap.{get_by_text};
+ghost use Rattle.std.specs.Option.{option_and_then, option_copied, option_map_or};
 ghost use Rattle.ecore_meta.specs.Meta.{class_named, feature_named, features_of, first_named, has_feature, is_a, name_at};
 ghost use Rattle.ecore_meta.specs.Promised.{IsMetamodel};
 ghost use Rattle.ecore_meta.specs.Sound.{Sound};
 ghost use Rattle.ecore_meta.specs.Typing.{literal_count, literal_text, literals_of};
-ghost use Rattle.ecore_meta.specs.Names.{number_of};
+ghost use Rattle.ecore_meta.specs.Holds.{Holds};
+ghost use Rattle.ecore_meta.specs.Parts.{meta_in};
 ghost use Rattle.ecore_meta.specs.Values.{AreShort, IsBad, literal_in, literals_at, text_in, value_of};
 
 use crate::fault::ValueFault;
-use crate::literals::literal_in;
+use crate::indexes::{class_index, literal_indexes};
 use crate::meta::{Class, Enum, EnumLiteral, Feature, Scalar, Value};
 use crate::values::{at, value_of};
 use crate::{Text, tables};
-use std::alloc::Global;
-use std::collections::BTreeSet;
+use std::alloc::{AllocError, Global};
+use std::collections::{BTreeMap, BTreeSet};
 use std::marker::Model;
 
 /// A metamodel, which contracts see as its classes, the classes above each, its features and its enums.
 #[derive(Debug, Drop)]
 pub struct Metamodel {
-    pub(crate) uri: Text,
-    pub(crate) classes: Vec<Class>,
-    pub(crate) features: Vec<Feature>,
+    uri: Text,
+    classes: Vec<Class>,
+    features: Vec<Feature>,
     /// Each class and all those above it.
-    pub(crate) above: Vec<BTreeSet<u32>>,
-    pub(crate) enums: Vec<Enum>,
+    above: Vec<BTreeSet<u32>>,
+    enums: Vec<Enum>,
+    /// The number of each class by its name.
+    class_index: BTreeMap<String, u32>,
+    /// For each enum, the number of each literal by its text, and by its name where that is no literal's text.
+    literal_index: Vec<BTreeMap<String, u32>>,
 }
 
-fn holds(xs: &[u32], x: u32) -> bool
-    ensures { result ≡ list_any (nat_eq x) xs.now }
-{
-    xs.iter().any(|y| x == *y)
+/// The parts of a metamodel, all but its indexes.
+#[derive(Drop)]
+pub struct Parts {
+    pub uri: Text,
+    pub classes: Vec<Class>,
+    /// Each class and all those above it.
+    pub above: Vec<BTreeSet<u32>>,
+    pub features: Vec<Feature>,
+    pub enums: Vec<Enum>,
 }
 
 fn count(enums: &[Enum], e: u32) -> u32
@@ -74,16 +84,34 @@ fn literal_at(literals: &[EnumLiteral], n: u32) -> Option<&EnumLiteral>
 impl Model for Metamodel {
     ghost use Rattle.std.specs.Prelude.{map};
     ghost use Rattle.ecore_meta.specs.Meta.{Meta};
-    ghost use Rattle.ecore_meta.specs.Holds.{Holds};
+    ghost use Rattle.ecore_meta.specs.Indexes.{Keeps};
 
     ghost Value = { Meta };
 
     ghost view = { λ a. record { uri = a.uri; classes = a.classes.items; above = map (λ s. s.keys) a.above.items; features = a.features.items; enums = a.enums.items } };
 
-    ghost invariant = { λ a. Holds (record { uri = a.uri; classes = a.classes.items; above = map (λ s. s.keys) a.above.items; features = a.features.items; enums = a.enums.items }) };
+    ghost invariant = { λ a. Keeps (record { uri = a.uri; classes = a.classes.items; above = map (λ s. s.keys) a.above.items; features = a.features.items; enums = a.enums.items }) a.class_index a.literal_index.items };
 }
 
 impl Metamodel {
+    /// The metamodel of its parts, with indexes of its classes and literals by name.
+    pub fn of_parts(alloc: Global, parts: Parts) -> Result<Metamodel, AllocError>
+        requires { Holds (meta_in parts) }
+        ensures { IfOk result (λ m. m ≡ meta_in parts) }
+    {
+        let class_index = class_index(alloc, parts.classes.as_slice())?;
+        let literal_index = literal_indexes(alloc, parts.enums.as_slice())?;
+        Ok(Metamodel {
+            uri: parts.uri,
+            classes: parts.classes,
+            features: parts.features,
+            above: parts.above,
+            enums: parts.enums,
+            class_index,
+            literal_index,
+        })
+    }
+
     /// The namespace URI.
     pub fn uri(&self) -> &str
         ensures { result.now ≡ self.now.uri }
@@ -158,9 +186,9 @@ impl Metamodel {
     pub fn has_feature(&self, c: u32, f: u32) -> bool
         ensures { result ≡ has_feature self.now c f }
     {
-        match self.classes.get(c as usize) {
+        match self.get_feature(f) {
             None => false,
-            Some(class) => holds(class.features.as_slice(), f),
+            Some(feature) => self.is_a(c, feature.owner),
         }
     }
 
@@ -205,17 +233,25 @@ impl Metamodel {
     }
 }
 
-/// The place of the first class of that name.
-fn class_place(classes: &[Class], name: &str) -> Option<usize>
-    ensures place { result ≡ number_of name.now (map (λ c. c.name) classes.now) }
-    ensures within { IfSome result (λ n. n < length classes.now) }
+fn number_in(index: &BTreeMap<String, u32>, name: &str) -> Option<u32>
+    ensures { result ≡ get_by_text index.now name.now }
 {
-    for (n, class) in classes.iter().enumerate() {
-        if class.name.as_str() == name {
-            return Some(n);
-        }
+    index.get(name).copied()
+}
+
+fn index_at(indexes: &[BTreeMap<String, u32>], n: u32) -> Option<&BTreeMap<String, u32>>
+    ensures { option_copied result ≡ slice_get indexes.now n }
+{
+    indexes.get(n as usize)
+}
+
+fn number_at(indexes: &[BTreeMap<String, u32>], n: u32, name: &str) -> Option<u32>
+    ensures { result ≡ option_and_then (λ m. get_by_text m name.now) (slice_get indexes.now n) }
+{
+    match index_at(indexes, n) {
+        None => None,
+        Some(index) => number_in(index, name),
     }
-    None
 }
 
 impl Metamodel {
@@ -223,17 +259,14 @@ impl Metamodel {
     pub fn class_named(&self, name: &str) -> Option<u32>
         ensures { result ≡ class_named self.now name.now }
     {
-        match class_place(self.classes.as_slice(), name) {
-            None => None,
-            Some(n) => Some(n as u32),
-        }
+        number_in(&self.class_index, name)
     }
 
     /// The literal of an enum that has this text, or else the one that has this name.
     pub fn literal_named(&self, e: u32, text: &str) -> Option<u32>
         ensures { result ≡ literal_in (literals_of self.now e) text.now }
     {
-        literal_number(self.enums.as_slice(), e, text)
+        number_at(self.literal_index.as_slice(), e, text)
     }
 
     /// The value of the type that a default text stands for.
@@ -250,16 +283,6 @@ impl Metamodel {
             None => Err(ValueFault::Bad),
             Some(value) => Ok(value),
         }
-    }
-}
-
-fn literal_number(enums: &[Enum], e: u32, text: &str) -> Option<u32>
-    requires { AreShort enums.now }
-    ensures { result ≡ literal_in (literals_at enums.now e) text.now }
-{
-    match at(enums, e) {
-        Some(found) => literal_in(found.literals.as_slice(), text),
-        None => None,
     }
 }
 

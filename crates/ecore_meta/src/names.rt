@@ -8,10 +8,10 @@ use std::alloc::{AllocError, Global};
 use std::collections::BTreeMap;
 
 /// The place of each name, or `None` where a name stands twice.
-pub(crate) fn index(
+pub(crate) fn index<'a>(
     alloc: Global,
-    names: &[&str],
-) -> Result<Option<BTreeMap<String, usize>>, AllocError>
+    names: &[&'a str],
+) -> Result<Option<BTreeMap<&'a str, usize>>, AllocError>
     ensures { IfOk result (Indexes (map (λ n. n.now) names.now)) }
 {
     let mut index = BTreeMap::new(alloc);
@@ -19,8 +19,7 @@ pub(crate) fn index(
         if index.contains_key(*name) {
             return Ok(None);
         }
-        let key = String::from_str(alloc, name)?;
-        index.insert(key, n)?;
+        index.insert(*name, n)?;
     }
     Ok(Some(index))
 }

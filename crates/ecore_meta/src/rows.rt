@@ -4,7 +4,7 @@ ghost use Rattle.std.specs.List.{list_any};
 ghost use Rattle.ecore_meta.specs.Build.{Numbered, is_numbered};
 ghost use Rattle.ecore_meta.specs.Document.{classifier_name, feature_total, features_in};
 ghost use Rattle.ecore_meta.specs.Faults.{is_many};
-ghost use Rattle.ecore_meta.specs.Named.{NamesFit, has_slash, is_misnamed, is_reserved};
+ghost use Rattle.ecore_meta.specs.Named.{NamesFit, has_slash, is_misnamed, is_taken};
 
 use crate::{List, Text};
 
@@ -124,7 +124,7 @@ impl ClassifierRow {
     {
         match self {
             ClassifierRow::Class(row) => {
-                has_slash(row.name.as_str()) || any_is_reserved(row.features.as_slice())
+                has_slash(row.name.as_str()) || any_is_taken(row.features.as_slice())
             }
             ClassifierRow::Enum(_) => false,
             ClassifierRow::Plain(_) => false,
@@ -138,18 +138,18 @@ fn has_slash(name: &str) -> bool
     name.as_bytes().iter().any(|b| *b == b'/')
 }
 
-fn is_reserved(name: &str) -> bool
-    ensures { result ≡ is_reserved name.now }
+fn is_taken(name: &str) -> bool
+    ensures { result ≡ is_taken name.now }
 {
-    name == "eClass" || name == "_id"
+    name == "eClass" || name == "_id" || name == "$ref"
 }
 
-fn any_is_reserved(features: &[FeatureRow]) -> bool
-    ensures { result ≡ list_any (λ f. is_reserved f.name) features.now }
+fn any_is_taken(features: &[FeatureRow]) -> bool
+    ensures { result ≡ list_any (λ f. is_taken f.name) features.now }
 {
     features
         .iter()
-        .any(|feature| is_reserved(feature.name.as_str()))
+        .any(|feature| is_taken(feature.name.as_str()))
 }
 
 fn any_is_misnamed(rows: &[ClassifierRow]) -> bool
@@ -193,7 +193,7 @@ impl MetaRows {
         is_numbered(self.classifiers.as_slice())
     }
 
-    /// Whether no class has a slash in its name and no feature is named `eClass` or `_id`, which `build` asks for.
+    /// Whether no class has a slash in its name and no feature is named `eClass`, `_id` or `$ref`, which `build` asks for.
     pub fn has_fit_names(&self) -> bool
         ensures { IsTrue result ↔ NamesFit self.now.classifiers }
     {

@@ -13,8 +13,8 @@ features_of-requires c =
     let P : List Enum → Type 0 = λ ls. AreShort ls in
     subst P (sym (c.as_slice-3.ensures.value ∙ c.requires.enums)) (enums_short c.args.rows.now.classifiers c.requires.few.parts)
 
-pub invariant_of-result : goal.invariant_of-result
-invariant_of-result c =
+pub of_parts-requires : goal.of_parts-requires
+of_parts-requires c =
     let P : List Enum → Type 0 = λ ls. AreShort ls in
     record {
       is =

@@ -5,6 +5,7 @@ use Rattle.ecore_meta.specs.Faults.{IsFault, any_from, bad_bound, bad_default, f
 use Rattle.ecore_meta.specs.Values.{AreShort}
 use Rattle.ecore_meta.specs.declared.meta.Enum.{Enum}
 use Rattle.ecore_meta.proofs.BuildLaws.{drafts_few, fourth, enums_short, no_last, third}
+use Rattle.ecore_meta.proofs.ChainLaws.{chains}
 use Rattle.ecore_meta.proofs.building.build.Goals as goal
 
 pub returns-in-Err-clause-fault : goal.returns-in-Err-clause-fault
@@ -44,7 +45,7 @@ returns-then-branch-clause-fault c =
     (sym c.if-any_bad_bound.false ∙ c.any_bad_bound.ensures ∙ ap (λ ds. list_any (bad_bound ds) ds) c.as_slice-4.ensures.value)
     (sym c.if-branch.true ∙ c.in_ok-any_bad_default.ensures
     ∙ ap (λ ls. list_any (bad_default ls) c.as_slice-6.result.now) c.as_slice-5.ensures.value
-    ∙ ap (λ ds. list_any (bad_default c.in-Ok.parts.enums.items) ds) c.as_slice-6.ensures.value)
+    ∙ ap (λ ds. list_any (bad_default c.in-Ok.resolved.enums.items) ds) c.as_slice-6.ensures.value)
 
 pub returns-clause-none : goal.returns-clause-none
 returns-clause-none c =
@@ -55,4 +56,7 @@ returns-clause-none c =
     (sym c.if-any_bad_bound.false ∙ c.any_bad_bound.ensures ∙ ap (λ ds. list_any (bad_bound ds) ds) c.as_slice-4.ensures.value)
     (sym c.if-branch.false ∙ c.in_ok-any_bad_default.ensures
     ∙ ap (λ ls. list_any (bad_default ls) c.as_slice-6.result.now) c.as_slice-5.ensures.value
-    ∙ ap (λ ds. list_any (bad_default c.in-Ok.parts.enums.items) ds) c.as_slice-6.ensures.value)
+    ∙ ap (λ ds. list_any (bad_default c.in-Ok.resolved.enums.items) ds) c.as_slice-6.ensures.value)
+
+pub returns-clause-chain : goal.returns-clause-chain
+returns-clause-chain c = chains c.args.rows.now _ c.in_ok-assemble.ensures

@@ -1,4 +1,4 @@
-use Rattle.std.proofs.Common.{◌≡◌, take, map, false}
+use Rattle.std.proofs.Common.{◌≡◌, take, false}
 use Rattle.std.specs.List.{list_any}
 use Rattle.ecore_meta.specs.Faults.{bad_default}
 use Rattle.ecore_meta.proofs.features.any_bad_default.Given as goal

@@ -1,5 +1,4 @@
-use Rattle.std.proofs.Common.{◌∷◌, [], ◌∙◌, ap, arith, map, length, length-append, ◌+◌}
-use Rattle.std.proofs.lemmas.List.{length-map}
+use Rattle.std.proofs.Common.{◌∙◌, ap, map, length}
 use Rattle.std.specs.List.{filter, range_with_len}
 use Rattle.ecore_meta.specs.Supers.{is_above}
 use Rattle.ecore_meta.proofs.TableLaws.{rising_more}

@@ -1,0 +1,22 @@
+-- What the indexes of a metamodel hold.
+use Rattle.std.specs.Prelude.{String, ◌≡◌, ℕ, List, [], ◌∷◌, Option, None, Some, slice_get}
+use Rattle.std.specs.BTreeMap.{BTreeMap, get_by_text}
+use Rattle.std.specs.Option.{option_and_then}
+use Rattle.ecore_meta.specs.Holds.{Holds}
+use Rattle.ecore_meta.specs.Meta.{Meta, class_named}
+use Rattle.ecore_meta.specs.Names.{Name}
+use Rattle.ecore_meta.specs.Values.{literal_in}
+use Rattle.ecore_meta.specs.declared.meta.Enum.{Enum}
+
+-- an index of literals for each enum, by text and else by name
+abbrev pub AllKnown : {Y : Type 0} → List Enum → List (BTreeMap (String Y) ℕ) → Type 0
+AllKnown [] [] = Unit {0}
+AllKnown [] (m ∷ ms) = ⊥
+AllKnown (e ∷ es) [] = ⊥
+AllKnown (e ∷ es) (m ∷ ms) = ((q : Name) → get_by_text m q ≡ literal_in e.literals q) × AllKnown es ms
+
+-- what holds of a metamodel, and of its indexes of classes and literals
+pub record Keeps {Y : Type 0} (meta : Meta) (classes : BTreeMap (String Y) ℕ) (literals : List (BTreeMap (String Y) ℕ)) : Type 0 where
+  pub holds : Holds meta
+  pub by_class : (q : Name) → get_by_text classes q ≡ class_named meta q
+  pub by_literal : AllKnown meta.enums literals
