@@ -3,14 +3,14 @@ use Rattle.std.proofs.Common.{◌≡◌, refl, subst}
 use Rattle.std.specs.Prelude.{Option, None, Some, Ok}
 use Rattle.serde_json.specs.Data.{Data}
 use Rattle.serde_json.specs.Read.{read}
-use Rattle.ecore_meta.specs.Build.{meta_of}
-use Rattle.ecore_meta.specs.Faults.{fault}
+use Rattle.ecore_build.specs.Build.{meta_of}
+use Rattle.ecore_build.specs.Faults.{fault}
 use Rattle.ecore_meta.specs.Meta.{Meta}
-use Rattle.ecore_meta.specs.Named.{NamesFit}
+use Rattle.ecore_build.specs.Fit.{NamesFit}
 use Rattle.ecore_meta.specs.Promised.{IsMetamodel}
-use Rattle.ecore_meta.specs.declared.fault.MetaFault.{MetaFault}
-use Rattle.ecore_meta.specs.declared.rows.MetaRows.{MetaRows}
-use Rattle.ecore_meta.proofs.PromiseLaws.{promised}
+use Rattle.ecore_build.specs.declared.fault.MetaFault.{MetaFault}
+use Rattle.ecore_build.specs.declared.rows.MetaRows.{MetaRows}
+use Rattle.ecore_build.proofs.PromiseLaws.{promised}
 use Rattle.ecore_json.specs.declared.fault.WalkFault.{WalkFault}
 use Rattle.ecore_json.specs.declared.fault.WalkFault.TheVariants.{BadKey, LeftOut}
 use Rattle.ecore_json.specs.Walk.{package_fault}

@@ -3,12 +3,12 @@ use Rattle.std.specs.Prelude.{◌≡◌, ℕ, List, cond, Option, None, Some, Re
 use Rattle.serde_json.specs.Data.{Data, Items, no_items, item}
 use Rattle.serde_json.specs.Find.{as_array}
 use Rattle.serde_json.specs.Read.{read}
-use Rattle.ecore_meta.specs.Build.{meta_of}
-use Rattle.ecore_meta.specs.Faults.{fault}
+use Rattle.ecore_build.specs.Build.{meta_of}
+use Rattle.ecore_build.specs.Faults.{fault}
 use Rattle.ecore_meta.specs.Meta.{Meta}
-use Rattle.ecore_meta.specs.declared.fault.MetaFault.{MetaFault}
-use Rattle.ecore_meta.specs.declared.fault.MetaFault.TheVariants as meta
-use Rattle.ecore_meta.specs.declared.rows.MetaRows.{MetaRows}
+use Rattle.ecore_build.specs.declared.fault.MetaFault.{MetaFault}
+use Rattle.ecore_build.specs.declared.fault.MetaFault.TheVariants as meta
+use Rattle.ecore_build.specs.declared.rows.MetaRows.{MetaRows}
 use Rattle.ecore_json.specs.Classes.{ecore_package}
 use Rattle.ecore_json.specs.declared.fault.EcoreFault.{EcoreFault}
 use Rattle.ecore_json.specs.declared.fault.EcoreFault.TheVariants.{NotJson, NotPackage, BadKey, LeftOut, Meta as OfMeta, Memory}

@@ -3,7 +3,7 @@ ghost use Rattle.std.specs.Prelude.{◌≡◌};
 ghost use Rattle.ecore_json.specs.Metamodel.{fault_number, of_meta};
 ghost use Rattle.ecore_json.specs.declared.fault.EcoreFault.TheVariants.{Memory};
 
-use ecore_meta::MetaFault;
+use ecore_build::MetaFault;
 use std::alloc::AllocError;
 use thiserror::Error;
 

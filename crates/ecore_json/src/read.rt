@@ -2,9 +2,9 @@
 ghost use Rattle.std.specs.Prelude.{◌≡◌, ◌<◌, ◌-◌, ◌^◌, Some, length, option_map};
 ghost use Rattle.serde_json.specs.View.{view};
 ghost use Rattle.serde_json.specs.Find.{as_array};
-ghost use Rattle.ecore_meta.specs.Build.{Numbered};
-ghost use Rattle.ecore_meta.specs.Faults.{fault};
-ghost use Rattle.ecore_meta.specs.Named.{NamesFit};
+ghost use Rattle.ecore_build.specs.Build.{Numbered};
+ghost use Rattle.ecore_build.specs.Faults.{fault};
+ghost use Rattle.ecore_build.specs.Fit.{NamesFit};
 ghost use Rattle.ecore_json.specs.Metamodel.{root_of, package_of, built, of_package, metamodel_of, GivesMetamodel};
 ghost use Rattle.ecore_json.specs.Rows.{rows_of};
 
@@ -13,7 +13,8 @@ use crate::fault::{EcoreFault, WalkFault, of_meta};
 use crate::rows::{own_prefix, rows_of};
 use crate::table::Position;
 use crate::walk::{is_a, object_fault};
-use ecore_meta::{MetaRows, Metamodel, build};
+use ecore_build::{MetaRows, build};
+use ecore_meta::Metamodel;
 use serde_json::Value;
 use std::alloc::Global;
 

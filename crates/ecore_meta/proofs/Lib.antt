@@ -1,18 +1,7 @@
-mod NameLaws
-mod IndexLaws
-mod DeclaredLaws
-mod ClassifierLaws
-mod SuperLaws
-mod ParseLaws
-mod RisingLaws
-mod TableLaws
-mod BuildLaws
-mod OwnerLaws
-pub mod SoundLaws
-mod EndLaws
-mod BuiltNames
-mod ChainLaws
-mod AboveLaws
-pub mod PromiseLaws
-mod NumberedLaws
-mod FitLaws
+pub mod NameLaws
+pub mod NumberLaws
+pub mod IndexLaws
+pub mod RisingLaws
+pub mod DeclaredLaws
+pub mod SetLaws
+pub mod ParseLaws

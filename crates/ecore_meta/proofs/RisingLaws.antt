@@ -9,7 +9,7 @@ use Rattle.std.proofs.lemmas.List.Kept.{IsStrictlySortedBy-filter}
 use Rattle.std.proofs.lemmas.Map.Views.{any-filter_same}
 use Rattle.std.proofs.lemmas.Bool.Decides.{nat_tests}
 use Rattle.std.proofs.lemmas.Bool.{or_left, or_right}
-use Rattle.ecore_meta.proofs.SuperLaws.{nat_same, nat_itself, or_split, same_bool}
+use Rattle.ecore_meta.proofs.NumberLaws.{nat_itself, nat_same, or_split, same_bool}
 
 less : (a b : ℕ) → nat_cmp a b ≡ Less → a < b
 less a b h = search rules

@@ -7,9 +7,9 @@ use Rattle.ecore_meta.specs.Names.{Name, has_repeat}
 use Rattle.ecore_meta.specs.Typing.{kind_of, literals_of, upper_of}
 use Rattle.ecore_meta.specs.declared.meta.Class.{Class as ClassOf}
 use Rattle.ecore_meta.specs.declared.meta.Kind.TheVariants.{Free}
-use Rattle.ecore_meta.specs.declared.rows.ClassifierRow.{ClassifierRow}
-use Rattle.ecore_meta.specs.declared.rows.ClassifierRow.TheVariants.{Class, Enum, Plain}
-use Rattle.ecore_meta.specs.declared.rows.FeatureRow.{FeatureRow}
+use Rattle.ecore_build.specs.declared.rows.ClassifierRow.{ClassifierRow}
+use Rattle.ecore_build.specs.declared.rows.ClassifierRow.TheVariants.{Class, Enum, Plain}
+use Rattle.ecore_build.specs.declared.rows.FeatureRow.{FeatureRow}
 
 -- a key of an object that is no feature's
 abbrev pub is_reserved : Name → Bool
@@ -22,19 +22,6 @@ is_taken t = is_reserved t || bytes_eq t (codes "$ref")
 -- the name has a slash
 abbrev pub has_slash : Name → Bool
 has_slash t = list_any (λ b. b == 47) t
-
--- names of classes without a slash, and features that are not named as a key that has a meaning of its own
-abbrev pub NamesFit : List ClassifierRow → Type 0
-NamesFit [] = Unit {0}
-NamesFit (Class c ∷ rows) = (has_slash c.name ≡ false) × AllByRecursion (λ (f : FeatureRow). is_taken f.name ≡ false) c.features × NamesFit rows
-NamesFit (Enum e ∷ rows) = NamesFit rows
-NamesFit (Plain t ∷ rows) = NamesFit rows
-
--- the name of a classifier or of one of its features is of another form
-abbrev pub is_misnamed : ClassifierRow → Bool
-is_misnamed (Class c) = has_slash c.name || list_any (λ (f : FeatureRow). is_taken f.name) c.features
-is_misnamed (Enum e) = false
-is_misnamed (Plain t) = false
 
 -- the literals of each enum have different texts
 abbrev pub TextsAreApart : Meta → Type 0

@@ -1,28 +1,17 @@
-//! Metamodels in Ecore's terms: classes with features, references with opposites, and enums. A metamodel is built
-//! of the rows that a document describes, or refused with the first fault.
+//! Metamodels in Ecore's terms: classes with features, references with opposites, and enums; what holds of every metamodel, and its questions.
 #![tactic(auto)]
 
-mod building;
-mod classifiers;
-mod drafts;
+mod above;
 mod fault;
-mod faults;
-mod features;
 mod indexes;
 mod literals;
 mod meta;
 mod metamodel;
-mod names;
-mod rows;
-mod supers;
-mod tables;
 mod values;
 
-pub use building::build;
-pub use fault::{MetaFault, ValueFault};
+pub use above::is_in;
+pub use fault::ValueFault;
 pub use meta::{Class, Enum, EnumLiteral, Feature, Kind, Scalar, Value};
 pub use metamodel::{Metamodel, Parts};
-pub use rows::{
-    ClassRow, ClassifierRow, EnumRow, FeatureRow, LiteralRow, MetaRows, OppositeRow, TypeName,
-};
 pub use texts::{List, Text};
+pub use values::{default_of, value_of};

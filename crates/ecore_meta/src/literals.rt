@@ -1,52 +1,9 @@
-//! The literals of enums, looked up by text and then by name.
-ghost use Rattle.std.specs.Prelude.{◌≡◌, ◌<◌, IfOk, IfSome, Some, None, length, map};
+//! The literals of an enum, looked up by text and then by name.
+ghost use Rattle.std.specs.Prelude.{◌≡◌, ◌<◌, IfSome, Some, None, length, map};
 ghost use Rattle.ecore_meta.specs.Names.{number_of};
-ghost use Rattle.ecore_meta.specs.Faults.{literal, enums_in};
 ghost use Rattle.ecore_meta.specs.Values.{literal_in};
 
-use crate::List;
-use crate::meta::{Enum, EnumLiteral};
-use crate::rows::{ClassifierRow, LiteralRow};
-use std::alloc::{AllocError, Global};
-
-fn literal(alloc: Global, row: &LiteralRow) -> Result<EnumLiteral, AllocError>
-    ensures { IfOk result (λ l. l ≡ literal row.now) }
-{
-    Ok(EnumLiteral {
-        name: row.name.copy(alloc)?,
-        text: row.literal.copy(alloc)?,
-    })
-}
-
-fn all_literals(alloc: Global, rows: &[LiteralRow]) -> Result<Vec<EnumLiteral>, AllocError>
-    ensures { IfOk result (λ v. v.items ≡ map literal rows.now) }
-{
-    let mut literals = Vec::new(alloc);
-    for row in rows {
-        literals.push(literal(alloc, row)?)?;
-    }
-    Ok(literals)
-}
-
-/// The enums with their names and literals.
-pub(crate) fn enums_of(alloc: Global, rows: &[ClassifierRow]) -> Result<Vec<Enum>, AllocError>
-    ensures { IfOk result (λ v. v.items ≡ enums_in rows.now) }
-{
-    let mut enums = Vec::new(alloc);
-    for row in rows {
-        match row {
-            ClassifierRow::Enum(row) => {
-                enums.push(Enum {
-                    name: row.name.copy(alloc)?,
-                    literals: List::from_vec(all_literals(alloc, row.literals.as_slice())?),
-                })?;
-            }
-            ClassifierRow::Class(_) => {}
-            ClassifierRow::Plain(_) => {}
-        }
-    }
-    Ok(enums)
-}
+use crate::meta::EnumLiteral;
 
 /// The place of the first literal of that text.
 fn with_text(literals: &[EnumLiteral], text: &str) -> Option<usize>

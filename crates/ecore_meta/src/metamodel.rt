@@ -11,11 +11,12 @@ ghost use Rattle.ecore_meta.specs.Holds.{Holds};
 ghost use Rattle.ecore_meta.specs.Parts.{meta_in};
 ghost use Rattle.ecore_meta.specs.Values.{AreShort, IsBad, literal_in, literals_at, text_in, value_of};
 
+use crate::Text;
+use crate::above::is_in;
 use crate::fault::ValueFault;
 use crate::indexes::{class_index, literal_indexes};
 use crate::meta::{Class, Enum, EnumLiteral, Feature, Scalar, Value};
 use crate::values::{at, value_of};
-use crate::{Text, tables};
 use std::alloc::{AllocError, Global};
 use std::collections::{BTreeMap, BTreeSet};
 use std::marker::Model;
@@ -179,7 +180,7 @@ impl Metamodel {
     pub fn is_a(&self, c: u32, d: u32) -> bool
         ensures { result ≡ is_a self.now c d }
     {
-        tables::is_a(self.above.as_slice(), c, d)
+        is_in(self.above.as_slice(), c, d)
     }
 
     /// Whether the class has the feature, its own or inherited.

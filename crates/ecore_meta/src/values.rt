@@ -126,7 +126,7 @@ fn named_of(enums: &[Enum], number: u32, text: &str) -> Option<Value>
 }
 
 /// The value of the type that a text stands for.
-pub(crate) fn value_of(
+pub fn value_of(
     alloc: Global,
     enums: &[Enum],
     scalar: &Scalar,
@@ -147,7 +147,7 @@ pub(crate) fn value_of(
 }
 
 /// The default of a type; texts have none.
-pub(crate) fn default_of(scalar: &Scalar) -> Option<Value>
+pub fn default_of(scalar: &Scalar) -> Option<Value>
     ensures { result ≡ default_of scalar.now }
 {
     match scalar {

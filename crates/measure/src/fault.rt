@@ -1,6 +1,6 @@
 //! Why a measurement ends.
 
-use ecore_meta::MetaFault;
+use ecore_build::MetaFault;
 use model_state::IdFault;
 use op_form::FormFault;
 use std::alloc::AllocError;

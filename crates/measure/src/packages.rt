@@ -3,7 +3,8 @@ ghost use Rattle.std.specs.Prelude.{◌≡◌, ◌<◌, ◌^◌, IfOk, length};
 
 use crate::fault::MeasureFault;
 use crate::rows::rows_of;
-use ecore_meta::{List, Metamodel, Text, Value, build};
+use ecore_build::build;
+use ecore_meta::{List, Metamodel, Text, Value};
 use model_state::{Id, OpKind, Operation, Package, Step};
 use std::alloc::Global;
 

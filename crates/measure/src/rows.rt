@@ -1,10 +1,9 @@
 //! The rows of a metamodel of many classes.
 ghost use Rattle.std.specs.Prelude.{◌≡◌, ◌*◌, ◌<◌, IfOk, length};
-ghost use Rattle.ecore_meta.specs.Document.{feature_total, features_in};
+ghost use Rattle.ecore_build.specs.Document.{feature_total, features_in};
 
-use ecore_meta::{
-    ClassRow, ClassifierRow, FeatureRow, List, MetaRows, OppositeRow, Text, TypeName,
-};
+use ecore_build::{ClassRow, ClassifierRow, FeatureRow, MetaRows, OppositeRow, TypeName};
+use ecore_meta::{List, Text};
 use std::alloc::{AllocError, Global};
 
 fn class_name(alloc: Global, class: u32) -> Result<Text, AllocError> {

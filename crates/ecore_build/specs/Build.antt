@@ -1,0 +1,114 @@
+-- The metamodel that a document without a fault stands for.
+use Rattle.std.specs.Prelude.{IsTrue, ◌↔◌, ℕ, ℤ, pos, negsuc, min, suc, ◌<◌, List, [], ◌∷◌, Option, None, Some, map, length, cond, Bool, nat_lt, not, ◌&&◌}
+use Rattle.std.specs.List.{list_any}
+use Rattle.std.specs.Ordering.{int_eq}
+use Rattle.ecore_build.specs.Document.{ClassifierRows, supers_in, feature_total}
+use Rattle.ecore_build.specs.Drafts.{drafts}
+use Rattle.ecore_build.specs.Faults.{contains_back, is_skipped, own_of, features_of, enums_in, is_many, Few}
+use Rattle.ecore_meta.specs.Meta.{Meta, is_a}
+use Rattle.ecore_build.specs.Supers.{Leads, all_above}
+use Rattle.ecore_meta.specs.Values.{value_of, default_of}
+use Rattle.ecore_build.specs.declared.drafts.Draft.{Draft}
+use Rattle.ecore_build.specs.declared.drafts.Target.{Target}
+use Rattle.ecore_build.specs.declared.drafts.Target.TheVariants.{Skipped, Unsupported, Missing, Elements, Values}
+use Rattle.ecore_build.specs.declared.drafts.End.{End}
+use Rattle.ecore_build.specs.declared.drafts.End.TheVariants.{Open, Nowhere, At}
+use Rattle.ecore_meta.specs.declared.meta.Class.{Class}
+use Rattle.ecore_meta.specs.declared.meta.Enum.{Enum as EnumOf}
+use Rattle.ecore_meta.specs.declared.meta.Feature.{Feature}
+use Rattle.ecore_meta.specs.declared.meta.Kind.{Kind}
+use Rattle.ecore_meta.specs.declared.meta.Kind.TheVariants.{Attr, AttrMany, Bounded, Free, Contains, Container, Skip}
+use Rattle.ecore_meta.specs.declared.meta.Scalar.{Scalar}
+use Rattle.ecore_meta.specs.declared.meta.Value.{Value}
+use Rattle.ecore_build.specs.declared.rows.MetaRows.{MetaRows}
+use Rattle.ecore_build.specs.declared.rows.ClassifierRow.TheVariants.{Class as ClassOf, Enum, Plain}
+
+-- a bound as a natural number, the greatest that a feature holds where it is greater
+abbrev pub natural : ℤ → ℕ
+natural (pos n) = min n 4294967295
+natural (negsuc n) = 0
+
+-- the number of the opposite, where there is one
+abbrev pub end_number : End → Option ℕ
+end_number Open = None
+end_number Nowhere = None
+end_number (At g) = Some g
+
+-- the default of a single attribute: its text's value, or else that of its type
+abbrev pub default_in : List EnumOf → Scalar → Option (List ℕ) → Option Value
+default_in enums s None = default_of s
+default_in enums s (Some text) = value_of enums s text
+
+-- an attribute: single where its upper bound is 1, else many-valued
+abbrev pub attribute : List EnumOf → Draft → Scalar → Kind
+attribute enums d s = cond (int_eq d.upper (pos 1)) (Attr s (default_in enums s d.default_text)) (AttrMany s d.unique)
+
+-- a reference to the container, by the containment that is its opposite
+abbrev pub container : ℕ → End → Kind
+container c Open = Skip
+container c Nowhere = Skip
+container c (At g) = Container c g
+
+-- a plain reference: free where it has no upper bound, else bounded
+abbrev pub plain : Draft → ℕ → Kind
+plain d c = cond (int_eq d.upper (negsuc 0)) (Free c (end_number d.end)) (Bounded c (end_number d.end))
+
+-- a reference: elements inside, the container where the opposite has elements inside, or links
+abbrev pub reference : List Draft → Draft → ℕ → Kind
+reference ds d c = cond d.containment (Contains c (end_number d.end)) (cond (contains_back ds d.end) (container c d.end) (plain d c))
+
+-- the kind of a feature, by what its type is
+abbrev pub kind_in : List EnumOf → List Draft → Draft → Target → Kind
+kind_in enums ds d Skipped = Skip
+kind_in enums ds d Unsupported = Skip
+kind_in enums ds d Missing = Skip
+kind_in enums ds d (Elements c) = reference ds d c
+kind_in enums ds d (Values s) = attribute enums d s
+
+-- a skipped feature has the bounds 0 and 1
+abbrev pub lower_from : Draft → ℕ
+lower_from d = cond (is_skipped d.target) 0 (natural d.lower)
+
+-- the upper bound, None where there is none
+abbrev pub upper_from : Draft → Option ℕ
+upper_from d = cond (is_skipped d.target) (Some 1) (cond (int_eq d.upper (negsuc 0)) None (Some (natural d.upper)))
+
+-- a feature of the metamodel, by its draft
+abbrev pub feature_from : List EnumOf → List Draft → Draft → Feature
+feature_from enums ds d = record { owner = d.owner; name = d.name; lower = lower_from d; upper = upper_from d; kind = kind_in enums ds d d.target }
+
+-- the classes with the features of each
+abbrev pub classes_from : ℕ → List (List ℕ) → ClassifierRows → List Class
+classes_from n features [] = []
+classes_from n features (ClassOf c ∷ rows) = record { name = c.name; is_abstract = c.is_abstract; features = own_of features n } ∷ classes_from (suc n) features rows
+classes_from n features (Enum e ∷ rows) = classes_from n features rows
+classes_from n features (Plain t ∷ rows) = classes_from n features rows
+
+-- the metamodel that a package stands for
+abbrev pub meta_of : MetaRows → Meta
+meta_of rows = record {
+  uri = rows.uri;
+  classes = classes_from 0 (features_of rows.classifiers) rows.classifiers;
+  above = all_above (supers_in rows.classifiers rows.classifiers);
+  features = map (feature_from (enums_in rows.classifiers) (drafts rows.classifiers)) (drafts rows.classifiers);
+  enums = enums_in rows.classifiers;
+}
+
+-- a class is another exactly where a list of classes leads there, each a direct supertype of the one before
+abbrev pub Chains : List (List ℕ) → Meta → Type 0
+Chains supers meta = (c d : ℕ) → c < length meta.classes → (IsTrue (is_a meta c d) ↔ Leads supers c d)
+
+-- the features or literals of each classifier can be numbered
+abbrev pub AreFew : ClassifierRows → Type 0
+AreFew [] = Unit {0}
+AreFew (row ∷ rows) = Few row × AreFew rows
+
+-- fewer than 2^32 - 1 classifiers, features, and literals of an enum
+pub record Numbered (rows : ClassifierRows) : Type 0 where
+  pub classifiers : length rows < 4294967295
+  pub features : feature_total rows < 4294967295
+  pub parts : AreFew rows
+
+-- the same as a test
+abbrev pub is_numbered : ClassifierRows → Bool
+is_numbered rows = nat_lt (length rows) 4294967295 && (nat_lt (feature_total rows) 4294967295 && not (list_any is_many rows))

@@ -1,0 +1,96 @@
+-- The features of a document, with the names in them resolved.
+use Rattle.std.specs.Prelude.{ℕ, suc, List, [], ◌∷◌, ◌++◌, Option, None, Some, map, codes, cond, if◌then◌else◌}
+use Rattle.std.specs.Str.{bytes_eq}
+use Rattle.ecore_meta.specs.Names.{Name}
+use Rattle.ecore_build.specs.Document.{ClassifierRows, classifier_named, feature_number}
+use Rattle.ecore_build.specs.declared.rows.ClassifierRow.TheVariants.{Class, Enum, Plain}
+use Rattle.ecore_build.specs.declared.rows.FeatureRow.{FeatureRow}
+use Rattle.ecore_build.specs.declared.rows.OppositeRow.{OppositeRow}
+use Rattle.ecore_build.specs.declared.rows.TypeName.{TypeName}
+use Rattle.ecore_build.specs.declared.rows.TypeName.TheVariants.{Own, Ecore}
+use Rattle.ecore_build.specs.declared.classifiers.Classifier.{Classifier}
+use Rattle.ecore_build.specs.declared.classifiers.Classifier.TheVariants.{Class as OfClass, Enum as OfEnum, Plain as OfPlain}
+use Rattle.ecore_build.specs.declared.drafts.Draft.{Draft}
+use Rattle.ecore_build.specs.declared.drafts.Target.{Target}
+use Rattle.ecore_build.specs.declared.drafts.Target.TheVariants.{Skipped, Unsupported, Missing, Elements, Values}
+use Rattle.ecore_build.specs.declared.drafts.End.{End}
+use Rattle.ecore_build.specs.declared.drafts.End.TheVariants.{Open, Nowhere, At}
+use Rattle.ecore_meta.specs.declared.meta.Scalar.TheVariants.{Text, Flag, Byte, Short, Int, Long, Literal}
+
+-- the types of Ecore that an attribute may have
+abbrev pub ecore_scalar : Name → Target
+ecore_scalar t =
+    if bytes_eq t (codes "EString") then Values Text
+    else if bytes_eq t (codes "EBoolean") then Values Flag
+    else if bytes_eq t (codes "EByte") then Values Byte
+    else if bytes_eq t (codes "EShort") then Values Short
+    else if bytes_eq t (codes "EInt") then Values Int
+    else if bytes_eq t (codes "ELong") then Values Long
+    else Unsupported
+
+-- an attribute's type of the package: an enum with a literal, or a data type, whose values are texts
+abbrev pub own_scalar : Option Classifier → Target
+own_scalar None = Missing
+own_scalar (Some (OfClass c f)) = Missing
+own_scalar (Some (OfEnum e empty)) = cond empty Missing (Values (Literal e))
+own_scalar (Some OfPlain) = Values Text
+
+-- an attribute's type: one of the package or of Ecore
+abbrev pub value_target : ClassifierRows → TypeName → Target
+value_target all (Own t) = own_scalar (classifier_named all t)
+value_target all (Ecore t) = ecore_scalar t
+
+-- a reference's type, by what its name stands for
+abbrev pub own_class : Option Classifier → Target
+own_class None = Missing
+own_class (Some (OfClass c f)) = Elements c
+own_class (Some (OfEnum e empty)) = Missing
+own_class (Some OfPlain) = Missing
+
+-- a reference's type is a class of the package
+abbrev pub class_target : ClassifierRows → TypeName → Target
+class_target all (Own t) = own_class (classifier_named all t)
+class_target all (Ecore t) = Missing
+
+-- what a feature's type is; that of a skipped feature is not looked at
+abbrev pub target_of : ClassifierRows → FeatureRow → Target
+target_of all f = cond f.skipped Skipped (cond f.is_reference (class_target all f.target) (value_target all f.target))
+
+-- the opposite that was found, or nowhere
+abbrev pub end_at : Option ℕ → End
+end_at None = Nowhere
+end_at (Some n) = At n
+
+-- the opposite of that name, where one is named
+abbrev pub named_end : ClassifierRows → Option OppositeRow → End
+named_end all None = Open
+named_end all (Some o) = end_at (feature_number all o.class o.feature)
+
+-- the opposite that a reference names; attributes and skipped features have none
+abbrev pub end_of : ClassifierRows → FeatureRow → End
+end_of all f = cond f.skipped Open (cond f.is_reference (named_end all f.opposite) Open)
+
+-- a feature that the class of that number declares
+abbrev pub draft : ClassifierRows → ℕ → FeatureRow → Draft
+draft all owner f = record {
+  owner = owner;
+  name = f.name;
+  target = target_of all f;
+  end = end_of all f;
+  lower = f.lower;
+  upper = f.upper;
+  unique = f.unique;
+  containment = f.containment;
+  default_text = f.default_text;
+}
+
+-- the features in the order of their declaration, from the class of that number on
+abbrev pub drafts_from : ClassifierRows → ℕ → ClassifierRows → List Draft
+drafts_from all n [] = []
+drafts_from all n (Class c ∷ rows) = map (draft all n) c.features ++ drafts_from all (suc n) rows
+drafts_from all n (Enum e ∷ rows) = drafts_from all n rows
+drafts_from all n (Plain t ∷ rows) = drafts_from all n rows
+
+-- the features of a document, in the order of their declaration
+unfoldable pub drafts : ClassifierRows → List Draft
+drafts all = drafts_from all 0 all

@@ -1,0 +1,46 @@
+//! The enums of a document with their literals.
+ghost use Rattle.std.specs.Prelude.{◌≡◌, IfOk, map};
+ghost use Rattle.ecore_build.specs.Faults.{enums_in, literal};
+
+use crate::rows::{ClassifierRow, LiteralRow};
+use ecore_meta::{Enum, EnumLiteral, List};
+use std::alloc::{AllocError, Global};
+
+fn literal(alloc: Global, row: &LiteralRow) -> Result<EnumLiteral, AllocError>
+    ensures { IfOk result (λ l. l ≡ literal row.now) }
+{
+    Ok(EnumLiteral {
+        name: row.name.copy(alloc)?,
+        text: row.literal.copy(alloc)?,
+    })
+}
+
+fn all_literals(alloc: Global, rows: &[LiteralRow]) -> Result<Vec<EnumLiteral>, AllocError>
+    ensures { IfOk result (λ v. v.items ≡ map literal rows.now) }
+{
+    let mut literals = Vec::new(alloc);
+    for row in rows {
+        literals.push(literal(alloc, row)?)?;
+    }
+    Ok(literals)
+}
+
+/// The enums with their names and literals.
+pub(crate) fn enums_of(alloc: Global, rows: &[ClassifierRow]) -> Result<Vec<Enum>, AllocError>
+    ensures { IfOk result (λ v. v.items ≡ enums_in rows.now) }
+{
+    let mut enums = Vec::new(alloc);
+    for row in rows {
+        match row {
+            ClassifierRow::Enum(row) => {
+                enums.push(Enum {
+                    name: row.name.copy(alloc)?,
+                    literals: List::from_vec(all_literals(alloc, row.literals.as_slice())?),
+                })?;
+            }
+            ClassifierRow::Class(_) => {}
+            ClassifierRow::Plain(_) => {}
+        }
+    }
+    Ok(enums)
+}

@@ -1,9 +1,0 @@
-use Rattle.std.proofs.Common.{◌≡◌, ◌≤◌, ◌++◌, drop, map}
-use Rattle.ecore_meta.specs.Build.{classes_from}
-use Rattle.ecore_meta.proofs.features.classes_of.Given as goal
-
-abbrev pub invariant-loop-row : goal.invariant-loop-row
-invariant-loop-row l = record {
-  whole : l.classes.items ++ classes_from l.number (map (λ fs. fs.items) l.features) (drop l.row-index l.rows) ≡ classes_from 0 (map (λ fs. fs.items) l.features) l.rows;
-  counted : l.number ≤ l.row-index;
-}
