@@ -5,3 +5,4 @@ pub mod RisingLaws
 pub mod DeclaredLaws
 pub mod SetLaws
 pub mod ParseLaws
+pub mod FeatureLaws

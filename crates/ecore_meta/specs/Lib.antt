@@ -1,5 +1,6 @@
 pub mod Above
 pub mod Ends
+pub mod Features
 pub mod Holds
 pub mod Indexes
 pub mod Meta

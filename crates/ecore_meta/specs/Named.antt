@@ -1,15 +1,12 @@
 -- Names of a metamodel: of their form, and apart where one is looked for; kinds that go with their bounds.
-use Rattle.std.specs.Prelude.{◌≡◌, ℕ, ◌==◌, ◌||◌, Bool, false, List, [], ◌∷◌, Option, None, Some, map, codes, slice_get}
-use Rattle.std.specs.List.{AllByRecursion, list_any}
+use Rattle.std.specs.Prelude.{◌≡◌, ℕ, ◌==◌, ◌||◌, Bool, false, Option, None, Some, map, codes, slice_get}
+use Rattle.std.specs.List.{list_any}
 use Rattle.std.specs.Str.{bytes_eq}
 use Rattle.ecore_meta.specs.Meta.{Meta, features_of, name_at}
 use Rattle.ecore_meta.specs.Names.{Name, has_repeat}
 use Rattle.ecore_meta.specs.Typing.{kind_of, literals_of, upper_of}
 use Rattle.ecore_meta.specs.declared.meta.Class.{Class as ClassOf}
 use Rattle.ecore_meta.specs.declared.meta.Kind.TheVariants.{Free}
-use Rattle.ecore_build.specs.declared.rows.ClassifierRow.{ClassifierRow}
-use Rattle.ecore_build.specs.declared.rows.ClassifierRow.TheVariants.{Class, Enum, Plain}
-use Rattle.ecore_build.specs.declared.rows.FeatureRow.{FeatureRow}
 
 -- a key of an object that is no feature's
 abbrev pub is_reserved : Name → Bool

@@ -11,7 +11,7 @@ use std::alloc::{AllocError, Global};
 use std::collections::BTreeMap;
 
 /// Gives the name its number, where the index has none for it.
-fn enter(
+pub(crate) fn enter(
     alloc: Global,
     name: &str,
     number: u32,
@@ -97,4 +97,11 @@ pub(crate) fn literal_indexes(
         indexes.push(literal_index(alloc, found.literals.as_slice())?)?;
     }
     Ok(indexes)
+}
+
+/// The number that the index has for the name.
+pub(crate) fn number_in(index: &BTreeMap<String, u32>, name: &str) -> Option<u32>
+    ensures { result ≡ get_by_text index.now name.now }
+{
+    index.get(name).copied()
 }

@@ -3,6 +3,7 @@
 
 mod above;
 mod fault;
+mod feature_index;
 mod indexes;
 mod literals;
 mod meta;

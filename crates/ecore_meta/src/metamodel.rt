@@ -3,7 +3,7 @@
 ghost use Rattle.std.specs.Prelude.{◌≡◌, ◌<◌, IfErr, IfOk, length, slice_get, Some};
 ghost use Rattle.std.specs.BTreeMap.{get_by_text};
 ghost use Rattle.std.specs.Option.{option_and_then, option_copied, option_map_or};
-ghost use Rattle.ecore_meta.specs.Meta.{class_named, feature_named, features_of, first_named, has_feature, is_a, name_at};
+ghost use Rattle.ecore_meta.specs.Meta.{class_named, feature_named, features_of, has_feature, is_a};
 ghost use Rattle.ecore_meta.specs.Promised.{IsMetamodel};
 ghost use Rattle.ecore_meta.specs.Sound.{Sound};
 ghost use Rattle.ecore_meta.specs.Typing.{literal_count, literal_text, literals_of};
@@ -14,7 +14,8 @@ ghost use Rattle.ecore_meta.specs.Values.{AreShort, IsBad, literal_in, literals_
 use crate::Text;
 use crate::above::is_in;
 use crate::fault::ValueFault;
-use crate::indexes::{class_index, literal_indexes};
+use crate::feature_index::{feature_indexes, feature_of, name_index};
+use crate::indexes::{class_index, literal_indexes, number_in};
 use crate::meta::{Class, Enum, EnumLiteral, Feature, Scalar, Value};
 use crate::values::{at, value_of};
 use std::alloc::{AllocError, Global};
@@ -34,6 +35,10 @@ pub struct Metamodel {
     class_index: BTreeMap<String, u32>,
     /// For each enum, the number of each literal by its text, and by its name where that is no literal's text.
     literal_index: Vec<BTreeMap<String, u32>>,
+    /// The number of each name of a feature.
+    feature_names: BTreeMap<String, u32>,
+    /// For each class, its features by the numbers of their names.
+    feature_index: Vec<BTreeMap<u32, u32>>,
 }
 
 /// The parts of a metamodel, all but its indexes.
@@ -91,7 +96,7 @@ impl Model for Metamodel {
 
     ghost view = { λ a. record { uri = a.uri; classes = a.classes.items; above = map (λ s. s.keys) a.above.items; features = a.features.items; enums = a.enums.items } };
 
-    ghost invariant = { λ a. Keeps (record { uri = a.uri; classes = a.classes.items; above = map (λ s. s.keys) a.above.items; features = a.features.items; enums = a.enums.items }) a.class_index a.literal_index.items };
+    ghost invariant = { λ a. Keeps (record { uri = a.uri; classes = a.classes.items; above = map (λ s. s.keys) a.above.items; features = a.features.items; enums = a.enums.items }) a.class_index a.literal_index.items a.feature_names a.feature_index.items };
 }
 
 impl Metamodel {
@@ -102,6 +107,13 @@ impl Metamodel {
     {
         let class_index = class_index(alloc, parts.classes.as_slice())?;
         let literal_index = literal_indexes(alloc, parts.enums.as_slice())?;
+        let feature_names = name_index(alloc, parts.features.as_slice())?;
+        let feature_index = feature_indexes(
+            alloc,
+            &feature_names,
+            parts.features.as_slice(),
+            parts.classes.as_slice(),
+        )?;
         Ok(Metamodel {
             uri: parts.uri,
             classes: parts.classes,
@@ -110,6 +122,8 @@ impl Metamodel {
             enums: parts.enums,
             class_index,
             literal_index,
+            feature_names,
+            feature_index,
         })
     }
 
@@ -234,12 +248,6 @@ impl Metamodel {
     }
 }
 
-fn number_in(index: &BTreeMap<String, u32>, name: &str) -> Option<u32>
-    ensures { result ≡ get_by_text index.now name.now }
-{
-    index.get(name).copied()
-}
-
 fn index_at(indexes: &[BTreeMap<String, u32>], n: u32) -> Option<&BTreeMap<String, u32>>
     ensures { option_copied result ≡ slice_get indexes.now n }
 {
@@ -287,37 +295,14 @@ impl Metamodel {
     }
 }
 
-fn name_at(features: &[Feature], n: u32) -> &str
-    ensures { result.now ≡ name_at features.now n }
-{
-    match feature_at(features, n) {
-        None => "",
-        Some(feature) => feature.name.as_str(),
-    }
-}
-
-fn feature_at(features: &[Feature], n: u32) -> Option<&Feature>
-    ensures { option_copied result ≡ slice_get features.now n }
-{
-    features.get(n as usize)
-}
-
-fn with_name(features: &[Feature], numbers: &[u32], name: &str) -> Option<u32>
-    ensures { result ≡ first_named features.now numbers.now name.now }
-{
-    for n in numbers {
-        if name_at(features, *n) == name {
-            return Some(*n);
-        }
-    }
-    None
-}
-
 impl Metamodel {
     /// The feature of that name that the class has, its own or inherited.
     pub fn feature_named(&self, class: u32, name: &str) -> Option<u32>
         ensures { result ≡ feature_named self.now class name.now }
     {
-        with_name(self.features.as_slice(), self.features_of(class), name)
+        match number_in(&self.feature_names, name) {
+            None => None,
+            Some(id) => feature_of(self.feature_index.as_slice(), class, id),
+        }
     }
 }

@@ -175,7 +175,7 @@ Class { name: "Named", is_abstract: true, features: List { items: [3] } }], feat
 Feature { owner: 1, name: "low", lower: 0, upper: Some(1), kind: Attr { scalar: Int, default: Some(Whole(0)) } },
 Feature { owner: 2, name: "middle", lower: 0, upper: Some(1), kind: Attr { scalar: Literal(0), default: Some(Literal(0)) } },
 Feature { owner: 3, name: "name", lower: 1, upper: Some(1), kind: Attr { scalar: Text, default: None } }], above: [{0}, {0, 1, 2, 3}, {0, 2, 3}, {3}], enums: [Enum { name: "Colour", literals: List { items: [EnumLiteral { name: "red", text: "r" }, EnumLiteral { name: "green", text: "g" }] } }],
-class_index: {"Low": 1, "Middle": 2, "Named": 3, "Titled": 0}, literal_index: [{"g": 1, "green": 1, "r": 0, "red": 0}] }"#;
+class_index: {"Low": 1, "Middle": 2, "Named": 3, "Titled": 0}, literal_index: [{"g": 1, "green": 1, "r": 0, "red": 0}], feature_names: {"low": 1, "middle": 2, "name": 3, "title": 0}, feature_index: [{0: 0}, {0: 0, 1: 1, 2: 2, 3: 3}, {0: 0, 2: 2, 3: 3}, {3: 3}] }"#;
 
 const LIBRARY_SHOWN: &str =
     r#"Metamodel { uri: "http://lib/1", classes: [Class { name: "Library", is_abstract: false, features: List { items: [0] } },
@@ -194,7 +194,7 @@ Feature { owner: 2, name: "books", lower: 0, upper: None, kind: Free { target: 1
 Feature { owner: 2, name: "pair", lower: 0, upper: Some(2), kind: Bounded { target: 2, opposite: None } },
 Feature { owner: 3, name: "name", lower: 0, upper: Some(1), kind: Attr { scalar: Text, default: None } },
 Feature { owner: 3, name: "parts", lower: 0, upper: None, kind: Contains { target: 3, opposite: None } }], above: [{0}, {1}, {2}, {3}], enums: [],
-class_index: {"Book": 1, "Library": 0, "Shelf": 3, "Writer": 2}, literal_index: [] }"#;
+class_index: {"Book": 1, "Library": 0, "Shelf": 3, "Writer": 2}, literal_index: [], feature_names: {"authors": 4, "books": 0, "library": 7, "name": 8, "pages": 2, "pair": 10, "parts": 12, "prequel": 6, "sequel": 5, "tags": 3, "title": 1}, feature_index: [{0: 0}, {1: 1, 2: 2, 3: 3, 4: 4, 5: 5, 6: 6, 7: 7}, {0: 9, 8: 8, 10: 10}, {8: 11, 12: 12}] }"#;
 
 // What a text is replaced by.
 const PLAIN: [(&str, &str); 5] = [

@@ -8,13 +8,13 @@ use Rattle.ecore_meta.proofs.metamodel.Metamodel.has_feature.Goals as goal
 
 pub returns-in-None : goal.returns-in-None
 returns-in-None c =
-    let P : Meta → Type 0 = λ meta. Keeps meta c.self.inside.class_index c.self.inside.literal_index.items in
+    let P : Meta → Type 0 = λ meta. Keeps meta c.self.inside.class_index c.self.inside.literal_index.items c.self.inside.feature_names c.self.inside.feature_index.items in
     let keeps = subst P c.self.view_is c.self.invariant in
     sym (has_declared c.args.self.now keeps.holds.is.lists c.args.c c.args.f ∙ ap (λ o. option_map_or (λ (x : Feature). is_a c.args.self.now c.args.c x.owner) o false) (sym c.in-None.ensures))
 
 pub returns-in-Some : goal.returns-in-Some
 returns-in-Some c =
-    let P : Meta → Type 0 = λ meta. Keeps meta c.self.inside.class_index c.self.inside.literal_index.items in
+    let P : Meta → Type 0 = λ meta. Keeps meta c.self.inside.class_index c.self.inside.literal_index.items c.self.inside.feature_names c.self.inside.feature_index.items in
     let keeps = subst P c.self.view_is c.self.invariant in
     c.is_a.ensures
     ∙ sym (has_declared c.args.self.now keeps.holds.is.lists c.args.c c.args.f ∙ ap (λ o. option_map_or (λ (x : Feature). is_a c.args.self.now c.args.c x.owner) o false) (sym c.in-Some.ensures))
