@@ -17,7 +17,7 @@ same_some x y h = cc
 pub same : (x y : Name) → bytes_eq x y ≡ true → x ≡ y
 same x y h = search (rules, bytes_eq-Decides)
 
-itself : (x : Name) → bytes_eq x x ≡ true
+pub itself : (x : Name) → bytes_eq x x ≡ true
 itself x = search (rules, bytes_eq-Decides)
 
 pub turned : (x y : Name) → bytes_eq x y ≡ bytes_eq y x

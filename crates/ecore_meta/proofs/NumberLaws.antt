@@ -1,5 +1,5 @@
 -- Tests of numbers, and of either of two.
-use Rattle.std.proofs.Common.{◌≡◌, ℕ, Bool, true, false, ◌||◌, nat_eq, refl, rules}
+use Rattle.std.proofs.Common.{◌≡◌, ℕ, Bool, true, false, ◌||◌, nat_eq, refl, rules, sym}
 
 pub nat_same : (m n : ℕ) → nat_eq m n ≡ true → m ≡ n
 nat_same m n h = search rules

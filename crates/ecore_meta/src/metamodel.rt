@@ -107,11 +107,12 @@ impl Metamodel {
     {
         let class_index = class_index(alloc, parts.classes.as_slice())?;
         let literal_index = literal_indexes(alloc, parts.enums.as_slice())?;
-        let feature_names = name_index(alloc, parts.features.as_slice())?;
+        let features = parts.features.as_slice();
+        let feature_names = name_index(alloc, features)?;
         let feature_index = feature_indexes(
             alloc,
             &feature_names,
-            parts.features.as_slice(),
+            features,
             parts.classes.as_slice(),
         )?;
         Ok(Metamodel {
@@ -201,6 +202,8 @@ impl Metamodel {
     pub fn has_feature(&self, c: u32, f: u32) -> bool
         ensures { result ≡ has_feature self.now c f }
     {
+        // For the lists of features, of which the table tells.
+        self.promised();
         match self.get_feature(f) {
             None => false,
             Some(feature) => self.is_a(c, feature.owner),
