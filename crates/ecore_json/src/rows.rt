@@ -9,7 +9,9 @@ ghost use Rattle.ecore_json.specs.Rows.{text_at, whole_at, elements, link_at, ty
 use crate::ecore;
 use crate::reference::{ecore_name, own_feature, own_name};
 use crate::walk::{flag_at, is_a, is_skipped};
-use ecore_build::{ClassRow, ClassifierRow, EnumRow, FeatureRow, LiteralRow, MetaRows, OppositeRow, TypeName};
+use ecore_build::{
+    ClassRow, ClassifierRow, EnumRow, FeatureRow, LiteralRow, MetaRows, OppositeRow, TypeName,
+};
 use ecore_meta::{List, Text};
 use serde_json::Value;
 use std::alloc::{AllocError, Global};

@@ -1,14 +1,14 @@
 -- The index of features by name, one feature or one class more.
-use Rattle.std.proofs.Common.{◌≡◌, ℕ, zero, suc, ◌+◌, ◌<◌, ◌≤◌, Bool, true, false, cond, List, [], ◌∷◌, ◌++◌, ◌||◌, refl, sym, ap, subst, ◌∙◌, arith, length, map, take, get_or, nat_eq}
-use Rattle.std.specs.Prelude.{Option, None, Some, is_some, slice_get}
+use Rattle.std.proofs.Common.{◌≡◌, ℕ, zero, suc, ◌+◌, ◌<◌, ◌≤◌, Bool, true, false, cond, List, [], ◌∷◌, ◌++◌, refl, sym, ap, subst, ◌∙◌, arith, length, map, take, get_or, nat_eq}
+use Rattle.std.specs.Prelude.{Option, None, Some, slice_get}
 use Rattle.std.specs.BTreeMap.{BTreeMap, get}
 use Rattle.std.specs.List.{filter, range_with_len}
 use Rattle.std.specs.Option.{option_and_then, option_map, option_map_or}
 use Rattle.std.specs.Ordering.{nat_cmp}
 use Rattle.std.specs.Str.{bytes_eq}
-use Rattle.std.proofs.lemmas.List.{length-map, take_more}
+use Rattle.std.proofs.lemmas.List.{take_more}
 use Rattle.ecore_meta.specs.Features.{AllListed, Listed}
-use Rattle.ecore_meta.specs.Meta.{Meta, feature_named, features_of, first_named, name_at}
+use Rattle.ecore_meta.specs.Meta.{Meta, feature_named, first_named, name_at}
 use Rattle.ecore_meta.specs.Names.{Name, number_of}
 use Rattle.ecore_meta.specs.Promised.{ListsDeclared, declared}
 use Rattle.ecore_meta.specs.Values.{or_else}

@@ -1,5 +1,5 @@
 -- What std's parse of a signed number of 64 bits says, in the words of the values.
-use Rattle.std.proofs.Common.{◌≡◌, ◌≢◌, ℕ, ℤ, zero, suc, ◌<◌, ◌≤◌, ◌^◌, Bool, true, false, List, [], ◌∷◌, cond, refl, sym, ap, subst, ◌∙◌, arith, length, drop, get_or, nat_eq, map, rules}
+use Rattle.std.proofs.Common.{◌≡◌, ◌≢◌, ℕ, ℤ, zero, suc, ◌<◌, ◌≤◌, ◌^◌, Bool, true, false, List, [], ◌∷◌, cond, refl, sym, ap, subst, ◌∙◌, arith, length, drop, get_or, nat_eq, rules}
 use Rattle.std.specs.Prelude.{pos, negsuc, neg_ℤ, Option, None, Some, Result, Ok, Err, nat_lt, FitsSigned, if◌then◌else◌, slice_index, slice_get}
 use Rattle.std.specs.Str.{all_ascii_digits}
 use mir.Syntax.{w64}

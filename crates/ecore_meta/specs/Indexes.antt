@@ -1,7 +1,6 @@
 -- What the indexes of a metamodel hold.
-use Rattle.std.specs.Prelude.{String, ◌≡◌, ℕ, List, [], ◌∷◌, Option, None, Some, map, slice_get}
+use Rattle.std.specs.Prelude.{String, ◌≡◌, ℕ, List, [], ◌∷◌, map}
 use Rattle.std.specs.BTreeMap.{BTreeMap, get_by_text}
-use Rattle.std.specs.Option.{option_and_then}
 use Rattle.ecore_meta.specs.Holds.{Holds}
 use Rattle.ecore_meta.specs.Meta.{Meta, class_named}
 use Rattle.ecore_meta.specs.Names.{Name, number_of}
