@@ -12,7 +12,7 @@ use Rattle.ecore_build.proofs.classifiers.Classifiers.feature_number.Goals as go
 pub feature_at-requires-clause-own : goal.feature_at-requires-clause-own
 feature_at-requires-clause-own c =
     let P : List (BTreeMap (Bor Name) ℕ) → Type 0 = λ ms. AllPlaced c.self.inside.rows.now ms in
-    subst P (sym c.as_slice-2.ensures.value) c.self.invariant.placed
+    subst P (sym c.as_slice-in-Some.ensures.value) c.self.invariant.placed
 
 pub returns-in-None : goal.returns-in-None
 returns-in-None c =
