@@ -1,8 +1,7 @@
 //! Events, byte for byte as the format's tables have them. Bytes are written in hex, a field a word.
 use model_state::Operation;
-use op_form::{
-    Event, FormFault, decode, decode_event, encode_event, has_encoding, reverse, reverse_op,
-};
+use op_form::{Event, encode_event, has_encoding, reverse, reverse_op};
+use op_reading::{FormFault, decode, decode_event};
 use std::alloc::Global;
 use std::process::Abort;
 use std::test::Fail;

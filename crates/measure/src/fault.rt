@@ -2,7 +2,7 @@
 
 use ecore_build::MetaFault;
 use model_state::IdFault;
-use op_form::FormFault;
+use op_reading::FormFault;
 use std::alloc::AllocError;
 use thiserror::Error;
 

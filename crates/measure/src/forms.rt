@@ -9,7 +9,7 @@ ghost use Rattle.measure.specs.Steps.{step_count};
 use crate::fault::MeasureFault;
 use ecore_meta::{List, Text, Value};
 use model_state::{Id, OpKind, Operation, Package, Place, Step};
-use op_form::{decode, law_of_encodings};
+use op_reading::{decode, law_of_encodings};
 use std::alloc::Global;
 
 /// How many steps each operation has; the last may have fewer.

@@ -21,7 +21,6 @@ use Rattle.model_state.specs.declared.operation.Operation.{Operation}
 use Rattle.model_state.specs.declared.operation.Operation.TheVariants.{Simple, Composite}
 use Rattle.op_form.specs.declared.event.Event.{Event}
 use Rattle.op_form.specs.declared.event.Event.TheVariants.{Init, Checkout, Edit, Begin, End, Undo, Discard, Tidy, Commit, Branch, Tag, Update, Merge, Drop}
-use Rattle.op_form.specs.Laws.{EventsAreTested}
 use Rattle.op_form.specs.Formed.{IsU32, IsU64, IsIdText, IsNameText, IsGiven, IsList, IsSomeList, IsValue, IsPlace, IsStep, IsOperation, IsPackage, IsEvent, is_u32, is_u64, is_i64, is_short_text, is_given, is_list, is_some_list, is_value, is_place, is_step, is_operation, is_package, is_event}
 
 -- a test holds just where the fact does
@@ -159,9 +158,6 @@ is_event_is e h = (event_told e).is h
 
 pub is_event_holds : (e : Event) → IsEvent e → is_event e ≡ true
 is_event_holds e h = (event_told e).holds h
-
-pub events_tested : EventsAreTested
-events_tested e = (is_event_is e, is_event_holds e)
 
 -- what passes the test of packages has a spelling
 pub is_package_is : (operations : List Operation) → is_package operations ≡ true → IsPackage operations

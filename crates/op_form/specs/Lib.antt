@@ -1,9 +1,7 @@
-pub mod Reading
+pub mod Lists
 pub mod Values
 pub mod Steps
 pub mod Packages
 pub mod Events
-pub mod Given
 pub mod Formed
 pub mod Reversals
-pub mod Laws

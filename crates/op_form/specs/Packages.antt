@@ -1,37 +1,12 @@
--- The bytes of operations and packages.
-use Rattle.std.specs.Prelude.{ℕ, ◌==◌, List, [], ◌∷◌, ◌++◌, Option, Some, None, Result, Ok, Err, if◌then◌else◌}
-use Rattle.byte_form.specs.Rest.{Rest}
-use Rattle.byte_form.specs.Fields.{◌>>=◌, text_encoding}
-use Rattle.model_state.specs.Names.{is_name}
+-- The spellings of operations and packages.
+use Rattle.std.specs.Prelude.{ℕ, List, [], ◌∷◌, ◌++◌}
+use Rattle.byte_form.specs.Fields.{text_encoding}
 use Rattle.model_state.specs.declared.operation.OpKind.{OpKind}
 use Rattle.model_state.specs.declared.operation.OpKind.TheVariants as kinds
 use Rattle.model_state.specs.declared.operation.Operation.{Operation}
 use Rattle.model_state.specs.declared.operation.Operation.TheVariants.{Simple, Composite}
-use Rattle.op_form.specs.declared.fault.FormFault.{FormFault}
-use Rattle.op_form.specs.declared.fault.FormFault.TheVariants.{NotForm}
-use Rattle.op_form.specs.Reading.{Reading, made, ◌⊗◌, u8_at, any_text_at, some_at, list_at, list_encoding}
-use Rattle.op_form.specs.Values.{tested_text}
-use Rattle.op_form.specs.Steps.{step_at, step_encoding}
-
--- a kind of simple operations by its byte, from 1 to 6
-abbrev pub kind_of : ℕ → Option OpKind
-kind_of byte =
-    if byte == 1 then Some kinds.Create
-    else if byte == 2 then Some kinds.Delete
-    else if byte == 3 then Some kinds.Attribute
-    else if byte == 4 then Some kinds.ManyAttribute
-    else if byte == 5 then Some kinds.Reference
-    else if byte == 6 then Some kinds.Move
-    else None
-
--- the kind, where the byte is one's
-abbrev pub kind_from : ℕ → Option OpKind → Rest → Result (OpKind × Rest) FormFault
-kind_from place None r = Err (NotForm place)
-kind_from place (Some kind) r = Ok (kind, r)
-
--- the next byte, as a kind
-unfoldable pub kind_at : Reading OpKind
-kind_at r = u8_at r >>= λ byte. kind_from r.place (kind_of byte.0) byte.1
+use Rattle.op_form.specs.Lists.{list_encoding}
+use Rattle.op_form.specs.Steps.{step_encoding}
 
 -- the byte of a kind
 abbrev pub kind_byte : OpKind → ℕ
@@ -46,37 +21,10 @@ kind_byte kinds.Move = 6
 abbrev pub kind_encoding : OpKind → List ℕ
 kind_encoding kind = kind_byte kind ∷ []
 
--- the name of a composite is a text of a name's form
-unfoldable pub name_at : Reading (List ℕ)
-name_at r = any_text_at r >>= tested_text is_name r.place
-
--- a simple operation: its kind and its steps
-unfoldable pub simple_at : Reading Operation
-simple_at r = made (λ t. Simple t.0 t.1) ((kind_at ⊗ some_at step_at) r)
-
--- a composite: its name and its steps
-unfoldable pub composite_at : Reading Operation
-composite_at r = made (λ t. Composite t.0 t.1) ((name_at ⊗ some_at step_at) r)
-
--- an operation: a byte 1, the kind and the steps, or a byte 2, the name and the steps
-abbrev pub operation_of : ℕ → ℕ × Rest → Result (Operation × Rest) FormFault
-operation_of place tag =
-    if tag.0 == 1 then simple_at tag.1
-    else if tag.0 == 2 then composite_at tag.1
-    else Err (NotForm place)
-
--- an operation, by its first byte
-unfoldable pub operation_at : Reading Operation
-operation_at r = u8_at r >>= operation_of r.place
-
 -- the spelling of an operation
 unfoldable pub operation_encoding : Operation → List ℕ
 operation_encoding (Simple kind steps) = 1 ∷ (kind_encoding kind ++ list_encoding step_encoding steps)
 operation_encoding (Composite name steps) = 2 ∷ (text_encoding name ++ list_encoding step_encoding steps)
-
--- a package is a list of operations
-unfoldable pub package_at : Reading (List Operation)
-package_at r = list_at operation_at r
 
 -- the spelling of a package
 unfoldable pub package_encoding : List Operation → List ℕ

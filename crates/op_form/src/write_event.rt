@@ -1,7 +1,7 @@
 //! Packages and events, as bytes.
 ghost use Rattle.byte_form.specs.Fields.{u32_encoding};
 ghost use Rattle.std.specs.Prelude.{◌≡◌, ◌++◌, ◌∷◌, IfOk, OnOk, All};
-ghost use Rattle.op_form.specs.Reading.{items_encoding, list_encoding};
+ghost use Rattle.op_form.specs.Lists.{items_encoding, list_encoding};
 ghost use Rattle.op_form.specs.Steps.{step_encoding};
 ghost use Rattle.op_form.specs.Packages.{kind_encoding, operation_encoding, package_encoding};
 ghost use Rattle.op_form.specs.Events.{event_encoding};

@@ -1,7 +1,7 @@
 //! Steps, written after what stands: ids, values, places, and each kind's fields.
 ghost use Rattle.std.specs.Prelude.{◌≡◌, ◌++◌, ◌∷◌, ◌<◌, OnOk};
 ghost use Rattle.byte_form.specs.Fields.{text_encoding, u32_encoding, u64_encoding};
-ghost use Rattle.op_form.specs.Reading.{option_encoding, items_encoding, list_encoding};
+ghost use Rattle.op_form.specs.Lists.{option_encoding, items_encoding, list_encoding};
 ghost use Rattle.op_form.specs.Values.{value_encoding, place_encoding, flag_encoding};
 ghost use Rattle.op_form.specs.Steps.{step_encoding};
 ghost use Rattle.op_form.specs.Formed.{IsGiven, IsIdText, IsList, IsValue, IsStep};

@@ -7,10 +7,11 @@ use Rattle.byte_form.specs.Fields.{text_encoding, u32_encoding}
 use Rattle.commit_journal.specs.Journal.{most_bytes}
 use Rattle.op_form.specs.declared.event.Event.{Event}
 use Rattle.op_form.specs.declared.event.Event.TheVariants.{Init}
-use Rattle.op_form.specs.Events.{event_encoding, event_at}
+use Rattle.op_form.specs.Events.{event_encoding}
+use Rattle.op_reading.specs.Events.{event_at}
 use Rattle.op_form.specs.Formed.{IsEvent, is_event}
 use Rattle.op_form.proofs.FormedLaws.{is_event_is}
-use Rattle.op_form.proofs.EventCodes.{event_codes}
+use Rattle.op_reading.proofs.EventCodes.{event_codes}
 use Rattle.plain_repository.specs.State.{State}
 use Rattle.plain_repository.specs.Answers.{fits_record, most_events}
 use Rattle.plain_repository.specs.Events.{play, playable, playable_with, are_playable}

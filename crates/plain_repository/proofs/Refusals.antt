@@ -32,9 +32,10 @@ use Rattle.commit_journal.specs.Journal.{fit_of}
 use Rattle.commit_journal.specs.declared.fit.Fit.{Fit}
 use Rattle.commit_journal.specs.declared.fit.Fit.TheVariants as fits
 use Rattle.op_form.specs.declared.event.Event.{Event}
-use Rattle.op_form.specs.declared.fault.FormFault.{FormFault}
-use Rattle.op_form.specs.Packages.{package_at as package_form_at}
-use Rattle.op_form.specs.Events.{event_encoding, whole_of}
+use Rattle.op_reading.specs.declared.fault.FormFault.{FormFault}
+use Rattle.op_reading.specs.Packages.{package_at as package_form_at}
+use Rattle.op_form.specs.Events.{event_encoding}
+use Rattle.op_reading.specs.Events.{whole_of}
 use Rattle.op_form.specs.Formed.{is_package}
 use Rattle.script_lang.specs.declared.command.Command.{Command}
 use Rattle.script_lang.specs.declared.command.Command.TheVariants as commands

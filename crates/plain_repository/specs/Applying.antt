@@ -14,10 +14,10 @@ use Rattle.history_tree.specs.Since.{path_after}
 use Rattle.history_tree.specs.States.{package_at}
 use Rattle.merge_plans.specs.Pairs.{have_pair, first_interfering}
 use Rattle.op_form.specs.declared.event.Event.TheVariants as events
-use Rattle.op_form.specs.declared.fault.FormFault.{FormFault}
-use Rattle.op_form.specs.declared.fault.FormFault.TheVariants as forms
-use Rattle.op_form.specs.Packages.{package_at as package_form_at}
-use Rattle.op_form.specs.Events.{whole_of}
+use Rattle.op_reading.specs.declared.fault.FormFault.{FormFault}
+use Rattle.op_reading.specs.declared.fault.FormFault.TheVariants as forms
+use Rattle.op_reading.specs.Packages.{package_at as package_form_at}
+use Rattle.op_reading.specs.Events.{whole_of}
 use Rattle.script_lang.specs.declared.reply.Refusal.{Refusal}
 use Rattle.script_lang.specs.declared.reply.Refusal.TheVariants as refusals
 use Rattle.plain_repository.specs.State.{State, Workspace, workspace_of, model_of, is_open}

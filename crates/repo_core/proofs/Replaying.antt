@@ -3,11 +3,12 @@ use Rattle.std.proofs.Common.{◌≡◌, ℕ, List, Result, Ok, Err, OnOk, ◌�
 use Rattle.std.specs.Prelude.{IsTrue}
 use Rattle.byte_form.specs.Laws.{AreBytes}
 use Rattle.op_form.specs.declared.event.Event.{Event}
-use Rattle.op_form.specs.declared.fault.FormFault.{FormFault}
-use Rattle.op_form.specs.Events.{event_encoding, event_at, whole_of}
+use Rattle.op_reading.specs.declared.fault.FormFault.{FormFault}
+use Rattle.op_form.specs.Events.{event_encoding}
+use Rattle.op_reading.specs.Events.{event_at, whole_of}
 use Rattle.op_form.specs.Formed.{IsEvent}
-use Rattle.op_form.proofs.Codes.{whole_again, whole_spelled}
-use Rattle.op_form.proofs.EventCodes.{event_codes}
+use Rattle.op_reading.proofs.Codes.{whole_again, whole_spelled}
+use Rattle.op_reading.proofs.EventCodes.{event_codes}
 use Rattle.plain_repository.specs.State.{State}
 use Rattle.plain_repository.specs.Events.{play, playable}
 use Rattle.repo_core.specs.declared.fault.ReplayFault.{ReplayFault}

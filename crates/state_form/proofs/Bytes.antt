@@ -6,7 +6,7 @@ use Rattle.model_state.specs.declared.operation.Operation.{Operation}
 use Rattle.model_state.specs.declared.operation.Operation.TheVariants.{Simple, Composite}
 use Rattle.model_state.specs.declared.step.Step.{Step}
 use Rattle.model_state.specs.declared.step.Step.TheVariants.{Put, Ins, Del, Shift, Link, Unlink, RerankRow, New, Gone, Move, RerankPlace}
-use Rattle.op_form.specs.Reading.{items_encoding, list_encoding}
+use Rattle.op_form.specs.Lists.{items_encoding, list_encoding}
 use Rattle.op_form.specs.Steps.{step_encoding}
 use Rattle.op_form.specs.Packages.{kind_encoding, operation_encoding, package_encoding}
 use Rattle.state_form.specs.Laws.{StepsTakeBytes}

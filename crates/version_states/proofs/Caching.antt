@@ -22,12 +22,12 @@ use Rattle.history_tree.specs.States.{operations_of, operations_to, state_folded
 use Rattle.history_tree.proofs.Steady.{operations_append, path_there}
 use Rattle.std.specs.List.{AllByRecursion}
 use Rattle.state_form.specs.Form.{IsStateForm}
-use Rattle.op_form.specs.declared.fault.FormFault.{FormFault}
-use Rattle.op_form.proofs.Codes.{whole_again}
-use Rattle.op_form.proofs.PackageCodes.{package_codes}
-use Rattle.op_form.specs.Events.{whole_of}
-use Rattle.op_form.specs.Laws.{PackagesAreReadAgain}
-use Rattle.op_form.specs.Packages.{package_at}
+use Rattle.op_reading.specs.declared.fault.FormFault.{FormFault}
+use Rattle.op_reading.proofs.Codes.{whole_again}
+use Rattle.op_reading.proofs.PackageCodes.{package_codes}
+use Rattle.op_reading.specs.Events.{whole_of}
+use Rattle.op_reading.specs.Laws.{PackagesAreReadAgain}
+use Rattle.op_reading.specs.Packages.{package_at}
 use Rattle.model_laws.proofs.Packages.{steps_append}
 use Rattle.version_states.specs.Cached.{AreForms, IsVersionForm, MayUse, Uses}
 use Rattle.version_states.proofs.Folding.{fold_append_none}

@@ -13,7 +13,7 @@ use ecore_meta::Metamodel;
 use history_tree::History;
 use model_graph::Graph;
 use model_state::StepFault;
-use op_form::{FormFault, decode};
+use op_reading::{FormFault, decode};
 use page_pool::Pool;
 use state_cache::Cache;
 use state_form::encode_state;

@@ -1,5 +1,5 @@
 use Rattle.std.proofs.Common.{◌≡◌, ◌++◌, drop}
-use Rattle.op_form.specs.Reading.{items_encoding}
+use Rattle.op_form.specs.Lists.{items_encoding}
 use Rattle.byte_form.specs.Fields.{text_encoding}
 use Rattle.op_form.proofs.write_step.put_id_items.Given as goal
 

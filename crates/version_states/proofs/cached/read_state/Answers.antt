@@ -4,7 +4,7 @@ use Rattle.model_state.specs.State.{State, nothing}
 use Rattle.model_state.specs.Packages.{fold_package}
 use Rattle.model_state.specs.declared.operation.Operation.{Operation}
 use Rattle.history_tree.specs.States.{state_of}
-use Rattle.op_form.specs.declared.fault.FormFault.TheVariants.{NotForm}
+use Rattle.op_reading.specs.declared.fault.FormFault.TheVariants.{NotForm}
 use Rattle.version_states.proofs.Caching.{entry_read, entry_reads}
 use Rattle.version_states.proofs.cached.read_state.Goals as goal
 

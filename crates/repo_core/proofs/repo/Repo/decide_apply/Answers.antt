@@ -3,8 +3,8 @@ use Rattle.history_tree.specs.History.{History}
 use Rattle.model_state.specs.State as models
 use Rattle.model_state.specs.Packages.{fold_package, steps_all}
 use Rattle.model_state.specs.declared.operation.Operation.{Operation}
-use Rattle.op_form.proofs.Codes.{whole_spelled}
-use Rattle.op_form.proofs.PackageCodes.{package_codes}
+use Rattle.op_reading.proofs.Codes.{whole_spelled}
+use Rattle.op_reading.proofs.PackageCodes.{package_codes}
 use Rattle.plain_repository.specs.State.{folded, model_of}
 use Rattle.repo_core.specs.Keeping.{plain_of}
 use Rattle.repo_core.proofs.Ordered.{is_there, model_leads}

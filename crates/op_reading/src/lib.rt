@@ -1,0 +1,12 @@
+//! Packages and events read from bytes: what was spelled is read again, and what is read was spelled so.
+#![tactic(auto)]
+
+mod fault;
+mod laws;
+mod read_event;
+mod read_step;
+mod read_value;
+
+pub use fault::FormFault;
+pub use laws::law_of_encodings;
+pub use read_event::{decode, decode_event};
