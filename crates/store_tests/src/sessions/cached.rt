@@ -19,6 +19,14 @@ fn push(made: &mut Made, line: &str, reply: &str) -> Result<(), Fail> {
     Ok(())
 }
 
+// No line yet.
+fn nothing(alloc: Global) -> Made {
+    Made {
+        lines: String::new(alloc),
+        told: String::new(alloc),
+    }
+}
+
 // A new project with one book.
 fn opened(alloc: Global) -> Result<Made, Fail> {
     let mut made = Made {
@@ -29,12 +37,12 @@ fn opened(alloc: Global) -> Result<Made, Fail> {
     Ok(made)
 }
 
-// All lines are answered so.
-fn serves(rt: &impl Abort, alloc: Global, made: &Made) -> Result<(), Fail> {
+// All lines are answered so in a run over a file. It gives the file after that run.
+fn serves(rt: &impl Abort, alloc: Global, made: &Made, file: Vec<u8>) -> Result<Vec<u8>, Fail> {
     let script = made.lines.as_str().as_bytes().to_vec(alloc)?;
-    let run = ran(rt, alloc, script, Vec::new(alloc))?;
+    let run = ran(rt, alloc, script, file)?;
     assert!(rt; run.said.as_str() == made.told.as_str());
-    Ok(())
+    Ok(run.file)
 }
 
 // A version in which the book has this title.
@@ -51,19 +59,32 @@ fn push_version(alloc: Global, made: &mut Made, k: u32) -> Result<(), Fail> {
     )
 }
 
-// A line that shows the book with this title.
-fn push_shown(alloc: Global, made: &mut Made, line: &str, title: u32) -> Result<(), Fail> {
+// A line that shows the book with this title, and the last line of its reply.
+fn push_shown(
+    alloc: Global,
+    made: &mut Made,
+    line: &str,
+    title: &str,
+    last: &str,
+) -> Result<(), Fail> {
     let text = format!(in alloc;
         "{{\"_id\":\"b\",\"eClass\":\"http://lib/1#//Book\",\"title\":\"{title}\"}}"
     )?;
-    push(made, line, text.as_str())
+    push(made, line, text.as_str())?;
+    push_line(&mut made.told, last)?;
+    Ok(())
+}
+
+// A version is shown whose title is its number.
+fn push_version_shown(alloc: Global, made: &mut Made, k: u32) -> Result<(), Fail> {
+    let line = format!(in alloc; "cat {k}")?;
+    let title = format!(in alloc; "{k}")?;
+    push_shown(alloc, made, line.as_str(), title.as_str(), "ok")
 }
 
 fn push_all_shown(alloc: Global, made: &mut Made) -> Result<(), Fail> {
     for k in 1..=70 {
-        let line = format!(in alloc; "cat {k}")?;
-        push_shown(alloc, made, line.as_str(), k)?;
-        push_line(&mut made.told, "ok")?;
+        push_version_shown(alloc, made, k)?;
     }
     Ok(())
 }
@@ -77,7 +98,8 @@ fn each_of_seventy_versions_is_shown_twice(rt: HostRuntime) -> Result<(), Fail> 
     }
     push_all_shown(alloc, &mut made)?;
     push_all_shown(alloc, &mut made)?;
-    serves(&rt, alloc, &made)
+    let _file = serves(&rt, alloc, &made, Vec::new(alloc))?;
+    Ok(())
 }
 
 #[test]
@@ -108,62 +130,95 @@ fn push_turns(alloc: Global, made: &mut Made, k: u32) -> Result<(), Fail> {
     push(made, "commit 1 p", format!(in alloc; "ok {k}")?.as_str())
 }
 
-#[test]
-fn a_version_after_many_steps_is_shown_often(rt: HostRuntime) -> Result<(), Fail> {
-    let alloc = rt.alloc();
+// Six versions with the title `A`, of which the last five have 20,000 steps each.
+fn opened_with_turns(alloc: Global) -> Result<Made, Fail> {
     let mut made = opened(alloc)?;
     push(&mut made, "set 1 b title \"A\"", "ok")?;
     push(&mut made, "commit 1 a", "ok 1")?;
     for k in 2..=6 {
         push_turns(alloc, &mut made, k)?;
     }
+    Ok(made)
+}
+
+// A state that is made of all steps at each line doesn't end within the time of a test.
+#[test]
+fn a_version_after_many_steps_is_shown_often(rt: HostRuntime) -> Result<(), Fail> {
+    let alloc = rt.alloc();
+    let mut made = opened_with_turns(alloc)?;
     for _ in 0..20_000 {
-        push(
-            &mut made,
-            "cat 6",
-            "{\"_id\":\"b\",\"eClass\":\"http://lib/1#//Book\",\"title\":\"A\"}",
-        )?;
-        push_line(&mut made.told, "ok")?;
+        push_shown(alloc, &mut made, "cat 6", "A", "ok")?;
     }
-    serves(&rt, alloc, &made)
+    let _file = serves(&rt, alloc, &made, Vec::new(alloc))?;
+    Ok(())
+}
+
+// Each of seventy versions is shown after the one with many steps. By the time that it is shown again others have taken its place in the cache.
+fn push_round(alloc: Global, made: &mut Made) -> Result<(), Fail> {
+    for k in 7..=76 {
+        push_shown(alloc, made, "cat 6", "A", "ok")?;
+        push_version_shown(alloc, made, k)?;
+    }
+    Ok(())
+}
+
+// Nor does a state that is made of all steps where it has no entry of its own.
+#[test]
+fn a_version_is_made_from_the_nearest_one_that_is_cached(rt: HostRuntime) -> Result<(), Fail> {
+    let alloc = rt.alloc();
+    let mut made = opened_with_turns(alloc)?;
+    for k in 7..=76 {
+        push_version(alloc, &mut made, k)?;
+    }
+    for _ in 0..100 {
+        push_round(alloc, &mut made)?;
+    }
+    let _file = serves(&rt, alloc, &made, Vec::new(alloc))?;
+    Ok(())
 }
 
 const MANY: u32 = 65;
 
-// Each of many workspaces gives its book a title of its own.
-fn push_titles(alloc: Global, made: &mut Made, first: u32) -> Result<(), Fail> {
-    for ws in 1..=MANY {
-        let title = first + ws;
-        push(
-            made,
-            format!(in alloc; "set {ws} b title \"{title}\"")?.as_str(),
-            "ok",
-        )?;
-    }
-    Ok(())
-}
-
+// Many workspaces at one version.
 fn push_workspaces(alloc: Global, made: &mut Made) -> Result<(), Fail> {
     for ws in 2..=MANY {
-        push_shown(alloc, made, "checkout 1", 1)?;
-        let words = format!(in alloc; "ok {ws} 1 trunk")?;
-        push_line(&mut made.told, words.as_str())?;
+        let last = format!(in alloc; "ok {ws} 1 trunk")?;
+        push_shown(alloc, made, "checkout 1", "1", last.as_str())?;
     }
     Ok(())
 }
 
+// Each of them gives its book a title of its own.
+fn push_titles(alloc: Global, made: &mut Made, round: u32) -> Result<(), Fail> {
+    for ws in 1..=MANY {
+        let line = format!(in alloc; "set {ws} b title \"{round}.{ws}\"")?;
+        push(made, line.as_str(), "ok")?;
+    }
+    Ok(())
+}
+
+fn push_titles_shown(alloc: Global, made: &mut Made, round: u32) -> Result<(), Fail> {
+    for ws in 1..=MANY {
+        let line = format!(in alloc; "show {ws}")?;
+        let title = format!(in alloc; "{round}.{ws}")?;
+        push_shown(alloc, made, line.as_str(), title.as_str(), "ok")?;
+    }
+    Ok(())
+}
+
+// The store that is read again has them too.
 #[test]
 fn more_workspaces_than_models_are_held_are_edited_in_turn(rt: HostRuntime) -> Result<(), Fail> {
     let alloc = rt.alloc();
     let mut made = opened(alloc)?;
     push_version(alloc, &mut made, 1)?;
     push_workspaces(alloc, &mut made)?;
-    push_titles(alloc, &mut made, 100)?;
-    push_titles(alloc, &mut made, 200)?;
-    for ws in 1..=MANY {
-        let line = format!(in alloc; "show {ws}")?;
-        push_shown(alloc, &mut made, line.as_str(), 200 + ws)?;
-        push_line(&mut made.told, "ok")?;
-    }
-    serves(&rt, alloc, &made)
+    push_titles(alloc, &mut made, 1)?;
+    push_titles(alloc, &mut made, 2)?;
+    push_titles_shown(alloc, &mut made, 2)?;
+    let file = serves(&rt, alloc, &made, Vec::new(alloc))?;
+    let mut again = nothing(alloc);
+    push_titles_shown(alloc, &mut again, 2)?;
+    let _file = serves(&rt, alloc, &again, file)?;
+    Ok(())
 }
