@@ -132,6 +132,33 @@ fn holds(cache: &mut Cache, pool: &Pool, version: u32, bytes: &[u8]) -> Result<b
     }
 }
 
+// How many bytes are found for a version before and after a store, and whether that store and one of other bytes say that they are kept.
+fn kept(
+    cache: &mut Cache,
+    pool: &mut Pool,
+    other: &[u8],
+) -> Result<(Option<usize>, bool, Option<usize>, bool), AllocError>
+    requires { HoldsAll pool.old cache.old }
+{
+    let before = found(cache, pool, 3)?;
+    let first = stored(cache, pool, 3, b"state")?;
+    let after = found(cache, pool, 3)?;
+    let second = stored(cache, pool, 3, other)?;
+    Ok((before, first, after, second))
+}
+
+#[test]
+fn a_store_says_whether_the_bytes_are_kept(rt: HostRuntime) -> Result<(), Fail> {
+    let alloc = rt.alloc();
+    let long = vec![in alloc; 7; 8_388_609]?;
+    let mut pool = Pool::new(alloc);
+    let mut cache = Cache::new(alloc)?;
+    let (before, first, after, second) = kept(&mut cache, &mut pool, long.as_slice())?;
+    assert_eq!(&rt; (before, after), (None, Some(5)));
+    assert_eq!(&rt; (first, second), (true, false));
+    Ok(())
+}
+
 // Whether what was stored last is found of two versions, of which one is stored twice.
 fn replaced(cache: &mut Cache, pool: &mut Pool) -> Result<(bool, bool), AllocError>
     requires { HoldsAll pool.old cache.old }
