@@ -4,9 +4,9 @@ use Rattle.std.specs.Prelude.{All, nat_eq, unwrap_or}
 use Rattle.std.specs.Map.{lookup}
 use Rattle.std.proofs.lemmas.List.Elements.{All-from_recursion, recursion_from_All}
 use Rattle.lru.specs.LruCache.{promoted}
-use Rattle.page_pool.specs.Frames.{Frames, out_of, SameFrames}
+use Rattle.page_pool.specs.Frames.{Frames, SameFrames}
 use Rattle.page_pool.specs.Paged.{IsAmong}
-use Rattle.state_cache.specs.Entries.{Entries, IsCached, IsStored, KeepsApart, held, stands}
+use Rattle.state_cache.specs.Entries.{Entries, IsCached, IsStored, held, stands}
 use Rattle.state_cache.proofs.Listed.{promoted_within}
 use Rattle.state_cache.proofs.Standing.{all_stored, stands_alike}
 use Rattle.std.specs.Bool.{OnTrue, OnFalse}
@@ -45,10 +45,6 @@ uses_on p q r a b c first second = record {
   count = omega (arith, first.count, second.count);
 }
 
--- what the next call asks
-pub may_on : (p q : Frames) (a b : Entries) → MayUse p a → Uses p q a b → MayUse q b
-may_on p q a b may uses = record { out = uses.out; room = omega (arith, may.room, uses.count) }
-
 -- an entry that was found goes first
 pub uses_found : (pool : Frames) (v : ℕ) (old new : Entries) → new ≡ promoted (nat_eq v) old → IsCached pool old → IsCached pool new → length (held new) ≡ length (held old) → Uses pool pool old new
 uses_found pool v old new is cached out same = record {
@@ -56,14 +52,6 @@ uses_found pool v old new is cached out same = record {
   apart = λ k bytes not at. (λ among. not (promoted_within (nat_eq v) pool old (lookup (nat_eq v) old) refl cached k (subst (λ (es : Entries). IsAmong k (held es)) is among)), at);
   count = omega (arith, same);
 }
-
--- an entry is stored
-pub uses_stored : (p q : Frames) (v : ℕ) (bytes : List ℕ) (old new : Entries) → IsStored p q v bytes old new → IsCached q new → KeepsApart p q old new → Uses p q old new
-uses_stored p q v bytes old new stored out apart = record { out = out; apart = apart; count = omega (arith, stored.out_before, stored.out_after) }
-
--- nothing is stored
-pub uses_same : (p q : Frames) (old new : Entries) → new ≡ old → out_of q ≡ out_of p → IsCached q new → KeepsApart p q old new → Uses p q old new
-uses_same p q old new is same out apart = record { out = out; apart = apart; count = omega (arith, same, ap (λ (es : Entries). length (held es)) is) }
 
 -- ---- what entries are
 again : PackagesAreReadAgain
