@@ -127,6 +127,7 @@ impl Repo {
         self.model_out(alloc, cache, pool, ws)
     }
 
+    /// The same, of a workspace that was counted among those that used theirs last.
     fn model_out(
         &mut self,
         alloc: Global,
