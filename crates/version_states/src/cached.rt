@@ -1,5 +1,6 @@
 //! States of versions in a cache, each as the bytes of a package that leads to it.
-ghost use Rattle.std.specs.Prelude.{◌≡◌, ◌<◌, All, IfOk, IfSome, OnOk, Some, is_some, length, true};
+ghost use Rattle.std.specs.Prelude.{◌≡◌, ◌<◌, All, IfNone, IfOk, IfSome, None, OnOk, Some, is_some, length, nat_eq, true};
+ghost use Rattle.std.specs.Map.{lookup};
 ghost use Rattle.ecore_meta.specs.Sound.{Sound};
 ghost use Rattle.model_state.specs.Good.{Good};
 ghost use Rattle.model_state.specs.Packages.{fold_package};
@@ -63,6 +64,7 @@ pub(crate) fn cached_state(
     ensures state { IfOk result (λ found. IfSome found (λ m. m ≡ state_of meta.now history.now.history v)) }
     ensures good { IfOk result (λ found. IfSome found (λ m. Good meta.now m)) }
     ensures first { IfOk result (λ found. IfSome found (λ _. IsFirst v cache.new)) }
+    ensures none { IfOk result (λ found. IfNone found (lookup (nat_eq v) (stands pool.now cache.old) ≡ None)) }
     ensures uses { Uses pool.now pool.now cache.old cache.new }
     ensures forms { AreForms (Some meta.now) history.now.history (stands pool.now cache.new) }
 {

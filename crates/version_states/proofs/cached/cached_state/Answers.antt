@@ -24,6 +24,9 @@ returns-in-None-clause-uses c = uses_found c.args.pool.now c.args.v c.args.cache
 pub returns-in-None-clause-forms : goal.returns-in-None-clause-forms
 returns-in-None-clause-forms c = all_promoted (IsVersionForm c.args.meta.now c.args.history.now.history) (nat_eq c.args.v) c.args.pool.now c.args.cache.now c.lookup.new.self c.in_ok-lookup.ensures.first c.requires.forms
 
+pub returns-in-None-clause-none : goal.returns-in-None-clause-none
+returns-in-None-clause-none c = sym (rw c.in-None.is at c.in_ok-lookup.ensures.found)
+
 pub returns-in_ok-model-in-Some-clause-first : goal.returns-in_ok-model-in-Some-clause-first
 returns-in_ok-model-in-Some-clause-first c =
     let found : lookup (nat_eq c.args.v) (stands c.args.pool.now c.args.cache.now) ≡ Some c.in-Some.bytes.items = sym (rw c.in-Some.is at c.in_ok-lookup.ensures.found) in
