@@ -5,4 +5,4 @@ mod laws;
 mod whole;
 
 pub use laws::law_of_spelled_states;
-pub use whole::{encode_state, package_of};
+pub use whole::encode_state;

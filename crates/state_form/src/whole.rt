@@ -1,9 +1,7 @@
 //! A state as a package, and as bytes.
 ghost use Rattle.std.specs.Prelude.{◌≡◌, ◌≤◌, ◌^◌, IfOk, IfSome, IfNone, Some};
 ghost use Rattle.model_state.specs.Good.{Good, Sound};
-ghost use Rattle.model_state.specs.Packages.{fold_package};
-ghost use Rattle.model_state.specs.State.{nothing};
-ghost use Rattle.state_form.specs.Form.{as_package, whole_package, state_encoding, state_size, IsStateForm};
+ghost use Rattle.state_form.specs.Form.{as_package, state_encoding, state_size, IsStateForm};
 ghost use Rattle.state_form.specs.Spelled.{IsSpelled};
 
 use ecore_meta::{List, Metamodel};
@@ -26,17 +24,8 @@ fn as_package(alloc: Global, steps: List<Step>) -> Result<Package, AllocError>
     Ok(made)
 }
 
-/// The package that builds the model from the empty project: one operation, or none where the model is empty.
-pub fn package_of<L: Look>(alloc: Global, look: &L, meta: &Metamodel) -> Result<Package, AllocError>
-    requires sound { Sound meta.now }
-    requires good { Good meta.now (L.state look.now) }
-    ensures whole { IfOk result (λ p. p ≡ whole_package meta.now (L.state look.now)) }
-    ensures leads { IfOk result (λ p. fold_package meta.now nothing p ≡ Some (L.state look.now)) }
-{
-    as_package(alloc, as_steps(alloc, look, meta)?)
-}
-
-/// The bytes of that package; none where it has 2^32 steps or more, and so as many bytes.
+/// The bytes of the package that builds the model from the empty project: one operation, or none where the model is
+/// empty. None where it has 2^32 steps or more, and so as many bytes.
 pub fn encode_state<L: Look>(
     alloc: Global,
     look: &L,
