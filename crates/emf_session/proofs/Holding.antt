@@ -13,7 +13,7 @@ use Rattle.commit_journal.proofs.Ends.{length-after_gate}
 use Rattle.plain_repository.specs.State.{State}
 use Rattle.history_tree.specs.History.{History}
 use Rattle.version_states.specs.Cached.{AreForms, IsVersionForm, MayUse, Uses}
-use Rattle.repo_core.specs.Cached.{HasForms}
+use Rattle.repo_state.specs.Cached.{HasForms}
 use Rattle.emf_session.specs.Session.{HoldsBoth, frames_held}
 
 -- ---- the cache alone

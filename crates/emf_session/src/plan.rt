@@ -11,7 +11,7 @@ ghost use Rattle.plain_repository.specs.Repository.{decide_line};
 ghost use Rattle.plain_repository.specs.Store.{StandsForEvents};
 ghost use Rattle.commit_journal.specs.Journal.{HoldsRecord, IsShort, RecordFits};
 ghost use Rattle.state_cache.specs.Entries.{HoldsAll, stands};
-ghost use Rattle.repo_core.specs.Cached.{HasForms};
+ghost use Rattle.repo_state.specs.Cached.{HasForms};
 ghost use Rattle.repo_core.specs.Decisions.{IsShortBlock};
 ghost use Rattle.emf_session.specs.Session.{answer_to, answered_as, IsStoreOf, IsEntering, IfMade, IsPlan, IsRecordOf, HoldsBoth};
 ghost use Rattle.emf_session.specs.declared.answered.SessionFault.TheVariants.{DiskFault};
@@ -22,7 +22,8 @@ use ecore_meta::Text;
 use host_port::Host;
 use op_form::Event;
 use page_pool::{Pool, count_frames};
-use repo_core::{Decision, Made, Repo};
+use repo_core::{Decision, Made, decide, play};
+use repo_state::Repo;
 use script_lang::print_reply;
 use state_cache::Cache;
 use std::alloc::{AllocError, Global};
@@ -81,7 +82,7 @@ fn play_ready(
     ensures all { OnErr result (HoldsAll pool.new cache.new) }
     ensures forms { HasForms repo.new pool.new cache.new }
 {
-    match repo.play(alloc, cache, pool, event, form.len()) {
+    match play(alloc, cache, pool, repo, event, form.len()) {
         Ok(()) => Ok(prepared),
         Err(fault) => {
             give_up(prepared, pool);
@@ -113,7 +114,7 @@ pub(crate) fn prepare(
     ensures state { OnOk result (repo.new ≡ after play repo.old (decide_line repo.old line.now block.now).event) }
     ensures same { OnErr result (repo.new ≡ repo.old) }
 {
-    let Decision { reply, made } = repo.decide(alloc, cache, pool, line, block)?;
+    let Decision { reply, made } = decide(alloc, cache, pool, repo, line, block)?;
     let answered = kind_of(&reply);
     let reply = print_reply(alloc, &reply)?;
     let Some(Made { event, form }) = made else {

@@ -7,7 +7,7 @@ ghost use Rattle.op_form.specs.declared.event.Event.{Event};
 ghost use Rattle.plain_repository.specs.Events.{play};
 ghost use Rattle.plain_repository.specs.Store.{StandsForEvents, IsDamaged, StandsForNoEvents};
 ghost use Rattle.commit_journal.specs.Journal.{StandsForSame};
-ghost use Rattle.repo_core.specs.Counting.{AreCounts, element_count};
+ghost use Rattle.repo_state.specs.Counting.{AreCounts, element_count};
 ghost use Rattle.repo_core.specs.Decisions.{IsShortBlock};
 ghost use Rattle.emf_session.specs.Session.{answer_to, IsStoreOf, IsEntering, IfMade, AtDamage, answered_as};
 
@@ -17,7 +17,8 @@ use commit_journal::{Journal, Walk};
 use ecore_meta::Text;
 use host_port::Host;
 use page_pool::Pool;
-use repo_core::{Counts, ReplayFault, Repo};
+use repo_core::replay;
+use repo_state::{Counts, ReplayFault, Repo};
 use state_cache::Cache;
 use std::alloc::{AllocError, Global};
 use std::marker::Model;
@@ -35,7 +36,7 @@ pub struct Session {
 impl Model for Session {
     ghost use Rattle.std.specs.Prelude.{◌≡◌, false};
     ghost use Rattle.state_cache.specs.Entries.{HoldsAll};
-    ghost use Rattle.repo_core.specs.Cached.{HasForms};
+    ghost use Rattle.repo_state.specs.Cached.{HasForms};
     ghost use Rattle.emf_session.specs.State.{SessionState};
 
     ghost Value = { SessionState };
@@ -80,7 +81,7 @@ impl Session {
                         cache,
                     });
                 }
-                Ok(Some(bytes)) => match repo.replay(alloc, &mut cache, &mut pool, &bytes) {
+                Ok(Some(bytes)) => match replay(alloc, &mut cache, &mut pool, &mut repo, &bytes) {
                     Ok(()) => {}
                     Err(ReplayFault::NotPlayable) => {
                         return Err(SessionFault::Damaged { at: walk.place() });

@@ -10,7 +10,7 @@ use Rattle.plain_repository.specs.Lines.{takes_block}
 use Rattle.plain_repository.specs.State.{State}
 use Rattle.plain_repository.specs.Events.{play}
 use Rattle.plain_repository.specs.Repository.{decide}
-use Rattle.repo_core.specs.Counting.{live_workspaces, element_count}
+use Rattle.repo_state.specs.Counting.{live_workspaces, element_count}
 use Rattle.emf_top.specs.Generator.{generated}
 use Rattle.emf_top.specs.declared.words.Request.{Request}
 use Rattle.emf_top.specs.declared.words.Request.TheVariants.{Serve, Check, Generate}

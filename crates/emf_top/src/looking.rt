@@ -6,7 +6,7 @@ ghost use Rattle.command_runs.specs.Crashes.{IsRunning};
 ghost use Rattle.op_form.specs.declared.event.Event.{Event};
 ghost use Rattle.plain_repository.specs.Store.{StandsForEvents};
 ghost use Rattle.emf_session.specs.Session.{IsStoreOf};
-ghost use Rattle.repo_core.specs.Counting.{live_workspaces};
+ghost use Rattle.repo_state.specs.Counting.{live_workspaces};
 ghost use Rattle.emf_top.specs.Headline.{Ends, KeepsUnread};
 ghost use Rattle.emf_top.specs.Tasks.{checking, check_line};
 

@@ -5,9 +5,9 @@ ghost use Rattle.op_reading.specs.Packages.{kind_at, name_at, simple_at, composi
 ghost use Rattle.op_reading.specs.Events.{init_at, checkout_at, edit_at, begin_at, commit_at, branch_at, tag_at, update_at, merge_at, event_at, whole_of};
 ghost use Rattle.op_reading.specs.Given.{Gives, GivesWhole};
 
+use crate::FormFault;
 use crate::read_step::take_step;
 use crate::read_value::take_text;
-use crate::FormFault;
 use byte_form::Reader;
 use ecore_meta::{List, Text};
 use model_state::{OpKind, Operation, Package, Step, is_name};

@@ -14,14 +14,7 @@ use Rattle.plain_repository.specs.State.{State}
 use Rattle.plain_repository.specs.Events.{effect, playable_with}
 use Rattle.plain_repository.proofs.Kept.{same_meta}
 use Rattle.plain_repository.proofs.States.{effect_state_stays, effect_versions_stay}
-use Rattle.repo_core.specs.Cached.{HasForms}
-
--- the same, said of a metamodel and a history
-pub forms_begun : (s : State) (meta : Meta) (h : History) (entries : List (ℕ × List ℕ)) → s.meta ≡ Some meta → s.history ≡ h → AreForms s.meta s.history entries → AreForms (Some meta) h entries
-forms_begun s meta h entries begun is forms = subst (λ (g : History). AreForms (Some meta) g entries) is (subst (λ (m : Option Meta). AreForms m s.history entries) begun forms)
-
-pub forms_back : (s : State) (meta : Meta) (h : History) (entries : List (ℕ × List ℕ)) → s.meta ≡ Some meta → s.history ≡ h → AreForms (Some meta) h entries → AreForms s.meta s.history entries
-forms_back s meta h entries begun is forms = subst (λ (m : Option Meta). AreForms m s.history entries) (sym begun) (subst (λ (g : History). AreForms (Some meta) g entries) (sym is) forms)
+use Rattle.repo_state.specs.Cached.{HasForms}
 
 -- ---- events
 none_are : (m : Option Meta) (h : History) (entries : List (ℕ × List ℕ)) → entries ≡ [] → AreForms m h entries

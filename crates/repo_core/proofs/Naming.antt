@@ -19,7 +19,8 @@ use Rattle.script_lang.specs.Words.{is_space}
 use Rattle.plain_repository.specs.State.{State, Workspace, workspace_of, model_of}
 use Rattle.plain_repository.specs.Edits.{decide_edit, edit_in, edited}
 use Rattle.plain_repository.specs.Repository.{decide_command, decide_with}
-use Rattle.repo_core.specs.Working.{IsWorkingModel, given_id, model_for, with_id}
+use Rattle.repo_state.specs.Working.{IsWorkingModel}
+use Rattle.repo_core.specs.Needs.{given_id, model_for, with_id}
 
 -- ---- the fresh id as a word
 no_space : (b : ℕ) → is_id_byte b ≡ true → is_space b ≡ false

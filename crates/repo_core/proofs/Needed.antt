@@ -4,7 +4,8 @@ use Rattle.std.specs.Prelude.{IfSome}
 use Rattle.std.proofs.lemmas.Option.{same_Some}
 use Rattle.script_lang.specs.declared.command.Command.{Command}
 use Rattle.plain_repository.specs.State.{State}
-use Rattle.repo_core.specs.Working.{IsModelFor, IsWorkingModel, model_for}
+use Rattle.repo_core.specs.Needs.{IsModelFor, model_for}
+use Rattle.repo_state.specs.Working.{IsWorkingModel}
 use Rattle.model_state.specs.State as models
 
 -- the model at hand, where there is one, is that of the workspace that the command names

@@ -76,10 +76,6 @@ pub each_could : (o : Option Operation) (Holds : Operation → Type 0) → ((x :
 each_could None Holds h = tt
 each_could (Some x) Holds h = h x refl
 
-pub none_of : {X : Type 0} (o : Option X) → is_some o ≡ false → o ≡ None
-none_of None none = refl
-none_of (Some x) none = absurd cc
-
 -- where no composite is open, any operations are taken
 pub takes_closed : (c : Option Composite) → is_some c ≡ false → (os : List Operation) → takes c os ≡ true
 takes_closed None shut os = refl

@@ -11,7 +11,7 @@ use Rattle.op_reading.proofs.Codes.{whole_again, whole_spelled}
 use Rattle.op_reading.proofs.EventCodes.{event_codes}
 use Rattle.plain_repository.specs.State.{State}
 use Rattle.plain_repository.specs.Events.{play, playable}
-use Rattle.repo_core.specs.declared.fault.ReplayFault.{ReplayFault}
+use Rattle.repo_state.specs.declared.fault.ReplayFault.{ReplayFault}
 use Rattle.plain_repository.proofs.Encodings.{playable_is_event}
 
 -- bytes that are read as an event spell it

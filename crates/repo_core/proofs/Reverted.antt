@@ -17,7 +17,7 @@ use Rattle.plain_repository.specs.Events.{playable_with}
 use Rattle.plain_repository.specs.Orderly.{IsOrderly, Orderly, InOrder}
 use Rattle.plain_repository.proofs.Reached.{in_order, kept}
 use Rattle.plain_repository.proofs.Reverting.{revert_follows}
-use Rattle.repo_core.proofs.Ordered.{is_there}
+use Rattle.repo_state.proofs.Ordered.{is_there}
 use Rattle.repo_core.proofs.Playable.{takes_closed}
 
 -- operations that can follow could be recorded

@@ -1,7 +1,4 @@
-pub mod Cached
-pub mod Counting
 pub mod Decisions
-pub mod Keeping
-pub mod Making
-pub mod Planning
-pub mod Working
+pub mod Needs
+pub mod Playing
+pub mod Shown

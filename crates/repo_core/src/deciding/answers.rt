@@ -6,10 +6,10 @@ ghost use Rattle.plain_repository.specs.Answers.{accepted, refused, refused_with
 ghost use Rattle.plain_repository.specs.Events.{playable_with};
 ghost use Rattle.repo_core.specs.Decisions.{seen, CanMakeIt};
 
-use crate::repo::Repo;
 use commit_journal::{Fit, fits};
 use ecore_meta::{List, Text};
 use op_form::{Event, encode_event, has_encoding};
+use repo_state::Repo;
 use script_lang::{Last, Refusal, Reply};
 use std::alloc::{AllocError, Global};
 
@@ -85,32 +85,30 @@ pub(crate) fn number_words(alloc: Global, n: u64) -> Result<Text, AllocError>
     Text::new(alloc, text.as_str())
 }
 
-impl Repo {
-    /// Makes an event, where the history and the journal have room. Of one that has no encoding it answers out of memory.
-    #[tactic(auto, unfolding(plain_repository::specs::Answers::with_room, plain_repository::specs::Events::playable))]
-    pub(crate) fn with_room(
-        &self,
-        alloc: Global,
-        lines: List<Text>,
-        words: Text,
-        event: Event,
-    ) -> Result<Decision, AllocError>
-        requires could { playable_with self.now self.now.meta event ≡ true }
-        ensures decision { IfOk result (λ d. seen d ≡ with_room self.now lines words event) }
-        ensures made { IfOk result (λ d. CanMakeIt self.now d.made) }
-    {
-        if self.is_full() {
-            return Ok(refuse(alloc, Refusal::HistoryFull));
-        }
-        // Such an event has a text or a list of 2^32 items, for which no memory is large enough.
-        if !has_encoding(&event) {
-            return Err(AllocError);
-        }
-        let form = encode_event(alloc, &event)?;
-        match fits(self.end, form.len() as u64) {
-            Fit::Yes => Ok(accept(lines, words, Made { event, form })),
-            Fit::TooLarge => Ok(refuse(alloc, Refusal::TooLarge)),
-            Fit::Full => Ok(refuse(alloc, Refusal::JournalFull)),
-        }
+/// Makes an event, where the history and the journal have room. Of one that has no encoding it answers out of memory.
+#[tactic(auto, unfolding(plain_repository::specs::Answers::with_room, plain_repository::specs::Events::playable))]
+pub(crate) fn with_room(
+    alloc: Global,
+    repo: &Repo,
+    lines: List<Text>,
+    words: Text,
+    event: Event,
+) -> Result<Decision, AllocError>
+    requires could { playable_with repo.now repo.now.meta event ≡ true }
+    ensures decision { IfOk result (λ d. seen d ≡ with_room repo.now lines words event) }
+    ensures made { IfOk result (λ d. CanMakeIt repo.now d.made) }
+{
+    if repo.is_full() {
+        return Ok(refuse(alloc, Refusal::HistoryFull));
+    }
+    // Such an event has a text or a list of 2^32 items, for which no memory is large enough.
+    if !has_encoding(&event) {
+        return Err(AllocError);
+    }
+    let form = encode_event(alloc, &event)?;
+    match fits(repo.end(), form.len() as u64) {
+        Fit::Yes => Ok(accept(lines, words, Made { event, form })),
+        Fit::TooLarge => Ok(refuse(alloc, Refusal::TooLarge)),
+        Fit::Full => Ok(refuse(alloc, Refusal::JournalFull)),
     }
 }

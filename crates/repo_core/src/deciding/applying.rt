@@ -10,20 +10,19 @@ ghost use Rattle.plain_repository.specs.Applying.{decide_apply, decide_revert, t
 ghost use Rattle.plain_repository.specs.Events.{playable_with};
 ghost use Rattle.plain_repository.specs.State.{is_open, workspace_of};
 ghost use Rattle.version_states.specs.Cached.{MayUse, Uses};
-ghost use Rattle.repo_core.specs.Cached.{HasForms};
+ghost use Rattle.repo_state.specs.Cached.{HasForms};
 ghost use Rattle.repo_core.specs.Decisions.{seen, CanMakeIt};
-ghost use Rattle.repo_core.specs.Keeping.{plain_of};
+ghost use Rattle.repo_state.specs.Keeping.{plain_of};
 
-use crate::deciding::answers::{Decision, refuse, tell};
+use crate::deciding::answers::{Decision, refuse, tell, with_room};
 use crate::deciding::naming::unknown;
-use crate::repo::{Begun, Repo};
-use crate::workspace::Workspace;
 use ecore_meta::{List, Text};
 use merge_plans::{copy_operations, first_interfering, have_pair, path_after};
 use model_state::Package;
 use op_form::{Event, reverse};
 use op_reading::{FormFault, decode};
 use page_pool::Pool;
+use repo_state::{Begun, Repo, Workspace};
 use script_lang::Refusal;
 use state_cache::Cache;
 use std::alloc::{AllocError, Global};
@@ -35,127 +34,131 @@ fn holds(versions: &[u32], version: u32) -> bool
     versions.iter().any(|u| version == *u)
 }
 
-impl Repo {
-    /// `apply WS HEX`, with the bytes of a package: its operations are recorded, where all their steps can be taken.
-    #[tactic(auto, unfolding(plain_repository::specs::Applying::decide_apply), using(version_states::proofs::Caching::uses_none))]
-    pub(crate) fn decide_apply(
-        &self,
-        alloc: Global,
-        cache: &mut Cache,
-        pool: &mut Pool,
-        begun: &Begun,
-        ws: u32,
-        bytes: &[u8],
-    ) -> Result<Decision, AllocError>
-        requires meta { self.now.meta ≡ Some begun.now.meta }
-        requires history { self.now.history ≡ begun.now.history.history }
-        requires usable { MayUse pool.old cache.old }
-        requires forms { HasForms self.now pool.old cache.old }
-        ensures decision { IfOk result (λ d. seen d ≡ decide_apply self.now begun.now.meta ws bytes.now) }
-        ensures made { IfOk result (λ d. CanMakeIt self.now d.made) }
-        ensures uses { Uses pool.old pool.new cache.old cache.new }
-        ensures forms { HasForms self.now pool.new cache.new }
-    {
-        let Some(workspace) = self.workspace(ws) else {
-            return Ok(refuse(alloc, Refusal::NoWorkspace));
-        };
-        if workspace.is_open() {
-            return Ok(refuse(alloc, Refusal::CompositeOpen));
-        }
-        let package = match decode(alloc, bytes) {
-            Ok(package) => package,
-            Err(FormFault::NotForm { at }) => return Ok(refuse(alloc, Refusal::NotForm { at })),
-            Err(FormFault::Memory) => return Err(AllocError),
-        };
-        begun.meta.sound();
-        let mut model = self.model_anew(alloc, cache, pool, begun, ws, workspace)?;
-        match stop_in(&mut model, &begun.meta, package.as_slice())? {
-            Some(step) => Ok(refuse(alloc, Refusal::NotApplicable { step })),
-            None => self.with_operations(alloc, ws, package),
-        }
+/// `apply WS HEX`, with the bytes of a package: its operations are recorded, where all their steps can be taken.
+#[tactic(auto, unfolding(plain_repository::specs::Applying::decide_apply), using(version_states::proofs::Caching::uses_none))]
+pub(crate) fn decide_apply(
+    alloc: Global,
+    cache: &mut Cache,
+    pool: &mut Pool,
+    repo: &Repo,
+    begun: &Begun,
+    ws: u32,
+    bytes: &[u8],
+) -> Result<Decision, AllocError>
+    requires meta { repo.now.meta ≡ Some begun.now.meta }
+    requires history { repo.now.history ≡ begun.now.history.history }
+    requires usable { MayUse pool.old cache.old }
+    requires forms { HasForms repo.now pool.old cache.old }
+    ensures decision { IfOk result (λ d. seen d ≡ decide_apply repo.now begun.now.meta ws bytes.now) }
+    ensures made { IfOk result (λ d. CanMakeIt repo.now d.made) }
+    ensures uses { Uses pool.old pool.new cache.old cache.new }
+    ensures forms { HasForms repo.now pool.new cache.new }
+{
+    let Some(workspace) = repo.workspace(ws) else {
+        return Ok(refuse(alloc, Refusal::NoWorkspace));
+    };
+    if workspace.is_open() {
+        return Ok(refuse(alloc, Refusal::CompositeOpen));
     }
+    let package = match decode(alloc, bytes) {
+        Ok(package) => package,
+        Err(FormFault::NotForm { at }) => return Ok(refuse(alloc, Refusal::NotForm { at })),
+        Err(FormFault::Memory) => return Err(AllocError),
+    };
+    begun.meta.sound();
+    let mut model = repo.model_anew(alloc, cache, pool, begun, ws, workspace)?;
+    match stop_in(&mut model, &begun.meta, package.as_slice())? {
+        Some(step) => Ok(refuse(alloc, Refusal::NotApplicable { step })),
+        None => with_operations(alloc, repo, ws, package),
+    }
+}
 
-    /// Makes an event of operations that are recorded; where there is none, nothing changes.
-    fn with_operations(
-        &self,
-        alloc: Global,
-        ws: u32,
-        package: Package,
-    ) -> Result<Decision, AllocError>
-        requires could { length «package» ≢ 0 → playable_with self.now self.now.meta (Edit ws «package») ≡ true }
-        ensures decision { IfOk result (λ d. seen d ≡ with_operations self.now ws «package») }
-        ensures made { IfOk result (λ d. CanMakeIt self.now d.made) }
-    {
-        let words = Text::new(alloc, "")?;
-        if package.len() == 0 {
-            return Ok(tell(List::new(alloc), words));
-        }
-        self.with_room(alloc, List::new(alloc), words, Event::Edit { ws, package })
+/// Makes an event of operations that are recorded; where there is none, nothing changes.
+fn with_operations(
+    alloc: Global,
+    repo: &Repo,
+    ws: u32,
+    package: Package,
+) -> Result<Decision, AllocError>
+    requires could { length «package» ≢ 0 → playable_with repo.now repo.now.meta (Edit ws «package») ≡ true }
+    ensures decision { IfOk result (λ d. seen d ≡ with_operations repo.now ws «package») }
+    ensures made { IfOk result (λ d. CanMakeIt repo.now d.made) }
+{
+    let words = Text::new(alloc, "")?;
+    if package.len() == 0 {
+        return Ok(tell(List::new(alloc), words));
     }
+    with_room(
+        alloc,
+        repo,
+        List::new(alloc),
+        words,
+        Event::Edit { ws, package },
+    )
+}
 
-    /// `revert WS VERSION`: the reversal of what the version did is recorded, where nothing later interferes with it.
-    #[tactic(auto, unfolding(plain_repository::specs::Applying::decide_revert))]
-    pub(crate) fn decide_revert(
-        &self,
-        alloc: Global,
-        begun: &Begun,
-        ws: u32,
-        version: u32,
-    ) -> Result<Decision, AllocError>
-        requires meta { self.now.meta ≡ Some begun.now.meta }
-        requires history { self.now.history ≡ begun.now.history.history }
-        ensures decision { IfOk result (λ d. seen d ≡ decide_revert self.now begun.now.meta ws version) }
-        ensures made { IfOk result (λ d. CanMakeIt self.now d.made) }
-    {
-        let Some(workspace) = self.workspace(ws) else {
-            return Ok(refuse(alloc, Refusal::NoWorkspace));
-        };
-        if workspace.is_open() {
-            return Ok(refuse(alloc, Refusal::CompositeOpen));
-        }
-        let found = match begun.history.resolve(Some(version), None, None) {
-            Ok(found) => found,
-            Err(fault) => return Ok(refuse(alloc, unknown(fault))),
-        };
-        self.orderly();
-        let path = begun.history.path(alloc, workspace.base)?;
-        if !holds(path.as_slice(), found.version) {
-            return Ok(refuse(alloc, Refusal::NotOnPath));
-        }
-        self.decide_revert_of(alloc, begun, ws, workspace, found.version)
+/// `revert WS VERSION`: the reversal of what the version did is recorded, where nothing later interferes with it.
+#[tactic(auto, unfolding(plain_repository::specs::Applying::decide_revert))]
+pub(crate) fn decide_revert(
+    alloc: Global,
+    repo: &Repo,
+    begun: &Begun,
+    ws: u32,
+    version: u32,
+) -> Result<Decision, AllocError>
+    requires meta { repo.now.meta ≡ Some begun.now.meta }
+    requires history { repo.now.history ≡ begun.now.history.history }
+    ensures decision { IfOk result (λ d. seen d ≡ decide_revert repo.now begun.now.meta ws version) }
+    ensures made { IfOk result (λ d. CanMakeIt repo.now d.made) }
+{
+    let Some(workspace) = repo.workspace(ws) else {
+        return Ok(refuse(alloc, Refusal::NoWorkspace));
+    };
+    if workspace.is_open() {
+        return Ok(refuse(alloc, Refusal::CompositeOpen));
     }
+    let found = match begun.history.resolve(Some(version), None, None) {
+        Ok(found) => found,
+        Err(fault) => return Ok(refuse(alloc, unknown(fault))),
+    };
+    repo.orderly();
+    let path = begun.history.path(alloc, workspace.base)?;
+    if !holds(path.as_slice(), found.version) {
+        return Ok(refuse(alloc, Refusal::NotOnPath));
+    }
+    decide_revert_of(alloc, repo, begun, ws, workspace, found.version)
+}
 
-    /// The same, of a version on the path of the base.
-    fn decide_revert_of(
-        &self,
-        alloc: Global,
-        begun: &Begun,
-        ws: u32,
-        workspace: &Workspace,
-        version: u32,
-    ) -> Result<Decision, AllocError>
-        requires meta { self.now.meta ≡ Some begun.now.meta }
-        requires history { self.now.history ≡ begun.now.history.history }
-        requires there { workspace_of self.now ws ≡ Some (plain_of workspace.now) }
-        requires closed { is_open (Some (plain_of workspace.now)) ≡ false }
-        requires on_path { is_among (path self.now.history workspace.now.base) version ≡ true }
-        requires version { version < length self.now.history.versions }
-        ensures decision { IfOk result (λ d. let operations = package_at self.now.history.versions version in seen d ≡ taken_out self.now begun.now.meta ws (plain_of workspace.now) operations (first_interfering begun.now.meta self.now.history.versions operations (path_after self.now.history version workspace.now.base))) }
-        ensures made { IfOk result (λ d. CanMakeIt self.now d.made) }
-    {
-        self.orderly();
-        let history = &begun.history;
-        let package = &history.version(version).package;
-        let later = path_after(alloc, history, version, workspace.base)?;
-        let found = first_interfering(alloc, &begun.meta, history, package, later.as_slice())?;
-        if found.is_some() {
-            return Ok(refuse(alloc, Refusal::Interferes { version: found }));
-        }
-        let local = copy_operations(alloc, workspace.operations())?;
-        if have_pair(alloc, &begun.meta, package, &local)? {
-            return Ok(refuse(alloc, Refusal::Interferes { version: None }));
-        }
-        let reversal = reverse(alloc, package)?;
-        self.with_operations(alloc, ws, reversal)
+/// The same, of a version on the path of the base.
+fn decide_revert_of(
+    alloc: Global,
+    repo: &Repo,
+    begun: &Begun,
+    ws: u32,
+    workspace: &Workspace,
+    version: u32,
+) -> Result<Decision, AllocError>
+    requires meta { repo.now.meta ≡ Some begun.now.meta }
+    requires history { repo.now.history ≡ begun.now.history.history }
+    requires there { workspace_of repo.now ws ≡ Some (plain_of workspace.now) }
+    requires closed { is_open (Some (plain_of workspace.now)) ≡ false }
+    requires on_path { is_among (path repo.now.history workspace.now.base) version ≡ true }
+    requires version { version < length repo.now.history.versions }
+    ensures decision { IfOk result (λ d. let operations = package_at repo.now.history.versions version in seen d ≡ taken_out repo.now begun.now.meta ws (plain_of workspace.now) operations (first_interfering begun.now.meta repo.now.history.versions operations (path_after repo.now.history version workspace.now.base))) }
+    ensures made { IfOk result (λ d. CanMakeIt repo.now d.made) }
+{
+    repo.orderly();
+    let history = &begun.history;
+    let package = &history.version(version).package;
+    let later = path_after(alloc, history, version, workspace.base)?;
+    let found = first_interfering(alloc, &begun.meta, history, package, later.as_slice())?;
+    if found.is_some() {
+        return Ok(refuse(alloc, Refusal::Interferes { version: found }));
     }
+    let local = copy_operations(alloc, workspace.operations())?;
+    if have_pair(alloc, &begun.meta, package, &local)? {
+        return Ok(refuse(alloc, Refusal::Interferes { version: None }));
+    }
+    let reversal = reverse(alloc, package)?;
+    with_operations(alloc, repo, ws, reversal)
 }

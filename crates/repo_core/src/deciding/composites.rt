@@ -4,58 +4,57 @@ ghost use Rattle.plain_repository.specs.Composites.{decide_begin, decide_end};
 ghost use Rattle.model_state.specs.Names.{is_name};
 ghost use Rattle.repo_core.specs.Decisions.{seen, CanMakeIt};
 
-use crate::deciding::answers::{Decision, refuse};
-use crate::repo::Repo;
+use crate::deciding::answers::{Decision, refuse, with_room};
 use ecore_meta::{List, Text};
 use op_form::Event;
+use repo_state::Repo;
 use script_lang::Refusal;
 use std::alloc::{AllocError, Global};
 
-impl Repo {
-    /// `begin WS NAME`.
-    #[tactic(auto, unfolding(plain_repository::specs::Composites::decide_begin))]
-    pub(crate) fn decide_begin(
-        &self,
-        alloc: Global,
-        ws: u32,
-        name: &Text,
-    ) -> Result<Decision, AllocError>
-        requires begun { self.now.meta ≢ None }
-        requires name { is_name name.now ≡ true }
-        ensures decision { IfOk result (λ d. seen d ≡ decide_begin self.now ws name.now) }
-        ensures made { IfOk result (λ d. CanMakeIt self.now d.made) }
-    {
-        let Some(workspace) = self.workspace(ws) else {
-            return Ok(refuse(alloc, Refusal::NoWorkspace));
-        };
-        if workspace.is_open() {
-            return Ok(refuse(alloc, Refusal::CompositeOpen));
-        }
-        let event = Event::Begin {
-            ws,
-            name: name.copy(alloc)?,
-        };
-        self.with_room(alloc, List::new(alloc), Text::new(alloc, "")?, event)
+/// `begin WS NAME`.
+#[tactic(auto, unfolding(plain_repository::specs::Composites::decide_begin))]
+pub(crate) fn decide_begin(
+    alloc: Global,
+    repo: &Repo,
+    ws: u32,
+    name: &Text,
+) -> Result<Decision, AllocError>
+    requires begun { repo.now.meta ≢ None }
+    requires name { is_name name.now ≡ true }
+    ensures decision { IfOk result (λ d. seen d ≡ decide_begin repo.now ws name.now) }
+    ensures made { IfOk result (λ d. CanMakeIt repo.now d.made) }
+{
+    let Some(workspace) = repo.workspace(ws) else {
+        return Ok(refuse(alloc, Refusal::NoWorkspace));
+    };
+    if workspace.is_open() {
+        return Ok(refuse(alloc, Refusal::CompositeOpen));
     }
+    let event = Event::Begin {
+        ws,
+        name: name.copy(alloc)?,
+    };
+    with_room(alloc, repo, List::new(alloc), Text::new(alloc, "")?, event)
+}
 
-    /// `end WS`.
-    #[tactic(auto, unfolding(plain_repository::specs::Composites::decide_end))]
-    pub(crate) fn decide_end(&self, alloc: Global, ws: u32) -> Result<Decision, AllocError>
-        requires begun { self.now.meta ≢ None }
-        ensures decision { IfOk result (λ d. seen d ≡ decide_end self.now ws) }
-        ensures made { IfOk result (λ d. CanMakeIt self.now d.made) }
-    {
-        let Some(workspace) = self.workspace(ws) else {
-            return Ok(refuse(alloc, Refusal::NoWorkspace));
-        };
-        if !workspace.is_open() {
-            return Ok(refuse(alloc, Refusal::NoComposite));
-        }
-        self.with_room(
-            alloc,
-            List::new(alloc),
-            Text::new(alloc, "")?,
-            Event::End { ws },
-        )
+/// `end WS`.
+#[tactic(auto, unfolding(plain_repository::specs::Composites::decide_end))]
+pub(crate) fn decide_end(alloc: Global, repo: &Repo, ws: u32) -> Result<Decision, AllocError>
+    requires begun { repo.now.meta ≢ None }
+    ensures decision { IfOk result (λ d. seen d ≡ decide_end repo.now ws) }
+    ensures made { IfOk result (λ d. CanMakeIt repo.now d.made) }
+{
+    let Some(workspace) = repo.workspace(ws) else {
+        return Ok(refuse(alloc, Refusal::NoWorkspace));
+    };
+    if !workspace.is_open() {
+        return Ok(refuse(alloc, Refusal::NoComposite));
     }
+    with_room(
+        alloc,
+        repo,
+        List::new(alloc),
+        Text::new(alloc, "")?,
+        Event::End { ws },
+    )
 }

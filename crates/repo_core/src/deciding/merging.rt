@@ -4,121 +4,118 @@ ghost use Rattle.history_tree.specs.History.{head};
 ghost use Rattle.plain_repository.specs.Choices.{chosen};
 ghost use Rattle.plain_repository.specs.Merging.{decide_merge, decide_update, merge_buckets, merge_of};
 ghost use Rattle.plain_repository.specs.State.{is_open, workspace_of};
-ghost use Rattle.repo_core.specs.Keeping.{plain_of};
+ghost use Rattle.repo_state.specs.Keeping.{plain_of};
 ghost use Rattle.repo_core.specs.Decisions.{seen, CanMakeIt};
 
-use crate::deciding::answers::{Decision, number_words, refuse, tell};
+use crate::deciding::answers::{Decision, number_words, refuse, tell, with_room};
 use crate::deciding::choosing::{refused_choices, text_or_empty};
-use crate::repo::{Begun, Repo};
-use crate::workspace::Workspace;
 use ecore_meta::{List, Text};
 use op_form::Event;
+use repo_state::{Begun, Repo, Workspace};
 use script_lang::Refusal;
 use std::alloc::{AllocError, Global};
 
-impl Repo {
-    /// `update WS [CHOICES]`: the workspace comes to its branch's head.
-    #[tactic(auto, unfolding(plain_repository::specs::Merging::decide_update))]
-    pub(crate) fn decide_update(
-        &self,
-        alloc: Global,
-        begun: &Begun,
-        ws: u32,
-        choices: &Option<Text>,
-    ) -> Result<Decision, AllocError>
-        requires meta { self.now.meta ≡ Some begun.now.meta }
-        requires history { self.now.history ≡ begun.now.history.history }
-        ensures decision { IfOk result (λ d. seen d ≡ decide_update self.now begun.now.meta ws choices.now) }
-        ensures made { IfOk result (λ d. CanMakeIt self.now d.made) }
-    {
-        let Some(workspace) = self.workspace(ws) else {
-            return Ok(refuse(alloc, Refusal::NoWorkspace));
-        };
-        if workspace.is_open() {
-            return Ok(refuse(alloc, Refusal::CompositeOpen));
-        }
-        self.orderly();
-        let plan = begun.update_plan(alloc, workspace)?;
-        if let Some(refused) = refused_choices(alloc, &plan.buckets, choices)? {
-            return Ok(refused);
-        }
-        let head = begun.history.head(workspace.branch);
-        let words = number_words(alloc, head as u64)?;
-        if workspace.base == head {
-            return Ok(tell(List::new(alloc), words));
-        }
-        let event = Event::Update {
-            ws,
-            choices: text_or_empty(alloc, choices)?,
-        };
-        self.with_room(alloc, List::new(alloc), words, event)
+/// `update WS [CHOICES]`: the workspace comes to its branch's head.
+#[tactic(auto, unfolding(plain_repository::specs::Merging::decide_update))]
+pub(crate) fn decide_update(
+    alloc: Global,
+    repo: &Repo,
+    begun: &Begun,
+    ws: u32,
+    choices: &Option<Text>,
+) -> Result<Decision, AllocError>
+    requires meta { repo.now.meta ≡ Some begun.now.meta }
+    requires history { repo.now.history ≡ begun.now.history.history }
+    ensures decision { IfOk result (λ d. seen d ≡ decide_update repo.now begun.now.meta ws choices.now) }
+    ensures made { IfOk result (λ d. CanMakeIt repo.now d.made) }
+{
+    let Some(workspace) = repo.workspace(ws) else {
+        return Ok(refuse(alloc, Refusal::NoWorkspace));
+    };
+    if workspace.is_open() {
+        return Ok(refuse(alloc, Refusal::CompositeOpen));
     }
+    repo.orderly();
+    let plan = begun.update_plan(alloc, workspace)?;
+    if let Some(refused) = refused_choices(alloc, &plan.buckets, choices)? {
+        return Ok(refused);
+    }
+    let head = begun.history.head(workspace.branch);
+    let words = number_words(alloc, head as u64)?;
+    if workspace.base == head {
+        return Ok(tell(List::new(alloc), words));
+    }
+    let event = Event::Update {
+        ws,
+        choices: text_or_empty(alloc, choices)?,
+    };
+    with_room(alloc, repo, List::new(alloc), words, event)
+}
 
-    /// `merge WS BRANCH [CHOICES]`: what another branch has comes after what the workspace has.
-    #[tactic(auto, unfolding(plain_repository::specs::Merging::decide_merge))]
-    pub(crate) fn decide_merge(
-        &self,
-        alloc: Global,
-        begun: &Begun,
-        ws: u32,
-        name: &Text,
-        choices: &Option<Text>,
-    ) -> Result<Decision, AllocError>
-        requires meta { self.now.meta ≡ Some begun.now.meta }
-        requires history { self.now.history ≡ begun.now.history.history }
-        ensures decision { IfOk result (λ d. seen d ≡ decide_merge self.now begun.now.meta ws name.now choices.now) }
-        ensures made { IfOk result (λ d. CanMakeIt self.now d.made) }
-    {
-        let Some(workspace) = self.workspace(ws) else {
-            return Ok(refuse(alloc, Refusal::NoWorkspace));
-        };
-        if workspace.is_open() {
-            return Ok(refuse(alloc, Refusal::CompositeOpen));
-        }
-        let Some(branch) = begun.history.branch_named(name.as_str()) else {
-            return Ok(refuse(alloc, Refusal::NoBranch));
-        };
-        if branch == workspace.branch {
-            return Ok(refuse(alloc, Refusal::SameBranch));
-        }
-        self.orderly();
-        self.decide_merge_of(alloc, begun, ws, workspace, branch, choices)
+/// `merge WS BRANCH [CHOICES]`: what another branch has comes after what the workspace has.
+#[tactic(auto, unfolding(plain_repository::specs::Merging::decide_merge))]
+pub(crate) fn decide_merge(
+    alloc: Global,
+    repo: &Repo,
+    begun: &Begun,
+    ws: u32,
+    name: &Text,
+    choices: &Option<Text>,
+) -> Result<Decision, AllocError>
+    requires meta { repo.now.meta ≡ Some begun.now.meta }
+    requires history { repo.now.history ≡ begun.now.history.history }
+    ensures decision { IfOk result (λ d. seen d ≡ decide_merge repo.now begun.now.meta ws name.now choices.now) }
+    ensures made { IfOk result (λ d. CanMakeIt repo.now d.made) }
+{
+    let Some(workspace) = repo.workspace(ws) else {
+        return Ok(refuse(alloc, Refusal::NoWorkspace));
+    };
+    if workspace.is_open() {
+        return Ok(refuse(alloc, Refusal::CompositeOpen));
     }
+    let Some(branch) = begun.history.branch_named(name.as_str()) else {
+        return Ok(refuse(alloc, Refusal::NoBranch));
+    };
+    if branch == workspace.branch {
+        return Ok(refuse(alloc, Refusal::SameBranch));
+    }
+    repo.orderly();
+    decide_merge_of(alloc, repo, begun, ws, workspace, branch, choices)
+}
 
-    /// The same, of a branch that is there and another than the workspace's.
-    fn decide_merge_of(
-        &self,
-        alloc: Global,
-        begun: &Begun,
-        ws: u32,
-        workspace: &Workspace,
-        branch: u32,
-        choices: &Option<Text>,
-    ) -> Result<Decision, AllocError>
-        requires meta { self.now.meta ≡ Some begun.now.meta }
-        requires history { self.now.history ≡ begun.now.history.history }
-        requires there { workspace_of self.now ws ≡ Some (plain_of workspace.now) }
-        requires closed { is_open (Some (plain_of workspace.now)) ≡ false }
-        requires branch { branch < length self.now.history.branches }
-        requires other { branch ≢ workspace.now.branch }
-        ensures decision { IfOk result (λ d. seen d ≡ chosen (merge_buckets begun.now.meta self.now.history (plain_of workspace.now) (head self.now.history branch)) choices.now (merge_of self.now ws (plain_of workspace.now) branch (unwrap_or choices.now []) (head self.now.history branch))) }
-        ensures made { IfOk result (λ d. CanMakeIt self.now d.made) }
-    {
-        self.orderly();
-        let head = begun.history.head(branch);
-        let plan = begun.merge_plan(alloc, workspace, head)?;
-        if let Some(refused) = refused_choices(alloc, &plan.buckets, choices)? {
-            return Ok(refused);
-        }
-        let words = number_words(alloc, head as u64)?;
-        if plan.theirs.len() == 0 {
-            return Ok(tell(List::new(alloc), words));
-        }
-        let event = Event::Merge {
-            ws,
-            branch,
-            choices: text_or_empty(alloc, choices)?,
-        };
-        self.with_room(alloc, List::new(alloc), words, event)
+/// The same, of a branch that is there and another than the workspace's.
+fn decide_merge_of(
+    alloc: Global,
+    repo: &Repo,
+    begun: &Begun,
+    ws: u32,
+    workspace: &Workspace,
+    branch: u32,
+    choices: &Option<Text>,
+) -> Result<Decision, AllocError>
+    requires meta { repo.now.meta ≡ Some begun.now.meta }
+    requires history { repo.now.history ≡ begun.now.history.history }
+    requires there { workspace_of repo.now ws ≡ Some (plain_of workspace.now) }
+    requires closed { is_open (Some (plain_of workspace.now)) ≡ false }
+    requires branch { branch < length repo.now.history.branches }
+    requires other { branch ≢ workspace.now.branch }
+    ensures decision { IfOk result (λ d. seen d ≡ chosen (merge_buckets begun.now.meta repo.now.history (plain_of workspace.now) (head repo.now.history branch)) choices.now (merge_of repo.now ws (plain_of workspace.now) branch (unwrap_or choices.now []) (head repo.now.history branch))) }
+    ensures made { IfOk result (λ d. CanMakeIt repo.now d.made) }
+{
+    repo.orderly();
+    let head = begun.history.head(branch);
+    let plan = begun.merge_plan(alloc, workspace, head)?;
+    if let Some(refused) = refused_choices(alloc, &plan.buckets, choices)? {
+        return Ok(refused);
     }
+    let words = number_words(alloc, head as u64)?;
+    if plan.theirs.len() == 0 {
+        return Ok(tell(List::new(alloc), words));
+    }
+    let event = Event::Merge {
+        ws,
+        branch,
+        choices: text_or_empty(alloc, choices)?,
+    };
+    with_room(alloc, repo, List::new(alloc), words, event)
 }

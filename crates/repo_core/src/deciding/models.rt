@@ -2,16 +2,16 @@
 ghost use Rattle.std.specs.Prelude.{◌≡◌, OnOk, Some};
 ghost use Rattle.plain_repository.specs.State.{model_of, workspace_of};
 ghost use Rattle.model_state.specs.Good.{Good};
-ghost use Rattle.repo_core.specs.Cached.{reads_version};
-ghost use Rattle.repo_core.specs.Keeping.{plain_of};
-ghost use Rattle.repo_core.specs.Working.{IsWorkingModel, creation_without_id, given_id, model_for, with_id};
+ghost use Rattle.repo_core.specs.Shown.{reads_version};
+ghost use Rattle.repo_state.specs.Keeping.{plain_of};
+ghost use Rattle.repo_state.specs.Working.{IsWorkingModel};
+ghost use Rattle.repo_core.specs.Needs.{creation_without_id, given_id, model_for, with_id};
 ghost use Rattle.script_lang.specs.Spelling.{IsCommand};
 
-use crate::repo::{Begun, Repo};
-use crate::workspace::Workspace;
 use ecore_meta::Text;
 use edits::Edit;
 use model_graph::Graph;
+use repo_state::{Begun, Repo, Workspace};
 use script_lang::Command;
 use std::alloc::{AllocError, Global};
 use working_model::Working;
@@ -89,15 +89,13 @@ pub(crate) fn name_creation(
     Ok(())
 }
 
-impl Repo {
-    /// What is known of a working model, said of the workspace that it is of. It does nothing.
-    pub(crate) fn settle(&self, _begun: &Begun, _ws: u32, _workspace: &Workspace, _model: &Graph)
-        requires meta { self.now.meta ≡ Some _begun.now.meta }
-        requires there { workspace_of self.now _ws ≡ Some (plain_of _workspace.now) }
-        requires model { IsWorkingModel self.now _ws _model.now }
-        ensures model { _model.now ≡ model_of _begun.now.meta self.now.history (plain_of _workspace.now) }
-        ensures good { Good _begun.now.meta _model.now }
-    {
-        // Only the contract needs it.
-    }
+/// What is known of a working model, said of the workspace that it is of. It does nothing.
+pub(crate) fn settle(_repo: &Repo, _begun: &Begun, _ws: u32, _workspace: &Workspace, _model: &Graph)
+    requires meta { _repo.now.meta ≡ Some _begun.now.meta }
+    requires there { workspace_of _repo.now _ws ≡ Some (plain_of _workspace.now) }
+    requires model { IsWorkingModel _repo.now _ws _model.now }
+    ensures model { _model.now ≡ model_of _begun.now.meta _repo.now.history (plain_of _workspace.now) }
+    ensures good { Good _begun.now.meta _model.now }
+{
+    // Only the contract needs it.
 }

@@ -4,13 +4,13 @@ ghost use Rattle.emfjson_text.specs.Tree.{text};
 ghost use Rattle.history_tree.specs.States.{state_of};
 ghost use Rattle.plain_repository.specs.Specs.{named, unknown};
 ghost use Rattle.version_states.specs.Cached.{LeavesFirst, MayUse, Uses};
-ghost use Rattle.repo_core.specs.Cached.{HasForms};
+ghost use Rattle.repo_state.specs.Cached.{HasForms};
 
-use crate::repo::{Begun, Repo};
 use ecore_meta::{List, Text};
 use emfjson_text::write_model;
 use history_tree::{FindFault, Found, History};
 use page_pool::Pool;
+use repo_state::{Begun, Repo};
 use script_lang::{Refusal, Spec};
 use state_cache::Cache;
 use std::alloc::{AllocError, Global};
@@ -38,29 +38,27 @@ pub(crate) fn unknown(fault: FindFault) -> Refusal
     }
 }
 
-impl Repo {
-    /// The text of a version, as the only data line.
-    pub(crate) fn text_of(
-        &self,
-        alloc: Global,
-        cache: &mut Cache,
-        pool: &mut Pool,
-        begun: &Begun,
-        v: u32,
-    ) -> Result<List<Text>, AllocError>
-        requires meta { self.now.meta ≡ Some begun.now.meta }
-        requires history { self.now.history ≡ begun.now.history.history }
-        requires there { v < length self.now.history.versions }
-        requires usable { MayUse pool.old cache.old }
-        requires forms { HasForms self.now pool.old cache.old }
-        ensures lines { IfOk result (λ lines. lines ≡ text begun.now.meta (state_of begun.now.meta self.now.history v) ∷ []) }
-        ensures first { OnOk result (LeavesFirst begun.now.meta self.now.history v cache.new) }
-        ensures uses { Uses pool.old pool.new cache.old cache.new }
-        ensures forms { HasForms self.now pool.new cache.new }
-    {
-        let model = self.version_state(alloc, cache, pool, begun, v)?;
-        let mut lines = List::new(alloc);
-        lines.push(write_model(alloc, model.graph(), &begun.meta)?)?;
-        Ok(lines)
-    }
+/// The text of a version, as the only data line.
+pub(crate) fn text_of(
+    alloc: Global,
+    cache: &mut Cache,
+    pool: &mut Pool,
+    repo: &Repo,
+    begun: &Begun,
+    v: u32,
+) -> Result<List<Text>, AllocError>
+    requires meta { repo.now.meta ≡ Some begun.now.meta }
+    requires history { repo.now.history ≡ begun.now.history.history }
+    requires there { v < length repo.now.history.versions }
+    requires usable { MayUse pool.old cache.old }
+    requires forms { HasForms repo.now pool.old cache.old }
+    ensures lines { IfOk result (λ lines. lines ≡ text begun.now.meta (state_of begun.now.meta repo.now.history v) ∷ []) }
+    ensures first { OnOk result (LeavesFirst begun.now.meta repo.now.history v cache.new) }
+    ensures uses { Uses pool.old pool.new cache.old cache.new }
+    ensures forms { HasForms repo.now pool.new cache.new }
+{
+    let model = repo.version_state(alloc, cache, pool, begun, v)?;
+    let mut lines = List::new(alloc);
+    lines.push(write_model(alloc, model.graph(), &begun.meta)?)?;
+    Ok(lines)
 }

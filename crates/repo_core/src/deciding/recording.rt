@@ -3,11 +3,11 @@ ghost use Rattle.std.specs.Prelude.{◌≡◌, ◌≢◌, ◌-◌, ◌<◌, ◌^
 ghost use Rattle.plain_repository.specs.State.{workspace_of};
 ghost use Rattle.plain_repository.specs.Edits.{with_operation, refusal_of, id_words, decide_edit, decide_import};
 ghost use Rattle.plain_repository.specs.Events.{playable_with};
-ghost use Rattle.repo_core.specs.Working.{IsWorkingModel};
+ghost use Rattle.repo_state.specs.Working.{IsWorkingModel};
 ghost use Rattle.repo_core.specs.Decisions.{seen, CanMakeIt};
 
-use crate::deciding::answers::{Decision, number_words, refuse, tell};
-use crate::repo::{Begun, Repo};
+use crate::deciding::answers::{Decision, number_words, refuse, tell, with_room};
+use crate::deciding::models::settle;
 use ecore_meta::{List, Text};
 use edit_laws::EditFault;
 use edits::{Edit, Recorded};
@@ -17,6 +17,7 @@ use model_import::import_doc;
 use model_state::{Id, Operation};
 use op_form::Event;
 use recorder::take_edit;
+use repo_state::{Begun, Repo};
 use script_lang::Refusal;
 use std::alloc::{AllocError, Global};
 
@@ -53,102 +54,106 @@ fn id_words(alloc: Global, id: &Option<Id>) -> Result<Text, AllocError>
     }
 }
 
-impl Repo {
-    /// An edit of the working model.
-    #[tactic(auto, unfolding(plain_repository::specs::Edits::decide_edit))]
-    pub(crate) fn decide_edit(
-        &self,
-        alloc: Global,
-        begun: &Begun,
-        ws: u32,
-        edit: &Edit,
-        model: Option<&Graph>,
-    ) -> Result<Decision, AllocError>
-        requires meta { self.now.meta ≡ Some begun.now.meta }
-        requires history { self.now.history ≡ begun.now.history.history }
-        requires model { IfSome model (λ m. IsWorkingModel self.now ws m.now) }
-        requires none { IfNone model (workspace_of self.now ws ≡ None) }
-        ensures decision { IfOk result (λ d. seen d ≡ decide_edit self.now begun.now.meta ws edit.now) }
-        ensures made { IfOk result (λ d. CanMakeIt self.now d.made) }
-    {
-        let Some(workspace) = self.workspace(ws) else {
-            return Ok(refuse(alloc, Refusal::NoWorkspace));
-        };
-        let Some(model) = model else {
-            return Ok(refuse(alloc, Refusal::NoWorkspace));
-        };
-        self.settle(begun, ws, workspace, model);
-        begun.meta.sound();
-        let Recorded { operation, id } = match take_edit(alloc, model, &begun.meta, ws, edit) {
-            Ok(recorded) => recorded,
-            Err(fault) => match refusal_of(fault) {
-                Some(refusal) => return Ok(refuse(alloc, refusal)),
-                None => return Err(AllocError),
-            },
-        };
-        let words = id_words(alloc, &id)?;
-        self.with_operation(alloc, ws, words, operation)
-    }
+/// An edit of the working model.
+#[tactic(auto, unfolding(plain_repository::specs::Edits::decide_edit))]
+pub(crate) fn decide_edit(
+    alloc: Global,
+    repo: &Repo,
+    begun: &Begun,
+    ws: u32,
+    edit: &Edit,
+    model: Option<&Graph>,
+) -> Result<Decision, AllocError>
+    requires meta { repo.now.meta ≡ Some begun.now.meta }
+    requires history { repo.now.history ≡ begun.now.history.history }
+    requires model { IfSome model (λ m. IsWorkingModel repo.now ws m.now) }
+    requires none { IfNone model (workspace_of repo.now ws ≡ None) }
+    ensures decision { IfOk result (λ d. seen d ≡ decide_edit repo.now begun.now.meta ws edit.now) }
+    ensures made { IfOk result (λ d. CanMakeIt repo.now d.made) }
+{
+    let Some(workspace) = repo.workspace(ws) else {
+        return Ok(refuse(alloc, Refusal::NoWorkspace));
+    };
+    let Some(model) = model else {
+        return Ok(refuse(alloc, Refusal::NoWorkspace));
+    };
+    settle(repo, begun, ws, workspace, model);
+    begun.meta.sound();
+    let Recorded { operation, id } = match take_edit(alloc, model, &begun.meta, ws, edit) {
+        Ok(recorded) => recorded,
+        Err(fault) => match refusal_of(fault) {
+            Some(refusal) => return Ok(refuse(alloc, refusal)),
+            None => return Err(AllocError),
+        },
+    };
+    let words = id_words(alloc, &id)?;
+    with_operation(alloc, repo, ws, words, operation)
+}
 
-    /// `import WS`, with the text of a model.
-    #[tactic(auto, unfolding(plain_repository::specs::Edits::decide_import))]
-    pub(crate) fn decide_import(
-        &self,
-        alloc: Global,
-        begun: &Begun,
-        ws: u32,
-        text: &str,
-        model: Option<&Graph>,
-    ) -> Result<Decision, AllocError>
-        requires meta { self.now.meta ≡ Some begun.now.meta }
-        requires history { self.now.history ≡ begun.now.history.history }
-        requires short { length text.now < 2 ^ 32 - 1 }
-        requires model { IfSome model (λ m. IsWorkingModel self.now ws m.now) }
-        requires none { IfNone model (workspace_of self.now ws ≡ None) }
-        ensures decision { IfOk result (λ d. seen d ≡ decide_import self.now begun.now.meta ws text.now) }
-        ensures made { IfOk result (λ d. CanMakeIt self.now d.made) }
-    {
-        let Some(workspace) = self.workspace(ws) else {
-            return Ok(refuse(alloc, Refusal::NoWorkspace));
-        };
-        let Some(model) = model else {
-            return Ok(refuse(alloc, Refusal::NoWorkspace));
-        };
-        self.settle(begun, ws, workspace, model);
-        let doc = match read_model(alloc, text, &begun.meta) {
-            Ok(doc) => doc,
-            Err(ModelFault::Memory) => return Err(AllocError),
-            Err(fault) => return Ok(refuse(alloc, Refusal::BadModel { n: fault.number() })),
-        };
-        begun.meta.sound();
-        let operation = match import_doc(alloc, model, &begun.meta, ws, &doc) {
-            Ok(operation) => operation,
-            Err(fault) => match refusal_of(fault) {
-                Some(refusal) => return Ok(refuse(alloc, refusal)),
-                None => return Err(AllocError),
-            },
-        };
-        let words = number_words(alloc, doc.rows.len() as u64)?;
-        self.with_operation(alloc, ws, words, operation)
-    }
+/// `import WS`, with the text of a model.
+#[tactic(auto, unfolding(plain_repository::specs::Edits::decide_import))]
+pub(crate) fn decide_import(
+    alloc: Global,
+    repo: &Repo,
+    begun: &Begun,
+    ws: u32,
+    text: &str,
+    model: Option<&Graph>,
+) -> Result<Decision, AllocError>
+    requires meta { repo.now.meta ≡ Some begun.now.meta }
+    requires history { repo.now.history ≡ begun.now.history.history }
+    requires short { length text.now < 2 ^ 32 - 1 }
+    requires model { IfSome model (λ m. IsWorkingModel repo.now ws m.now) }
+    requires none { IfNone model (workspace_of repo.now ws ≡ None) }
+    ensures decision { IfOk result (λ d. seen d ≡ decide_import repo.now begun.now.meta ws text.now) }
+    ensures made { IfOk result (λ d. CanMakeIt repo.now d.made) }
+{
+    let Some(workspace) = repo.workspace(ws) else {
+        return Ok(refuse(alloc, Refusal::NoWorkspace));
+    };
+    let Some(model) = model else {
+        return Ok(refuse(alloc, Refusal::NoWorkspace));
+    };
+    settle(repo, begun, ws, workspace, model);
+    let doc = match read_model(alloc, text, &begun.meta) {
+        Ok(doc) => doc,
+        Err(ModelFault::Memory) => return Err(AllocError),
+        Err(fault) => return Ok(refuse(alloc, Refusal::BadModel { n: fault.number() })),
+    };
+    begun.meta.sound();
+    let operation = match import_doc(alloc, model, &begun.meta, ws, &doc) {
+        Ok(operation) => operation,
+        Err(fault) => match refusal_of(fault) {
+            Some(refusal) => return Ok(refuse(alloc, refusal)),
+            None => return Err(AllocError),
+        },
+    };
+    let words = number_words(alloc, doc.rows.len() as u64)?;
+    with_operation(alloc, repo, ws, words, operation)
+}
 
-    /// Makes an event of what is recorded; where there is no operation, nothing changes.
-    fn with_operation(
-        &self,
-        alloc: Global,
-        ws: u32,
-        words: Text,
-        operation: Option<Operation>,
-    ) -> Result<Decision, AllocError>
-        requires could { IfSome operation (λ o. playable_with self.now self.now.meta (Event.Edit ws (o ∷ [])) ≡ true) }
-        ensures decision { IfOk result (λ d. seen d ≡ with_operation self.now ws words operation) }
-        ensures made { IfOk result (λ d. CanMakeIt self.now d.made) }
-    {
-        let Some(operation) = operation else {
-            return Ok(tell(List::new(alloc), words));
-        };
-        let mut package = List::new(alloc);
-        package.push(operation)?;
-        self.with_room(alloc, List::new(alloc), words, Event::Edit { ws, package })
-    }
+/// Makes an event of what is recorded; where there is no operation, nothing changes.
+fn with_operation(
+    alloc: Global,
+    repo: &Repo,
+    ws: u32,
+    words: Text,
+    operation: Option<Operation>,
+) -> Result<Decision, AllocError>
+    requires could { IfSome operation (λ o. playable_with repo.now repo.now.meta (Event.Edit ws (o ∷ [])) ≡ true) }
+    ensures decision { IfOk result (λ d. seen d ≡ with_operation repo.now ws words operation) }
+    ensures made { IfOk result (λ d. CanMakeIt repo.now d.made) }
+{
+    let Some(operation) = operation else {
+        return Ok(tell(List::new(alloc), words));
+    };
+    let mut package = List::new(alloc);
+    package.push(operation)?;
+    with_room(
+        alloc,
+        repo,
+        List::new(alloc),
+        words,
+        Event::Edit { ws, package },
+    )
 }

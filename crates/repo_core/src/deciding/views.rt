@@ -6,21 +6,22 @@ ghost use Rattle.plain_repository.specs.Views.{lines_of_open, decide_changes, de
 ghost use Rattle.data_lines.specs.Typed.{AreTyped};
 ghost use Rattle.plain_repository.specs.Specs.{named};
 ghost use Rattle.version_states.specs.Cached.{MayUse, Uses};
-ghost use Rattle.repo_core.specs.Cached.{FoundFirst, HasForms};
-ghost use Rattle.repo_core.specs.Keeping.{plain_composite};
-ghost use Rattle.repo_core.specs.Working.{IsWorkingModel};
+ghost use Rattle.repo_core.specs.Shown.{FoundFirst};
+ghost use Rattle.repo_state.specs.Cached.{HasForms};
+ghost use Rattle.repo_state.specs.Keeping.{plain_composite};
+ghost use Rattle.repo_state.specs.Working.{IsWorkingModel};
 ghost use Rattle.repo_core.specs.Decisions.{seen, CanMakeIt};
 
 use crate::deciding::answers::{Decision, refuse, tell};
-use crate::deciding::naming::{find, unknown};
-use crate::repo::{Begun, Repo};
-use crate::workspace::Composite;
+use crate::deciding::models::settle;
+use crate::deciding::naming::{find, text_of, unknown};
 use data_lines::{log_lines, open_lines, operation_lines, package_lines, validate_lines};
 use ecore_meta::{List, Metamodel, Text};
 use emfjson_text::write_model;
 use model_graph::Graph;
 use op_form::is_package;
 use page_pool::Pool;
+use repo_state::{Begun, Composite, Repo};
 use script_lang::{Refusal, Spec};
 use state_cache::Cache;
 use std::alloc::{AllocError, Global};
@@ -52,148 +53,146 @@ fn push_open_lines(
     push_lines(alloc, lines, &open)
 }
 
-impl Repo {
-    /// `changes WS`: the operations and the open composite, line by line.
-    #[tactic(auto, unfolding(plain_repository::specs::Views::decide_changes))]
-    pub(crate) fn decide_changes(
-        &self,
-        alloc: Global,
-        begun: &Begun,
-        ws: u32,
-    ) -> Result<Decision, AllocError>
-        requires meta { self.now.meta ≡ Some begun.now.meta }
-        requires history { self.now.history ≡ begun.now.history.history }
-        ensures decision { IfOk result (λ d. seen d ≡ decide_changes self.now begun.now.meta ws) }
-        ensures made { IfOk result (λ d. CanMakeIt self.now d.made) }
-    {
-        let Some(workspace) = self.workspace(ws) else {
-            return Ok(refuse(alloc, Refusal::NoWorkspace));
-        };
-        self.orderly();
-        begun.meta.sound();
-        let mut lines = operation_lines(alloc, workspace.operations(), &begun.meta)?;
-        push_open_lines(alloc, &mut lines, workspace.composite(), &begun.meta)?;
-        Ok(tell(lines, Text::new(alloc, "")?))
-    }
+/// `changes WS`: the operations and the open composite, line by line.
+#[tactic(auto, unfolding(plain_repository::specs::Views::decide_changes))]
+pub(crate) fn decide_changes(
+    alloc: Global,
+    repo: &Repo,
+    begun: &Begun,
+    ws: u32,
+) -> Result<Decision, AllocError>
+    requires meta { repo.now.meta ≡ Some begun.now.meta }
+    requires history { repo.now.history ≡ begun.now.history.history }
+    ensures decision { IfOk result (λ d. seen d ≡ decide_changes repo.now begun.now.meta ws) }
+    ensures made { IfOk result (λ d. CanMakeIt repo.now d.made) }
+{
+    let Some(workspace) = repo.workspace(ws) else {
+        return Ok(refuse(alloc, Refusal::NoWorkspace));
+    };
+    repo.orderly();
+    begun.meta.sound();
+    let mut lines = operation_lines(alloc, workspace.operations(), &begun.meta)?;
+    push_open_lines(alloc, &mut lines, workspace.composite(), &begun.meta)?;
+    Ok(tell(lines, Text::new(alloc, "")?))
+}
 
-    /// `show WS`: the text of the working model.
-    #[tactic(auto, unfolding(plain_repository::specs::Views::decide_show))]
-    pub(crate) fn decide_show(
-        &self,
-        alloc: Global,
-        begun: &Begun,
-        ws: u32,
-        model: Option<&Graph>,
-    ) -> Result<Decision, AllocError>
-        requires meta { self.now.meta ≡ Some begun.now.meta }
-        requires history { self.now.history ≡ begun.now.history.history }
-        requires model { IfSome model (λ m. IsWorkingModel self.now ws m.now) }
-        requires none { IfNone model (workspace_of self.now ws ≡ None) }
-        ensures decision { IfOk result (λ d. seen d ≡ decide_show self.now begun.now.meta ws) }
-        ensures made { IfOk result (λ d. CanMakeIt self.now d.made) }
-    {
-        let Some(workspace) = self.workspace(ws) else {
-            return Ok(refuse(alloc, Refusal::NoWorkspace));
-        };
-        let Some(model) = model else {
-            return Ok(refuse(alloc, Refusal::NoWorkspace));
-        };
-        self.settle(begun, ws, workspace, model);
-        let mut lines = List::new(alloc);
-        lines.push(write_model(alloc, model, &begun.meta)?)?;
-        Ok(tell(lines, Text::new(alloc, "")?))
-    }
+/// `show WS`: the text of the working model.
+#[tactic(auto, unfolding(plain_repository::specs::Views::decide_show))]
+pub(crate) fn decide_show(
+    alloc: Global,
+    repo: &Repo,
+    begun: &Begun,
+    ws: u32,
+    model: Option<&Graph>,
+) -> Result<Decision, AllocError>
+    requires meta { repo.now.meta ≡ Some begun.now.meta }
+    requires history { repo.now.history ≡ begun.now.history.history }
+    requires model { IfSome model (λ m. IsWorkingModel repo.now ws m.now) }
+    requires none { IfNone model (workspace_of repo.now ws ≡ None) }
+    ensures decision { IfOk result (λ d. seen d ≡ decide_show repo.now begun.now.meta ws) }
+    ensures made { IfOk result (λ d. CanMakeIt repo.now d.made) }
+{
+    let Some(workspace) = repo.workspace(ws) else {
+        return Ok(refuse(alloc, Refusal::NoWorkspace));
+    };
+    let Some(model) = model else {
+        return Ok(refuse(alloc, Refusal::NoWorkspace));
+    };
+    settle(repo, begun, ws, workspace, model);
+    let mut lines = List::new(alloc);
+    lines.push(write_model(alloc, model, &begun.meta)?)?;
+    Ok(tell(lines, Text::new(alloc, "")?))
+}
 
-    /// `validate WS`: the features that are below their lower bounds.
-    #[tactic(auto, unfolding(plain_repository::specs::Views::decide_validate))]
-    pub(crate) fn decide_validate(
-        &self,
-        alloc: Global,
-        begun: &Begun,
-        ws: u32,
-        model: Option<&Graph>,
-    ) -> Result<Decision, AllocError>
-        requires meta { self.now.meta ≡ Some begun.now.meta }
-        requires history { self.now.history ≡ begun.now.history.history }
-        requires model { IfSome model (λ m. IsWorkingModel self.now ws m.now) }
-        requires none { IfNone model (workspace_of self.now ws ≡ None) }
-        ensures decision { IfOk result (λ d. seen d ≡ decide_validate self.now begun.now.meta ws) }
-        ensures made { IfOk result (λ d. CanMakeIt self.now d.made) }
-    {
-        let Some(workspace) = self.workspace(ws) else {
-            return Ok(refuse(alloc, Refusal::NoWorkspace));
-        };
-        let Some(model) = model else {
-            return Ok(refuse(alloc, Refusal::NoWorkspace));
-        };
-        self.settle(begun, ws, workspace, model);
-        let lines = validate_lines(alloc, model, &begun.meta)?;
-        Ok(tell(lines, Text::new(alloc, "")?))
-    }
+/// `validate WS`: the features that are below their lower bounds.
+#[tactic(auto, unfolding(plain_repository::specs::Views::decide_validate))]
+pub(crate) fn decide_validate(
+    alloc: Global,
+    repo: &Repo,
+    begun: &Begun,
+    ws: u32,
+    model: Option<&Graph>,
+) -> Result<Decision, AllocError>
+    requires meta { repo.now.meta ≡ Some begun.now.meta }
+    requires history { repo.now.history ≡ begun.now.history.history }
+    requires model { IfSome model (λ m. IsWorkingModel repo.now ws m.now) }
+    requires none { IfNone model (workspace_of repo.now ws ≡ None) }
+    ensures decision { IfOk result (λ d. seen d ≡ decide_validate repo.now begun.now.meta ws) }
+    ensures made { IfOk result (λ d. CanMakeIt repo.now d.made) }
+{
+    let Some(workspace) = repo.workspace(ws) else {
+        return Ok(refuse(alloc, Refusal::NoWorkspace));
+    };
+    let Some(model) = model else {
+        return Ok(refuse(alloc, Refusal::NoWorkspace));
+    };
+    settle(repo, begun, ws, workspace, model);
+    let lines = validate_lines(alloc, model, &begun.meta)?;
+    Ok(tell(lines, Text::new(alloc, "")?))
+}
 
-    /// `cat SPEC`: the text of the version.
-    #[tactic(auto, unfolding(plain_repository::specs::Views::decide_cat), using(version_states::proofs::Caching::uses_none))]
-    pub(crate) fn decide_cat(
-        &self,
-        alloc: Global,
-        cache: &mut Cache,
-        pool: &mut Pool,
-        begun: &Begun,
-        spec: &Spec,
-    ) -> Result<Decision, AllocError>
-        requires meta { self.now.meta ≡ Some begun.now.meta }
-        requires history { self.now.history ≡ begun.now.history.history }
-        requires usable { MayUse pool.old cache.old }
-        requires forms { HasForms self.now pool.old cache.old }
-        ensures decision { IfOk result (λ d. seen d ≡ decide_cat self.now begun.now.meta spec.now) }
-        ensures made { IfOk result (λ d. CanMakeIt self.now d.made) }
-        ensures first { OnOk result (FoundFirst begun.now.meta self.now.history (named self.now.history spec.now) cache.new) }
-        ensures uses { Uses pool.old pool.new cache.old cache.new }
-        ensures forms { HasForms self.now pool.new cache.new }
-    {
-        let found = match find(&begun.history, spec) {
-            Ok(found) => found,
-            Err(fault) => return Ok(refuse(alloc, unknown(fault))),
-        };
-        let lines = self.text_of(alloc, cache, pool, begun, found.version)?;
-        Ok(tell(lines, Text::new(alloc, "")?))
-    }
+/// `cat SPEC`: the text of the version.
+#[tactic(auto, unfolding(plain_repository::specs::Views::decide_cat), using(version_states::proofs::Caching::uses_none))]
+pub(crate) fn decide_cat(
+    alloc: Global,
+    cache: &mut Cache,
+    pool: &mut Pool,
+    repo: &Repo,
+    begun: &Begun,
+    spec: &Spec,
+) -> Result<Decision, AllocError>
+    requires meta { repo.now.meta ≡ Some begun.now.meta }
+    requires history { repo.now.history ≡ begun.now.history.history }
+    requires usable { MayUse pool.old cache.old }
+    requires forms { HasForms repo.now pool.old cache.old }
+    ensures decision { IfOk result (λ d. seen d ≡ decide_cat repo.now begun.now.meta spec.now) }
+    ensures made { IfOk result (λ d. CanMakeIt repo.now d.made) }
+    ensures first { OnOk result (FoundFirst begun.now.meta repo.now.history (named repo.now.history spec.now) cache.new) }
+    ensures uses { Uses pool.old pool.new cache.old cache.new }
+    ensures forms { HasForms repo.now pool.new cache.new }
+{
+    let found = match find(&begun.history, spec) {
+        Ok(found) => found,
+        Err(fault) => return Ok(refuse(alloc, unknown(fault))),
+    };
+    let lines = text_of(alloc, cache, pool, repo, begun, found.version)?;
+    Ok(tell(lines, Text::new(alloc, "")?))
+}
 
-    /// `package SPEC`: the operations of the version, and their bytes.
-    #[tactic(auto, unfolding(plain_repository::specs::Views::decide_package))]
-    pub(crate) fn decide_package(
-        &self,
-        alloc: Global,
-        begun: &Begun,
-        spec: &Spec,
-    ) -> Result<Decision, AllocError>
-        requires meta { self.now.meta ≡ Some begun.now.meta }
-        requires history { self.now.history ≡ begun.now.history.history }
-        ensures decision { IfOk result (λ d. seen d ≡ decide_package self.now begun.now.meta spec.now) }
-        ensures made { IfOk result (λ d. CanMakeIt self.now d.made) }
-    {
-        let found = match find(&begun.history, spec) {
-            Ok(found) => found,
-            Err(fault) => return Ok(refuse(alloc, unknown(fault))),
-        };
-        let version = begun.history.version(found.version);
-        if !is_package(&version.package) {
-            return Ok(refuse(alloc, Refusal::TooLarge));
-        }
-        self.orderly();
-        begun.meta.sound();
-        let lines = package_lines(alloc, &version.package, &begun.meta)?;
-        Ok(tell(lines, Text::new(alloc, "")?))
+/// `package SPEC`: the operations of the version, and their bytes.
+#[tactic(auto, unfolding(plain_repository::specs::Views::decide_package))]
+pub(crate) fn decide_package(
+    alloc: Global,
+    repo: &Repo,
+    begun: &Begun,
+    spec: &Spec,
+) -> Result<Decision, AllocError>
+    requires meta { repo.now.meta ≡ Some begun.now.meta }
+    requires history { repo.now.history ≡ begun.now.history.history }
+    ensures decision { IfOk result (λ d. seen d ≡ decide_package repo.now begun.now.meta spec.now) }
+    ensures made { IfOk result (λ d. CanMakeIt repo.now d.made) }
+{
+    let found = match find(&begun.history, spec) {
+        Ok(found) => found,
+        Err(fault) => return Ok(refuse(alloc, unknown(fault))),
+    };
+    let version = begun.history.version(found.version);
+    if !is_package(&version.package) {
+        return Ok(refuse(alloc, Refusal::TooLarge));
     }
+    repo.orderly();
+    begun.meta.sound();
+    let lines = package_lines(alloc, &version.package, &begun.meta)?;
+    Ok(tell(lines, Text::new(alloc, "")?))
+}
 
-    /// `log`: the versions.
-    #[tactic(auto, unfolding(plain_repository::specs::Views::decide_log))]
-    pub(crate) fn decide_log(&self, alloc: Global, begun: &Begun) -> Result<Decision, AllocError>
-        requires history { self.now.history ≡ begun.now.history.history }
-        ensures decision { IfOk result (λ d. seen d ≡ decide_log self.now) }
-        ensures made { IfOk result (λ d. CanMakeIt self.now d.made) }
-    {
-        let lines = log_lines(alloc, &begun.history)?;
-        Ok(tell(lines, Text::new(alloc, "")?))
-    }
+/// `log`: the versions.
+#[tactic(auto, unfolding(plain_repository::specs::Views::decide_log))]
+pub(crate) fn decide_log(alloc: Global, _repo: &Repo, begun: &Begun) -> Result<Decision, AllocError>
+    requires history { _repo.now.history ≡ begun.now.history.history }
+    ensures decision { IfOk result (λ d. seen d ≡ decide_log _repo.now) }
+    ensures made { IfOk result (λ d. CanMakeIt _repo.now d.made) }
+{
+    let lines = log_lines(alloc, &begun.history)?;
+    Ok(tell(lines, Text::new(alloc, "")?))
 }

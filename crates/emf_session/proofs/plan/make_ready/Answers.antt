@@ -2,7 +2,7 @@ use Rattle.std.proofs.Common.{length}
 use Rattle.state_cache.specs.Entries.{HoldsAll}
 use Rattle.state_cache.proofs.Alone.{yielded_all}
 use Rattle.state_cache.proofs.Standing.{stands_alike}
-use Rattle.repo_core.specs.Cached.{HasForms}
+use Rattle.repo_state.specs.Cached.{HasForms}
 use Rattle.emf_session.proofs.Holding.{all_alike, any_err, forms_alike, forms_yielded, made_both, made_same, room_made}
 use Rattle.emf_session.proofs.plan.make_ready.Goals as goal
 

@@ -21,7 +21,7 @@ returns-in-Err-clause-all c =
 
 pub returns-in-Err-clause-forms : goal.returns-in-Err-clause-forms
 returns-in-Err-clause-forms c =
-    forms_alike c.play.new.self c.play.new.pool c.give_up.new.pool c.play.new.cache
+    forms_alike c.play.new.repo c.play.new.pool c.give_up.new.pool c.play.new.cache
     (given_same c.play.new.pool c.give_up.new.pool c.play.new.cache c.args.prepared (both_on c.args.pool.now c.play.new.pool c.args.cache.now c.play.new.cache c.args.prepared c.args.form.now c.requires.holds c.requires.held c.play.ensures.uses)
     c.give_up.ensures.free c.give_up.ensures.others c.give_up.ensures.out)
     c.play.ensures.forms

@@ -1,6 +1,6 @@
 use Rattle.std.proofs.Common.{◌≡◌, sym, subst}
 use Rattle.plain_repository.specs.State.{State}
-use Rattle.repo_core.specs.Cached.{HasForms}
+use Rattle.repo_state.specs.Cached.{HasForms}
 use Rattle.emf_session.proofs.Holding.{all_may, all_on}
 use Rattle.emf_session.proofs.plan.prepare.Goals as goal
 

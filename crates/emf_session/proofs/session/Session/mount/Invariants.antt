@@ -1,6 +1,6 @@
 use Rattle.std.proofs.Common.{◌-◌, ◌^◌}
 use Rattle.state_cache.specs.Entries.{HoldsAll}
-use Rattle.repo_core.specs.Cached.{HasForms}
+use Rattle.repo_state.specs.Cached.{HasForms}
 use Rattle.emf_session.proofs.Opening.{Replays}
 use Rattle.emf_session.proofs.session.Session.mount.Given as goal
 

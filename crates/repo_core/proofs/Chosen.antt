@@ -1,0 +1,42 @@
+-- What was answered to the choices of an update and of a merge.
+use Rattle.std.proofs.Common.{◌≡◌, ◌≢◌, ℕ, true, false, List, [], Option, None, Some, refl, sym, ◌∙◌, subst}
+use Rattle.std.specs.Prelude.{IfNone, IfSome, unwrap_or}
+use Rattle.std.specs.Fmt.{decimal}
+use Rattle.std.proofs.lemmas.Bool.{ne_eqb}
+use Rattle.ecore_meta.specs.Meta.{Meta}
+use Rattle.footprint.specs.declared.bucket.Bucket.{Bucket}
+use Rattle.history_tree.specs.History.{head}
+use Rattle.merge_plans.specs.Choices.{are_choices}
+use Rattle.op_form.specs.declared.event.Event.TheVariants.{Merge, Update}
+use Rattle.plain_repository.specs.Answers as plain
+use Rattle.plain_repository.specs.Answers.{told, with_room}
+use Rattle.plain_repository.specs.Choices.{chosen}
+use Rattle.plain_repository.specs.Merging.{decide_update, has_theirs, merge_of, update_buckets}
+use Rattle.plain_repository.specs.State.{State, Workspace, is_open, workspace_of}
+use Rattle.repo_core.specs.Decisions.{CanMakeIt, seen}
+use Rattle.repo_core.specs.declared.deciding.answers.Decision.{Decision}
+
+pub merge_none : (s : State) (ws : ℕ) (w : Workspace) (branch : ℕ) (letters : List ℕ) (other : ℕ) → has_theirs s.history w other ≡ false → merge_of s ws w branch letters other ≡ told [] (decimal other)
+merge_none s ws w branch letters other none = rw none refl
+
+pub merge_some : (s : State) (ws : ℕ) (w : Workspace) (branch : ℕ) (letters : List ℕ) (other : ℕ) → has_theirs s.history w other ≡ true → merge_of s ws w branch letters other ≡ with_room s [] (decimal other) (Merge ws branch letters)
+merge_some s ws w branch letters other some = rw some refl
+
+-- ---- what was answered to the choices
+pub refused_made : (o : Option Decision) (d : Decision) (s : State) → o ≡ Some d → IfSome o (λ d. (s : State) → CanMakeIt s d.made) → CanMakeIt s d.made
+refused_made o d s is made = subst (λ (x : Option Decision). IfSome x (λ d. (s : State) → CanMakeIt s d.made)) is made s
+
+pub refused_seen : (o : Option Decision) (d : Decision) (rows : List Bucket) (choices : Option (List ℕ)) (x : plain.Decision) → o ≡ Some d → IfSome o (λ d. (otherwise : plain.Decision) → seen d ≡ chosen rows choices otherwise) → seen d ≡ chosen rows choices x
+refused_seen o d rows choices x is refused = subst (λ (y : Option Decision). IfSome y (λ d. (otherwise : plain.Decision) → seen d ≡ chosen rows choices otherwise)) is refused x
+
+pub passed_on : (o : Option Decision) (rows : List Bucket) (choices : Option (List ℕ)) (x : plain.Decision) → o ≡ None → IfNone o ((otherwise : plain.Decision) → chosen rows choices otherwise ≡ otherwise) → chosen rows choices x ≡ x
+passed_on o rows choices x is passed = subst (λ (y : Option Decision). IfNone y ((otherwise : plain.Decision) → chosen rows choices otherwise ≡ otherwise)) is passed x
+
+pub passed_fit : (o : Option Decision) (rows : List Bucket) (choices : Option (List ℕ)) → o ≡ None → IfNone o (are_choices (unwrap_or choices []) rows ≡ true) → are_choices (unwrap_or choices []) rows ≡ true
+passed_fit o rows choices is fit = subst (λ (y : Option Decision). IfNone y (are_choices (unwrap_or choices []) rows ≡ true)) is fit
+
+-- ---- what an update is answered, whose choices fit and whose base isn't the head
+pub update_goes : (s : State) (meta : Meta) (ws : ℕ) (w : Workspace) (choices : Option (List ℕ)) → workspace_of s ws ≡ Some w → is_open (Some w) ≡ false → w.base ≢ head s.history w.branch
+    → ((otherwise : plain.Decision) → chosen (update_buckets meta s.history w) choices otherwise ≡ otherwise) → with_room s [] (decimal (head s.history w.branch)) (Update ws (unwrap_or choices [])) ≡ decide_update s meta ws choices
+unfolding decide_update
+update_goes s meta ws w choices there closed other passed = sym (rw there (rw closed (passed _ ∙ rw (ne_eqb w.base (head s.history w.branch) other) refl)))

@@ -1,0 +1,13 @@
+use Rattle.std.proofs.Common.{◌≡◌, ◌<◌, Some, length, subst, sym}
+use Rattle.std.specs.Prelude.{slice_get}
+use Rattle.history_tree.specs.History.{History}
+use Rattle.repo_core.proofs.Typed.{version_typed}
+use Rattle.repo_core.proofs.deciding.views.decide_package.Goals as goal
+
+pub package_lines-requires-clause-typed : goal.package_lines-requires-clause-typed
+package_lines-requires-clause-typed c =
+    let v = c.in-Ok.found.version in
+    let version = c.version-version.result.now in
+    let back = sym c.requires.history in
+    version_typed c.args.repo.now c.args.begun.now.meta v version c.sound.ensures c.orderly.ensures c.requires.meta (subst (λ (h : History). slice_get h.versions v ≡ Some version) back c.version-version.ensures.version)
+    c.version-version.ensures.parent (subst (λ (h : History). v < length h.versions) back c.in-Ok.ensures.version)

@@ -1,7 +1,0 @@
-use Rattle.std.proofs.Common.{sym, subst}
-use Rattle.plain_repository.specs.State.{State}
-use Rattle.repo_core.specs.Working.{IsWorkingModel}
-use Rattle.repo_core.proofs.repo.Repo.record.Goals as goal
-
-pub advance-requires-clause-model : goal.advance-requires-clause-model
-advance-requires-clause-model c = subst (λ (t : State). IsWorkingModel t c.args.ws c.in_ok-model.model) (sym c.take_model.ensures.same) c.in_ok-model.ensures.model

@@ -1,0 +1,38 @@
+-- The working model that a command needs.
+use Rattle.std.specs.Prelude.{◌≡◌, ℕ, List, Option, Some, None}
+use Rattle.script_lang.specs.declared.command.Command.{Command}
+use Rattle.script_lang.specs.declared.command.Command.TheVariants as commands
+use Rattle.plain_repository.specs.State.{State, workspace_of}
+use Rattle.model_state.specs.State as models
+use Rattle.edits.specs.FreshIds.{fresh_id}
+use Rattle.edits.specs.declared.edit.Edit.TheVariants.{Create}
+
+-- the workspace whose working model a command needs
+abbrev pub model_for : Command → Option ℕ
+model_for (commands.Edit ws edit) = Some ws
+model_for (commands.Import ws) = Some ws
+model_for (commands.Show ws) = Some ws
+model_for (commands.Validate ws) = Some ws
+model_for command = None
+
+-- the model is the one that a command needs
+abbrev pub IsModelFor : State → Command → models.State → Type 0
+IsModelFor s command m = (ws : ℕ) → model_for command ≡ Some ws → IsWorkingModel s ws m
+
+-- the command needs no model, or that of no workspace that is there
+abbrev pub NeedsNone : State → Command → Type 0
+NeedsNone s command = (ws : ℕ) → model_for command ≡ Some ws → workspace_of s ws ≡ None
+
+-- the workspace of a creation without an id
+abbrev pub creation_without_id : Command → Option ℕ
+creation_without_id (commands.Edit ws (Create class destination None)) = Some ws
+creation_without_id command = None
+
+-- the command, in which a creation has this id
+abbrev pub given_id : List ℕ → Command → Command
+given_id id (commands.Edit ws (Create class destination old)) = commands.Edit ws (Create class destination (Some id))
+given_id id command = command
+
+-- the command, in which a creation without an id has the fresh one
+abbrev pub with_id : models.State → Command → Command
+with_id m command = elim (creation_without_id command) [ Some ws ↦ given_id (fresh_id m ws) command | None ↦ command ]

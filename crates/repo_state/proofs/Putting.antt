@@ -1,0 +1,73 @@
+-- What the events Tidy, Update and Merge make of a workspace, as other operations that are put into it.
+use Rattle.std.proofs.Common.{◌≡◌, ℕ, zero, suc, List, [], ◌∷◌, true, Option, None, Some, is_some, refl, sym, ◌∙◌, ap, subst}
+use Rattle.std.specs.Prelude.{slice_get, option_map}
+use Rattle.std.proofs.lemmas.Option.{same_Some}
+use Rattle.ecore_meta.specs.Meta.{Meta}
+use Rattle.model_state.specs.declared.operation.Operation.{Operation}
+use Rattle.history_tree.specs.History.{head}
+use Rattle.tidy_laws.specs.Tidy.{tidy}
+use Rattle.op_form.specs.declared.event.Event.{Event}
+use Rattle.op_form.specs.declared.event.Event.TheVariants.{Tidy, Update, Merge}
+use Rattle.op_form.specs.Formed.{IsEvent}
+use Rattle.plain_repository.specs.State.{State, Workspace, there, workspace_of, changed_at, with_changed}
+use Rattle.plain_repository.specs.Events.{by_meta, effect, playable_with}
+use Rattle.plain_repository.specs.Merging.{can_merge, can_update, merge_tail, merged_with, updated}
+use Rattle.plain_repository.specs.Orderly.{IsOrderly}
+use Rattle.plain_repository.specs.Tidying.{can_tidy, tidied}
+use Rattle.plain_repository.proofs.Kept.{effect_keeps}
+use Rattle.repo_state.specs.Planning.{restarted, taken_up}
+use Rattle.repo_state.proofs.Could.{tested}
+
+-- two changes that make the same of the workspace at a place
+at_place : (f g : Workspace → Workspace) (ws : List (Option Workspace)) (n : ℕ) (w : Workspace) → there (slice_get ws n) ≡ Some w → f w ≡ g w → changed_at (option_map f) ws n ≡ changed_at (option_map g) ws n
+at_place f g [] n w at same = refl
+at_place f g (None ∷ ws) zero w at same = refl
+at_place f g (Some v ∷ ws) zero w at same =
+    let is : v ≡ w = same_Some v w at in
+    ap (λ (x : Workspace). Some x ∷ ws) (ap f is ∙ same ∙ ap g (sym is))
+at_place f g (o ∷ ws) (suc n) w at same = ap (λ (l : List (Option Workspace)). o ∷ l) (at_place f g ws n w at same)
+
+-- and so of the one of a number
+pub same_change : (f g : Workspace → Workspace) (s : State) (ws : ℕ) (w : Workspace) → workspace_of s ws ≡ Some w → f w ≡ g w → with_changed f ws s ≡ with_changed g ws s
+same_change f g s zero w at same = refl
+same_change f g s (suc n) w at same = ap (λ (l : List (Option Workspace)). record s { workspaces = l }) (at_place f g s.workspaces n w at same)
+
+-- what goes by the metamodel that is there
+by_its_meta : (m : Option Meta) (meta : Meta) (change : Meta → Workspace → Workspace) (w : Workspace) → m ≡ Some meta → by_meta m change w ≡ change meta w
+by_its_meta m meta change w is = ap (λ (m : Option Meta). by_meta m change w) is
+
+-- ---- what each event leads to
+pub tidy_leads : (s : State) (meta : Meta) (ws : ℕ) (w : Workspace) (operations : List Operation) → s.meta ≡ Some meta → workspace_of s ws ≡ Some w → operations ≡ tidy meta w.operations
+    → with_changed (restarted w.base operations) ws s ≡ effect s (Tidy ws)
+tidy_leads s meta ws w operations begun there is =
+    same_change (restarted w.base operations) (by_meta s.meta tidied) s ws w there (ap (λ (l : List Operation). restarted w.base l w) is ∙ sym (by_its_meta s.meta meta tidied w begun))
+
+pub update_leads : (s : State) (meta : Meta) (ws : ℕ) (letters : List ℕ) (w : Workspace) (base : ℕ) (operations : List Operation) → s.meta ≡ Some meta → workspace_of s ws ≡ Some w
+    → base ≡ head s.history w.branch → operations ≡ (updated meta s.history letters w).operations → with_changed (restarted base operations) ws s ≡ effect s (Update ws letters)
+update_leads s meta ws letters w base operations begun there at is =
+    same_change (restarted base operations) (by_meta s.meta (λ meta. updated meta s.history letters)) s ws w there
+    (ap (λ (l : List Operation). restarted base l w) is ∙ ap (λ (b : ℕ). restarted b (updated meta s.history letters w).operations w) at ∙ sym (by_its_meta s.meta meta (λ meta. updated meta s.history letters) w begun))
+
+pub merge_leads : (s : State) (meta : Meta) (ws branch : ℕ) (letters : List ℕ) (w : Workspace) (more : List Operation) (version : ℕ) → s.meta ≡ Some meta → workspace_of s ws ≡ Some w
+    → version ≡ head s.history branch → more ≡ merge_tail meta s.history w (head s.history branch) letters → with_changed (taken_up more version) ws s ≡ effect s (Merge ws branch letters)
+merge_leads s meta ws branch letters w more version begun there at is =
+    let change : Meta → Workspace → Workspace = λ meta. merged_with meta s.history (head s.history branch) letters in
+    same_change (taken_up more version) (by_meta s.meta change) s ws w there
+    (ap (λ (l : List Operation). taken_up l version w) is ∙ ap (λ (v : ℕ). taken_up (merge_tail meta s.history w (head s.history branch) letters) v w) at ∙ sym (by_its_meta s.meta meta change w begun))
+
+-- ---- all stays in order
+pub put_orderly : (s new : State) (e : Event) → playable_with s s.meta e ≡ true → IsEvent e → IsOrderly s → new ≡ effect s e → IsOrderly new
+put_orderly s new e could spelled orderly is = subst IsOrderly (sym is) (effect_keeps s s.meta e refl could spelled orderly)
+
+-- ---- the workspace is there
+pub tidy_there : (s : State) (m : Option Meta) (ws : ℕ) → playable_with s m (Tidy ws) ≡ true → is_some (workspace_of s ws) ≡ true
+tidy_there s None ws could = absurd cc
+tidy_there s (Some meta) ws could = tested (can_tidy meta) refl (workspace_of s ws) could
+
+pub update_there : (s : State) (m : Option Meta) (ws : ℕ) (letters : List ℕ) → playable_with s m (Update ws letters) ≡ true → is_some (workspace_of s ws) ≡ true
+update_there s None ws letters could = absurd cc
+update_there s (Some meta) ws letters could = tested (can_update meta s.history letters) refl (workspace_of s ws) could
+
+pub merge_there : (s : State) (m : Option Meta) (ws branch : ℕ) (letters : List ℕ) → playable_with s m (Merge ws branch letters) ≡ true → is_some (workspace_of s ws) ≡ true
+merge_there s None ws branch letters could = absurd cc
+merge_there s (Some meta) ws branch letters could = tested (can_merge meta s.history branch letters) refl (workspace_of s ws) could

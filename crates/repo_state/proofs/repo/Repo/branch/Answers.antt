@@ -1,0 +1,66 @@
+use Rattle.std.proofs.Common.{subst}
+use Rattle.op_form.specs.declared.event.Event.TheVariants.{Branch}
+use Rattle.plain_repository.specs.Orderly.{IsOrderly}
+use Rattle.repo_state.specs.Keeping.{plain_of}
+use Rattle.repo_state.proofs.Effects.{begun_is, both_err, both_ok, either, either_orderly, history_is, on_err, on_ok, placed, placed_there}
+use Rattle.repo_state.proofs.Grown.{branch_done, branch_fit, branch_new, grown_same, grown_same_fit, stands_in}
+use Rattle.repo_state.proofs.repo.Repo.branch.Goals as goal
+
+pub branch-begun-requires-clause-base : goal.branch-begun-requires-clause-base
+branch-begun-requires-clause-base c =
+    let s = c.args.self.now in
+    let begun = c.in-Some-begun.begun in
+    let w = c.in-Some-index_mut.workspace in
+    let p = placed c.self.inside.begun c.self.inside.workspaces.items c.self.inside.events c.self.inside.end c.args.self.now c.args.ws c.in-Some.at c.index_mut.result.now _ c.in-Some-index_mut.workspace c.self.view_is c.in-Some.ensures.there.0 c.in-Some.ensures.there.1 c.index_mut.ensures.value c.in-Some-index_mut.is in
+    let is_begun = begun_is c.self.inside.begun begun _ c.self.inside.events c.self.inside.end s c.self.view_is c.in-Some-begun.is in
+    let hist = history_is c.self.inside.begun begun _ c.self.inside.events c.self.inside.end s c.self.view_is c.in-Some-begun.is in
+    (stands_in s begun.meta begun.history.history c.args.ws (plain_of w) (subst IsOrderly c.self.view_is c.self.invariant.2) is_begun hist (placed_there p)).base
+
+pub branch-begun-requires-clause-new : goal.branch-begun-requires-clause-new
+branch-begun-requires-clause-new c =
+    let s = c.args.self.now in
+    let begun = c.in-Some-begun.begun in
+    let w = c.in-Some-index_mut.workspace in
+    let p = placed c.self.inside.begun c.self.inside.workspaces.items c.self.inside.events c.self.inside.end c.args.self.now c.args.ws c.in-Some.at c.index_mut.result.now _ c.in-Some-index_mut.workspace c.self.view_is c.in-Some.ensures.there.0 c.in-Some.ensures.there.1 c.index_mut.ensures.value c.in-Some-index_mut.is in
+    let is_begun = begun_is c.self.inside.begun begun _ c.self.inside.events c.self.inside.end s c.self.view_is c.in-Some-begun.is in
+    let hist = history_is c.self.inside.begun begun _ c.self.inside.events c.self.inside.end s c.self.view_is c.in-Some-begun.is in
+    branch_new s begun.meta begun.history.history c.args.ws c.args.name is_begun hist c.requires.could
+
+pub invariant_of-self : goal.invariant_of-self
+invariant_of-self c =
+    let s = c.args.self.now in
+    let begun = c.in-Some-begun.begun in
+    let w = c.in-Some-index_mut.workspace in
+    let p = placed c.self.inside.begun c.self.inside.workspaces.items c.self.inside.events c.self.inside.end c.args.self.now c.args.ws c.in-Some.at c.index_mut.result.now _ c.in-Some-index_mut.workspace c.self.view_is c.in-Some.ensures.there.0 c.in-Some.ensures.there.1 c.index_mut.ensures.value c.in-Some-index_mut.is in
+    let is_begun = begun_is c.self.inside.begun begun _ c.self.inside.events c.self.inside.end s c.self.view_is c.in-Some-begun.is in
+    let hist = history_is c.self.inside.begun begun _ c.self.inside.events c.self.inside.end s c.self.view_is c.in-Some-begun.is in
+    let new = c.branch-begun.new.self in
+    let w' = c.branch-begun.new.workspace in
+    let orderly = subst IsOrderly c.self.view_is c.self.invariant.2 in
+    let r = c.branch-begun.result in
+    let made = both_ok _ _ r c.branch-begun.ensures.branch c.branch-begun.ensures.moved in
+    let not_made = both_err _ _ r c.branch-begun.ensures.same c.branch-begun.ensures.same_workspace in
+    let done = on_ok r (λ is. branch_done c.self.inside.begun begun new c.self.inside.workspaces.items c.self.inside.events c.self.inside.end s c.self.view_is c.in-Some-begun.is c.branch-begun.ensures.meta orderly c.self.invariant.1 p w' c.branch-begun.ensures.model c.args.name is.0 is.1) made in
+    let same = on_err r (λ is. grown_same c.self.inside.begun begun new c.self.inside.workspaces.items c.self.inside.events c.self.inside.end s c.self.view_is c.in-Some-begun.is c.branch-begun.ensures.meta orderly c.self.invariant.1 p w' c.branch-begun.ensures.model is.0 is.1) not_made in (
+      c.self.invariant.0,
+      either r made not_made (λ is. branch_fit c.self.inside.begun begun new c.self.inside.workspaces.items c.self.inside.events c.self.inside.end s c.self.view_is c.in-Some-begun.is c.branch-begun.ensures.meta orderly c.self.invariant.1 p w' c.branch-begun.ensures.model c.args.name is.0 is.1) (λ is. grown_same_fit c.self.inside.begun begun new c.self.inside.workspaces.items c.self.inside.events c.self.inside.end s c.self.view_is c.in-Some-begun.is c.branch-begun.ensures.meta orderly c.self.invariant.1 p w' c.branch-begun.ensures.model is.0 is.1),
+      either_orderly r s _ begun.meta (Branch c.args.ws c.args.name) is_begun c.requires.could c.requires.spelled orderly done same,
+    )
+
+pub returns : goal.returns
+returns c =
+    let s = c.args.self.now in
+    let begun = c.in-Some-begun.begun in
+    let w = c.in-Some-index_mut.workspace in
+    let p = placed c.self.inside.begun c.self.inside.workspaces.items c.self.inside.events c.self.inside.end c.args.self.now c.args.ws c.in-Some.at c.index_mut.result.now _ c.in-Some-index_mut.workspace c.self.view_is c.in-Some.ensures.there.0 c.in-Some.ensures.there.1 c.index_mut.ensures.value c.in-Some-index_mut.is in
+    let is_begun = begun_is c.self.inside.begun begun _ c.self.inside.events c.self.inside.end s c.self.view_is c.in-Some-begun.is in
+    let hist = history_is c.self.inside.begun begun _ c.self.inside.events c.self.inside.end s c.self.view_is c.in-Some-begun.is in
+    let new = c.branch-begun.new.self in
+    let w' = c.branch-begun.new.workspace in
+    let orderly = subst IsOrderly c.self.view_is c.self.invariant.2 in
+    let r = c.branch-begun.result in
+    let made = both_ok _ _ r c.branch-begun.ensures.branch c.branch-begun.ensures.moved in
+    let not_made = both_err _ _ r c.branch-begun.ensures.same c.branch-begun.ensures.same_workspace in
+    let done = on_ok r (λ is. branch_done c.self.inside.begun begun new c.self.inside.workspaces.items c.self.inside.events c.self.inside.end s c.self.view_is c.in-Some-begun.is c.branch-begun.ensures.meta orderly c.self.invariant.1 p w' c.branch-begun.ensures.model c.args.name is.0 is.1) made in
+    let same = on_err r (λ is. grown_same c.self.inside.begun begun new c.self.inside.workspaces.items c.self.inside.events c.self.inside.end s c.self.view_is c.in-Some-begun.is c.branch-begun.ensures.meta orderly c.self.invariant.1 p w' c.branch-begun.ensures.model is.0 is.1) not_made in
+    record { done = done; same = same }

@@ -1,0 +1,76 @@
+use Rattle.std.proofs.Common.{subst}
+use Rattle.op_form.specs.declared.event.Event.TheVariants.{Commit}
+use Rattle.plain_repository.specs.Orderly.{IsOrderly}
+use Rattle.repo_state.specs.Keeping.{plain_of}
+use Rattle.repo_state.proofs.Effects.{begun_is, both_err, both_ok, either, either_orderly, history_is, on_err, on_ok, placed, placed_there}
+use Rattle.repo_state.proofs.Grown.{commit_at_head, commit_done, commit_fit, grown_same, grown_same_fit, stands_in}
+use Rattle.repo_state.proofs.repo.Repo.commit.Goals as goal
+
+pub commit-requires-clause-branch : goal.commit-requires-clause-branch
+commit-requires-clause-branch c =
+    let s = c.args.self.now in
+    let begun = c.in-Some-begun.begun in
+    let w = c.in-Some-index_mut.workspace in
+    let p = placed c.self.inside.begun c.self.inside.workspaces.items c.self.inside.events c.self.inside.end c.args.self.now c.args.ws c.in-Some.at c.index_mut.result.now _ c.in-Some-index_mut.workspace c.self.view_is c.in-Some.ensures.there.0 c.in-Some.ensures.there.1 c.index_mut.ensures.value c.in-Some-index_mut.is in
+    let is_begun = begun_is c.self.inside.begun begun _ c.self.inside.events c.self.inside.end s c.self.view_is c.in-Some-begun.is in
+    let hist = history_is c.self.inside.begun begun _ c.self.inside.events c.self.inside.end s c.self.view_is c.in-Some-begun.is in
+    (stands_in s begun.meta begun.history.history c.args.ws (plain_of w) (subst IsOrderly c.self.view_is c.self.invariant.2) is_begun hist (placed_there p)).branch
+
+pub commit-requires-clause-at_head : goal.commit-requires-clause-at_head
+commit-requires-clause-at_head c =
+    let s = c.args.self.now in
+    let begun = c.in-Some-begun.begun in
+    let w = c.in-Some-index_mut.workspace in
+    let p = placed c.self.inside.begun c.self.inside.workspaces.items c.self.inside.events c.self.inside.end c.args.self.now c.args.ws c.in-Some.at c.index_mut.result.now _ c.in-Some-index_mut.workspace c.self.view_is c.in-Some.ensures.there.0 c.in-Some.ensures.there.1 c.index_mut.ensures.value c.in-Some-index_mut.is in
+    let is_begun = begun_is c.self.inside.begun begun _ c.self.inside.events c.self.inside.end s c.self.view_is c.in-Some-begun.is in
+    let hist = history_is c.self.inside.begun begun _ c.self.inside.events c.self.inside.end s c.self.view_is c.in-Some-begun.is in
+    commit_at_head s begun.meta begun.history.history c.args.ws (plain_of w) c.args.message is_begun hist (placed_there p) c.requires.could
+
+pub commit-requires-clause-pending : goal.commit-requires-clause-pending
+commit-requires-clause-pending c =
+    let s = c.args.self.now in
+    let begun = c.in-Some-begun.begun in
+    let w = c.in-Some-index_mut.workspace in
+    let p = placed c.self.inside.begun c.self.inside.workspaces.items c.self.inside.events c.self.inside.end c.args.self.now c.args.ws c.in-Some.at c.index_mut.result.now _ c.in-Some-index_mut.workspace c.self.view_is c.in-Some.ensures.there.0 c.in-Some.ensures.there.1 c.index_mut.ensures.value c.in-Some-index_mut.is in
+    let is_begun = begun_is c.self.inside.begun begun _ c.self.inside.events c.self.inside.end s c.self.view_is c.in-Some-begun.is in
+    let hist = history_is c.self.inside.begun begun _ c.self.inside.events c.self.inside.end s c.self.view_is c.in-Some-begun.is in
+    (stands_in s begun.meta begun.history.history c.args.ws (plain_of w) (subst IsOrderly c.self.view_is c.self.invariant.2) is_begun hist (placed_there p)).pending
+
+pub invariant_of-self : goal.invariant_of-self
+invariant_of-self c =
+    let s = c.args.self.now in
+    let begun = c.in-Some-begun.begun in
+    let w = c.in-Some-index_mut.workspace in
+    let p = placed c.self.inside.begun c.self.inside.workspaces.items c.self.inside.events c.self.inside.end c.args.self.now c.args.ws c.in-Some.at c.index_mut.result.now _ c.in-Some-index_mut.workspace c.self.view_is c.in-Some.ensures.there.0 c.in-Some.ensures.there.1 c.index_mut.ensures.value c.in-Some-index_mut.is in
+    let is_begun = begun_is c.self.inside.begun begun _ c.self.inside.events c.self.inside.end s c.self.view_is c.in-Some-begun.is in
+    let hist = history_is c.self.inside.begun begun _ c.self.inside.events c.self.inside.end s c.self.view_is c.in-Some-begun.is in
+    let new = c.commit.new.self in
+    let w' = c.commit.new.workspace in
+    let orderly = subst IsOrderly c.self.view_is c.self.invariant.2 in
+    let r = c.commit.result in
+    let made = both_ok _ _ r c.commit.ensures.version c.commit.ensures.committed in
+    let not_made = both_err _ _ r c.commit.ensures.same c.commit.ensures.same_workspace in
+    let done = on_ok r (λ is. commit_done c.self.inside.begun begun new c.self.inside.workspaces.items c.self.inside.events c.self.inside.end s c.self.view_is c.in-Some-begun.is c.commit.ensures.meta orderly c.self.invariant.1 p w' c.commit.ensures.model c.args.message is.0 is.1) made in
+    let same = on_err r (λ is. grown_same c.self.inside.begun begun new c.self.inside.workspaces.items c.self.inside.events c.self.inside.end s c.self.view_is c.in-Some-begun.is c.commit.ensures.meta orderly c.self.invariant.1 p w' c.commit.ensures.model is.0 is.1) not_made in (
+      c.self.invariant.0,
+      either r made not_made (λ is. commit_fit c.self.inside.begun begun new c.self.inside.workspaces.items c.self.inside.events c.self.inside.end s c.self.view_is c.in-Some-begun.is c.commit.ensures.meta orderly c.self.invariant.1 p w' c.commit.ensures.model c.args.message c.requires.could is.0 is.1) (λ is. grown_same_fit c.self.inside.begun begun new c.self.inside.workspaces.items c.self.inside.events c.self.inside.end s c.self.view_is c.in-Some-begun.is c.commit.ensures.meta orderly c.self.invariant.1 p w' c.commit.ensures.model is.0 is.1),
+      either_orderly r s _ begun.meta (Commit c.args.ws c.args.message) is_begun c.requires.could c.requires.spelled orderly done same,
+    )
+
+pub returns : goal.returns
+returns c =
+    let s = c.args.self.now in
+    let begun = c.in-Some-begun.begun in
+    let w = c.in-Some-index_mut.workspace in
+    let p = placed c.self.inside.begun c.self.inside.workspaces.items c.self.inside.events c.self.inside.end c.args.self.now c.args.ws c.in-Some.at c.index_mut.result.now _ c.in-Some-index_mut.workspace c.self.view_is c.in-Some.ensures.there.0 c.in-Some.ensures.there.1 c.index_mut.ensures.value c.in-Some-index_mut.is in
+    let is_begun = begun_is c.self.inside.begun begun _ c.self.inside.events c.self.inside.end s c.self.view_is c.in-Some-begun.is in
+    let hist = history_is c.self.inside.begun begun _ c.self.inside.events c.self.inside.end s c.self.view_is c.in-Some-begun.is in
+    let new = c.commit.new.self in
+    let w' = c.commit.new.workspace in
+    let orderly = subst IsOrderly c.self.view_is c.self.invariant.2 in
+    let r = c.commit.result in
+    let made = both_ok _ _ r c.commit.ensures.version c.commit.ensures.committed in
+    let not_made = both_err _ _ r c.commit.ensures.same c.commit.ensures.same_workspace in
+    let done = on_ok r (λ is. commit_done c.self.inside.begun begun new c.self.inside.workspaces.items c.self.inside.events c.self.inside.end s c.self.view_is c.in-Some-begun.is c.commit.ensures.meta orderly c.self.invariant.1 p w' c.commit.ensures.model c.args.message is.0 is.1) made in
+    let same = on_err r (λ is. grown_same c.self.inside.begun begun new c.self.inside.workspaces.items c.self.inside.events c.self.inside.end s c.self.view_is c.in-Some-begun.is c.commit.ensures.meta orderly c.self.invariant.1 p w' c.commit.ensures.model is.0 is.1) not_made in
+    record { done = done; same = same }

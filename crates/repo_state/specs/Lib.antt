@@ -1,0 +1,6 @@
+pub mod Cached
+pub mod Counting
+pub mod Keeping
+pub mod Making
+pub mod Planning
+pub mod Working

@@ -1,0 +1,364 @@
+//! A workspace in memory, which may keep its working model.
+ghost use Rattle.std.specs.Prelude.{◌≡◌, ◌≢◌, ◌<◌, ◌&&◌, ◌||◌, length, is_some, true, None, IfOk, IfSome, OnOk, OnErr, IfErr, Some};
+ghost use Rattle.std.specs.Option.{option_copied};
+ghost use Rattle.ecore_meta.specs.Sound.{Sound};
+ghost use Rattle.model_state.specs.Good.{Good};
+ghost use Rattle.model_state.specs.Steps.{fold};
+ghost use Rattle.model_state.specs.Packages.{steps_of, rev_op};
+ghost use Rattle.history_tree.specs.States.{state_folded, state_of};
+ghost use Rattle.plain_repository.specs.State.{model_of, folded, recorded_steps, untouched, has_operations, has_local, is_open};
+ghost use Rattle.plain_repository.specs.Commits.{version_of, committed};
+ghost use Rattle.plain_repository.specs.Composites.{with_open, with_closed};
+ghost use Rattle.plain_repository.specs.Edits.{takes, with_more};
+ghost use Rattle.plain_repository.specs.Local.{can_discard, can_undo, without_any, without_last};
+ghost use Rattle.state_form.specs.Spelled.{IsSpelled};
+ghost use Rattle.state_cache.specs.Entries.{stands};
+ghost use Rattle.version_states.specs.Cached.{AreForms, MayUse, Uses};
+ghost use Rattle.repo_state.specs.Keeping.{plain_of, ModelFits};
+ghost use Rattle.repo_state.specs.Planning.{restarted, taken_up};
+
+use crate::lists::{append, items_of, steps_out};
+use crate::merged::{Local, Merged};
+use ecore_meta::{List, Metamodel, Text};
+use history_tree::{History, Version};
+use model_state::{Operation, Package, Step, StepFault};
+use op_form::reverse_op;
+use page_pool::Pool;
+use state_cache::Cache;
+use std::alloc::{AllocError, Global};
+use std::mem::replace;
+use version_states::{follow, state_at, steps_in, take_steps};
+use working_model::Working;
+
+/// A composite that is open: its name, and the steps recorded in it so far.
+#[derive(Drop)]
+pub struct Composite {
+    pub name: Text,
+    pub steps: Vec<Step>,
+}
+
+/// What is recorded in a workspace, and its working model, where it is kept. Contracts of the repository don't see the model.
+#[derive(Drop)]
+pub struct Workspace {
+    pub branch: u32,
+    pub base: u32,
+    pub(crate) operations: Vec<Operation>,
+    pub(crate) composite: Option<Composite>,
+    pub(crate) pending: List<u32>,
+    pub(crate) model: Option<Working>,
+}
+
+/// The model before an operation, whose steps were the last taken; none when out of memory.
+fn take_back(
+    alloc: Global,
+    meta: &Metamodel,
+    model: Working,
+    operation: &Operation,
+) -> Option<Working>
+    requires sound { Sound meta.now }
+    requires good { Good meta.now model }
+    ensures back { IfSome result (λ m. fold meta.now model (steps_of (rev_op operation.now)) ≡ Some m) }
+    ensures good { IfSome result (λ m. Good meta.now m) }
+{
+    let Ok(reversal) = reverse_op(alloc, operation) else {
+        return None;
+    };
+    let mut model = model;
+    match model.replay(meta, steps_in(&reversal)) {
+        Ok(()) => Some(model),
+        Err(_) => None,
+    }
+}
+
+impl Workspace {
+    /// A workspace on a branch, at a version, with nothing local.
+    pub(crate) fn new(alloc: Global, branch: u32, base: u32) -> Workspace
+        ensures untouched { plain_of result ≡ untouched branch base }
+        ensures model { result.model ≡ None }
+    {
+        Workspace {
+            branch,
+            base,
+            operations: Vec::new(alloc),
+            composite: None,
+            pending: List::new(alloc),
+            model: None,
+        }
+    }
+
+    /// The operations, in their order.
+    pub fn operations(&self) -> &[Operation]
+        ensures { result.now ≡ self.now.operations.items }
+    {
+        self.operations.as_slice()
+    }
+
+    /// The composite that is open.
+    pub fn composite(&self) -> Option<&Composite>
+        ensures { option_copied result ≡ self.now.composite }
+    {
+        self.composite.as_ref()
+    }
+
+    /// Whether there are operations.
+    pub fn has_operations(&self) -> bool
+        ensures { result ≡ has_operations (Some (plain_of self.now)) }
+    {
+        self.operations.len() > 0
+    }
+
+    /// Whether there is something for a version.
+    pub fn has_local(&self) -> bool
+        ensures { result ≡ has_local (Some (plain_of self.now)) }
+    {
+        self.has_operations() || self.pending.len() > 0
+    }
+
+    /// Whether a composite is open.
+    pub fn is_open(&self) -> bool
+        ensures open { result ≡ is_open (Some (plain_of self.now)) }
+    {
+        self.composite.is_some()
+    }
+
+    /// Whether there is something to discard.
+    pub fn is_touched(&self) -> bool
+        ensures { result ≡ can_discard (Some (plain_of self.now)) }
+    {
+        self.is_open() || self.has_local()
+    }
+
+    /// The working model, taken out of the workspace, or made anew where it is not kept.
+    #[tactic(auto, using(version_states::proofs::Caching::uses_none))]
+    pub(crate) fn take_model(
+        &mut self,
+        alloc: Global,
+        cache: &mut Cache,
+        pool: &mut Pool,
+        meta: &Metamodel,
+        history: &History,
+    ) -> Result<Working, AllocError>
+        requires sound { Sound meta.now }
+        requires there { self.old.base < length history.now.history.versions }
+        requires base { is_some (state_folded meta.now history.now.history self.old.base) ≡ true }
+        requires leads { is_some (folded meta.now history.now.history (plain_of self.old)) ≡ true }
+        requires spelled { IsSpelled meta.now (state_of meta.now history.now.history self.old.base) }
+        requires fits { ModelFits meta.now history.now.history self.old }
+        requires usable { MayUse pool.old cache.old }
+        requires forms { AreForms (Some meta.now) history.now.history (stands pool.old cache.old) }
+        ensures same { plain_of self.new ≡ plain_of self.old }
+        ensures taken { self.new.model ≡ None }
+        ensures model { IfOk result (λ m. m ≡ model_of meta.now history.now.history (plain_of self.old)) }
+        ensures good { IfOk result (λ m. Good meta.now m) }
+        ensures uses { Uses pool.old pool.new cache.old cache.new }
+        ensures forms { AreForms (Some meta.now) history.now.history (stands pool.new cache.new) }
+    {
+        match self.model.take() {
+            Some(model) => Ok(model),
+            None => self.fold_model(alloc, cache, pool, meta, history),
+        }
+    }
+
+    /// Operations are added after the others, or the steps of one join the composite that is open. When out of memory the workspace stays as it is, but for
+    /// its model, which is given: the one after the operations.
+    pub(crate) fn install(
+        &mut self,
+        alloc: Global,
+        package: Package,
+        model: Working,
+    ) -> Result<(), AllocError>
+        requires takes { takes (plain_of self.old).composite «package» ≡ true }
+        ensures more { OnOk result (plain_of self.new ≡ with_more «package» (plain_of self.old)) }
+        ensures kept { OnOk result (self.new.model ≡ Some model) }
+        ensures same { OnErr result (plain_of self.new ≡ plain_of self.old) }
+        ensures gone { OnErr result (self.new.model ≡ None) }
+    {
+        self.model = None;
+        self.push_all(alloc, package)?;
+        self.model = Some(model);
+        Ok(())
+    }
+
+    fn push_all(&mut self, alloc: Global, package: Package) -> Result<(), AllocError>
+        requires takes { takes (plain_of self.old).composite «package» ≡ true }
+        ensures more { OnOk result (plain_of self.new ≡ with_more «package» (plain_of self.old)) }
+        ensures same { OnErr result (plain_of self.new ≡ plain_of self.old) }
+        ensures model { self.new.model ≡ self.old.model }
+    {
+        match &mut self.composite {
+            None => append(alloc, &mut self.operations, package),
+            Some(composite) => append(alloc, &mut composite.steps, steps_out(package)),
+        }
+    }
+
+    /// Opens a composite of that name, with no step yet.
+    pub(crate) fn open_composite(&mut self, alloc: Global, name: Text)
+        ensures opened { plain_of self.new ≡ with_open name (plain_of self.old) }
+        ensures model { self.new.model ≡ self.old.model }
+    {
+        self.composite = Some(Composite {
+            name,
+            steps: Vec::new(alloc),
+        });
+    }
+
+    /// Closes the composite that is open, which is the last operation where it has steps. When out of memory nothing changes.
+    pub(crate) fn close_composite(&mut self) -> Result<(), AllocError>
+        ensures closed { OnOk result (plain_of self.new ≡ with_closed (plain_of self.old)) }
+        ensures same { OnErr result (plain_of self.new ≡ plain_of self.old) }
+        ensures model { self.new.model ≡ self.old.model }
+    {
+        self.operations.reserve(1)?;
+        let Some(Composite { name, steps }) = self.composite.take() else {
+            return Ok(());
+        };
+        if steps.len() > 0 {
+            self.operations.push_reserved(Operation::Composite {
+                name,
+                steps: List::from_vec(steps),
+            });
+        }
+        Ok(())
+    }
+
+    /// Drops the last operation. A model that is kept takes it back, or is not kept when out of memory.
+    pub(crate) fn undo(&mut self, alloc: Global, meta: &Metamodel, _history: &History)
+        requires sound { Sound meta.now }
+        requires can { can_undo (Some (plain_of self.old)) ≡ true }
+        requires base { Good meta.now (state_of meta.now _history.now.history self.old.base) }
+        requires fits { ModelFits meta.now _history.now.history self.old }
+        ensures undone { plain_of self.new ≡ without_last (plain_of self.old) }
+        ensures fits { ModelFits meta.now _history.now.history self.new }
+    {
+        let Some(operation) = self.operations.pop() else {
+            unreachable!()
+        };
+        self.model = match self.model.take() {
+            None => None,
+            Some(model) => take_back(alloc, meta, model, &operation),
+        };
+    }
+
+    /// Drops all that is local. The model is not kept.
+    pub(crate) fn discard(&mut self, alloc: Global)
+        ensures discarded { plain_of self.new ≡ without_any (plain_of self.old) }
+        ensures gone { self.new.model ≡ None }
+    {
+        self.operations = Vec::new(alloc);
+        self.composite = None;
+        self.pending = List::new(alloc);
+        self.model = None;
+    }
+
+    /// The version that the local operations make. The workspace stands at it from now on, under its number, with nothing local.
+    pub(crate) fn commit(&mut self, alloc: Global, message: Text, number: u32) -> Version
+        ensures version { result ≡ version_of (plain_of self.old) message }
+        ensures committed { plain_of self.new ≡ committed number (plain_of self.old) }
+        ensures model { self.new.model ≡ self.old.model }
+    {
+        let parent = replace(&mut self.base, number);
+        let operations = replace(&mut self.operations, Vec::new(alloc));
+        Version {
+            branch: self.branch,
+            parent: Some(parent),
+            merged: replace(&mut self.pending, List::new(alloc)),
+            message,
+            package: List::from_vec(operations),
+        }
+    }
+
+    /// Stands at a version with other operations. The model is not kept.
+    pub(crate) fn restart(&mut self, local: Local)
+        ensures restarted { plain_of self.new ≡ restarted local.base local.operations.items (plain_of self.old) }
+        ensures gone { self.new.model ≡ None }
+    {
+        self.base = local.base;
+        self.operations = local.operations;
+        self.model = None;
+    }
+
+    /// Takes further operations after the others, of a version that is pending from now on. The model is not kept. When out of memory nothing
+    /// else changes.
+    pub(crate) fn take_up(&mut self, alloc: Global, merged: Merged) -> Result<(), AllocError>
+        ensures taken { OnOk result (plain_of self.new ≡ taken_up merged.more merged.version (plain_of self.old)) }
+        ensures same { OnErr result (plain_of self.new ≡ plain_of self.old) }
+        ensures gone { self.new.model ≡ None }
+    {
+        self.model = None;
+        let mut more = items_of(alloc, merged.more)?;
+        self.pending.push(merged.version)?;
+        match self.operations.append(&mut more) {
+            Ok(()) => Ok(()),
+            Err(_) => {
+                self.pending.pop();
+                Err(AllocError)
+            }
+        }
+    }
+
+    /// The workspace keeps a model.
+    pub(crate) fn keep_model(&mut self, model: Working)
+        ensures same { plain_of self.new ≡ plain_of self.old }
+        ensures kept { self.new.model ≡ Some model }
+    {
+        self.model = Some(model);
+    }
+
+    /// The workspace doesn't keep its model any more.
+    pub(crate) fn forget_model(&mut self)
+        ensures same { plain_of self.new ≡ plain_of self.old }
+        ensures gone { self.new.model ≡ None }
+    {
+        self.model = None;
+    }
+
+    /// The working model, made anew.
+    pub(crate) fn fold_model(
+        &self,
+        alloc: Global,
+        cache: &mut Cache,
+        pool: &mut Pool,
+        meta: &Metamodel,
+        history: &History,
+    ) -> Result<Working, AllocError>
+        requires sound { Sound meta.now }
+        requires there { self.now.base < length history.now.history.versions }
+        requires base { is_some (state_folded meta.now history.now.history self.now.base) ≡ true }
+        requires leads { is_some (folded meta.now history.now.history (plain_of self.now)) ≡ true }
+        requires spelled { IsSpelled meta.now (state_of meta.now history.now.history self.now.base) }
+        requires usable { MayUse pool.old cache.old }
+        requires forms { AreForms (Some meta.now) history.now.history (stands pool.old cache.old) }
+        ensures model { IfOk result (λ m. m ≡ model_of meta.now history.now.history (plain_of self.now)) }
+        ensures good { IfOk result (λ m. Good meta.now m) }
+        ensures uses { Uses pool.old pool.new cache.old cache.new }
+        ensures forms { AreForms (Some meta.now) history.now.history (stands pool.new cache.new) }
+    {
+        let mut model = state_at(alloc, cache, pool, meta, history, self.base)?;
+        match self.retake(&mut model, meta) {
+            Ok(()) => Ok(model),
+            Err(fault) => match fault {
+                StepFault::Memory => Err(AllocError),
+                _ => unreachable!(),
+            },
+        }
+    }
+
+    /// Takes all that is recorded on the state of the base. After an error the model is of no use.
+    fn retake(&self, model: &mut Working, meta: &Metamodel) -> Result<(), StepFault>
+        requires sound { Sound meta.now }
+        requires good { Good meta.now model.old }
+        ensures done { OnOk result (fold meta.now model.old (recorded_steps (plain_of self.now)) ≡ Some model.new) }
+        ensures cannot { IfErr result (λ e. e ≢ StepFault.Memory → fold meta.now model.old (recorded_steps (plain_of self.now)) ≡ None) }
+        ensures good { OnOk result (Good meta.now model.new) }
+    {
+        let operations = self.operations.as_slice();
+        follow(model, meta, operations)?;
+        match &self.composite {
+            None => Ok(()),
+            Some(composite) => {
+                let steps = composite.steps.as_slice();
+                take_steps(model, meta, steps)
+            }
+        }
+    }
+}
