@@ -9,6 +9,7 @@ use Rattle.plain_repository.specs.Commits.{can_commit, is_new_branch}
 use Rattle.plain_repository.specs.Events.{playable_with}
 use Rattle.plain_repository.specs.Local.{can_discard, can_undo}
 use Rattle.plain_repository.proofs.Encodings.{and_right}
+use Rattle.repo_state.proofs.Could.{tested}
 
 pub begin_there : (s : State) (m : Option Meta) (ws : ℕ) (name : List ℕ) → playable_with s m (Begin ws name) ≡ true → is_some (workspace_of s ws) ≡ true
 begin_there s None ws name could = absurd cc

@@ -6,6 +6,7 @@ use Rattle.plain_repository.specs.State.{State, workspace_of}
 use Rattle.model_state.specs.State as models
 use Rattle.edits.specs.FreshIds.{fresh_id}
 use Rattle.edits.specs.declared.edit.Edit.TheVariants.{Create}
+use Rattle.repo_state.specs.Working.{IsWorkingModel}
 
 -- the workspace whose working model a command needs
 abbrev pub model_for : Command → Option ℕ
