@@ -17,26 +17,26 @@ use Rattle.model_state.specs.Ident.{is_id}
 use Rattle.model_state.specs.Keys.{IdBytes}
 use Rattle.model_state.specs.Typing.{is_default, kind_of, upper_of}
 use Rattle.emfjson_io.specs.Values.{value_in}
-use Rattle.emfjson_model.specs.declared.classes.Key.{Key}
-use Rattle.emfjson_model.specs.declared.classes.Key.TheVariants.{Own, Of, Unknown}
-use Rattle.emfjson_model.specs.declared.doc.DocParent.{DocParent}
+use Rattle.emfjson_drafts.specs.declared.classes.Key.{Key}
+use Rattle.emfjson_drafts.specs.declared.classes.Key.TheVariants.{Own, Of, Unknown}
+use Rattle.emfjson_drafts.specs.declared.doc.DocParent.{DocParent}
 use Rattle.emfjson_model.specs.declared.doc.DocRefs.{DocRefs}
 use Rattle.emfjson_model.specs.declared.doc.DocRow.{DocRow}
-use Rattle.emfjson_model.specs.declared.draft.Draft.{Draft}
-use Rattle.emfjson_model.specs.declared.fault.ModelFault.TheVariants.{BadValue, Bound, WrongType, DupId, BadId}
+use Rattle.emfjson_drafts.specs.declared.draft.Draft.{Draft}
+use Rattle.emfjson_drafts.specs.declared.fault.ModelFault.TheVariants.{BadValue, Bound, WrongType, DupId, BadId}
 use Rattle.finite_maps.specs.Maps.{is_within}
-use Rattle.emfjson_model.specs.Attributes.{elements, is_null, may_hold, set_part, values_in, values_part}
-use Rattle.emfjson_model.specs.Classes.{class_of, id_of}
+use Rattle.emfjson_drafts.specs.Attributes.{elements, is_null, may_hold, set_part, values_in, values_part}
+use Rattle.emfjson_drafts.specs.Classes.{class_of, id_of}
 use Rattle.emfjson_model.specs.Document.{doc_of, of_json, resolved}
 use Rattle.emfjson_model.specs.Laws.{IdsAreApart, gives_id, ids_repeat, is_given}
 use Rattle.ecore_meta.specs.Typing.{is_one}
-use Rattle.emfjson_model.specs.Links.{entries_of, links_part}
+use Rattle.emfjson_drafts.specs.Links.{entries_of, links_part}
 use Rattle.emfjson_model.specs.Merged.{given_at, merged_all, next_row, row_of, rows_by}
-use Rattle.emfjson_model.specs.Parts.{Part, no_part, joined, Ids, ids_of}
-use Rattle.emfjson_model.specs.Reads.{Read, «then», unless, found, collected}
+use Rattle.emfjson_drafts.specs.Parts.{Part, no_part, joined, Ids, ids_of}
+use Rattle.emfjson_drafts.specs.Reads.{Read, «then», unless, found, collected}
 use Rattle.emfjson_model.specs.References.{given_by}
-use Rattle.emfjson_model.specs.Walk.{element_rows, feature_part, held_rows, items_rows, key_named, key_part, members_rows, object_rows, own_rows, rows_part, walked}
-use Rattle.emfjson_model.proofs.Walking.{ids_append}
+use Rattle.emfjson_drafts.specs.Walk.{element_rows, feature_part, held_rows, items_rows, key_named, key_part, members_rows, object_rows, own_rows, rows_part, walked}
+use Rattle.emfjson_drafts.proofs.Walking.{ids_append}
 
 -- ---- ids
 abbrev among : Option IdBytes → Ids → Bool

@@ -7,27 +7,22 @@ use Rattle.std.specs.Prelude.{Option, None, Some}
 use Rattle.std.specs.List.{count_by}
 use Rattle.finite_maps.specs.Equal.{option_eq}
 use Rattle.finite_maps.proofs.Cases.{not_so, true_false}
-use Rattle.finite_maps.proofs.EqualLaws.{IsEquality, and_both, and_first, and_second, nat_equality, option_equality}
+use Rattle.finite_maps.proofs.EqualLaws.{IsEquality, and_both, nat_equality, option_equality}
 use Rattle.ecore_meta.specs.Meta.{Meta, feature_named, name_at}
 use Rattle.ecore_meta.specs.declared.meta.Kind.{Kind}
 use Rattle.ecore_meta.specs.declared.meta.Kind.TheVariants.{Contains}
 use Rattle.ecore_meta.specs.Names.{Name}
 use Rattle.model_state.specs.Typing.{child_upper, contains_kind, kind_of, upper_of}
-use Rattle.emfjson_model.specs.declared.doc.DocParent.{DocParent}
-use Rattle.emfjson_model.specs.declared.draft.Draft.{Draft}
+use Rattle.emfjson_drafts.specs.declared.doc.DocParent.{DocParent}
+use Rattle.emfjson_drafts.specs.declared.draft.Draft.{Draft}
 use Rattle.finite_maps.specs.Maps.{is_within}
 use Rattle.emfjson_model.specs.Laws.{parent_before}
-use Rattle.emfjson_model.specs.Parts.{Part, joined}
-use Rattle.emfjson_model.specs.References.{parent_eq}
+use Rattle.emfjson_drafts.specs.Parts.{Part, joined}
+use Rattle.emfjson_drafts.specs.Places.{parent_eq}
+use Rattle.emfjson_drafts.proofs.Finding.{parent_exact}
 use Rattle.emfjson_model.proofs.Growing.{Kept, named_has}
 use Rattle.emfjson_model.proofs.Keys.{Above, above_more, not_own}
 use Rattle.emfjson_model.proofs.ValuesFit.{Plain}
-
-pub parent_exact : (p q : DocParent) → parent_eq p q ≡ true → p ≡ q
-parent_exact p q h =
-    let rows : p.row ≡ q.row = nat_equality.exact p.row q.row (and_first (nat_eq p.row q.row) (nat_eq p.feature q.feature) h) in
-    let features : p.feature ≡ q.feature = nat_equality.exact p.feature q.feature (and_second (nat_eq p.row q.row) (nat_eq p.feature q.feature) h) in
-    λ i. record { row = rows i; feature = features i }
 
 parent_own : (p : DocParent) → parent_eq p p ≡ true
 parent_own p = and_both (nat_eq p.row p.row) (nat_eq p.feature p.feature) (nat_equality.own p.row) (nat_equality.own p.feature)

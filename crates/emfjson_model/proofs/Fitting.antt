@@ -10,16 +10,17 @@ use Rattle.finite_maps.specs.Maps.{is_within}
 use Rattle.ecore_meta.specs.Meta.{Meta, features_of}
 use Rattle.ecore_meta.specs.Sound.{Sound}
 use Rattle.model_state.specs.Typing.{child_upper, has_feature, is_concrete}
-use Rattle.emfjson_model.specs.declared.doc.DocAttr.{DocAttr}
-use Rattle.emfjson_model.specs.declared.doc.DocParent.{DocParent}
+use Rattle.emfjson_drafts.specs.declared.doc.DocAttr.{DocAttr}
+use Rattle.emfjson_drafts.specs.declared.doc.DocParent.{DocParent}
 use Rattle.emfjson_model.specs.declared.doc.DocRefs.{DocRefs}
 use Rattle.emfjson_model.specs.declared.doc.DocRow.{DocRow}
-use Rattle.emfjson_model.specs.declared.draft.Draft.{Draft}
+use Rattle.emfjson_drafts.specs.declared.draft.Draft.{Draft}
 use Rattle.emfjson_model.specs.Document.{doc_of, of_json, resolved}
 use Rattle.emfjson_model.specs.Fits.{AttrFits, DocumentsFit, DocumentFits, Follows, RefsFit, RowFits, StandsFit, numbers_differ, standing}
 use Rattle.emfjson_model.specs.Merged.{rows_by}
-use Rattle.emfjson_model.specs.References.{given_by, parent_eq}
-use Rattle.emfjson_model.specs.Walk.{walked}
+use Rattle.emfjson_model.specs.References.{given_by}
+use Rattle.emfjson_drafts.specs.Places.{parent_eq}
+use Rattle.emfjson_drafts.specs.Walk.{walked}
 use Rattle.emfjson_model.proofs.Apart.{ids_apart, rows_keep, then_ok}
 use Rattle.emfjson_model.proofs.ParentsFirst.{parents_first}
 use Rattle.emfjson_model.proofs.Bounds as bounds

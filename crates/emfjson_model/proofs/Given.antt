@@ -10,13 +10,14 @@ use Rattle.ecore_meta.specs.declared.meta.Class.{Class}
 use Rattle.ecore_meta.specs.Names.{Name}
 use Rattle.model_state.specs.Typing.{has_feature, is_plain, kind_of, plain_to}
 use Rattle.emfjson_model.specs.declared.doc.DocRefs.{DocRefs}
-use Rattle.emfjson_model.specs.declared.draft.Draft.{Draft}
-use Rattle.emfjson_model.specs.declared.draft.Links.{Links}
-use Rattle.emfjson_model.specs.declared.fault.ModelFault.TheVariants.{BadRef, WrongType}
+use Rattle.emfjson_drafts.specs.declared.draft.Draft.{Draft}
+use Rattle.emfjson_drafts.specs.declared.draft.Links.{Links}
+use Rattle.emfjson_drafts.specs.declared.fault.ModelFault.TheVariants.{BadRef, WrongType}
 use Rattle.emfjson_model.specs.Fits.{Follows, numbers_differ}
 use Rattle.emfjson_model.specs.Merged.{targets_at}
-use Rattle.emfjson_model.specs.Reads.{Read, collected, unless}
-use Rattle.emfjson_model.specs.References.{class_at, entries_at, given_by, located, new_target, plain_features, plain_more, refs_at, refs_of, target_of, targets_of}
+use Rattle.emfjson_drafts.specs.Reads.{Read, collected, unless}
+use Rattle.emfjson_drafts.specs.Places.{class_at}
+use Rattle.emfjson_model.specs.References.{entries_at, given_by, located, new_target, plain_features, plain_more, refs_at, refs_of, target_of, targets_of}
 use Rattle.emfjson_model.proofs.Apart.{then_ok, unless_ok, unless_true}
 use Rattle.emfjson_model.proofs.InOrder.{Longer, OneOrNone, no_longer, one_first}
 use Rattle.emfjson_model.proofs.Keys.{and_then_some}

@@ -17,20 +17,20 @@ use Rattle.ecore_meta.specs.declared.meta.Kind.TheVariants.{Attr, AttrMany, Boun
 use Rattle.ecore_meta.specs.Names.{Name}
 use Rattle.model_state.specs.Keys.{IdBytes}
 use Rattle.model_state.specs.Typing.{is_concrete, kind_of, upper_of}
-use Rattle.emfjson_model.specs.declared.classes.Key.{Key}
-use Rattle.emfjson_model.specs.declared.classes.Key.TheVariants.{Own, Of, Unknown}
-use Rattle.emfjson_model.specs.declared.doc.DocParent.{DocParent}
-use Rattle.emfjson_model.specs.declared.draft.Draft.{Draft}
-use Rattle.emfjson_model.specs.declared.fault.ModelFault.TheVariants.{Abstract, Bound, WrongType}
+use Rattle.emfjson_drafts.specs.declared.classes.Key.{Key}
+use Rattle.emfjson_drafts.specs.declared.classes.Key.TheVariants.{Own, Of, Unknown}
+use Rattle.emfjson_drafts.specs.declared.doc.DocParent.{DocParent}
+use Rattle.emfjson_drafts.specs.declared.draft.Draft.{Draft}
+use Rattle.emfjson_drafts.specs.declared.fault.ModelFault.TheVariants.{Abstract, Bound, WrongType}
 use Rattle.finite_maps.specs.Maps.{is_within}
-use Rattle.emfjson_model.specs.Attributes.{is_null}
-use Rattle.emfjson_model.specs.Classes.{class_of, class_said, id_of, may_stand}
+use Rattle.emfjson_drafts.specs.Attributes.{is_null}
+use Rattle.emfjson_drafts.specs.Classes.{class_of, class_said, id_of, may_stand}
 use Rattle.emfjson_model.specs.Laws.{parent_before}
 use Rattle.ecore_meta.specs.Typing.{is_one}
-use Rattle.emfjson_model.specs.Links.{entries_of, links_part}
-use Rattle.emfjson_model.specs.Parts.{Part, no_part, joined, Ids, ids_of}
-use Rattle.emfjson_model.specs.Reads.{Read, «then», unless}
-use Rattle.emfjson_model.specs.Walk.{element_rows, feature_key, feature_part, held_rows, items_rows, key_named, key_part, members_rows, object_rows, own_rows, rows_part, walked}
+use Rattle.emfjson_drafts.specs.Links.{entries_of, links_part}
+use Rattle.emfjson_drafts.specs.Parts.{Part, no_part, joined, Ids, ids_of}
+use Rattle.emfjson_drafts.specs.Reads.{Read, «then», unless}
+use Rattle.emfjson_drafts.specs.Walk.{element_rows, feature_key, feature_part, held_rows, items_rows, key_named, key_part, members_rows, object_rows, own_rows, rows_part, walked}
 use Rattle.emfjson_model.proofs.Apart.{then_ok, unless_ok, unless_true, of_ok}
 use Rattle.emfjson_model.proofs.ParentsFirst.{rows_ok, still_before}
 use Rattle.emfjson_model.proofs.Keys.{Above, Trim, TrimItems, TrimMembers}

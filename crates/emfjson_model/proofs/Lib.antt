@@ -1,8 +1,4 @@
-pub mod Lists
-pub mod Reading
 pub mod Digits
-pub mod Features
-pub mod Walking
 pub mod Apart
 pub mod ParentsFirst
 pub mod Keys
@@ -20,5 +16,4 @@ pub mod Merging
 pub mod SetAttrs
 pub mod Made
 pub mod Fitting
-pub mod Finding
 pub mod Naming

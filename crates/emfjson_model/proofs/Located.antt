@@ -6,10 +6,11 @@ use Rattle.ecore_meta.specs.Meta.{Meta, feature_named}
 use Rattle.ecore_json.specs.References.{after_prefix}
 use Rattle.ecore_meta.specs.Names.{Name}
 use Rattle.model_state.specs.Typing.{contains_kind, kind_of, upper_of}
-use Rattle.emfjson_model.specs.declared.doc.DocParent.{DocParent}
-use Rattle.emfjson_model.specs.declared.draft.Draft.{Draft}
+use Rattle.emfjson_drafts.specs.declared.doc.DocParent.{DocParent}
+use Rattle.emfjson_drafts.specs.declared.draft.Draft.{Draft}
 use Rattle.ecore_meta.specs.Typing.{is_one}
-use Rattle.emfjson_model.specs.References.{along, along_parts, bare, child_at, child_by, child_named, class_at, has_id, index_of, located, located_by, number_of, numbers_where, root_at, stands_in, step_from}
+use Rattle.emfjson_model.specs.References.{along, along_parts, bare, child_by, child_named, index_of, located, located_by, number_of, root_at, step_from}
+use Rattle.emfjson_drafts.specs.Places.{child_at, class_at, has_id, numbers_where, stands_in}
 use Rattle.emfjson_model.proofs.Keys.{and_then_some}
 
 -- the number is that of a row

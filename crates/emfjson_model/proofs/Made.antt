@@ -10,10 +10,10 @@ use Rattle.ecore_meta.specs.declared.meta.Kind.TheVariants.{Attr, AttrMany, Boun
 use Rattle.model_state.specs.Typing.{has_feature, is_plain, kind_of, links, opposite_of, plain_to}
 use Rattle.emfjson_model.specs.declared.doc.DocRefs.{DocRefs}
 use Rattle.emfjson_model.specs.declared.doc.DocRow.{DocRow}
-use Rattle.emfjson_model.specs.declared.draft.Draft.{Draft}
+use Rattle.emfjson_drafts.specs.declared.draft.Draft.{Draft}
 use Rattle.emfjson_model.specs.Fits.{Follows, RefsFit, TargetFits, numbers_differ}
 use Rattle.emfjson_model.specs.Merged.{given_at, merged, merged_all, naming, next_row, others, row_of, rows_by, targets_at}
-use Rattle.emfjson_model.specs.Reads.{Read}
+use Rattle.emfjson_drafts.specs.Reads.{Read}
 use Rattle.emfjson_model.specs.References.{given_by}
 use Rattle.emfjson_model.proofs.Apart.{then_ok}
 use Rattle.emfjson_model.proofs.Given.{ListFits, ListsFit, given_fit, given_typed, has_plain, plain_apart, plain_has, plain_in_order, plain_of}

@@ -7,11 +7,11 @@ use Rattle.finite_maps.proofs.EqualLaws.{and_both, and_first, and_second, nat_eq
 use Rattle.ecore_meta.specs.Meta.{Meta}
 use Rattle.model_state.specs.Typing.{row_upper}
 use Rattle.emfjson_model.specs.declared.doc.DocRefs.{DocRefs}
-use Rattle.emfjson_model.specs.declared.fault.ModelFault.TheVariants.{Bound}
+use Rattle.emfjson_drafts.specs.declared.fault.ModelFault.TheVariants.{Bound}
 use Rattle.finite_maps.specs.Maps.{is_within}
 use Rattle.emfjson_model.specs.Fits.{numbers_differ}
 use Rattle.emfjson_model.specs.Merged.{merged, merged_all, merged_at, merged_within, naming, others, targets_at}
-use Rattle.emfjson_model.specs.Reads.{Read}
+use Rattle.emfjson_drafts.specs.Reads.{Read}
 use Rattle.emfjson_model.proofs.Apart.{then_ok, unless_ok, unless_true}
 use Rattle.emfjson_model.proofs.Numbers.{apart_append, has, not_is, not_not, or_split}
 use Rattle.emfjson_model.proofs.Pairs.{Paired, all_pairs}

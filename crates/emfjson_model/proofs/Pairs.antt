@@ -1,7 +1,7 @@
 -- Lists of what each item of another list gives.
 use Rattle.std.proofs.Common.{◌≡◌, ℕ, zero, suc, ◌+◌, List, [], ◌∷◌, ◌++◌, length, refl, sym, ap, subst, ◌∙◌, append_assoc, append-nil, arith}
 use Rattle.std.specs.Prelude.{Ok, Some, slice_get}
-use Rattle.emfjson_model.specs.Reads.{Read, collected}
+use Rattle.emfjson_drafts.specs.Reads.{Read, collected}
 use Rattle.emfjson_model.proofs.Apart.{then_ok}
 
 -- item by item, with their numbers from the first's on

@@ -9,20 +9,20 @@ use Rattle.ecore_json.specs.Rows.{list_of}
 use Rattle.ecore_meta.specs.Meta.{Meta}
 use Rattle.model_state.specs.Keys.{IdBytes}
 use Rattle.model_state.specs.Typing.{upper_of}
-use Rattle.emfjson_model.specs.declared.doc.DocParent.{DocParent}
+use Rattle.emfjson_drafts.specs.declared.doc.DocParent.{DocParent}
 use Rattle.emfjson_model.specs.declared.doc.DocRow.{DocRow}
-use Rattle.emfjson_model.specs.declared.draft.Draft.{Draft}
-use Rattle.emfjson_model.specs.declared.fault.ModelFault.TheVariants.{Bound, WrongType}
+use Rattle.emfjson_drafts.specs.declared.draft.Draft.{Draft}
+use Rattle.emfjson_drafts.specs.declared.fault.ModelFault.TheVariants.{Bound, WrongType}
 use Rattle.finite_maps.specs.Maps.{is_within}
-use Rattle.emfjson_model.specs.Classes.{class_of, id_of}
+use Rattle.emfjson_drafts.specs.Classes.{class_of, id_of}
 use Rattle.emfjson_model.specs.Document.{doc_of, of_json, resolved}
 use Rattle.emfjson_model.specs.Laws.{ParentsComeFirst, parents_before, parent_before}
 use Rattle.ecore_meta.specs.Typing.{is_one}
 use Rattle.emfjson_model.specs.Merged.{rows_by}
-use Rattle.emfjson_model.specs.Parts.{Part, no_part, joined, Ids, ids_of}
-use Rattle.emfjson_model.specs.Reads.{Read, «then», unless}
+use Rattle.emfjson_drafts.specs.Parts.{Part, no_part, joined, Ids, ids_of}
+use Rattle.emfjson_drafts.specs.Reads.{Read, «then», unless}
 use Rattle.emfjson_model.specs.References.{given_by}
-use Rattle.emfjson_model.specs.Walk.{element_rows, held_rows, items_rows, key_named, key_part, members_rows, object_rows, own_rows, walked}
+use Rattle.emfjson_drafts.specs.Walk.{element_rows, held_rows, items_rows, key_named, key_part, members_rows, object_rows, own_rows, walked}
 use Rattle.emfjson_model.proofs.Apart.{then_ok, unless_ok, of_ok, key_gives, rows_keep}
 
 abbrev parents : List Draft → List (Option DocParent)

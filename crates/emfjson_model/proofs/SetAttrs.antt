@@ -3,7 +3,7 @@ use Rattle.std.proofs.Common.{◌≡◌, ℕ, Bool, true, false, cond, List, [],
 use Rattle.std.specs.List.{AllByRecursion}
 use Rattle.std.proofs.lemmas.List.{map-append}
 use Rattle.finite_maps.proofs.EqualLaws.{nat_equality}
-use Rattle.emfjson_model.specs.declared.doc.DocAttr.{DocAttr}
+use Rattle.emfjson_drafts.specs.declared.doc.DocAttr.{DocAttr}
 use Rattle.emfjson_model.specs.Fits.{Follows, numbers_differ}
 use Rattle.emfjson_model.specs.Merged.{attr_at, attrs_by, attrs_more, is_set}
 use Rattle.emfjson_model.proofs.Every.{every_append}

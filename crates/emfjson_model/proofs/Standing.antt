@@ -7,10 +7,10 @@ use Rattle.ecore_meta.specs.declared.meta.Kind.{Kind}
 use Rattle.ecore_meta.specs.declared.meta.Kind.TheVariants.{Contains}
 use Rattle.ecore_meta.specs.Names.{Name}
 use Rattle.model_state.specs.Typing.{contains_to, has_feature, is_concrete, kind_of}
-use Rattle.emfjson_model.specs.declared.doc.DocParent.{DocParent}
-use Rattle.emfjson_model.specs.declared.draft.Draft.{Draft}
-use Rattle.emfjson_model.specs.Classes.{may_stand}
-use Rattle.emfjson_model.specs.Parts.{Part}
+use Rattle.emfjson_drafts.specs.declared.doc.DocParent.{DocParent}
+use Rattle.emfjson_drafts.specs.declared.draft.Draft.{Draft}
+use Rattle.emfjson_drafts.specs.Classes.{may_stand}
+use Rattle.emfjson_drafts.specs.Parts.{Part}
 use Rattle.emfjson_model.proofs.Every.{every_append, every_map}
 use Rattle.emfjson_model.proofs.Growing.{Kept, named_has}
 use Rattle.emfjson_model.proofs.ValuesFit.{AttrsFit}

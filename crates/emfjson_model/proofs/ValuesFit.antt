@@ -15,14 +15,14 @@ use Rattle.model_state.specs.Typing.{fits, has_feature, is_default, kind_of, upp
 use Rattle.model_state.proofs.StepTests.{value_equality}
 use Rattle.emfjson_io.specs.Values.{value_in}
 use Rattle.emfjson_io.proofs.Fits.{in_type}
-use Rattle.emfjson_model.specs.declared.doc.DocAttr.{DocAttr}
-use Rattle.emfjson_model.specs.declared.fault.ModelFault.TheVariants.{BadValue, Bound}
+use Rattle.emfjson_drafts.specs.declared.doc.DocAttr.{DocAttr}
+use Rattle.emfjson_drafts.specs.declared.fault.ModelFault.TheVariants.{BadValue, Bound}
 use Rattle.finite_maps.specs.Maps.{is_within}
 use Rattle.finite_maps.proofs.Cases.{or_first, or_second}
-use Rattle.emfjson_model.specs.Attributes.{elements, is_null, many_part, may_hold, new_value, next_value, set_part, single_part, values_in, values_part}
+use Rattle.emfjson_drafts.specs.Attributes.{elements, is_null, many_part, may_hold, new_value, next_value, set_part, single_part, values_in, values_part}
 use Rattle.emfjson_model.specs.Fits.{AttrFits}
-use Rattle.emfjson_model.specs.Parts.{Part, no_part}
-use Rattle.emfjson_model.specs.Reads.{Read, «then», collected, found, unless}
+use Rattle.emfjson_drafts.specs.Parts.{Part, no_part}
+use Rattle.emfjson_drafts.specs.Reads.{Read, «then», collected, found, unless}
 use Rattle.emfjson_model.proofs.Apart.{of_ok, then_ok, unless_ok, unless_true}
 
 -- attributes that fit a class

@@ -4,11 +4,10 @@ use Rattle.serde_json.specs.Data.{Data}
 use Rattle.serde_json.specs.Read.{read}
 use Rattle.ecore_meta.specs.Meta.{Meta}
 use Rattle.emfjson_model.specs.declared.doc.DocRow.{DocRow}
-use Rattle.emfjson_model.specs.declared.draft.Draft.{Draft}
-use Rattle.emfjson_model.specs.declared.fault.ModelFault.{ModelFault}
-use Rattle.emfjson_model.specs.declared.fault.ModelFault.TheVariants.{NotJson, NoClass, Abstract, NoFeature, BadValue, BadRef, DupId, BadId, Bound, WrongType, Memory}
-use Rattle.emfjson_model.specs.Reads.{Read, «then»}
-use Rattle.emfjson_model.specs.Walk.{walked}
+use Rattle.emfjson_drafts.specs.declared.draft.Draft.{Draft}
+use Rattle.emfjson_drafts.specs.declared.fault.ModelFault.TheVariants.{NotJson}
+use Rattle.emfjson_drafts.specs.Reads.{Read, «then»}
+use Rattle.emfjson_drafts.specs.Walk.{walked}
 use Rattle.emfjson_model.specs.References.{given_by}
 use Rattle.emfjson_model.specs.Merged.{rows_by}
 
@@ -24,17 +23,3 @@ of_json meta (Some d) = «then» (walked meta d) (resolved meta)
 -- the elements that a text describes, or its first fault
 unfoldable pub doc_of : Meta → List ℕ → Read (List DocRow)
 doc_of meta text = of_json meta (read text)
-
--- the number of a fault in a reply
-abbrev pub fault_number : ModelFault → ℕ
-fault_number NotJson = 1
-fault_number NoClass = 2
-fault_number Abstract = 3
-fault_number NoFeature = 4
-fault_number BadValue = 5
-fault_number BadRef = 6
-fault_number DupId = 7
-fault_number BadId = 8
-fault_number Bound = 9
-fault_number WrongType = 10
-fault_number Memory = 11

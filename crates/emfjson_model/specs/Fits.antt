@@ -7,14 +7,14 @@ use Rattle.ecore_meta.specs.Meta.{Meta, features_of}
 use Rattle.ecore_meta.specs.Sound.{Sound}
 use Rattle.model_state.specs.Good.{ValuesOk}
 use Rattle.model_state.specs.Typing.{child_upper, contains_to, has_feature, is_concrete, is_plain, kind_of, links, opposite_of, row_upper, upper_of}
-use Rattle.emfjson_model.specs.declared.doc.DocAttr.{DocAttr}
-use Rattle.emfjson_model.specs.declared.doc.DocParent.{DocParent}
+use Rattle.emfjson_drafts.specs.declared.doc.DocAttr.{DocAttr}
+use Rattle.emfjson_drafts.specs.declared.doc.DocParent.{DocParent}
 use Rattle.emfjson_model.specs.declared.doc.DocRefs.{DocRefs}
 use Rattle.emfjson_model.specs.declared.doc.DocRow.{DocRow}
 use Rattle.emfjson_model.specs.Document.{doc_of}
 use Rattle.emfjson_model.specs.Laws.{parents_before, ids_repeat}
 use Rattle.emfjson_model.specs.Merged.{targets_at}
-use Rattle.emfjson_model.specs.References.{parent_eq}
+use Rattle.emfjson_drafts.specs.Places.{parent_eq}
 
 -- no number comes twice
 abbrev pub numbers_differ : List ℕ → Bool

@@ -4,7 +4,7 @@ use Rattle.std.specs.List.{list_any}
 use Rattle.finite_maps.specs.Equal.{option_eq, text_eq}
 use Rattle.ecore_meta.specs.Meta.{Meta}
 use Rattle.model_state.specs.Keys.{IdBytes}
-use Rattle.emfjson_model.specs.declared.doc.DocParent.{DocParent}
+use Rattle.emfjson_drafts.specs.declared.doc.DocParent.{DocParent}
 use Rattle.emfjson_model.specs.declared.doc.DocRow.{DocRow}
 use Rattle.emfjson_model.specs.Document.{doc_of}
 

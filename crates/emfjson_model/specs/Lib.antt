@@ -1,11 +1,4 @@
-pub mod Reads
-pub mod Parts
-pub mod Classes
-pub mod Attributes
-pub mod Links
-pub mod Walk
 pub mod References
-pub mod Finder
 pub mod Merged
 pub mod Sources
 pub mod Document

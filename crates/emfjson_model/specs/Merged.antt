@@ -4,13 +4,13 @@ use Rattle.std.specs.List.{list_any}
 use Rattle.std.specs.Option.{option_map_or}
 use Rattle.ecore_meta.specs.Meta.{Meta, features_of}
 use Rattle.model_state.specs.Typing.{opposite_of, row_upper}
-use Rattle.emfjson_model.specs.declared.doc.DocAttr.{DocAttr}
+use Rattle.emfjson_drafts.specs.declared.doc.DocAttr.{DocAttr}
 use Rattle.emfjson_model.specs.declared.doc.DocRefs.{DocRefs}
 use Rattle.emfjson_model.specs.declared.doc.DocRow.{DocRow}
-use Rattle.emfjson_model.specs.declared.draft.Draft.{Draft}
-use Rattle.emfjson_model.specs.declared.fault.ModelFault.TheVariants.{Bound}
+use Rattle.emfjson_drafts.specs.declared.draft.Draft.{Draft}
+use Rattle.emfjson_drafts.specs.declared.fault.ModelFault.TheVariants.{Bound}
 use Rattle.finite_maps.specs.Maps.{is_within}
-use Rattle.emfjson_model.specs.Reads.{Read, «then», unless, collected}
+use Rattle.emfjson_drafts.specs.Reads.{Read, «then», unless, collected}
 
 -- the targets of a feature of an element
 abbrev pub targets_at : ℕ → List DocRefs → List ℕ

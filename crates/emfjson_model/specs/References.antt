@@ -1,48 +1,19 @@
 -- The element that a reference finds: by its id, or by the path to it.
-use Rattle.std.specs.Prelude.{ℕ, suc, Bool, true, false, ◌&&◌, ◌==◌, not, cond, List, [], ◌∷◌, ◌++◌, ◌^◌, Option, None, Some, Ok, Err, length, codes, nat_eq, nat_lt, slice_get, option_and_then}
+use Rattle.std.specs.Prelude.{ℕ, Bool, true, false, ◌&&◌, ◌==◌, not, cond, List, [], ◌∷◌, ◌++◌, ◌^◌, Option, None, Some, Ok, Err, length, codes, nat_eq, nat_lt, option_and_then}
 use Rattle.std.specs.List.{list_all, list_any, slice_split}
-use Rattle.std.specs.Option.{option_map_or}
 use Rattle.std.specs.Char.{is_ascii_digit}
 use Rattle.std.specs.Str.Parse.{digits_value}
-use Rattle.finite_maps.specs.Equal.{option_eq, text_eq}
 use Rattle.ecore_meta.specs.Meta.{Meta, feature_named, features_of}
 use Rattle.ecore_json.specs.References.{after_prefix}
 use Rattle.ecore_meta.specs.Names.{Name}
-use Rattle.model_state.specs.Keys.{IdBytes}
 use Rattle.model_state.specs.Typing.{contains_kind, is_plain, kind_of, plain_to, upper_of}
-use Rattle.emfjson_model.specs.declared.doc.DocParent.{DocParent}
 use Rattle.emfjson_model.specs.declared.doc.DocRefs.{DocRefs}
-use Rattle.emfjson_model.specs.declared.draft.Draft.{Draft}
-use Rattle.emfjson_model.specs.declared.draft.Links.{Links}
-use Rattle.emfjson_model.specs.declared.fault.ModelFault.TheVariants.{BadRef, WrongType}
+use Rattle.emfjson_drafts.specs.declared.draft.Draft.{Draft}
+use Rattle.emfjson_drafts.specs.declared.draft.Links.{Links}
+use Rattle.emfjson_drafts.specs.declared.fault.ModelFault.TheVariants.{BadRef, WrongType}
 use Rattle.ecore_meta.specs.Typing.{is_one}
-use Rattle.emfjson_model.specs.Reads.{Read, «then», unless, collected}
-
--- ---- elements by their place and by their id
--- equal places
-abbrev pub parent_eq : DocParent → DocParent → Bool
-parent_eq p q = nat_eq p.row q.row && nat_eq p.feature q.feature
-
--- the element stands in the place
-abbrev pub stands_in : Option DocParent → Draft → Bool
-stands_in place r = option_eq parent_eq r.parent place
-
--- the element has that id
-abbrev pub has_id : IdBytes → Draft → Bool
-has_id t r = option_eq text_eq r.id (Some t)
-
--- the numbers of the rows that pass the test, in order, where the first row has the number n
-abbrev pub numbers_where : (Draft → Bool) → ℕ → List Draft → List ℕ
-numbers_where p n [] = []
-numbers_where p n (r ∷ rs) = cond (p r) (n ∷ numbers_where p (suc n) rs) (numbers_where p (suc n) rs)
-
--- the k-th element of a place; no parent is the root
-abbrev pub child_at : List Draft → Option DocParent → ℕ → Option ℕ
-child_at rows place k = slice_get (numbers_where (stands_in place) 0 rows) k
-
--- the element of that id
-abbrev pub named : List Draft → IdBytes → Option ℕ
-named rows t = slice_get (numbers_where (has_id t) 0 rows) 0
+use Rattle.emfjson_drafts.specs.Reads.{Read, «then», unless, collected}
+use Rattle.emfjson_drafts.specs.Places.{child_at, named, class_at}
 
 -- ---- paths
 -- decimal digits, one or more, for a number below 2 ^ 32
@@ -61,10 +32,6 @@ abbrev pub child_by : Meta → List Draft → ℕ → Option ℕ → Option Name
 child_by meta rows p None index = None
 child_by meta rows p (Some f) index =
     cond (contains_kind (kind_of meta f)) (option_and_then (child_at rows (Some (record { row = p; feature = f }))) (index_of (is_one (upper_of meta f)) index)) None
-
--- the class of the element of that number
-abbrev pub class_at : List Draft → ℕ → ℕ
-class_at rows n = option_map_or (λ r. r.class) (slice_get rows n) 0
 
 -- the child that the parts of a step name: a feature, and after the dot an index
 abbrev pub child_named : Meta → List Draft → ℕ → List Name → Option ℕ

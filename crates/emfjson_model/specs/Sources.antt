@@ -2,9 +2,9 @@
 use Rattle.std.specs.Prelude.{◌≡◌, ◌-◌, ℕ, Bool, false, cond, List, [], ◌∷◌, ◌++◌, length, nat_eq, slice_get}
 use Rattle.std.specs.Option.{option_map_or}
 use Rattle.std.specs.BTreeMap.{BTreeMap}
-use Rattle.emfjson_model.specs.declared.doc.DocParent.{DocParent}
+use Rattle.emfjson_drafts.specs.declared.doc.DocParent.{DocParent}
 use Rattle.emfjson_model.specs.declared.doc.DocRefs.{DocRefs}
-use Rattle.emfjson_model.specs.Finder.{numbers_at}
+use Rattle.emfjson_drafts.specs.Finder.{numbers_at}
 use Rattle.emfjson_model.specs.Merged.{naming}
 
 -- the number is the last

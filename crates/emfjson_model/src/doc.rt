@@ -1,5 +1,6 @@
 //! The document that a model text describes: a row for each element, with its place, attributes and references by number.
-use ecore_meta::{List, Value};
+use ecore_meta::List;
+use emfjson_drafts::{DocAttr, DocParent};
 use model_state::Id;
 
 /// The elements that a model text describes, each after the one that contains it.
@@ -20,21 +21,6 @@ pub struct DocRow {
     pub attrs: List<DocAttr>,
     /// The plain references of its class by number, with the targets that either side gives.
     pub refs: List<DocRefs>,
-}
-
-/// A containment of an element.
-#[derive(Clone, Copy, Debug, PartialEq, Eq)]
-pub struct DocParent {
-    /// The number of the row that contains it.
-    pub row: usize,
-    pub feature: u32,
-}
-
-/// The values of an attribute, one or more, and fewer than 2^32.
-#[derive(Debug, Drop)]
-pub struct DocAttr {
-    pub feature: u32,
-    pub values: List<Value>,
 }
 
 /// The targets of a plain reference, by the numbers of their rows.

@@ -1,16 +1,14 @@
 //! The merge of opposites: a reference's list has the targets that its element gives, then the elements that name it.
 ghost use Rattle.std.specs.Prelude.{◌≡◌, IfOk, [], ◌++◌, nat_eq, not, option_to_list};
 ghost use Rattle.std.specs.List.{filter, list_any};
-ghost use Rattle.emfjson_model.specs.Answers.{Gives};
+ghost use Rattle.emfjson_drafts.specs.Answers.{Gives};
 ghost use Rattle.emfjson_model.specs.Merged.{attr_at, attrs_by, is_set, merged, merged_all, merged_at, merged_within, naming, next_row, others, row_of, rows_by};
 
-use crate::attributes::is_within;
-use crate::doc::{DocAttr, DocRefs, DocRow};
-use crate::draft::Draft;
-use crate::fault::ModelFault;
+use crate::doc::{DocRefs, DocRow};
 use crate::references::has;
 use crate::sources::Sources;
 use ecore_meta::{List, Metamodel, Value};
+use emfjson_drafts::{DocAttr, Draft, ModelFault, is_within};
 use model_state::{Id, opposite_of, row_upper};
 use std::alloc::{AllocError, Global};
 

@@ -5,10 +5,8 @@ ghost use Rattle.std.specs.Char.{is_ascii_digit};
 ghost use Rattle.model_state.specs.Typing.{contains_kind, kind_of};
 ghost use Rattle.emfjson_model.specs.References.{along, along_parts, child_by, child_named, index_of, located, located_bare, number_of, root_at, step_from};
 
-use crate::classes::after_prefix;
-use crate::doc::DocParent;
-use crate::finder::{Finder, child_at};
 use ecore_meta::{Kind, Metamodel};
+use emfjson_drafts::{DocParent, Finder, after_prefix, child_at};
 use model_state::{is_one, upper_of};
 use std::alloc::{AllocError, Global};
 

@@ -1,14 +1,13 @@
 //! The reading of a model text: JSON, then the walk that gives drafts, then references looked up and merged.
-ghost use Rattle.emfjson_model.specs.Answers.{Gives, GivesDoc};
+ghost use Rattle.emfjson_drafts.specs.Answers.{Gives};
+ghost use Rattle.emfjson_model.specs.Answers.{GivesDoc};
 ghost use Rattle.emfjson_model.specs.Document.{doc_of, resolved};
 
 use crate::doc::{Doc, DocRow};
-use crate::draft::Draft;
-use crate::fault::ModelFault;
 use crate::merged::rows_by;
 use crate::references::given_by;
-use crate::walk::walk;
 use ecore_meta::{List, Metamodel};
+use emfjson_drafts::{Draft, ModelFault, walk};
 use serde_json::Value;
 use std::alloc::Global;
 

@@ -12,7 +12,7 @@ use Rattle.model_state.specs.State.{State}
 use Rattle.edit_laws.specs.Places.{Ranks, ranked_places}
 use Rattle.edit_laws.specs.Rows.{Rows}
 use Rattle.edit_laws.specs.Spot.{end_spot}
-use Rattle.emfjson_model.specs.declared.doc.DocAttr.{DocAttr}
+use Rattle.emfjson_drafts.specs.declared.doc.DocAttr.{DocAttr}
 use Rattle.emfjson_model.specs.declared.doc.DocRefs.{DocRefs}
 use Rattle.emfjson_model.specs.declared.doc.DocRow.{DocRow}
 use Rattle.model_import.specs.Names.{name_at}

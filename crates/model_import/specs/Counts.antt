@@ -3,10 +3,10 @@ use Rattle.std.specs.Prelude.{◌≡◌, ℕ, ◌+◌, cond, List, Option, None,
 use Rattle.std.specs.Map.{count_at}
 use Rattle.std.specs.BTreeMap.{BTreeMap, get}
 use Rattle.finite_maps.specs.Equal.{option_eq}
-use Rattle.emfjson_model.specs.declared.doc.DocParent.{DocParent}
+use Rattle.emfjson_drafts.specs.declared.doc.DocParent.{DocParent}
 use Rattle.emfjson_model.specs.declared.doc.DocRow.{DocRow}
-use Rattle.emfjson_model.specs.Finder.{place_cmp}
-use Rattle.emfjson_model.specs.References.{parent_eq}
+use Rattle.emfjson_drafts.specs.Finder.{place_cmp}
+use Rattle.emfjson_drafts.specs.Places.{parent_eq}
 use Rattle.emfjson_model.specs.Fits.{standing}
 
 -- how many rows the map counts in a place, none at the root

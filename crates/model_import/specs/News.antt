@@ -9,7 +9,7 @@ use Rattle.model_state.specs.Keys.{IdBytes}
 use Rattle.edit_laws.specs.declared.fault.EditFault.{EditFault}
 use Rattle.edit_laws.specs.declared.fault.EditFault.TheVariants.{Bound}
 use Rattle.emfjson_model.specs.Fits.{standing}
-use Rattle.emfjson_model.specs.declared.doc.DocParent.{DocParent}
+use Rattle.emfjson_drafts.specs.declared.doc.DocParent.{DocParent}
 use Rattle.emfjson_model.specs.declared.doc.DocRow.{DocRow}
 use Rattle.model_import.specs.Names.{name_at}
 use Rattle.model_import.specs.Roots.{has_end, root_after, root_made}

@@ -6,7 +6,7 @@ use Rattle.model_state.specs.declared.step.Step.{Step}
 use Rattle.model_state.specs.declared.step.Step.TheVariants.{Put, Ins}
 use Rattle.model_state.specs.Keys.{IdBytes}
 use Rattle.model_state.specs.Typing.{is_attr, kind_of}
-use Rattle.emfjson_model.specs.declared.doc.DocAttr.{DocAttr}
+use Rattle.emfjson_drafts.specs.declared.doc.DocAttr.{DocAttr}
 use Rattle.emfjson_model.specs.declared.doc.DocRow.{DocRow}
 use Rattle.model_import.specs.Names.{name_at}
 

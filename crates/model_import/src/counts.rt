@@ -2,7 +2,7 @@
 ghost use Rattle.std.specs.Prelude.{◌≡◌, ◌<◌, OnOk};
 ghost use Rattle.model_import.specs.Counts.{CountsAlso, counted};
 
-use emfjson_model::DocParent;
+use emfjson_drafts::DocParent;
 use std::alloc::AllocError;
 use std::collections::BTreeMap;
 

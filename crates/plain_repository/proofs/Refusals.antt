@@ -24,7 +24,7 @@ use Rattle.edits.specs.declared.edit.Recorded.{Recorded}
 use Rattle.edit_laws.specs.declared.fault.EditFault.{EditFault}
 use Rattle.recorder.specs.Recording.{recorded}
 use Rattle.emfjson_model.specs.declared.doc.DocRow.{DocRow}
-use Rattle.emfjson_model.specs.declared.fault.ModelFault.{ModelFault}
+use Rattle.emfjson_drafts.specs.declared.fault.ModelFault.{ModelFault}
 use Rattle.emfjson_model.specs.Document.{doc_of}
 use Rattle.model_import.specs.Import.{recorded_import}
 use Rattle.footprint.specs.declared.bucket.Bucket.{Bucket}

@@ -11,8 +11,9 @@ use Rattle.edit_laws.specs.declared.fault.EditFault.{EditFault}
 use Rattle.edit_laws.specs.declared.fault.EditFault.TheVariants as faults
 use Rattle.recorder.specs.Recording.{recorded}
 use Rattle.emfjson_model.specs.declared.doc.DocRow.{DocRow}
-use Rattle.emfjson_model.specs.declared.fault.ModelFault.{ModelFault}
-use Rattle.emfjson_model.specs.Document.{doc_of, fault_number}
+use Rattle.emfjson_drafts.specs.declared.fault.ModelFault.{ModelFault}
+use Rattle.emfjson_model.specs.Document.{doc_of}
+use Rattle.emfjson_drafts.specs.Faults.{fault_number}
 use Rattle.model_import.specs.Import.{recorded_import}
 use Rattle.op_form.specs.declared.event.Event.TheVariants as events
 use Rattle.script_lang.specs.declared.reply.Refusal.{Refusal}

@@ -15,7 +15,7 @@ use Rattle.model_state.specs.Listing.{children, rank_at, values_at}
 use Rattle.model_state.specs.State.{State, is_live, nothing}
 use Rattle.model_state.specs.Typing.{kind_of, upper_of}
 use Rattle.model_state.proofs.Orders.{id_order}
-use Rattle.emfjson_model.specs.declared.doc.DocAttr.{DocAttr}
+use Rattle.emfjson_drafts.specs.declared.doc.DocAttr.{DocAttr}
 use Rattle.emfjson_model.specs.declared.doc.DocRow.{DocRow}
 use Rattle.emfjson_model.specs.Fits.{DocumentFits}
 use Rattle.emfjson_text.specs.Laws.{Alike}

@@ -11,7 +11,7 @@ use Rattle.finite_maps.proofs.MapLaws.{IsKeyOrder, by_key, get-set_other, get-se
 use Rattle.ecore_meta.specs.declared.meta.Value.{Value}
 use Rattle.model_state.specs.Keys.{AttrKey, IdBytes, id_cmp}
 use Rattle.model_state.proofs.Orders.{attr_order, id_order}
-use Rattle.emfjson_model.specs.declared.doc.DocAttr.{DocAttr}
+use Rattle.emfjson_drafts.specs.declared.doc.DocAttr.{DocAttr}
 use Rattle.emfjson_model.specs.declared.doc.DocRow.{DocRow}
 use Rattle.emfjson_model.specs.Fits.{numbers_differ}
 use Rattle.emfjson_model.specs.Merged.{attr_at}

@@ -20,11 +20,11 @@ use Rattle.model_state.proofs.Orders.{id_order}
 use Rattle.model_state.proofs.StepTests.{place_equality}
 use Rattle.model_laws.proofs.Inserts.{or_none}
 use Rattle.edit_laws.proofs.Lists.{any-in_order, any-map, picked_has}
-use Rattle.emfjson_model.specs.declared.doc.DocParent.{DocParent}
+use Rattle.emfjson_drafts.specs.declared.doc.DocParent.{DocParent}
 use Rattle.emfjson_model.specs.declared.doc.DocRow.{DocRow}
 use Rattle.emfjson_model.specs.Fits.{DocumentFits, StandsFit, standing}
 use Rattle.emfjson_model.specs.Laws.{gives_id, ids_repeat, is_given}
-use Rattle.emfjson_model.specs.References.{parent_eq}
+use Rattle.emfjson_drafts.specs.Places.{parent_eq}
 use Rattle.emfjson_text.specs.Tree.{child_ids}
 use Rattle.model_import.specs.Laws.{ids_differ}
 use Rattle.model_import.specs.Names.{name_at}

@@ -17,7 +17,7 @@ use Rattle.model_state.specs.Steps.{may_link}
 use Rattle.model_state.specs.Typing.{is_plain}
 use Rattle.edit_laws.proofs.Lists.{targets_held}
 use Rattle.emfjson_model.specs.Merged.{targets_at}
-use Rattle.emfjson_model.specs.Reads.{Read, «then», collected}
+use Rattle.emfjson_drafts.specs.Reads.{Read, «then», collected}
 use Rattle.emfjson_model.specs.References.{entries_at, plain_features, plain_more}
 use Rattle.emfjson_text.specs.Keys.{key_number, keys_of}
 use Rattle.emfjson_text.specs.Tree.{target_ids}

@@ -21,11 +21,11 @@ use Rattle.model_state.specs.Typing.{is_plain, row_upper}
 use Rattle.edit_laws.proofs.Lists.{Apart, targets_apart, targets_has}
 use Rattle.emfjson_model.specs.declared.doc.DocRefs.{DocRefs}
 use Rattle.emfjson_model.specs.declared.doc.DocRow.{DocRow}
-use Rattle.emfjson_model.specs.declared.fault.ModelFault.TheVariants.{Bound}
+use Rattle.emfjson_drafts.specs.declared.fault.ModelFault.TheVariants.{Bound}
 use Rattle.emfjson_model.specs.Document.{resolved}
 use Rattle.emfjson_model.specs.Merged.{given_at, merged, merged_all, merged_at, naming, next_row, others, row_of, rows_by, targets_at}
-use Rattle.emfjson_model.specs.Parts.{ids_of}
-use Rattle.emfjson_model.specs.Reads.{Read, «then», unless, collected}
+use Rattle.emfjson_drafts.specs.Parts.{ids_of}
+use Rattle.emfjson_drafts.specs.Reads.{Read, «then», unless, collected}
 use Rattle.emfjson_model.specs.References.{given_by, plain_features, refs_at, refs_of, targets_of}
 use Rattle.emfjson_text.specs.Tree.{target_ids}
 use Rattle.round_trip.proofs.KeysFound.{Stands, all_stand}

@@ -19,8 +19,8 @@ use Rattle.model_import.specs.Names.{name_at}
 use Rattle.model_import.specs.News.{place_of}
 use Rattle.emfjson_model.specs.declared.doc.DocRow.{DocRow}
 use Rattle.emfjson_model.specs.Document.{doc_of, of_json, resolved}
-use Rattle.emfjson_model.specs.Parts.{ids_of}
-use Rattle.emfjson_model.specs.Reads.{«then»}
+use Rattle.emfjson_drafts.specs.Parts.{ids_of}
+use Rattle.emfjson_drafts.specs.Reads.{«then»}
 use Rattle.emfjson_text.specs.Laws.{IsNested}
 use Rattle.emfjson_text.specs.Tree.{child_ids, target_ids, text, tree, whole}
 use Rattle.emfjson_text.proofs.Nested.{text_is_whole}

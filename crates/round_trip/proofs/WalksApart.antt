@@ -20,7 +20,7 @@ use Rattle.model_state.specs.Keys.{IdBytes}
 use Rattle.model_state.specs.Listing.{children}
 use Rattle.model_state.specs.State.{State}
 use Rattle.edit_laws.proofs.Creates.{Stand, children_stand}
-use Rattle.emfjson_model.specs.Parts.{Ids, ids_of}
+use Rattle.emfjson_drafts.specs.Parts.{Ids, ids_of}
 use Rattle.emfjson_text.specs.Keys.{key_number, keys_of}
 use Rattle.emfjson_text.specs.Tree.{child_ids}
 use Rattle.emfjson_text.proofs.Children.{each_child}

@@ -12,9 +12,9 @@ use Rattle.ecore_meta.specs.declared.meta.Value.{Value}
 use Rattle.model_state.specs.declared.step.Place.TheVariants.{Inside}
 use Rattle.model_state.specs.Keys.{IdBytes}
 use Rattle.model_state.specs.State.{State}
-use Rattle.emfjson_model.specs.declared.doc.DocAttr.{DocAttr}
-use Rattle.emfjson_model.specs.declared.doc.DocParent.{DocParent}
-use Rattle.emfjson_model.specs.Parts.{Part, Ids}
+use Rattle.emfjson_drafts.specs.declared.doc.DocAttr.{DocAttr}
+use Rattle.emfjson_drafts.specs.declared.doc.DocParent.{DocParent}
+use Rattle.emfjson_drafts.specs.Parts.{Part, Ids}
 use Rattle.emfjson_text.specs.Keys.{key_number, keys_of}
 use Rattle.model_state.specs.Listing.{values_at}
 use Rattle.emfjson_text.specs.Tree.{child_ids, target_ids}

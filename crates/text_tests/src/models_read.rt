@@ -1,7 +1,8 @@
 //! Texts of models, with the document that each describes or its first fault, by the format's rules.
 use crate::metamodels::{cut, metamodel, plain, replaced};
 use ecore_meta::Metamodel;
-use emfjson_model::{Doc, ModelFault, read_model};
+use emfjson_drafts::ModelFault;
+use emfjson_model::{Doc, read_model};
 use std::alloc::Global;
 use std::process::Abort;
 use std::test::Fail;

@@ -1,6 +1,6 @@
 use Rattle.std.proofs.Common.{◌∙◌, ap, nat_eq}
 use Rattle.std.specs.List.{list_any}
-use Rattle.emfjson_model.specs.Finder.{numbers_at}
+use Rattle.emfjson_drafts.specs.Finder.{numbers_at}
 use Rattle.emfjson_model.specs.Merged.{targets_at}
 use Rattle.emfjson_model.specs.Sources.{also}
 use Rattle.emfjson_model.proofs.Naming.{sources_more}

@@ -1,0 +1,5 @@
+pub mod Lists
+pub mod Reading
+pub mod Features
+pub mod Walking
+pub mod Finding

@@ -1,9 +1,0 @@
-use Rattle.std.proofs.Common.{◌≡◌, [], drop, map}
-use Rattle.serde_json.specs.View.{view}
-use Rattle.emfjson_model.specs.Attributes.{next_value}
-use Rattle.emfjson_model.specs.Reads.{collected}
-use Rattle.emfjson_model.proofs.attributes.values_in.Given as goal
-
-abbrev pub invariant-loop-item : goal.invariant-loop-item
-invariant-loop-item l =
-    collected (next_value l.meta l.scalar l.unique) [] (map view l.items) ≡ collected (next_value l.meta l.scalar l.unique) l.values (map view (drop l.item-index l.items))

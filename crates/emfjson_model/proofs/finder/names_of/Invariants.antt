@@ -1,6 +1,0 @@
-use Rattle.std.proofs.Common.{take}
-use Rattle.emfjson_model.specs.Finder.{NamesOf}
-use Rattle.emfjson_model.proofs.finder.names_of.Given as goal
-
-abbrev pub invariant-loop-n : goal.invariant-loop-n
-invariant-loop-n l = NamesOf (take l.n l.rows) l.names

@@ -1,7 +1,0 @@
-use Rattle.std.proofs.Common.{◌≡◌, take}
-use Rattle.std.specs.Prelude.{None}
-use Rattle.emfjson_model.specs.References.{numbers_where, stands_in}
-use Rattle.emfjson_model.proofs.finder.roots_of.Given as goal
-
-abbrev pub invariant-loop-n : goal.invariant-loop-n
-invariant-loop-n l = l.roots ≡ numbers_where (stands_in None) 0 (take l.n l.rows)

@@ -1,7 +1,0 @@
-use Rattle.std.proofs.Common.{◌≡◌, map, take}
-use Rattle.serde_json.specs.View.{view}
-use Rattle.emfjson_model.specs.Links.{entry_of}
-use Rattle.emfjson_model.proofs.links.entries_in.Given as goal
-
-abbrev pub invariant-loop-value : goal.invariant-loop-value
-invariant-loop-value l = l.entries ≡ map entry_of (map view (take l.value-index l.values))
