@@ -10,7 +10,7 @@ mod fault;
 mod finder;
 mod identity;
 mod links;
-mod walking;
+mod walker;
 
 pub use attributes::is_within;
 pub use classes::{Key, after_prefix};
@@ -18,4 +18,4 @@ pub use doc::{DocAttr, DocParent};
 pub use draft::{Draft, Links};
 pub use fault::ModelFault;
 pub use finder::{Finder, child_at, take_numbers};
-pub use walking::walk;
+pub use walker::walk;

@@ -18,7 +18,7 @@ use Rattle.emfjson_drafts.specs.Reads.{Read}
 use Rattle.emfjson_drafts.specs.Walk.{element_rows, feature_part, items_rows, members_rows, held_rows, key_part, key_named}
 use Rattle.emfjson_drafts.proofs.Lists.{next_of, none_left_of}
 use Rattle.emfjson_drafts.proofs.Walking.{class_fault, id_fault, object_is, other_rows, null_rows, boolean_rows, number_rows, string_rows, array_rows, walks_is, held_null, held_array, held_object, held_boolean, held_number, held_string, count_items, items_step, items_fault, items_end, members_step, members_fault, members_end}
-use Rattle.emfjson_drafts.proofs.walking.+element.Goals as goal
+use Rattle.emfjson_drafts.proofs.walker.+element.Goals as goal
 
 pub element-returns-in-Err : goal.element-returns-in-Err
 element-returns-in-Err t c =
