@@ -10,7 +10,7 @@ use std::alloc::Global;
 
 /// The metamodel of one class with one text.
 pub(crate) fn metamodel(alloc: Global) -> Result<Metamodel, MeasureFault> {
-    let rows = rows_of(alloc, 1, 1)?;
+    let rows = rows_of(alloc, 1, 1, false)?;
     if !rows.is_numbered() {
         return Err(MeasureFault::TooMany);
     }
