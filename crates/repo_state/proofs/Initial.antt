@@ -1,5 +1,5 @@
 -- The first event.
-use Rattle.std.proofs.Common.{◌≡◌, ◌∙◌, ℕ, List, [], ◌∷◌, map, Option, Some, None, Result, Ok, is_ok, sym, ap, subst}
+use Rattle.std.proofs.Common.{◌≡◌, ◌∙◌, ℕ, List, [], ◌∷◌, map, Option, Some, None, Result, Ok, is_ok, is_some, false, refl, sym, ap, subst}
 use Rattle.std.proofs.lemmas.List.Elements.{All-nil}
 use Rattle.ecore_meta.specs.Meta.{Meta}
 use Rattle.ecore_json.specs.Metamodel.{metamodel_of}
