@@ -43,7 +43,10 @@ pub(crate) fn decide_checkout(
         Err(fault) => return Ok(refuse(alloc, unknown(fault))),
     };
     let lines = text_of(alloc, cache, pool, repo, begun, found.version)?;
-    let number = repo.made_workspaces() as u64 + 1;
+    let made = repo.made_workspaces() as u64;
+    let Some(number) = made.checked_add(1) else {
+        return Err(AllocError);
+    };
     let branch = begun.history.branch_name(found.branch);
     let mut words = String::new(alloc);
     write!(words, "{} {} {}", number, found.version, branch)?;
