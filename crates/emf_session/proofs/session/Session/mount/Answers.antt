@@ -4,7 +4,7 @@ use Rattle.host_port.specs.Host.{disk_now}
 use Rattle.commit_journal.specs.Journal.{WalkState, IsNoHeader, IsStuck, StandsForNone}
 use Rattle.plain_repository.specs.Store.{IsDamaged, StandsForNoEvents}
 use Rattle.emf_session.proofs.Holding.{all_on}
-use Rattle.emf_session.proofs.Opening.{damage_of, none_stands, is_long, stuck_is_damage, event_is_damage, keeps_moments, keeps_long, opened, replays_on}
+use Rattle.emf_session.proofs.Opening.{damage_of, none_stands, is_long, stuck_is_damage, event_is_damage, keeps_moments, keeps_long, keeps_said, opened, replays_on}
 use Rattle.emf_session.proofs.session.Session.mount.Goals as goal
 
 abbrev next_of : WalkState → ℕ
@@ -46,6 +46,12 @@ returns-in-Err-Memory-clause-moments g c = keeps_moments (g.H.Host.told c.args.h
 pub returns-in-Err-Memory-clause-long : goal.returns-in-Err-Memory-clause-long
 returns-in-Err-Memory-clause-long g c = keeps_long (g.H.Host.told c.args.host.now) (g.H.Host.told c.records.host) (g.H.Host.told c.next_bytes.new.host) c.records.walk c.records.repo c.records.invariant.0 c.next_bytes.ensures.course c.next_bytes.ensures.disk c.next_bytes.ensures.said c.next_bytes.ensures.input
 
+pub returns-in-Err-NotPlayable-clause-said : goal.returns-in-Err-NotPlayable-clause-said
+returns-in-Err-NotPlayable-clause-said g c = keeps_said (g.H.Host.told c.args.host.now) (g.H.Host.told c.records.host) (g.H.Host.told c.next_bytes.new.host) c.records.walk c.records.repo c.records.invariant.0 c.next_bytes.ensures.course c.next_bytes.ensures.disk c.next_bytes.ensures.said c.next_bytes.ensures.input
+
+pub returns-in-Err-Memory-clause-said : goal.returns-in-Err-Memory-clause-said
+returns-in-Err-Memory-clause-said g c = keeps_said (g.H.Host.told c.args.host.now) (g.H.Host.told c.records.host) (g.H.Host.told c.next_bytes.new.host) c.records.walk c.records.repo c.records.invariant.0 c.next_bytes.ensures.course c.next_bytes.ensures.disk c.next_bytes.ensures.said c.next_bytes.ensures.input
+
 pub returns-in-Ok-None-clause-opened : goal.returns-in-Ok-None-clause-opened
 returns-in-Ok-None-clause-opened g c = λ told.
     let closed = rw c.in-Ok-None.field-0-is at c.in-Ok-None.ensures.ended in
@@ -64,7 +70,7 @@ records-preserved g c =
     let some = rw c.in-Ok-Some.field-0-is at c.in-Ok-Some.ensures.some in
     let walked = rw c.in-Ok-Some.field-0-is at c.in-Ok-Some.ensures.walked in
     let played = c.in-Ok-replay.ensures.played in (
-      replays_on (g.H.Host.told c.args.host.now) (g.H.Host.told c.records.host) (g.H.Host.told c.next_bytes.new.host) c.records.walk c.records.repo c.records.invariant.0 c.next_bytes.ensures.course c.next_bytes.ensures.disk c.next_bytes.ensures.said c.next_bytes.ensures.input c.next_bytes.new.self c.in-Ok-Some.bytes.items c.replay.new.self (ap (λ (w : WalkState). w.ended) some.0) c.next_bytes.ensures.low (ap next_of some.0)
+      replays_on (g.H.Host.told c.args.host.now) (g.H.Host.told c.records.host) (g.H.Host.told c.next_bytes.new.host) c.records.walk c.records.repo c.records.invariant.0 c.next_bytes.ensures.course c.next_bytes.ensures.disk c.next_bytes.ensures.said c.next_bytes.ensures.input c.next_bytes.new.self c.in-Ok-Some.bytes.items c.replay.new.repo (ap (λ (w : WalkState). w.ended) some.0) c.next_bytes.ensures.low (ap next_of some.0)
           (played.0, played.1, sym c.deref.ensures.value ∙ played.2, played.3) walked,
       all_on c.records.pool c.replay.new.pool c.records.cache c.replay.new.cache c.records.invariant.1 c.replay.ensures.uses,
       c.replay.ensures.forms,
