@@ -1,4 +1,5 @@
 pub mod Above
+pub mod Bounds
 pub mod Ends
 pub mod Features
 pub mod Holds
@@ -8,6 +9,7 @@ pub mod Named
 pub mod Names
 pub mod Parts
 pub mod Promised
+pub mod Ranges
 pub mod Sound
 pub mod Typing
 pub mod Values

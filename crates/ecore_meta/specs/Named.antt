@@ -1,12 +1,11 @@
--- Names of a metamodel: of their form, and apart where one is looked for; kinds that go with their bounds.
-use Rattle.std.specs.Prelude.{◌≡◌, ℕ, ◌==◌, ◌||◌, Bool, false, Option, None, Some, map, codes, slice_get}
+-- Names of a metamodel: apart where one is looked for; no class's has a slash, and no feature is named as a key.
+use Rattle.std.specs.Prelude.{◌≡◌, ℕ, ◌==◌, ◌||◌, Bool, false, Some, map, codes, slice_get}
 use Rattle.std.specs.List.{list_any}
 use Rattle.std.specs.Str.{bytes_eq}
 use Rattle.ecore_meta.specs.Meta.{Meta, features_of, name_at}
 use Rattle.ecore_meta.specs.Names.{Name, has_repeat}
-use Rattle.ecore_meta.specs.Typing.{kind_of, literals_of, upper_of}
+use Rattle.ecore_meta.specs.Typing.{literals_of}
 use Rattle.ecore_meta.specs.declared.meta.Class.{Class as ClassOf}
-use Rattle.ecore_meta.specs.declared.meta.Kind.TheVariants.{Free}
 
 -- a key of an object that is no feature's
 abbrev pub is_reserved : Name → Bool
@@ -24,8 +23,8 @@ has_slash t = list_any (λ b. b == 47) t
 abbrev pub TextsAreApart : Meta → Type 0
 TextsAreApart meta = (e : ℕ) → has_repeat (map (λ l. l.text) (literals_of meta e)) ≡ false
 
--- names of classes differ and have no slash; the features of a class differ by name, and none is named as the class, the id or a reference; enums differ
--- by name, and the literals of each by text and by name; references of the kind that has no bound have none
+-- names of classes differ and have no slash; those of a class's features differ, and none is that of the class, the id or a reference; enums differ by
+-- name, and the literals of each by text and by name
 pub record IsNamed (meta : Meta) : Type 0 where
   pub classes : has_repeat (map (λ c. c.name) meta.classes) ≡ false
   pub slashes : (n : ℕ) (class : ClassOf) → slice_get meta.classes n ≡ Some class → has_slash class.name ≡ false
@@ -35,4 +34,3 @@ pub record IsNamed (meta : Meta) : Type 0 where
   pub enums : has_repeat (map (λ e. e.name) meta.enums) ≡ false
   pub literals : TextsAreApart meta
   pub literal_names : (e : ℕ) → has_repeat (map (λ l. l.name) (literals_of meta e)) ≡ false
-  pub unbounded : (f target : ℕ) (opposite : Option ℕ) → kind_of meta f ≡ Free target opposite → upper_of meta f ≡ None

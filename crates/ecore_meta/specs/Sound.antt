@@ -1,4 +1,4 @@
--- What holds of every metamodel that is built.
+-- What holds of the links of every metamodel.
 use Rattle.std.specs.Prelude.{◌≡◌, ℕ, true, false, Some, nat_eq}
 use Rattle.ecore_meta.specs.Meta.{Meta}
 use Rattle.ecore_meta.specs.Typing.{opposite_of, links}

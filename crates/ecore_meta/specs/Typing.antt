@@ -2,6 +2,7 @@
 use Rattle.std.specs.Prelude.{ℕ, ℤ, pos, negsuc, Bool, true, false, List, [], Option, None, Some, slice_get, nat_eq, nat_lt, ◌&&◌, length}
 use Rattle.std.specs.Option.{option_map_or}
 use Rattle.ecore_meta.specs.Meta.{Meta, has_feature, is_a}
+use Rattle.ecore_meta.specs.declared.meta.Enum.{Enum}
 use Rattle.ecore_meta.specs.declared.meta.EnumLiteral.{EnumLiteral}
 use Rattle.ecore_meta.specs.declared.meta.Kind.{Kind}
 use Rattle.ecore_meta.specs.declared.meta.Kind.TheVariants.{Bounded, Free, Skip}
@@ -25,26 +26,34 @@ half_of TextType = 0
 half_of FlagType = 0
 half_of (LiteralType e) = 0
 
--- the literals of an enum, none where there is no such enum
+-- the literals of the enum of that number, none where there is no such enum
+abbrev pub literals_at : List Enum → ℕ → List EnumLiteral
+literals_at enums e = option_map_or (λ found. found.literals) (slice_get enums e) []
+
+-- the text of the literal of that number, empty for a number that is none
+abbrev pub text_in : List EnumLiteral → ℕ → List ℕ
+text_in literals n = option_map_or (λ l. l.text) (slice_get literals n) []
+
+-- the literals of an enum of the metamodel
 abbrev pub literals_of : Meta → ℕ → List EnumLiteral
-literals_of meta e = option_map_or (λ found. found.literals) (slice_get meta.enums e) []
+literals_of meta e = literals_at meta.enums e
 
 -- how many literals an enum has
 abbrev pub literal_count : Meta → ℕ → ℕ
-literal_count meta e = option_map_or (λ found. length found.literals) (slice_get meta.enums e) 0
+literal_count meta e = length (literals_of meta e)
 
--- the text of a literal of an enum, empty for numbers that are none
+-- the text of a literal of an enum of the metamodel
 abbrev pub literal_text : Meta → ℕ → ℕ → List ℕ
-literal_text meta e n = option_map_or (λ l. l.text) (slice_get (literals_of meta e) n) []
+literal_text meta e n = text_in (literals_of meta e) n
 
 -- the value is of the type
 abbrev pub fits : Meta → Scalar → Value → Bool
 fits meta TextType (Text a) = true
 fits meta FlagType (Flag a) = true
-fits meta Byte (Whole a) = in_width 128 a
-fits meta Short (Whole a) = in_width 32768 a
-fits meta Int (Whole a) = in_width 2147483648 a
-fits meta Long (Whole a) = in_width 9223372036854775808 a
+fits meta Byte (Whole a) = in_width (half_of Byte) a
+fits meta Short (Whole a) = in_width (half_of Short) a
+fits meta Int (Whole a) = in_width (half_of Int) a
+fits meta Long (Whole a) = in_width (half_of Long) a
 fits meta (LiteralType e) (Literal n) = nat_lt n (literal_count meta e)
 fits meta s v = false
 

@@ -1,9 +1,10 @@
 -- The value that a text stands for.
-use Rattle.std.specs.Prelude.{◌≡◌, ℕ, ℤ, pos, neg_ℤ, ◌+◌, ◌-◌, ◌*◌, Bool, true, false, List, [], ◌∷◌, Option, None, Some, slice_get, map, drop, length, codes, cond, nat_eq, ◌<◌, if◌then◌else◌}
-use Rattle.std.specs.Option.{option_map, option_map_or, option_and_then}
+use Rattle.std.specs.Prelude.{◌≡◌, ℕ, ℤ, pos, neg_ℤ, ◌+◌, ◌-◌, ◌*◌, Bool, true, false, List, [], ◌∷◌, Option, None, Some, map, drop, length, codes, cond, nat_eq, ◌<◌, if◌then◌else◌}
+use Rattle.std.specs.Option.{option_map, option_and_then}
 use Rattle.std.specs.Str.{bytes_eq, all_ascii_digits}
 use Rattle.ecore_meta.specs.Names.{number_of}
-use Rattle.ecore_meta.specs.Typing.{in_width}
+use Rattle.ecore_meta.specs.Typing.{half_of, in_width}
+pub use Rattle.ecore_meta.specs.Typing.{literals_at, text_in}
 use Rattle.ecore_meta.specs.declared.fault.ValueFault.{ValueFault}
 use Rattle.ecore_meta.specs.declared.fault.ValueFault.TheVariants.{Bad, Memory}
 use Rattle.ecore_meta.specs.declared.meta.Enum.{Enum}
@@ -36,7 +37,7 @@ whole_of text =
 
 -- the number, where 64 bits hold it
 abbrev pub wide : Option ℤ → Option ℤ
-wide o = option_and_then (λ n. cond (in_width 9223372036854775808 n) (Some n) None) o
+wide o = option_and_then (λ n. cond (in_width (half_of Long) n) (Some n) None) o
 
 -- the number as a value, where the width holds it
 abbrev pub narrow : ℕ → ℤ → Option Value
@@ -49,14 +50,6 @@ whole_in half text = option_and_then (narrow half) (whole_of text)
 -- the flag of `true` or `false`
 abbrev pub flag_of : List ℕ → Option Value
 flag_of text = if bytes_eq text (codes "true") then Some (Flag true) else if bytes_eq text (codes "false") then Some (Flag false) else None
-
--- the literals of the enum of that number, none where there is no such enum
-abbrev pub literals_at : List Enum → ℕ → List EnumLiteral
-literals_at enums e = option_map_or (λ found. found.literals) (slice_get enums e) []
-
--- the text of the literal of that number, empty for a number that is none
-abbrev pub text_in : List EnumLiteral → ℕ → List ℕ
-text_in literals n = option_map_or (λ l. l.text) (slice_get literals n) []
 
 -- the first, or else the second
 abbrev pub or_else : Option ℕ → Option ℕ → Option ℕ
@@ -75,10 +68,10 @@ named_of enums e text = option_map (λ n. Literal n) (literal_in (literals_at en
 abbrev pub value_of : List Enum → Scalar → List ℕ → Option Value
 value_of enums TextType text = Some (Text text)
 value_of enums FlagType text = flag_of text
-value_of enums Byte text = whole_in 128 text
-value_of enums Short text = whole_in 32768 text
-value_of enums Int text = whole_in 2147483648 text
-value_of enums Long text = whole_in 9223372036854775808 text
+value_of enums Byte text = whole_in (half_of Byte) text
+value_of enums Short text = whole_in (half_of Short) text
+value_of enums Int text = whole_in (half_of Int) text
+value_of enums Long text = whole_in (half_of Long) text
 value_of enums (LiteralType e) text = named_of enums e text
 
 -- the default of a type: texts have none

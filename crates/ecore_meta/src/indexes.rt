@@ -1,4 +1,4 @@
-//! The indexes that a metamodel keeps: its classes and the literals of its enums by name.
+//! Indexes of names: of the classes of a metamodel, and of the literals of its enums.
 ghost use Rattle.std.specs.Prelude.{◌≡◌, ◌<◌, IfOk, None, OnOk, Some, cond, length, map};
 ghost use Rattle.std.specs.BTreeMap.{get_by_text};
 ghost use Rattle.std.specs.Str.{bytes_eq};

@@ -2,15 +2,16 @@
 #![tactic(auto)]
 
 mod above;
+mod enums;
 mod fault;
 mod feature_index;
 mod indexes;
-mod literals;
 mod meta;
 mod metamodel;
 mod values;
 
 pub use above::is_in;
+pub use enums::Enums;
 pub use fault::ValueFault;
 pub use meta::{Class, Enum, EnumLiteral, Feature, Kind, Scalar, Value};
 pub use metamodel::{Metamodel, Parts};

@@ -1,23 +1,22 @@
-//! A metamodel that was built, and its questions: classes and features by number and by name, subtyping, literals,
-//! defaults.
+//! A metamodel, and its questions: classes and features by number and by name, subtyping, literals, defaults.
 ghost use Rattle.std.specs.Prelude.{◌≡◌, ◌<◌, IfErr, IfOk, length, slice_get, Some};
-ghost use Rattle.std.specs.BTreeMap.{get_by_text};
-ghost use Rattle.std.specs.Option.{option_and_then, option_copied, option_map_or};
+ghost use Rattle.std.specs.Option.{option_copied};
 ghost use Rattle.ecore_meta.specs.Meta.{class_named, feature_named, features_of, has_feature, is_a};
 ghost use Rattle.ecore_meta.specs.Promised.{IsMetamodel};
 ghost use Rattle.ecore_meta.specs.Sound.{Sound};
 ghost use Rattle.ecore_meta.specs.Typing.{literal_count, literal_text, literals_of};
 ghost use Rattle.ecore_meta.specs.Holds.{Holds};
 ghost use Rattle.ecore_meta.specs.Parts.{meta_in};
-ghost use Rattle.ecore_meta.specs.Values.{AreShort, IsBad, literal_in, literals_at, text_in, value_of};
+ghost use Rattle.ecore_meta.specs.Values.{IsBad, literal_in, value_of};
 
 use crate::Text;
 use crate::above::is_in;
+use crate::enums::Enums;
 use crate::fault::ValueFault;
 use crate::feature_index::{feature_indexes, feature_of, name_index};
-use crate::indexes::{class_index, literal_indexes, number_in};
-use crate::meta::{Class, Enum, EnumLiteral, Feature, Scalar, Value};
-use crate::values::{at, value_of};
+use crate::indexes::{class_index, number_in};
+use crate::meta::{Class, Feature, Scalar, Value};
+use crate::values::value_of;
 use std::alloc::{AllocError, Global};
 use std::collections::{BTreeMap, BTreeSet};
 use std::marker::Model;
@@ -30,11 +29,9 @@ pub struct Metamodel {
     features: Vec<Feature>,
     /// Each class and all those above it.
     above: Vec<BTreeSet<u32>>,
-    enums: Vec<Enum>,
+    enums: Enums,
     /// The number of each class by its name.
     class_index: BTreeMap<String, u32>,
-    /// For each enum, the number of each literal by its text, and by its name where that is no literal's text.
-    literal_index: Vec<BTreeMap<String, u32>>,
     /// The number of each name of a feature.
     feature_names: BTreeMap<String, u32>,
     /// For each class, its features by the numbers of their names.
@@ -49,42 +46,7 @@ pub struct Parts {
     /// Each class and all those above it.
     pub above: Vec<BTreeSet<u32>>,
     pub features: Vec<Feature>,
-    pub enums: Vec<Enum>,
-}
-
-fn count(enums: &[Enum], e: u32) -> u32
-    requires there { e < length enums.now }
-    requires short { AreShort enums.now }
-    ensures { result ≡ option_map_or (λ found. length found.literals) (slice_get enums.now e) 0 }
-{
-    match at(enums, e) {
-        None => 0,
-        Some(found) => found.literals.len() as u32,
-    }
-}
-
-fn text_at(enums: &[Enum], e: u32, n: u32) -> &str
-    ensures { result.now ≡ text_in (literals_at enums.now e) n }
-{
-    match at(enums, e) {
-        None => "",
-        Some(found) => text_in(found.literals.as_slice(), n),
-    }
-}
-
-fn text_in(literals: &[EnumLiteral], n: u32) -> &str
-    ensures { result.now ≡ text_in literals.now n }
-{
-    match literal_at(literals, n) {
-        None => "",
-        Some(literal) => literal.text.as_str(),
-    }
-}
-
-fn literal_at(literals: &[EnumLiteral], n: u32) -> Option<&EnumLiteral>
-    ensures { option_copied result ≡ slice_get literals.now n }
-{
-    literals.get(n as usize)
+    pub enums: Enums,
 }
 
 impl Model for Metamodel {
@@ -94,19 +56,18 @@ impl Model for Metamodel {
 
     ghost Value = { Meta };
 
-    ghost view = { λ a. record { uri = a.uri; classes = a.classes.items; above = map (λ s. s.keys) a.above.items; features = a.features.items; enums = a.enums.items } };
+    ghost view = { λ a. record { uri = a.uri; classes = a.classes.items; above = map (λ s. s.keys) a.above.items; features = a.features.items; enums = a.enums } };
 
-    ghost invariant = { λ a. Keeps (record { uri = a.uri; classes = a.classes.items; above = map (λ s. s.keys) a.above.items; features = a.features.items; enums = a.enums.items }) a.class_index a.literal_index.items a.feature_names a.feature_index.items };
+    ghost invariant = { λ a. Keeps (record { uri = a.uri; classes = a.classes.items; above = map (λ s. s.keys) a.above.items; features = a.features.items; enums = a.enums }) a.class_index a.feature_names a.feature_index.items };
 }
 
 impl Metamodel {
-    /// The metamodel of its parts, with indexes of its classes and literals by name.
+    /// The metamodel of its parts, with indexes of its classes and features by name.
     pub fn of_parts(alloc: Global, parts: Parts) -> Result<Metamodel, AllocError>
         requires { Holds (meta_in parts) }
         ensures { IfOk result (λ m. m ≡ meta_in parts) }
     {
         let class_index = class_index(alloc, parts.classes.as_slice())?;
-        let literal_index = literal_indexes(alloc, parts.enums.as_slice())?;
         let features = parts.features.as_slice();
         let feature_names = name_index(alloc, features)?;
         let feature_index = feature_indexes(
@@ -122,7 +83,6 @@ impl Metamodel {
             above: parts.above,
             enums: parts.enums,
             class_index,
-            literal_index,
             feature_names,
             feature_index,
         })
@@ -153,7 +113,7 @@ impl Metamodel {
     pub fn enum_count(&self) -> u32
         ensures { result ≡ length self.now.enums }
     {
-        self.enums.len() as u32
+        self.enums.len()
     }
 
     /// How many literals an enum has.
@@ -161,7 +121,7 @@ impl Metamodel {
         requires { e < length self.now.enums }
         ensures { result ≡ literal_count self.now e }
     {
-        count(self.enums.as_slice(), e)
+        self.enums.literal_count(e)
     }
 
     /// The text that stands for a literal of an enum in a model.
@@ -170,10 +130,10 @@ impl Metamodel {
         requires literal { n < literal_count self.now e }
         ensures { result.now ≡ literal_text self.now e n }
     {
-        text_at(self.enums.as_slice(), e, n)
+        self.enums.literal_text(e, n)
     }
 
-    /// The law of opposites: each names the other back, none is its own, and what one side may link the other may
+    /// The law of opposites of links: each names the other back, none is its own, and what one side may link the other may
     /// link back. A holder of any metamodel has it by this call, which does nothing.
     pub fn sound(&self)
         ensures { Sound self.now }
@@ -182,8 +142,8 @@ impl Metamodel {
         let _uri = &self.uri;
     }
 
-    /// What holds of every metamodel: the law of opposites, the lists of features, opposites of both sorts, and names. A
-    /// holder of any metamodel has it by this call, which does nothing.
+    /// What holds of every metamodel: of classes above classes, of lists of features, of opposites of both sorts, of names, of
+    /// bounds, and of what features name. A holder of any metamodel has it by this call, which does nothing.
     pub fn promised(&self)
         ensures { IsMetamodel self.now }
     {
@@ -251,21 +211,6 @@ impl Metamodel {
     }
 }
 
-fn index_at(indexes: &[BTreeMap<String, u32>], n: u32) -> Option<&BTreeMap<String, u32>>
-    ensures { option_copied result ≡ slice_get indexes.now n }
-{
-    indexes.get(n as usize)
-}
-
-fn number_at(indexes: &[BTreeMap<String, u32>], n: u32, name: &str) -> Option<u32>
-    ensures { result ≡ option_and_then (λ m. get_by_text m name.now) (slice_get indexes.now n) }
-{
-    match index_at(indexes, n) {
-        None => None,
-        Some(index) => number_in(index, name),
-    }
-}
-
 impl Metamodel {
     /// The class of that name.
     pub fn class_named(&self, name: &str) -> Option<u32>
@@ -278,7 +223,7 @@ impl Metamodel {
     pub fn literal_named(&self, e: u32, text: &str) -> Option<u32>
         ensures { result ≡ literal_in (literals_of self.now e) text.now }
     {
-        number_at(self.literal_index.as_slice(), e, text)
+        self.enums.literal_named(e, text)
     }
 
     /// The value of the type that a default text stands for.
@@ -291,7 +236,7 @@ impl Metamodel {
         ensures value { IfOk result (λ v. value_of self.now.enums scalar.now text.now ≡ Some v) }
         ensures bad { IfErr result (IsBad (value_of self.now.enums scalar.now text.now)) }
     {
-        match value_of(alloc, self.enums.as_slice(), scalar, text)? {
+        match value_of(alloc, &self.enums, scalar, text)? {
             None => Err(ValueFault::Bad),
             Some(value) => Ok(value),
         }

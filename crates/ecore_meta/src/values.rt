@@ -1,15 +1,14 @@
 //! Default texts read as values of a type: flags, whole numbers of four widths, literals and texts; and the default of
 //! a type.
-ghost use Rattle.std.specs.Prelude.{◌≡◌, IfOk, IfSome, FitsSigned, Some, None, cond, nat_eq, map, slice_get, slice_index};
-ghost use Rattle.std.specs.Option.{option_copied};
+ghost use Rattle.std.specs.Prelude.{◌≡◌, IfOk, IfSome, FitsSigned, Some, None, cond, nat_eq, slice_index};
 ghost use mir.Syntax.{w64};
 ghost use Rattle.ecore_meta.specs.Typing.{half_of, in_width};
 ghost use Rattle.ecore_meta.specs.declared.meta.Value.TheVariants.{Whole};
-ghost use Rattle.ecore_meta.specs.Values.{AreShort, default_of, flag_of, named_of, value_of, whole_in, whole_of, wide};
+ghost use Rattle.ecore_meta.specs.Values.{default_of, flag_of, named_of, value_of, whole_in, whole_of, wide};
 
 use crate::Text;
-use crate::literals::literal_in;
-use crate::meta::{Enum, Scalar, Value};
+use crate::enums::Enums;
+use crate::meta::{Scalar, Value};
 use std::alloc::{AllocError, Global};
 
 fn begins_with_plus(text: &[u8]) -> bool
@@ -106,21 +105,11 @@ fn whole_in(scalar: &Scalar, text: &str) -> Option<Value>
     }
 }
 
-pub(crate) fn at(enums: &[Enum], number: u32) -> Option<&Enum>
-    ensures { option_copied result ≡ slice_get enums.now number }
-{
-    enums.get(number as usize)
-}
-
-fn named_of(enums: &[Enum], number: u32, text: &str) -> Option<Value>
-    requires { AreShort enums.now }
+fn named_of(enums: &Enums, number: u32, text: &str) -> Option<Value>
     ensures { result ≡ named_of enums.now number text.now }
 {
-    match at(enums, number) {
-        Some(found) => match literal_in(found.literals.as_slice(), text) {
-            Some(n) => Some(Value::Literal(n)),
-            None => None,
-        },
+    match enums.literal_named(number, text) {
+        Some(n) => Some(Value::Literal(n)),
         None => None,
     }
 }
@@ -128,11 +117,10 @@ fn named_of(enums: &[Enum], number: u32, text: &str) -> Option<Value>
 /// The value of the type that a text stands for.
 pub fn value_of(
     alloc: Global,
-    enums: &[Enum],
+    enums: &Enums,
     scalar: &Scalar,
     text: &str,
 ) -> Result<Option<Value>, AllocError>
-    requires { AreShort enums.now }
     ensures { IfOk result (λ v. v ≡ value_of enums.now scalar.now text.now) }
 {
     match scalar {

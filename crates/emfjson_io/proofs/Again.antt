@@ -1,5 +1,5 @@
 -- What is written for a value is read again as that value.
-use Rattle.std.proofs.Common.{◌≡◌, ℕ, ℤ, pos, negsuc, ◌^◌, ◌<◌, ◌≤◌, true, cond, None, Some, length, ap, subst, ◌∙◌, arith}
+use Rattle.std.proofs.Common.{◌≡◌, ℕ, ℤ, pos, negsuc, ◌^◌, ◌<◌, ◌≤◌, true, cond, None, Some, length, ap, ◌∙◌, arith}
 use Rattle.std.specs.Prelude.{option_map, option_and_then}
 use Rattle.std.proofs.lemmas.Bool.{ltb-true, lt-ltb}
 use Rattle.serde_json.specs.Data.{number}
@@ -15,7 +15,6 @@ use Rattle.ecore_meta.specs.declared.meta.Value.{Value}
 use Rattle.ecore_meta.specs.declared.meta.Value.TheVariants.{Text, Flag, Whole, Literal}
 use Rattle.emfjson_io.specs.Values.{value_in, value_of, value_text, whole_in}
 use Rattle.emfjson_io.specs.Laws.{WrittenValuesAreRead}
-use Rattle.emfjson_io.proofs.Fits.{count_is}
 use Rattle.emfjson_io.proofs.JsonTexts.{read_string, read_flag, read_natural, read_negative}
 use Rattle.emfjson_io.proofs.Literals.{named_again}
 
@@ -57,7 +56,7 @@ long_again meta v h = cc
 
 literal_again : (meta : Meta) → TextsAreApart meta → (e : ℕ) (v : Value) → fits meta (LiteralType e) v ≡ true → value_of meta (LiteralType e) (value_text meta (LiteralType e) v) ≡ Some v
 literal_again meta apart e (Literal n) h =
-    let below : n < length (literals_of meta e) = subst (λ k. n < k) (count_is meta e) (ltb-true n (literal_count meta e) h) in
+    let below : n < length (literals_of meta e) = ltb-true n (literal_count meta e) h in
     ap (option_and_then (value_in meta (LiteralType e))) (read_string (literal_text meta e n))
     ∙ ap (option_map (λ n. Literal n)) (named_again (literals_of meta e) n (apart e) below)
 literal_again meta apart e v h = cc

@@ -1,7 +1,6 @@
 -- A value that is read is of the type.
-use Rattle.std.proofs.Common.{◌≡◌, ℕ, ℤ, suc, ◌<◌, Bool, true, false, cond, List, [], ◌∷◌, Option, None, Some, length, map, refl, sym, subst, ◌∙◌, arith, lt-ltb}
-use Rattle.std.specs.Prelude.{option_map, option_and_then, slice_get}
-use Rattle.std.specs.Option.{option_map_or}
+use Rattle.std.proofs.Common.{◌≡◌, ℕ, ℤ, suc, ◌<◌, Bool, true, false, cond, List, [], ◌∷◌, Option, None, Some, length, map, refl, subst, ◌∙◌, arith, lt-ltb}
+use Rattle.std.specs.Prelude.{option_map, option_and_then}
 use Rattle.std.specs.Str.{bytes_eq}
 use Rattle.std.proofs.lemmas.List.{length-map}
 use Rattle.serde_json.specs.Data.{Data}
@@ -11,7 +10,6 @@ use Rattle.ecore_meta.specs.Meta.{Meta}
 use Rattle.ecore_meta.specs.Names.{Name, number_of}
 use Rattle.ecore_meta.specs.Typing.{fits, in_width, literals_of, literal_count}
 use Rattle.ecore_meta.specs.Values.{literal_in, narrow, or_else}
-use Rattle.ecore_meta.specs.declared.meta.Enum.{Enum}
 use Rattle.ecore_meta.specs.declared.meta.EnumLiteral.{EnumLiteral}
 use Rattle.ecore_meta.specs.declared.meta.Scalar.{Scalar}
 use Rattle.ecore_meta.specs.declared.meta.Scalar.TheVariants.{Text as TextType, Flag as FlagType, Byte, Short, Int, Long, Literal as LiteralType}
@@ -38,13 +36,6 @@ literal_below ls text n h = by_text (number_of text (map (λ l. l.text) ls)) ref
     by_text None is h = omega (arith, number_below text (map (λ l. l.name) ls) n h, length-map ls (λ l. l.name))
     by_text (Some m) is h = omega (arith, number_below text (map (λ l. l.text) ls) n (is ∙ h), length-map ls (λ l. l.text))
 
-pub count_is : (meta : Meta) (e : ℕ) → literal_count meta e ≡ length (literals_of meta e)
-count_is meta e = by_entry (slice_get meta.enums e)
-  where
-    by_entry : (o : Option Enum) → option_map_or (λ (x : Enum). length x.literals) o 0 ≡ length (option_map_or (λ (x : Enum). x.literals) o [])
-    by_entry None = refl
-    by_entry (Some x) = refl
-
 flag_fits : (meta : Meta) (o : Option Bool) (v : Value) → option_map (λ b. Flag b) o ≡ Some v → fits meta FlagType v ≡ true
 flag_fits meta None v h = cc
 flag_fits meta (Some b) v h = let e : Flag b ≡ v = cc in subst (λ w. fits meta FlagType w ≡ true) e refl
@@ -70,7 +61,7 @@ named_fits meta e (Some text) v h = by_number (literal_in (literals_of meta e) t
     by_number None is h = cc
     by_number (Some n) is h =
         let same : Literal n ≡ v = cc in
-        let below : n < literal_count meta e = subst (λ k. n < k) (sym (count_is meta e)) (literal_below (literals_of meta e) text n is) in
+        let below : n < literal_count meta e = literal_below (literals_of meta e) text n is in
         subst (λ w. fits meta (LiteralType e) w ≡ true) same (lt-ltb n (literal_count meta e) below)
 
 pub in_type : (meta : Meta) (s : Scalar) (d : Data) (v : Value) → value_in meta s d ≡ Some v → fits meta s v ≡ true

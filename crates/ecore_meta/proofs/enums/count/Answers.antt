@@ -1,6 +1,6 @@
 use Rattle.std.proofs.Common.{arith}
 use Rattle.ecore_meta.proofs.ParseLaws.{short_at}
-use Rattle.ecore_meta.proofs.metamodel.count.Goals as goal
+use Rattle.ecore_meta.proofs.enums.count.Goals as goal
 
 pub overflow_cast-result : goal.overflow_cast-result
 overflow_cast-result c =
