@@ -1,7 +1,7 @@
 -- What holds of the classes above each class of a metamodel that is built.
-use Rattle.std.proofs.Common.{◌≡◌, ℕ, zero, suc, ◌+◌, ◌<◌, ◌≤◌, Bool, true, false, List, [], ◌∷◌, ◌⊎◌, inl, inr, refl, sym, ap, subst, ◌∙◌, arith, length, map, nat_eq}
+use Rattle.std.proofs.Common.{◌≡◌, ℕ, zero, suc, ◌+◌, ◌<◌, ◌≤◌, true, false, List, [], ◌∷◌, ◌⊎◌, inl, inr, refl, sym, subst, ◌∙◌, arith, length, map}
 use Rattle.std.specs.Prelude.{None, slice_get}
-use Rattle.std.specs.List.{filter, list_any, range_with_len}
+use Rattle.std.specs.List.{filter, range_with_len}
 use Rattle.std.specs.List.Sorted.{IsStrictlySortedBy}
 use Rattle.std.specs.Option.{option_map_or}
 use Rattle.std.specs.Ordering.{nat_cmp}
@@ -9,16 +9,16 @@ use Rattle.std.proofs.lemmas.List.{length-map}
 use Rattle.std.proofs.lemmas.List.Kept.{IsStrictlySortedBy-filter}
 use Rattle.ecore_meta.specs.Above.{StandsAbove}
 use Rattle.ecore_build.specs.Build.{meta_of}
-use Rattle.ecore_build.specs.Document.{supers_in}
-use Rattle.ecore_build.specs.Faults.{fault, features_of, is_cyclic, super_cycle}
-use Rattle.ecore_build.specs.Supers.{Inside, IsPath, Leads, all_above, is_above, supers_of}
-use Rattle.ecore_build.specs.declared.rows.MetaRows.{MetaRows}
+use Rattle.ecore_drafts.specs.Document.{supers_in}
+use Rattle.ecore_build.specs.Faults.{fault, features_of}
+use Rattle.ecore_drafts.specs.Supers.{is_cyclic, super_cycle, Inside, IsPath, Leads, is_above, supers_of}
+use Rattle.ecore_drafts.specs.declared.rows.MetaRows.{MetaRows}
 use Rattle.ecore_build.proofs.BuildLaws.{classes_supers, supers_inside}
 use Rattle.ecore_build.proofs.OwnerLaws.{is_a_is}
 use Rattle.ecore_meta.proofs.RisingLaws.{rising_range}
-use Rattle.ecore_build.proofs.SoundLaws.{no_cycle}
-use Rattle.ecore_build.proofs.SuperLaws.{above_leads, any_at, leads_above}
-use Rattle.ecore_build.proofs.TableLaws.{above_none, cycle_found, led_below, range_length}
+use Rattle.ecore_build.proofs.NoFault.{passes}
+use Rattle.ecore_drafts.proofs.SuperLaws.{above_leads, any_at, leads_above}
+use Rattle.ecore_drafts.proofs.TableLaws.{above_none, cycle_found, led_below, range_length}
 
 split : (c n : ℕ) → (c < n) ⊎ (n ≤ c)
 split c zero = inr (omega arith)
@@ -64,7 +64,7 @@ stands_above rows none = record {
   apart = λ c d h k.
       let up : is_above supers c d ≡ true = sym (is_a_is rows c d) ∙ h in
       let led = above_leads supers c d up in
-      no_way_back supers inside (no_cycle rows.classifiers none) c d led.0 (low supers inside c d up) led.1 (sym (is_a_is rows d c) ∙ k);
+      no_way_back supers inside (passes rows.classifiers none).rising c d led.0 (low supers inside c d up) led.1 (sym (is_a_is rows d c) ∙ k);
   classes = λ c d h.
       let up : is_above supers c d ≡ true = sym (is_a_is rows c d) ∙ h in
       let led = above_leads supers c d up in

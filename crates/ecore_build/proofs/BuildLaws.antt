@@ -1,25 +1,30 @@
 -- What the parts of a document are, by number.
-use Rattle.std.proofs.Common.{◌≡◌, ℕ, zero, suc, ◌+◌, ◌<◌, ◌≤◌, Bool, true, false, List, [], ◌∷◌, refl, sym, ap, subst, ◌∙◌, arith, length, length-append, map, take, nat_eq}
-use Rattle.std.specs.Prelude.{Option, None, Some, slice_get}
-use Rattle.std.specs.List.{list_any, cons_option, filter, filter_map, flat_map, range_with_len}
-use Rattle.std.specs.Option.{option_and_then}
+use Rattle.std.proofs.Common.{◌≡◌, ℕ, zero, suc, ◌+◌, ◌<◌, ◌≤◌, Bool, true, false, List, [], ◌∷◌, ◌++◌, refl, sym, ap, subst, ◌∙◌, arith, length, length-append, map, take, nat_eq, cond, ◌||◌}
+use Rattle.std.specs.Prelude.{Option, None, Some}
+use Rattle.std.specs.List.{AllByRecursion, list_any, cons_option, enumerate_from, filter, filter_map, flat_map, range_with_len}
 use Rattle.std.specs.BTreeSet.{BTreeSet}
 use Rattle.std.proofs.lemmas.List.{length-map}
-use Rattle.ecore_meta.specs.Names.{Name, number_of}
-use Rattle.ecore_build.specs.Document.{ClassifierRows, classifier_name, classifier_named, class_in, class_number, numbered, supers_in, feature_total}
-use Rattle.ecore_build.specs.Drafts.{draft, drafts, drafts_from}
-use Rattle.ecore_build.specs.Faults.{own_of, inherited, all_inherited, literal, enums_in}
+use Rattle.ecore_meta.specs.Names.{Name}
+use Rattle.ecore_meta.specs.declared.meta.Class.{Class as Made}
+use Rattle.ecore_drafts.specs.Document.{ClassifierRows, class_number, classes_of, feature_total, has_none, is_empty_at, supers_in}
+use Rattle.ecore_drafts.specs.Drafts.{draft, drafts}
+use Rattle.ecore_build.specs.Faults.{own_of, inherited, all_inherited, enum_from, literal, enums_in}
 use Rattle.ecore_build.specs.Faults.{first_true}
 use Rattle.ecore_build.specs.declared.fault.MetaFault.{MetaFault}
 use Rattle.ecore_build.specs.declared.fault.MetaFault.TheVariants.{SelfOpposite, BadOpposite, BadBound, BadDefault}
-use Rattle.ecore_build.specs.Build.{AreFew, classes_from}
-use Rattle.ecore_build.specs.Supers.{Inside, is_above, supers_of}
-use Rattle.ecore_build.specs.Supers.{all_above}
-use Rattle.ecore_meta.specs.Values.{AreShort}
-use Rattle.ecore_build.specs.declared.classifiers.Classifier.{Classifier}
-use Rattle.ecore_build.specs.declared.classifiers.Classifier.TheVariants.{Class as OfClass, Enum as OfEnum, Plain as OfPlain}
-use Rattle.ecore_build.specs.declared.rows.ClassifierRow.TheVariants.{Class, Enum, Plain}
+use Rattle.ecore_build.specs.Build.{class_from}
+use Rattle.ecore_drafts.specs.Counts.{AreFew}
+use Rattle.ecore_drafts.specs.Supers.{Inside, is_above, supers_of, all_above}
+use Rattle.ecore_meta.specs.Values.{AreShort, literals_at}
+use Rattle.ecore_drafts.specs.declared.rows.ClassRow.{ClassRow}
+use Rattle.ecore_drafts.specs.declared.rows.EnumRow.{EnumRow}
+use Rattle.ecore_drafts.specs.declared.drafts.Draft.{Draft}
+use Rattle.ecore_drafts.specs.declared.rows.ClassifierRow.TheVariants.{Class, Enum, Plain}
+use Rattle.ecore_drafts.specs.declared.rows.FeatureRow.{FeatureRow}
+use Rattle.ecore_drafts.specs.declared.rows.LiteralRow.{LiteralRow}
+use Rattle.ecore_meta.proofs.NameLaws.{number_of-below}
 use Rattle.ecore_meta.proofs.NumberLaws.{nat_same, or_split}
+use Rattle.ecore_drafts.proofs.PlaceLaws.{drafts_counted, drafts_from}
 
 map_map : {X Y Z : Type 0} (g : Y → Z) (f : X → Y) (xs : List X) → map (λ x. g (f x)) xs ≡ map g (map f xs)
 map_map g f [] = refl
@@ -39,29 +44,22 @@ features_is sets i own supers done is rising =
     ∙ map_map (flat_map (own_of own)) (λ s. s.keys) sets ∙ ap (map (flat_map (own_of own))) rising
     ∙ sym (map_map (flat_map (own_of own)) (λ c. filter (is_above supers c) (range_with_len 0 (length supers))) (range_with_len 0 (length supers)))
 
--- the classes of a document are numbered below their count
-class_below : (all : ClassifierRows) (c f e : ℕ) (rows : ClassifierRows) (p n first : ℕ) → slice_get (numbered c f e rows) p ≡ Some (OfClass n first) → n < c + length (supers_in all rows)
-class_below all c f e [] p n first h = cc
-class_below all c f e (Class r ∷ rows) zero n first h = let same : c ≡ n = cc in omega (arith, same)
-class_below all c f e (Enum r ∷ rows) zero n first h = cc
-class_below all c f e (Plain t ∷ rows) zero n first h = cc
-class_below all c f e (Class r ∷ rows) (suc p) n first h = let more = class_below all (suc c) (f + length r.features) e rows p n first h in omega (arith, more)
-class_below all c f e (Enum r ∷ rows) (suc p) n first h = class_below all c f (suc e) rows p n first h
-class_below all c f e (Plain t ∷ rows) (suc p) n first h = class_below all c f e rows p n first h
+-- a class's number is a place of the list
+pub number_below : (all : ClassifierRows) (q : Name) (n : ℕ) → class_number all q ≡ Some n → n < length (supers_in all all)
+unfolding class_number
+number_below all q n h =
+    let below = number_of-below q (map (λ (c : ClassRow). c.name) (classes_of all)) n h in
+    omega (arith, below, length-map (classes_of all) (λ (c : ClassRow). c.name), length-map (classes_of all) (λ (c : ClassRow). filter_map (class_number all) c.supers))
 
-number_below : (all : ClassifierRows) (q : Name) (n : ℕ) → class_number all q ≡ Some n → n < length (supers_in all all)
-unfolding classifier_named
-number_below all q n h = by_place (number_of q (map classifier_name all)) h
+-- an enum that isn't empty has a literal
+pub filled_enum : (es : List EnumRow) (e : ℕ) → is_empty_at es e ≡ false → 0 < length (literals_at (map enum_from es) e)
+filled_enum [] e h = cc
+filled_enum (r ∷ es) zero h = filled r.literals h
   where
-    by_kind : (p : ℕ) (k : Option Classifier) → slice_get (numbered 0 0 0 all) p ≡ k → option_and_then class_in k ≡ Some n → n < length (supers_in all all)
-    by_kind p None is h = cc
-    by_kind p (Some (OfClass m first)) is h = let same : m ≡ n = cc in let below = class_below all 0 0 0 all p m first is in omega (arith, same, below)
-    by_kind p (Some (OfEnum m empty)) is h = cc
-    by_kind p (Some OfPlain) is h = cc
-
-    by_place : (o : Option ℕ) → option_and_then class_in (option_and_then (λ p. slice_get (numbered 0 0 0 all) p) o) ≡ Some n → n < length (supers_in all all)
-    by_place None h = cc
-    by_place (Some p) h = by_kind p (slice_get (numbered 0 0 0 all) p) refl h
+    filled : (ls : List LiteralRow) → has_none ls ≡ false → 0 < length (map literal ls)
+    filled [] h = cc
+    filled (l ∷ ls) h = omega arith
+filled_enum (r ∷ es) (suc e) h = filled_enum es e h
 
 listed_below : (all : ClassifierRows) (b : ℕ) (names : List Name) → list_any (nat_eq b) (filter_map (class_number all) names) ≡ true → b < length (supers_in all all)
 listed_below all b [] h = cc
@@ -96,9 +94,23 @@ drafts_count all n (Class c ∷ rows) = length-append (map (draft all n) c.featu
 drafts_count all n (Enum e ∷ rows) = drafts_count all n rows ∙ omega arith
 drafts_count all n (Plain t ∷ rows) = drafts_count all n rows ∙ omega arith
 
+pub all_append : {A : Type 0} (P : A → Type 0) (xs ys : List A) → AllByRecursion P xs → AllByRecursion P ys → AllByRecursion P (xs ++ ys)
+all_append P [] ys p q = q
+all_append P (x ∷ xs) ys p q = (p.0, all_append P xs ys p.1 q)
+
+-- what holds of the draft of any feature holds of all drafts of a document
+pub all_drafts : (P : Draft → Type 0) (all : ClassifierRows) → ((n : ℕ) (f : FeatureRow) → P (draft all n f)) → (n : ℕ) (rows : ClassifierRows) → AllByRecursion P (drafts_from all n rows)
+all_drafts P all each n [] = tt
+all_drafts P all each n (Class c ∷ rows) = all_append P (map (draft all n) c.features) (drafts_from all (suc n) rows) (own c.features) (all_drafts P all each (suc n) rows)
+  where
+    own : (fs : List FeatureRow) → AllByRecursion P (map (draft all n) fs)
+    own [] = tt
+    own (f ∷ fs) = (each n f, own fs)
+all_drafts P all each n (Enum e ∷ rows) = all_drafts P all each n rows
+all_drafts P all each n (Plain t ∷ rows) = all_drafts P all each n rows
+
 pub drafts_few : (rows : ClassifierRows) → length (drafts rows) ≡ feature_total rows
-unfolding drafts
-drafts_few rows = drafts_count rows 0 rows
+drafts_few rows = ap length (drafts_counted rows) ∙ drafts_count rows 0 rows
 
 pub enums_short : (rows : ClassifierRows) → AreFew rows → AreShort (enums_in rows)
 enums_short [] few = tt
@@ -106,15 +118,19 @@ enums_short (Class c ∷ rows) few = enums_short rows few.1
 enums_short (Enum e ∷ rows) few = (subst (λ k. k < 4294967296) (sym (length-map e.literals literal)) (omega (arith, few.0)), enums_short rows few.1)
 enums_short (Plain t ∷ rows) few = enums_short rows few.1
 
-pub classes_count : (n : ℕ) (fs : List (List ℕ)) (rows : ClassifierRows) → length (classes_from n fs rows) ≤ length rows
+-- the classes with the features of each, their places from n on
+abbrev pub classes_at : ℕ → List (List ℕ) → ClassifierRows → List Made
+classes_at n fs rows = map (class_from fs) (enumerate_from n (classes_of rows))
+
+pub classes_count : (n : ℕ) (fs : List (List ℕ)) (rows : ClassifierRows) → length (classes_at n fs rows) ≤ length rows
 classes_count n fs [] = omega arith
-classes_count n fs (Class c ∷ rows) = let more = classes_count (suc n) fs rows in omega (arith, more)
+classes_count n fs (Class c ∷ rows) = let more = classes_count (n + 1) fs rows in omega (arith, more)
 classes_count n fs (Enum e ∷ rows) = let more = classes_count n fs rows in omega (arith, more)
 classes_count n fs (Plain t ∷ rows) = let more = classes_count n fs rows in omega (arith, more)
 
-pub classes_supers : (all : ClassifierRows) (n : ℕ) (fs : List (List ℕ)) (rows : ClassifierRows) → length (supers_in all rows) ≡ length (classes_from n fs rows)
+pub classes_supers : (all : ClassifierRows) (n : ℕ) (fs : List (List ℕ)) (rows : ClassifierRows) → length (supers_in all rows) ≡ length (classes_at n fs rows)
 classes_supers all n fs [] = refl
-classes_supers all n fs (Class c ∷ rows) = ap (λ k. suc k) (classes_supers all (suc n) fs rows)
+classes_supers all n fs (Class c ∷ rows) = ap (λ k. suc k) (classes_supers all (n + 1) fs rows)
 classes_supers all n fs (Enum e ∷ rows) = classes_supers all n fs rows
 classes_supers all n fs (Plain t ∷ rows) = classes_supers all n fs rows
 
@@ -147,3 +163,12 @@ no_last false true c d h k l m = cc
 no_last false false true d h k l m = cc
 no_last false false false true h k l m = cc
 no_last false false false false h k l m = refl
+
+-- a test that fails is not the first that holds
+pub past : (b : Bool) (e : MetaFault) (r s : Option MetaFault) → false ≡ b → r ≡ s → cond b (Some e) r ≡ s
+past true e r s h k = cc
+past false e r s h k = k
+
+pub neither : (a b : Bool) → false ≡ a → false ≡ b → false ≡ (a || b)
+neither true b h k = cc
+neither false b h k = k

@@ -1,59 +1,47 @@
 -- Every metamodel that is built of fit names has what holds of names.
-use Rattle.std.proofs.Common.{◌≡◌, ℕ, zero, suc, pos, negsuc, Bool, true, false, cond, ◌||◌, List, [], ◌∷◌, ◌++◌, map, refl, ap, subst, ◌∙◌, codes}
-use Rattle.std.specs.Prelude.{Option, None, Some, slice_get}
+use Rattle.std.proofs.Common.{◌≡◌, ℕ, zero, suc, Bool, false, ◌+◌, ◌||◌, List, [], ◌∷◌, map, refl, sym, ap, subst, ◌∙◌, codes}
+use Rattle.std.specs.Prelude.{None, Some, slice_get}
 use Rattle.std.specs.List.{AllByRecursion, list_any}
 use Rattle.std.specs.Option.{option_map_or}
-use Rattle.std.specs.Ordering.{int_eq}
 use Rattle.std.specs.Str.{bytes_eq}
 use Rattle.std.proofs.lemmas.Bool.{or_parts}
-use Rattle.ecore_build.specs.Build.{classes_from, container, end_number, feature_from, kind_in, meta_of, natural, plain, reference}
-use Rattle.ecore_build.specs.Document.{ClassifierRows, classifier_name, supers_in}
-use Rattle.ecore_build.specs.Drafts.{draft, drafts, drafts_from}
-use Rattle.ecore_build.specs.Faults.{clash, contains_back, draft_name, dup_name, fault, features_of, is_skipped, literal, enums_in, no_type, own_of, repeats_within, super_cycle, unsupported}
+use Rattle.ecore_build.specs.Build.{classes_from, feature_from, meta_of}
+use Rattle.ecore_drafts.specs.Document.{ClassifierRows, classifier_name}
+use Rattle.ecore_drafts.specs.Drafts.{draft, drafts}
+use Rattle.ecore_build.specs.Faults.{draft_name, fault, features_of, literal, enums_in, own_of, repeats_within}
 use Rattle.ecore_meta.specs.Meta.{name_at}
 use Rattle.ecore_meta.specs.Named.{IsNamed, has_slash, is_reserved, is_taken}
-use Rattle.ecore_build.specs.Fit.{NamesFit}
+use Rattle.ecore_drafts.specs.Fit.{NamesFit}
 use Rattle.ecore_meta.specs.Names.{Name, has_repeat}
-use Rattle.ecore_build.specs.declared.drafts.Draft.{Draft}
-use Rattle.ecore_build.specs.declared.drafts.End.{End}
-use Rattle.ecore_build.specs.declared.drafts.End.TheVariants.{Open, Nowhere, At}
-use Rattle.ecore_build.specs.declared.drafts.Target.{Target}
-use Rattle.ecore_build.specs.declared.drafts.Target.TheVariants.{Skipped, Unsupported, Missing, Elements, Values}
-use Rattle.ecore_build.specs.declared.fault.MetaFault.{MetaFault}
-use Rattle.ecore_build.specs.declared.fault.MetaFault.TheVariants.{DupName, Unsupported as UnsupportedFault, NoType, SuperCycle, Clash}
+use Rattle.ecore_drafts.specs.declared.drafts.Draft.{Draft}
+use Rattle.ecore_build.proofs.BuildLaws.{all_append, classes_at}
+use Rattle.ecore_drafts.proofs.PlaceLaws.{drafts_counted, drafts_from}
+use Rattle.ecore_build.proofs.NoFault.{passes}
 use Rattle.ecore_meta.specs.declared.meta.Class.{Class as ClassOf}
 use Rattle.ecore_meta.specs.declared.meta.Enum.{Enum as EnumOf}
-use Rattle.ecore_meta.specs.declared.meta.Feature.{Feature}
-use Rattle.ecore_meta.specs.declared.meta.Kind.TheVariants.{Attr, AttrMany, Bounded, Free, Contains, Skip}
-use Rattle.ecore_meta.specs.declared.meta.Scalar.{Scalar}
-use Rattle.ecore_meta.specs.declared.meta.Value.{Value}
-use Rattle.ecore_build.specs.declared.rows.ClassifierRow.TheVariants.{Class, Enum, Plain}
-use Rattle.ecore_build.specs.declared.rows.FeatureRow.{FeatureRow}
-use Rattle.ecore_build.specs.declared.rows.LiteralRow.{LiteralRow}
-use Rattle.ecore_build.specs.declared.rows.MetaRows.{MetaRows}
-
-passed : (b : Bool) (e : MetaFault) (rest : Option MetaFault) → cond b (Some e) rest ≡ None → (b ≡ false) × (rest ≡ None)
-passed true e rest h = cc
-passed false e rest h = (refl, h)
+use Rattle.ecore_drafts.specs.declared.rows.ClassifierRow.TheVariants.{Class, Enum, Plain}
+use Rattle.ecore_drafts.specs.declared.rows.FeatureRow.{FeatureRow}
+use Rattle.ecore_drafts.specs.declared.rows.LiteralRow.{LiteralRow}
+use Rattle.ecore_drafts.specs.declared.rows.MetaRows.{MetaRows}
 
 -- ---- names of classes
-none_named : (q : Name) (n : ℕ) (fs : List (List ℕ)) (rows : ClassifierRows) → list_any (bytes_eq q) (map classifier_name rows) ≡ false → list_any (bytes_eq q) (map (λ (c : ClassOf). c.name) (classes_from n fs rows)) ≡ false
+none_named : (q : Name) (n : ℕ) (fs : List (List ℕ)) (rows : ClassifierRows) → list_any (bytes_eq q) (map classifier_name rows) ≡ false → list_any (bytes_eq q) (map (λ (c : ClassOf). c.name) (classes_at n fs rows)) ≡ false
 none_named q n fs [] h = refl
 none_named q n fs (Class c ∷ rows) h =
     let parts = or_parts (bytes_eq q c.name) (list_any (bytes_eq q) (map classifier_name rows)) h in
-    ap (λ b. b || list_any (bytes_eq q) (map (λ (c : ClassOf). c.name) (classes_from (suc n) fs rows))) parts.0 ∙ none_named q (suc n) fs rows parts.1
+    ap (λ b. b || list_any (bytes_eq q) (map (λ (c : ClassOf). c.name) (classes_at (n + 1) fs rows))) parts.0 ∙ none_named q (n + 1) fs rows parts.1
 none_named q n fs (Enum e ∷ rows) h = none_named q n fs rows (or_parts (bytes_eq q e.name) (list_any (bytes_eq q) (map classifier_name rows)) h).1
 none_named q n fs (Plain t ∷ rows) h = none_named q n fs rows (or_parts (bytes_eq q t) (list_any (bytes_eq q) (map classifier_name rows)) h).1
 
-names_apart : (n : ℕ) (fs : List (List ℕ)) (rows : ClassifierRows) → has_repeat (map classifier_name rows) ≡ false → has_repeat (map (λ (c : ClassOf). c.name) (classes_from n fs rows)) ≡ false
+names_apart : (n : ℕ) (fs : List (List ℕ)) (rows : ClassifierRows) → has_repeat (map classifier_name rows) ≡ false → has_repeat (map (λ (c : ClassOf). c.name) (classes_at n fs rows)) ≡ false
 names_apart n fs [] h = refl
 names_apart n fs (Class c ∷ rows) h =
     let parts = or_parts (list_any (bytes_eq c.name) (map classifier_name rows)) (has_repeat (map classifier_name rows)) h in
-    ap (λ b. b || has_repeat (map (λ (c : ClassOf). c.name) (classes_from (suc n) fs rows))) (none_named c.name (suc n) fs rows parts.0) ∙ names_apart (suc n) fs rows parts.1
+    ap (λ b. b || has_repeat (map (λ (c : ClassOf). c.name) (classes_at (n + 1) fs rows))) (none_named c.name (n + 1) fs rows parts.0) ∙ names_apart (n + 1) fs rows parts.1
 names_apart n fs (Enum e ∷ rows) h = names_apart n fs rows (or_parts (list_any (bytes_eq e.name) (map classifier_name rows)) (has_repeat (map classifier_name rows)) h).1
 names_apart n fs (Plain t ∷ rows) h = names_apart n fs rows (or_parts (list_any (bytes_eq t) (map classifier_name rows)) (has_repeat (map classifier_name rows)) h).1
 
-no_slashes : (n : ℕ) (fs : List (List ℕ)) (rows : ClassifierRows) → NamesFit rows → (k : ℕ) (class : ClassOf) → slice_get (classes_from n fs rows) k ≡ Some class → has_slash class.name ≡ false
+no_slashes : (n : ℕ) (fs : List (List ℕ)) (rows : ClassifierRows) → NamesFit rows → (k : ℕ) (class : ClassOf) → slice_get (classes_at n fs rows) k ≡ Some class → has_slash class.name ≡ false
 no_slashes n fs [] fit k class is = cc
 no_slashes n fs (Class c ∷ rows) fit zero class is =
     let own : Some (record { name = c.name; is_abstract = c.is_abstract; features = own_of fs n }) ≡ Some class = is in
@@ -61,17 +49,17 @@ no_slashes n fs (Class c ∷ rows) fit zero class is =
   where
     some_same : (x y : ClassOf) → Some x ≡ Some y → x ≡ y
     some_same x y h = cc
-no_slashes n fs (Class c ∷ rows) fit (suc k) class is = no_slashes (suc n) fs rows fit.2 k class is
+no_slashes n fs (Class c ∷ rows) fit (suc k) class is = no_slashes (n + 1) fs rows fit.2 k class is
 no_slashes n fs (Enum e ∷ rows) fit k class is = no_slashes n fs rows fit k class is
 no_slashes n fs (Plain t ∷ rows) fit k class is = no_slashes n fs rows fit k class is
 
 -- ---- the features of a class
 -- what holds of the features of each class, and of none
 module _ (P : List ℕ → Type 0) (none : P []) (fs : List (List ℕ)) (each : (k : ℕ) → P (own_of fs k)) where
-  class_features : (n : ℕ) (rows : ClassifierRows) (c : ℕ) → P (option_map_or (λ (x : ClassOf). x.features) (slice_get (classes_from n fs rows) c) [])
+  class_features : (n : ℕ) (rows : ClassifierRows) (c : ℕ) → P (option_map_or (λ (x : ClassOf). x.features) (slice_get (classes_at n fs rows) c) [])
   class_features n [] c = none
   class_features n (Class r ∷ rows) zero = each n
-  class_features n (Class r ∷ rows) (suc c) = class_features (suc n) rows c
+  class_features n (Class r ∷ rows) (suc c) = class_features (n + 1) rows c
   class_features n (Enum e ∷ rows) c = class_features n rows c
   class_features n (Plain t ∷ rows) c = class_features n rows c
 
@@ -91,20 +79,16 @@ module _ (enums : List EnumOf) (all : List Draft) where
   same_names ds [] = refl
   same_names ds (f ∷ fs) = λ i. same_name ds f i ∷ same_names ds fs i
 
-all_append : {A : Type 0} (P : A → Type 0) (xs ys : List A) → AllByRecursion P xs → AllByRecursion P ys → AllByRecursion P (xs ++ ys)
-all_append P [] ys p q = q
-all_append P (x ∷ xs) ys p q = (p.0, all_append P xs ys p.1 q)
-
-all_drafts : (P : Draft → Type 0) (Q : FeatureRow → Type 0) (all : ClassifierRows) → ((n : ℕ) (f : FeatureRow) → Q f → P (draft all n f)) → (n : ℕ) (fs : List FeatureRow) → AllByRecursion Q fs → AllByRecursion P (map (draft all n) fs)
-all_drafts P Q all h n [] q = tt
-all_drafts P Q all h n (f ∷ fs) q = (h n f q.0, all_drafts P Q all h n fs q.1)
+class_drafts : (P : Draft → Type 0) (Q : FeatureRow → Type 0) (all : ClassifierRows) → ((n : ℕ) (f : FeatureRow) → Q f → P (draft all n f)) → (n : ℕ) (fs : List FeatureRow) → AllByRecursion Q fs → AllByRecursion P (map (draft all n) fs)
+class_drafts P Q all h n [] q = tt
+class_drafts P Q all h n (f ∷ fs) q = (h n f q.0, class_drafts P Q all h n fs q.1)
 
 -- ---- no draft has the name of a reserved key
 drafts_named : (all : ClassifierRows) (n : ℕ) (rows : ClassifierRows) → NamesFit rows → AllByRecursion (λ (d : Draft). is_taken d.name ≡ false) (drafts_from all n rows)
 drafts_named all n [] fit = tt
 drafts_named all n (Class c ∷ rows) fit =
     all_append (λ (d : Draft). is_taken d.name ≡ false) (map (draft all n) c.features) (drafts_from all (suc n) rows)
-    (all_drafts (λ (d : Draft). is_taken d.name ≡ false) (λ (f : FeatureRow). is_taken f.name ≡ false) all (λ n f q. q) n c.features fit.1) (drafts_named all (suc n) rows fit.2)
+    (class_drafts (λ (d : Draft). is_taken d.name ≡ false) (λ (f : FeatureRow). is_taken f.name ≡ false) all (λ n f q. q) n c.features fit.1) (drafts_named all (suc n) rows fit.2)
 drafts_named all n (Enum e ∷ rows) fit = drafts_named all n rows fit
 drafts_named all n (Plain t ∷ rows) fit = drafts_named all n rows fit
 
@@ -112,43 +96,6 @@ name_free : (ds : List Draft) → AllByRecursion (λ (d : Draft). is_taken d.nam
 name_free [] h f = refl
 name_free (d ∷ ds) h zero = h.0
 name_free (d ∷ ds) h (suc f) = name_free ds h.1 f
-
--- ---- a reference of the kind without a bound has none
-free_bound : (e : Bool) (n t : ℕ) (o p : Option ℕ) → cond e (Free n p) (Bounded n p) ≡ Free t o → e ≡ true
-free_bound true n t o p h = refl
-free_bound false n t o p h = cc
-
-no_container : (n t : ℕ) (o : Option ℕ) (e : End) → container n e ≡ Free t o → ⊥
-no_container n t o Open h = cc
-no_container n t o Nowhere h = cc
-no_container n t o (At g) h = cc
-
-attribute_other : (b u : Bool) (s : Scalar) (v : Option Value) (t : ℕ) (o : Option ℕ) → cond b (Attr s v) (AttrMany s u) ≡ Free t o → ⊥
-attribute_other true u s v t o h = cc
-attribute_other false u s v t o h = cc
-
-module _ (enums : List EnumOf) (ds : List Draft) (d : Draft) where
-  reference_free : (n t : ℕ) (o : Option ℕ) → reference ds d n ≡ Free t o → int_eq d.upper (negsuc 0) ≡ true
-  reference_free n t o h = by_tests d.containment (contains_back ds d.end) h
-    where
-      by_tests : (k b : Bool) → cond k (Contains n (end_number d.end)) (cond b (container n d.end) (plain d n)) ≡ Free t o → int_eq d.upper (negsuc 0) ≡ true
-      by_tests true b h = cc
-      by_tests false true h = absurd (no_container n t o d.end h)
-      by_tests false false h = free_bound (int_eq d.upper (negsuc 0)) n t o (end_number d.end) h
-
-  unbounded : (x : Target) (t : ℕ) (o : Option ℕ) → kind_in enums ds d x ≡ Free t o → cond (is_skipped x) (Some 1) (cond (int_eq d.upper (negsuc 0)) None (Some (natural d.upper))) ≡ None
-  unbounded Skipped t o h = cc
-  unbounded Unsupported t o h = cc
-  unbounded Missing t o h = cc
-  unbounded (Elements c) t o h = ap (λ b. cond b None (Some (natural d.upper))) (reference_free c t o h)
-  unbounded (Values s) t o h = absurd (attribute_other (int_eq d.upper (pos 1)) d.unique s _ t o h)
-
-module _ (enums : List EnumOf) (all : List Draft) where
-  upper_none : (ds : List Draft) (f t : ℕ) (o : Option ℕ)
-      → option_map_or (λ (x : Feature). x.kind) (slice_get (map (feature_from enums all) ds) f) Skip ≡ Free t o → option_map_or (λ (x : Feature). x.upper) (slice_get (map (feature_from enums all) ds) f) None ≡ None
-  upper_none [] f t o is = cc
-  upper_none (d ∷ ds) zero t o is = unbounded enums all d d.target t o is
-  upper_none (d ∷ ds) (suc f) t o is = upper_none ds f t o is
 
 -- ---- texts of literals
 texts_of : (ls : List LiteralRow) → map (λ l. l.text) (map literal ls) ≡ map (λ l. l.literal) ls
@@ -200,29 +147,25 @@ enums_apart (Plain t ∷ rows) h = enums_apart rows (or_parts (list_any (bytes_e
 
 -- ---- put together
 pub built_named : (rows : MetaRows) → fault rows.classifiers ≡ None → NamesFit rows.classifiers → IsNamed (meta_of rows)
-unfolding drafts texts_at
+unfolding texts_at
 built_named rows none fit =
     let all = rows.classifiers in
     let enums = enums_in all in
     let ds = drafts all in
-    let first = passed (dup_name all) DupName _ none in
-    let second = passed (unsupported ds) UnsupportedFault _ first.1 in
-    let third = passed (no_type all ds) NoType _ second.1 in
-    let fourth = passed (super_cycle (supers_in all all)) SuperCycle _ third.1 in
-    let fifth = passed (clash ds (features_of all)) Clash _ fourth.1 in
-    let single = or_parts (has_repeat (map classifier_name all)) (list_any repeats_within all) first.0 in
+    let tests = passes all none in
+    let named : AllByRecursion (λ (d : Draft). is_taken d.name ≡ false) ds = subst (AllByRecursion (λ (d : Draft). is_taken d.name ≡ false)) (sym (drafts_counted all)) (drafts_named all 0 all fit) in
+    let single = or_parts (has_repeat (map classifier_name all)) (list_any repeats_within all) tests.named in
     record {
       classes = names_apart 0 (features_of all) all single.0;
       slashes = no_slashes 0 (features_of all) all fit;
       features = λ c.
-          ap has_repeat (same_names enums ds ds (option_map_or (λ (x : ClassOf). x.features) (slice_get (classes_from 0 (features_of all) all) c) []))
-          ∙ class_features (λ fs. has_repeat (map (draft_name ds) fs) ≡ false) refl (features_of all) (none_at (λ fs. has_repeat (map (draft_name ds) fs)) (features_of all) refl fifth.0) 0 all c;
-      keys = λ f. ap is_reserved (same_name enums ds ds f) ∙ (or_parts (is_reserved (draft_name ds f)) (bytes_eq (draft_name ds f) (codes "$ref")) (name_free ds (drafts_named all 0 all fit) f)).0;
+          ap has_repeat (same_names enums ds ds (option_map_or (λ (x : ClassOf). x.features) (slice_get (classes_from (features_of all) all) c) []))
+          ∙ class_features (λ fs. has_repeat (map (draft_name ds) fs) ≡ false) refl (features_of all) (none_at (λ fs. has_repeat (map (draft_name ds) fs)) (features_of all) refl tests.apart) 0 all c;
+      keys = λ f. ap is_reserved (same_name enums ds ds f) ∙ (or_parts (is_reserved (draft_name ds f)) (bytes_eq (draft_name ds f) (codes "$ref")) (name_free ds named f)).0;
       refs = λ f.
           ap (λ t. bytes_eq t (codes "$ref")) (same_name enums ds ds f)
-          ∙ (or_parts (is_reserved (draft_name ds f)) (bytes_eq (draft_name ds f) (codes "$ref")) (name_free ds (drafts_named all 0 all fit) f)).1;
+          ∙ (or_parts (is_reserved (draft_name ds f)) (bytes_eq (draft_name ds f) (codes "$ref")) (name_free ds named f)).1;
       enums = enums_apart all single.0;
       literals = texts_apart all single.1;
       literal_names = literals_apart all single.1;
-      unbounded = upper_none enums ds ds;
     }

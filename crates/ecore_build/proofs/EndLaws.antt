@@ -4,22 +4,22 @@ use Rattle.std.specs.Prelude.{negsuc, pos, Option, None, Some, slice_get}
 use Rattle.std.specs.Ordering.{int_eq}
 use Rattle.std.specs.Option.{option_map, option_map_or}
 use Rattle.ecore_build.specs.Build.{container, end_number, feature_from, kind_in, meta_of}
-use Rattle.ecore_build.specs.Drafts.{drafts}
+use Rattle.ecore_drafts.specs.Drafts.{drafts}
 use Rattle.ecore_meta.specs.Ends.{EndsMeet, end_in, is_container, is_containment, owner_of, target_in}
 use Rattle.ecore_build.specs.Faults.{answers, any_from, bad_end, contains_back, fault, is_at, is_self, is_unanswered, enums_in}
 use Rattle.ecore_meta.specs.Typing.{kind_of}
-use Rattle.ecore_build.specs.declared.drafts.Draft.{Draft}
-use Rattle.ecore_build.specs.declared.drafts.End.{End}
-use Rattle.ecore_build.specs.declared.drafts.End.TheVariants.{Open, Nowhere, At}
-use Rattle.ecore_build.specs.declared.drafts.Target.{Target}
-use Rattle.ecore_build.specs.declared.drafts.Target.TheVariants.{Skipped, Unsupported, Missing, Elements, Values}
+use Rattle.ecore_drafts.specs.declared.drafts.Draft.{Draft}
+use Rattle.ecore_drafts.specs.declared.drafts.End.{End}
+use Rattle.ecore_drafts.specs.declared.drafts.End.TheVariants.{Open, Nowhere, At}
+use Rattle.ecore_drafts.specs.declared.drafts.Target.{Target}
+use Rattle.ecore_drafts.specs.declared.drafts.Target.TheVariants.{Skipped, Unsupported, Missing, Elements, Values}
 use Rattle.ecore_meta.specs.declared.meta.Enum.{Enum}
 use Rattle.ecore_meta.specs.declared.meta.Feature.{Feature}
 use Rattle.ecore_meta.specs.declared.meta.Kind.{Kind}
 use Rattle.ecore_meta.specs.declared.meta.Kind.TheVariants.{Attr, AttrMany, Bounded, Free, Contains, Container, Skip}
 use Rattle.ecore_meta.specs.declared.meta.Scalar.{Scalar}
 use Rattle.ecore_meta.specs.declared.meta.Value.{Value}
-use Rattle.ecore_build.specs.declared.rows.MetaRows.{MetaRows}
+use Rattle.ecore_drafts.specs.declared.rows.MetaRows.{MetaRows}
 use Rattle.ecore_build.proofs.SoundLaws.{all_answer, and_two, at_is, got_of, kind_at, no_self, none_at, not_false, to_is}
 
 -- a reference to class c with the opposite g, by whether it is a containment, whether g is one, and whether it has no bound

@@ -1,13 +1,11 @@
-mod ClassifierLaws
-mod SuperLaws
-mod TableLaws
 mod BuildLaws
+mod NoFault
 mod OwnerLaws
 pub mod SoundLaws
 mod EndLaws
 mod BuiltNames
+mod BoundLaws
+mod RangeLaws
 mod ChainLaws
 mod AboveLaws
 pub mod PromiseLaws
-mod NumberedLaws
-mod FitLaws

@@ -6,26 +6,28 @@ use Rattle.std.specs.Option.{option_map_or}
 use Rattle.std.proofs.lemmas.List.{length-map}
 use Rattle.std.proofs.lemmas.List.Folds.{list_any-append}
 use Rattle.std.proofs.lemmas.Bool.{or_left, or_right}
-use Rattle.ecore_build.specs.Build.{classes_from, feature_from, meta_of}
-use Rattle.ecore_build.specs.Document.{ClassifierRows, supers_in}
-use Rattle.ecore_build.specs.Drafts.{draft, drafts, drafts_from}
-use Rattle.ecore_build.specs.Faults.{all_inherited, features_in, features_of, inherited, is_declared, enums_in, own_features, own_of}
+use Rattle.ecore_build.specs.Build.{feature_from, meta_of}
+use Rattle.ecore_drafts.specs.Document.{ClassifierRows, own_features, supers_in}
+use Rattle.ecore_drafts.specs.Drafts.{draft, drafts}
+use Rattle.ecore_build.specs.Faults.{all_inherited, features_in, features_of, inherited, is_declared, enums_in, own_of}
 use Rattle.ecore_meta.specs.Meta.{Meta, features_of as class_features, has_feature, is_a}
 use Rattle.ecore_meta.specs.declared.meta.Feature.{Feature}
-use Rattle.ecore_build.specs.Supers.{is_above}
+use Rattle.ecore_drafts.specs.Supers.{is_above}
 use Rattle.ecore_meta.specs.Promised.{ListsDeclared}
-use Rattle.ecore_build.specs.declared.drafts.Draft.{Draft}
+use Rattle.ecore_drafts.specs.declared.drafts.Draft.{Draft}
 use Rattle.ecore_meta.specs.declared.meta.Class.{Class as Made}
-use Rattle.ecore_build.specs.declared.rows.FeatureRow.{FeatureRow}
-use Rattle.ecore_build.specs.declared.rows.MetaRows.{MetaRows}
-use Rattle.ecore_build.specs.declared.rows.ClassifierRow.TheVariants.{Class, Enum, Plain}
+use Rattle.ecore_drafts.specs.declared.rows.FeatureRow.{FeatureRow}
+use Rattle.ecore_drafts.specs.declared.rows.MetaRows.{MetaRows}
+use Rattle.ecore_drafts.specs.declared.rows.ClassifierRow.TheVariants.{Class, Enum, Plain}
 use Rattle.ecore_meta.proofs.RisingLaws.{after, in_kept, in_range, kept_is, is_less, rising_range, same_rising}
 use Rattle.std.specs.List.Sorted.{IsStrictlySortedBy}
 use Rattle.std.specs.Ordering.{nat_cmp}
 use Rattle.std.proofs.lemmas.List.Kept.{IsStrictlySortedBy-filter}
-use Rattle.ecore_build.proofs.BuildLaws.{supers_inside}
+use Rattle.ecore_build.proofs.BuildLaws.{all_append, classes_at, supers_inside}
+use Rattle.ecore_drafts.proofs.OwnLaws.{own_features_counted, own_features_from}
+use Rattle.ecore_drafts.proofs.PlaceLaws.{drafts_counted, drafts_from}
 use Rattle.ecore_meta.proofs.NumberLaws.{nat_itself, nat_same, or_split, same_bool}
-use Rattle.ecore_build.proofs.TableLaws.{above_none, table_is}
+use Rattle.ecore_drafts.proofs.TableLaws.{above_none, table_is}
 
 split : (k n : ℕ) → (k < n) ⊎ (n ≤ k)
 split k zero = inr (omega arith)
@@ -68,7 +70,7 @@ draft_owner all n (f ∷ fs) zero d h = owner (draft all n f) d h refl
 draft_owner all n (f ∷ fs) (suc k) d h = draft_owner all n fs k d h
 
 -- a number below the first is none of those that the classes declare
-own_from : (f : ℕ) (rows : ClassifierRows) (b x : ℕ) → list_any (nat_eq x) (own_of (own_features f rows) b) ≡ true → f ≤ x
+own_from : (f : ℕ) (rows : ClassifierRows) (b x : ℕ) → list_any (nat_eq x) (own_of (own_features_from f rows) b) ≡ true → f ≤ x
 own_from f [] b x h = cc
 own_from f (Class c ∷ rows) zero x h = (range_bounds f (length c.features) x h).0
 own_from f (Class c ∷ rows) (suc b) x h = let more = own_from (f + length c.features) rows b x h in omega (arith, more)
@@ -77,7 +79,7 @@ own_from f (Plain t ∷ rows) b x h = own_from f rows b x h
 
 -- where a feature's number stands: the class that declares it, and no other
 abbrev pub Stands : ℕ → ℕ → ClassifierRows → ℕ → Draft → Type 0
-Stands n f rows x d = (b : ℕ) × (d.owner ≡ n + b) × (b < length (own_features f rows)) × (list_any (nat_eq x) (own_of (own_features f rows) b) ≡ true)
+Stands n f rows x d = (b : ℕ) × (d.owner ≡ n + b) × (b < length (own_features_from f rows)) × (list_any (nat_eq x) (own_of (own_features_from f rows) b) ≡ true)
 
 owner_has : (all : ClassifierRows) (n : ℕ) (rows : ClassifierRows) (f k x : ℕ) (d : Draft) → x ≡ f + k → slice_get (drafts_from all n rows) k ≡ Some d → Stands n f rows x d
 owner_has all n [] f k x d e h = cc
@@ -96,14 +98,14 @@ owner_has all n (Class c ∷ rows) f k x d e h = by_place (λ j. owner_has all (
 owner_has all n (Enum r ∷ rows) f k x d e h = owner_has all n rows f k x d e h
 owner_has all n (Plain t ∷ rows) f k x d e h = owner_has all n rows f k x d e h
 
-owner_one : (all : ClassifierRows) (n : ℕ) (rows : ClassifierRows) (f k x : ℕ) (d : Draft) (b : ℕ) → x ≡ f + k → slice_get (drafts_from all n rows) k ≡ Some d → list_any (nat_eq x) (own_of (own_features f rows) b) ≡ true → d.owner ≡ n + b
+owner_one : (all : ClassifierRows) (n : ℕ) (rows : ClassifierRows) (f k x : ℕ) (d : Draft) (b : ℕ) → x ≡ f + k → slice_get (drafts_from all n rows) k ≡ Some d → list_any (nat_eq x) (own_of (own_features_from f rows) b) ≡ true → d.owner ≡ n + b
 owner_one all n [] f k x d b e h m = cc
 owner_one all n (Class c ∷ rows) f k x d b e h m = by_place b m (λ j a. owner_one all (suc n) rows (f + length c.features) j x d a) (split k (length c.features))
   where
     long : length (map (draft all n) c.features) ≡ length c.features
     long = length-map c.features (draft all n)
 
-    by_place : (b : ℕ) → list_any (nat_eq x) (own_of (own_features f (Class c ∷ rows)) b) ≡ true → ((j a : ℕ) → x ≡ f + length c.features + j → slice_get (drafts_from all (suc n) rows) j ≡ Some d → list_any (nat_eq x) (own_of (own_features (f + length c.features) rows) a) ≡ true → d.owner ≡ suc n + a) → (k < length c.features) ⊎ (length c.features ≤ k) → d.owner ≡ n + b
+    by_place : (b : ℕ) → list_any (nat_eq x) (own_of (own_features_from f (Class c ∷ rows)) b) ≡ true → ((j a : ℕ) → x ≡ f + length c.features + j → slice_get (drafts_from all (suc n) rows) j ≡ Some d → list_any (nat_eq x) (own_of (own_features_from (f + length c.features) rows) a) ≡ true → d.owner ≡ suc n + a) → (k < length c.features) ⊎ (length c.features ≤ k) → d.owner ≡ n + b
     by_place zero m on (inl lt) =
         let own : d.owner ≡ n = draft_owner all n c.features k d (sym (get_left (map (draft all n) c.features) (drafts_from all (suc n) rows) k (omega (arith, long))) ∙ h) in omega (arith, own)
     by_place zero m on (inr le) = let in_it = range_bounds f (length c.features) x m in absurd (omega (arith, in_it.1, e))
@@ -114,11 +116,15 @@ owner_one all n (Class c ∷ rows) f k x d b e h m = by_place b m (λ j a. owner
 owner_one all n (Enum r ∷ rows) f k x d b e h m = owner_one all n rows f k x d b e h m
 owner_one all n (Plain t ∷ rows) f k x d b e h m = owner_one all n rows f k x d b e h m
 
-own_count : (all : ClassifierRows) (f : ℕ) (rows : ClassifierRows) → length (own_features f rows) ≡ length (supers_in all rows)
+own_count : (all : ClassifierRows) (f : ℕ) (rows : ClassifierRows) → length (own_features_from f rows) ≡ length (supers_in all rows)
 own_count all f [] = refl
 own_count all f (Class c ∷ rows) = ap (λ k. suc k) (own_count all (f + length c.features) rows)
 own_count all f (Enum e ∷ rows) = own_count all f rows
 own_count all f (Plain t ∷ rows) = own_count all f rows
+
+-- the class that declares a feature is one of the document
+pub owner_below : (all : ClassifierRows) (f : ℕ) (d : Draft) → slice_get (drafts all) f ≡ Some d → d.owner < length (supers_in all all)
+owner_below all f d is = let at = owner_has all 0 all 0 f f d (omega arith) (ap (λ ds. slice_get ds f) (sym (drafts_counted all)) ∙ is) in omega (arith, at.1, at.2, own_count all 0 all)
 
 ranged : (g : ℕ → List ℕ) (a n c : ℕ) → c < n → own_of (map g (range_with_len a n)) c ≡ g (a + c)
 ranged g a zero c h = absurd (omega arith)
@@ -150,11 +156,10 @@ module _ (all : ClassifierRows) (c f : ℕ) (d : Draft) (is : slice_get (drafts 
   supers = supers_in all all
 
   abbrev pub own : List (List ℕ)
-  own = own_features 0 all
+  own = own_features_from 0 all
 
   drafted : slice_get (drafts_from all 0 all) f ≡ Some d
-  unfolding drafts
-  drafted = is
+  drafted = ap (λ ds. slice_get ds f) (sym (drafts_counted all)) ∙ is
 
   none_less : (n : ℕ) → n ≡ 0 + n
   none_less n = omega arith
@@ -184,7 +189,7 @@ in_list (x ∷ xs) zero h is = cc
 in_list (x ∷ xs) (suc k) h is = in_list xs k (omega arith) is
 
 -- a number that a class declares is one of a feature
-own_drafted : (all : ClassifierRows) (n : ℕ) (rows : ClassifierRows) (f k x b : ℕ) → x ≡ f + k → list_any (nat_eq x) (own_of (own_features f rows) b) ≡ true → slice_get (drafts_from all n rows) k ≡ None → ⊥
+own_drafted : (all : ClassifierRows) (n : ℕ) (rows : ClassifierRows) (f k x b : ℕ) → x ≡ f + k → list_any (nat_eq x) (own_of (own_features_from f rows) b) ≡ true → slice_get (drafts_from all n rows) k ≡ None → ⊥
 own_drafted all n [] f k x b e m is = cc
 own_drafted all n (Class c ∷ rows) f k x zero e m is =
     let in_it = range_bounds f (length c.features) x m in
@@ -204,10 +209,6 @@ got_test h g [] k = refl
 got_test h g (x ∷ xs) zero = refl
 got_test h g (x ∷ xs) (suc k) = got_test h g xs k
 
-all_append : (P : ℕ → Type 0) (xs ys : List ℕ) → AllByRecursion P xs → AllByRecursion P ys → AllByRecursion P (xs ++ ys)
-all_append P [] ys h g = g
-all_append P (x ∷ xs) ys h g = (h.0, all_append P xs ys h.1 g)
-
 all_less : (x : ℕ) (ys : List ℕ) → ((y : ℕ) → list_any (nat_eq y) ys ≡ true → x < y) → AllByRecursion (λ y. nat_cmp x y ≡ Less) ys
 all_less x [] h = tt
 all_less x (y ∷ ys) h = (is_less x y (h y (or_left (nat_eq y y) _ (nat_itself y))), all_less x ys (λ z m. h z (or_right (nat_eq z y) _ m)))
@@ -221,7 +222,7 @@ rising_append (x ∷ xs) ys r s h = (
 )
 
 -- a class declares its features before those of the classes after it
-own_order : (f : ℕ) (rows : ClassifierRows) (b d x y : ℕ) → b < d → list_any (nat_eq x) (own_of (own_features f rows) b) ≡ true → list_any (nat_eq y) (own_of (own_features f rows) d) ≡ true → x < y
+own_order : (f : ℕ) (rows : ClassifierRows) (b d x y : ℕ) → b < d → list_any (nat_eq x) (own_of (own_features_from f rows) b) ≡ true → list_any (nat_eq y) (own_of (own_features_from f rows) d) ≡ true → x < y
 own_order f [] b d x y lt m k = cc
 own_order f (Class c ∷ rows) b zero x y lt m k = absurd (omega arith)
 own_order f (Class c ∷ rows) zero (suc d) x y lt m k =
@@ -232,7 +233,7 @@ own_order f (Class c ∷ rows) (suc b) (suc d) x y lt m k = own_order (f + lengt
 own_order f (Enum e ∷ rows) b d x y lt m k = own_order f rows b d x y lt m k
 own_order f (Plain t ∷ rows) b d x y lt m k = own_order f rows b d x y lt m k
 
-own_rises : (f : ℕ) (rows : ClassifierRows) (b : ℕ) → IsStrictlySortedBy nat_cmp (own_of (own_features f rows) b)
+own_rises : (f : ℕ) (rows : ClassifierRows) (b : ℕ) → IsStrictlySortedBy nat_cmp (own_of (own_features_from f rows) b)
 unfolding IsStrictlySortedBy
 own_rises f [] b = tt
 own_rises f (Class c ∷ rows) zero = rising_range f (length c.features)
@@ -240,14 +241,14 @@ own_rises f (Class c ∷ rows) (suc b) = own_rises (f + length c.features) rows 
 own_rises f (Enum e ∷ rows) b = own_rises f rows b
 own_rises f (Plain t ∷ rows) b = own_rises f rows b
 
-flat_rises : (f : ℕ) (rows : ClassifierRows) (bs : List ℕ) → IsStrictlySortedBy nat_cmp bs → IsStrictlySortedBy nat_cmp (flat_map (own_of (own_features f rows)) bs)
+flat_rises : (f : ℕ) (rows : ClassifierRows) (bs : List ℕ) → IsStrictlySortedBy nat_cmp bs → IsStrictlySortedBy nat_cmp (flat_map (own_of (own_features_from f rows)) bs)
 unfolding IsStrictlySortedBy
 flat_rises f rows [] r = tt
 flat_rises f rows (b ∷ bs) r =
-    rising_append (own_of (own_features f rows) b) (flat_map (own_of (own_features f rows)) bs) (own_rises f rows b) (flat_rises f rows bs r.1)
-    (λ x y m k. let at = flat_from (own_of (own_features f rows)) y bs k in own_order f rows b at.0 x y (after b at.0 bs r.0 at.1) m at.2)
+    rising_append (own_of (own_features_from f rows) b) (flat_map (own_of (own_features_from f rows)) bs) (own_rises f rows b) (flat_rises f rows bs r.1)
+    (λ x y m k. let at = flat_from (own_of (own_features_from f rows)) y bs k in own_order f rows b at.0 x y (after b at.0 bs r.0 at.1) m at.2)
 
-inherited_rises : (supers : List (List ℕ)) (rows : ClassifierRows) (c : ℕ) → IsStrictlySortedBy nat_cmp (inherited supers (own_features 0 rows) c)
+inherited_rises : (supers : List (List ℕ)) (rows : ClassifierRows) (c : ℕ) → IsStrictlySortedBy nat_cmp (inherited supers (own_features_from 0 rows) c)
 unfolding inherited
 inherited_rises supers rows c = flat_rises 0 rows (filter (is_above supers c) (range_with_len 0 (length supers))) (IsStrictlySortedBy-filter nat_cmp (is_above supers c) (range_with_len 0 (length supers)) (rising_range 0 (length supers)))
 
@@ -262,13 +263,13 @@ module _ (all : ClassifierRows) (c : ℕ) where
   declares = is_declared (supers_in all all) (drafts all) c
 
   abbrev gathers : List ℕ
-  gathers = inherited (supers_in all all) (own_features 0 all) c
+  gathers = inherited (supers_in all all) (own_features_from 0 all) c
 
   none_gathered : (f : ℕ) → slice_get (drafts all) f ≡ None → list_any (nat_eq f) gathers ≡ true → ⊥
-  unfolding inherited drafts
+  unfolding inherited
   none_gathered f is m =
-      let at = flat_from (own_of (own_features 0 all)) f (filter (is_above (supers_in all all) c) (range_with_len 0 (length (supers_in all all)))) m in
-      own_drafted all 0 all 0 f f at.0 (omega arith) at.2 is
+      let at = flat_from (own_of (own_features_from 0 all)) f (filter (is_above (supers_in all all) c) (range_with_len 0 (length (supers_in all all)))) m in
+      own_drafted all 0 all 0 f f at.0 (omega arith) at.2 (ap (λ ds. slice_get ds f) (sym (drafts_counted all)) ∙ is)
 
   gathers_is : (f : ℕ) → list_any (nat_eq f) gathers ≡ declares f
   gathers_is f = by_draft (slice_get (drafts all) f) refl
@@ -287,31 +288,31 @@ module _ (all : ClassifierRows) (c : ℕ) where
       (IsStrictlySortedBy-filter nat_cmp declares (range_with_len 0 (length ds)) (rising_range 0 (length ds)))
       (λ f. gathers_is f ∙ sym (in_kept declares (length ds) f (low_draft ds f (λ (d : Draft). is_above (supers_in all all) c d.owner))))
 
-pub listed_is : (all : ClassifierRows) → all_inherited (supers_in all all) (own_features 0 all) ≡ features_of all
-listed_is all = λ i. map (λ c. class_is all c i) (range_with_len 0 (length (supers_in all all)))
+pub listed_is : (all : ClassifierRows) → all_inherited (supers_in all all) (own_features all) ≡ features_of all
+listed_is all = ap (all_inherited (supers_in all all)) (own_features_counted all) ∙ (λ i. map (λ c. class_is all c i) (range_with_len 0 (length (supers_in all all))))
 
 -- ---- the features of a class of the metamodel
 filter_none : (p : ℕ → Bool) → ((k : ℕ) → p k ≡ false) → (xs : List ℕ) → filter p xs ≡ []
 filter_none p none [] = refl
 filter_none p none (x ∷ xs) = ap (λ b. cond b (x ∷ filter p xs) (filter p xs)) (none x) ∙ filter_none p none xs
 
-class_listed : (all : ClassifierRows) (n : ℕ) (fs : List (List ℕ)) (rows : ClassifierRows) (c : ℕ) → c < length (supers_in all rows) → option_map_or (λ (class : Made). class.features) (slice_get (classes_from n fs rows) c) [] ≡ own_of fs (n + c)
+class_listed : (all : ClassifierRows) (n : ℕ) (fs : List (List ℕ)) (rows : ClassifierRows) (c : ℕ) → c < length (supers_in all rows) → option_map_or (λ (class : Made). class.features) (slice_get (classes_at n fs rows) c) [] ≡ own_of fs (n + c)
 class_listed all n fs [] c h = absurd (omega arith)
 class_listed all n fs (Class r ∷ rows) zero h = ap (own_of fs) (plus_none n)
   where
     plus_none : (n : ℕ) → n ≡ n + 0
     plus_none n = omega arith
-class_listed all n fs (Class r ∷ rows) (suc c) h = class_listed all (suc n) fs rows c (omega arith) ∙ ap (own_of fs) (shift n c)
+class_listed all n fs (Class r ∷ rows) (suc c) h = class_listed all (n + 1) fs rows c (omega arith) ∙ ap (own_of fs) (shift n c)
   where
-    shift : (n c : ℕ) → suc n + c ≡ n + suc c
+    shift : (n c : ℕ) → n + 1 + c ≡ n + suc c
     shift n c = omega arith
 class_listed all n fs (Enum e ∷ rows) c h = class_listed all n fs rows c h
 class_listed all n fs (Plain t ∷ rows) c h = class_listed all n fs rows c h
 
-no_class : (all : ClassifierRows) (n : ℕ) (fs : List (List ℕ)) (rows : ClassifierRows) (c : ℕ) → length (supers_in all rows) ≤ c → option_map_or (λ (class : Made). class.features) (slice_get (classes_from n fs rows) c) [] ≡ []
+no_class : (all : ClassifierRows) (n : ℕ) (fs : List (List ℕ)) (rows : ClassifierRows) (c : ℕ) → length (supers_in all rows) ≤ c → option_map_or (λ (class : Made). class.features) (slice_get (classes_at n fs rows) c) [] ≡ []
 no_class all n fs [] c h = refl
 no_class all n fs (Class r ∷ rows) zero h = absurd (omega arith)
-no_class all n fs (Class r ∷ rows) (suc c) h = no_class all (suc n) fs rows c (omega arith)
+no_class all n fs (Class r ∷ rows) (suc c) h = no_class all (n + 1) fs rows c (omega arith)
 no_class all n fs (Enum e ∷ rows) c h = no_class all n fs rows c h
 no_class all n fs (Plain t ∷ rows) c h = no_class all n fs rows c h
 

@@ -2,26 +2,36 @@
 use Rattle.std.proofs.Common.{◌≡◌, sym, subst, map}
 use Rattle.std.specs.Prelude.{None}
 use Rattle.ecore_build.specs.Build.{classes_from, feature_from, meta_of}
-use Rattle.ecore_build.specs.Document.{supers_in}
-use Rattle.ecore_build.specs.Drafts.{drafts}
+use Rattle.ecore_drafts.specs.Document.{supers_in}
+use Rattle.ecore_drafts.specs.Drafts.{drafts}
 use Rattle.ecore_build.specs.Faults.{fault, features_of, enums_in}
 use Rattle.ecore_meta.specs.Meta.{Meta}
-use Rattle.ecore_build.specs.Fit.{NamesFit}
+use Rattle.ecore_drafts.specs.Fit.{NamesFit}
 use Rattle.ecore_meta.specs.Promised.{IsMetamodel}
-use Rattle.ecore_build.specs.Supers.{all_above}
-use Rattle.ecore_build.specs.declared.rows.MetaRows.{MetaRows}
+use Rattle.ecore_drafts.specs.Supers.{all_above}
+use Rattle.ecore_drafts.specs.declared.rows.MetaRows.{MetaRows}
 use Rattle.ecore_build.proofs.AboveLaws.{stands_above}
+use Rattle.ecore_build.proofs.BoundLaws.{bounded}
 use Rattle.ecore_build.proofs.BuiltNames.{built_named}
 use Rattle.ecore_build.proofs.EndLaws.{ends_meet}
 use Rattle.ecore_build.proofs.OwnerLaws.{lists_declared}
+use Rattle.ecore_build.proofs.RangeLaws.{in_range}
 use Rattle.ecore_build.proofs.SoundLaws.{sound}
 
 pub promised : (rows : MetaRows) → fault rows.classifiers ≡ None → NamesFit rows.classifiers → IsMetamodel (meta_of rows)
-promised rows none fit = record { above = stands_above rows none; sound = sound rows none; lists = lists_declared rows; ends = ends_meet rows none; named = built_named rows none fit }
+promised rows none fit = record {
+  above = stands_above rows none;
+  sound = sound rows none;
+  lists = lists_declared rows;
+  ends = ends_meet rows none;
+  named = built_named rows none fit;
+  bounded = bounded rows none;
+  in_range = in_range rows none;
+}
 
--- the same of a metamodel by its parts
-pub promised_of : (rows : MetaRows) → fault rows.classifiers ≡ None → NamesFit rows.classifiers → (meta : Meta) → meta.uri ≡ rows.uri → meta.classes ≡ classes_from 0 (features_of rows.classifiers) rows.classifiers → meta.features ≡ map (feature_from (enums_in rows.classifiers) (drafts rows.classifiers)) (drafts rows.classifiers) → meta.above ≡ all_above (supers_in rows.classifiers rows.classifiers) → meta.enums ≡ enums_in rows.classifiers → IsMetamodel meta
-promised_of rows none fit meta u c f s e = subst IsMetamodel (sym is) (promised rows none fit)
-  where
-    is : meta ≡ meta_of rows
-    is = λ i. record { uri = u i; classes = c i; above = s i; features = f i; enums = e i }
+-- a metamodel by its parts
+pub built_is : (rows : MetaRows) (meta : Meta) → meta.uri ≡ rows.uri → meta.classes ≡ classes_from (features_of rows.classifiers) rows.classifiers → meta.features ≡ map (feature_from (enums_in rows.classifiers) (drafts rows.classifiers)) (drafts rows.classifiers) → meta.above ≡ all_above (supers_in rows.classifiers rows.classifiers) → meta.enums ≡ enums_in rows.classifiers → meta ≡ meta_of rows
+built_is rows meta u c f s e = λ i. record { uri = u i; classes = c i; above = s i; features = f i; enums = e i }
+
+pub promised_of : (rows : MetaRows) → fault rows.classifiers ≡ None → NamesFit rows.classifiers → (meta : Meta) → meta ≡ meta_of rows → IsMetamodel meta
+promised_of rows none fit meta is = subst IsMetamodel (sym is) (promised rows none fit)

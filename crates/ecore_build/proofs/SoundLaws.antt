@@ -2,63 +2,26 @@
 use Rattle.std.proofs.Common.{◌≡◌, ℕ, zero, suc, ◌+◌, Bool, true, false, List, [], ◌∷◌, ◌||◌, ◌&&◌, not, cond, refl, sym, ap, subst, ◌∙◌, arith, map, nat_eq}
 use Rattle.std.specs.Prelude.{negsuc, pos, Option, None, Some, slice_get}
 use Rattle.std.specs.Ordering.{int_eq}
-use Rattle.std.specs.List.{list_any}
 use Rattle.std.specs.Option.{option_map_or}
 use Rattle.ecore_build.specs.Build.{container, end_number, feature_from, kind_in, meta_of, plain}
-use Rattle.ecore_build.specs.Document.{ClassifierRows, supers_in}
-use Rattle.ecore_build.specs.Drafts.{drafts}
-use Rattle.ecore_build.specs.Faults.{answers, any_from, bad_bound, bad_default, bad_end, clash, contains_back, dup_name, fault, features_of, no_type, super_cycle, unsupported, first_true, is_at, is_self, is_to, is_unanswered, last_tests, enums_in}
+use Rattle.ecore_drafts.specs.Drafts.{drafts}
+use Rattle.ecore_build.specs.Faults.{answers, any_from, bad_end, contains_back, fault, is_at, is_self, is_to, is_unanswered, enums_in}
 use Rattle.ecore_meta.specs.Meta.{Meta, has_feature, is_a}
 use Rattle.ecore_meta.specs.Sound.{Sound}
 use Rattle.ecore_meta.specs.Typing.{kind_of, links, opposite_in, opposite_of, plain_to}
-use Rattle.ecore_build.specs.declared.fault.MetaFault.{MetaFault}
-use Rattle.ecore_build.specs.declared.fault.MetaFault.TheVariants.{BadBound, BadDefault, BadOpposite, Clash, DupName, NoType, SelfOpposite, SuperCycle, Unsupported as UnsupportedFault}
-use Rattle.ecore_build.specs.declared.drafts.Draft.{Draft}
-use Rattle.ecore_build.specs.declared.drafts.Target.{Target}
-use Rattle.ecore_build.specs.declared.drafts.Target.TheVariants.{Skipped, Unsupported, Missing, Elements, Values}
-use Rattle.ecore_build.specs.declared.drafts.End.{End}
-use Rattle.ecore_build.specs.declared.drafts.End.TheVariants.{Open, Nowhere, At}
+use Rattle.ecore_drafts.specs.declared.drafts.Draft.{Draft}
+use Rattle.ecore_drafts.specs.declared.drafts.Target.{Target}
+use Rattle.ecore_drafts.specs.declared.drafts.Target.TheVariants.{Skipped, Unsupported, Missing, Elements, Values}
+use Rattle.ecore_drafts.specs.declared.drafts.End.{End}
+use Rattle.ecore_drafts.specs.declared.drafts.End.TheVariants.{Open, Nowhere, At}
 use Rattle.ecore_meta.specs.declared.meta.Enum.{Enum}
 use Rattle.ecore_meta.specs.declared.meta.Feature.{Feature}
 use Rattle.ecore_meta.specs.declared.meta.Kind.{Kind}
 use Rattle.ecore_meta.specs.declared.meta.Kind.TheVariants.{Bounded, Contains, Free, Skip}
-use Rattle.ecore_build.specs.declared.rows.MetaRows.{MetaRows}
+use Rattle.ecore_drafts.specs.declared.rows.MetaRows.{MetaRows}
+use Rattle.ecore_build.proofs.NoFault.{passes}
 use Rattle.ecore_build.proofs.OwnerLaws.{has_is}
 use Rattle.ecore_meta.proofs.NumberLaws.{nat_same}
-
--- a test that was passed over failed
-passed : {F : Type 0} (b : Bool) (x : F) (o : Option F) → cond b (Some x) o ≡ None → (b ≡ false) × (o ≡ None)
-passed true x o h = cc
-passed false x o h = (refl, h)
-
-no_last_fault : (rows : ClassifierRows) → fault rows ≡ None → first_true (last_tests (drafts rows) (enums_in rows)) ≡ None
-no_last_fault rows none =
-    let ds = drafts rows in
-    let supers = supers_in rows rows in
-    let last = first_true (last_tests ds (enums_in rows)) in
-    let clashes = cond (clash ds (features_of rows)) (Some Clash) last in
-    let cycles = cond (super_cycle supers) (Some SuperCycle) clashes in
-    let types = cond (no_type rows ds) (Some NoType) cycles in
-    let read = cond (unsupported ds) (Some UnsupportedFault) types in
-    let named = (passed (dup_name rows) DupName read none).1 in
-    let read_all = (passed (unsupported ds) UnsupportedFault types named).1 in
-    let typed = (passed (no_type rows ds) NoType cycles read_all).1 in
-    let rising = (passed (super_cycle supers) SuperCycle clashes typed).1 in
-    (passed (clash ds (features_of rows)) Clash last rising).1
-
--- no class is above itself
-pub no_cycle : (rows : ClassifierRows) → fault rows ≡ None → super_cycle (supers_in rows rows) ≡ false
-no_cycle rows none =
-    let ds = drafts rows in
-    let supers = supers_in rows rows in
-    let clashes = cond (clash ds (features_of rows)) (Some Clash) (first_true (last_tests ds (enums_in rows))) in
-    let cycles = cond (super_cycle supers) (Some SuperCycle) clashes in
-    let types = cond (no_type rows ds) (Some NoType) cycles in
-    let read = cond (unsupported ds) (Some UnsupportedFault) types in
-    let named = (passed (dup_name rows) DupName read none).1 in
-    let read_all = (passed (unsupported ds) UnsupportedFault types named).1 in
-    let typed = (passed (no_type rows ds) NoType cycles read_all).1 in
-    (passed (super_cycle supers) SuperCycle clashes typed).0
 
 or_neither : (a b : Bool) → a || b ≡ false → (a ≡ false) × (b ≡ false)
 or_neither true b h = cc
@@ -206,17 +169,11 @@ module _ (rows : MetaRows) (none : fault rows.classifiers ≡ None) where
   abbrev enums : List Enum
   enums = enums_in rows.classifiers
 
-  last : first_true (last_tests ds enums) ≡ None
-  last = no_last_fault rows.classifiers none
-
-  abbrev after : Option MetaFault
-  after = first_true ((list_any (bad_bound ds) ds, BadBound) ∷ (list_any (bad_default enums) ds, BadDefault) ∷ [])
-
   pub no_self : any_from is_self 0 ds ≡ false
-  no_self = (passed (any_from is_self 0 ds) SelfOpposite (cond (any_from (is_unanswered ds) 0 ds) (Some BadOpposite) after) last).0
+  no_self = (passes rows.classifiers none).other
 
   pub all_answer : any_from (is_unanswered ds) 0 ds ≡ false
-  all_answer = (passed (any_from (is_unanswered ds) 0 ds) BadOpposite after (passed (any_from is_self 0 ds) SelfOpposite (cond (any_from (is_unanswered ds) 0 ds) (Some BadOpposite) after) last).1).0
+  all_answer = (passes rows.classifiers none).answered
 
   pub kind_at : (f : ℕ) (d : Draft) → slice_get ds f ≡ Some d → kind_of (meta_of rows) f ≡ kind_in enums ds d d.target
   kind_at f d is = got_of (λ (x : Feature). x.kind) (feature_from enums ds) ds f ∙ ap (λ o. option_map_or (λ (x : Draft). kind_in enums ds x x.target) o Skip) is

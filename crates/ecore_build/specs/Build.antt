@@ -1,18 +1,18 @@
 -- The metamodel that a document without a fault stands for.
-use Rattle.std.specs.Prelude.{IsTrue, ◌↔◌, ℕ, ℤ, pos, negsuc, min, suc, ◌<◌, List, [], ◌∷◌, Option, None, Some, map, length, cond, Bool, nat_lt, not, ◌&&◌}
-use Rattle.std.specs.List.{list_any}
+use Rattle.std.specs.Prelude.{IsTrue, ◌↔◌, ℕ, ℤ, pos, negsuc, min, ◌<◌, List, Option, None, Some, map, length, cond}
+use Rattle.std.specs.List.{enumerate_from}
 use Rattle.std.specs.Ordering.{int_eq}
-use Rattle.ecore_build.specs.Document.{ClassifierRows, supers_in, feature_total}
-use Rattle.ecore_build.specs.Drafts.{drafts}
-use Rattle.ecore_build.specs.Faults.{contains_back, is_skipped, own_of, features_of, enums_in, is_many, Few}
+use Rattle.ecore_drafts.specs.Document.{ClassifierRows, classes_of, supers_in}
+use Rattle.ecore_drafts.specs.Drafts.{drafts}
+use Rattle.ecore_build.specs.Faults.{contains_back, is_skipped, own_of, features_of, enums_in}
 use Rattle.ecore_meta.specs.Meta.{Meta, is_a}
-use Rattle.ecore_build.specs.Supers.{Leads, all_above}
+use Rattle.ecore_drafts.specs.Supers.{Leads, all_above}
 use Rattle.ecore_meta.specs.Values.{value_of, default_of}
-use Rattle.ecore_build.specs.declared.drafts.Draft.{Draft}
-use Rattle.ecore_build.specs.declared.drafts.Target.{Target}
-use Rattle.ecore_build.specs.declared.drafts.Target.TheVariants.{Skipped, Unsupported, Missing, Elements, Values}
-use Rattle.ecore_build.specs.declared.drafts.End.{End}
-use Rattle.ecore_build.specs.declared.drafts.End.TheVariants.{Open, Nowhere, At}
+use Rattle.ecore_drafts.specs.declared.drafts.Draft.{Draft}
+use Rattle.ecore_drafts.specs.declared.drafts.Target.{Target}
+use Rattle.ecore_drafts.specs.declared.drafts.Target.TheVariants.{Skipped, Unsupported, Missing, Elements, Values}
+use Rattle.ecore_drafts.specs.declared.drafts.End.{End}
+use Rattle.ecore_drafts.specs.declared.drafts.End.TheVariants.{Open, Nowhere, At}
 use Rattle.ecore_meta.specs.declared.meta.Class.{Class}
 use Rattle.ecore_meta.specs.declared.meta.Enum.{Enum as EnumOf}
 use Rattle.ecore_meta.specs.declared.meta.Feature.{Feature}
@@ -20,8 +20,8 @@ use Rattle.ecore_meta.specs.declared.meta.Kind.{Kind}
 use Rattle.ecore_meta.specs.declared.meta.Kind.TheVariants.{Attr, AttrMany, Bounded, Free, Contains, Container, Skip}
 use Rattle.ecore_meta.specs.declared.meta.Scalar.{Scalar}
 use Rattle.ecore_meta.specs.declared.meta.Value.{Value}
-use Rattle.ecore_build.specs.declared.rows.MetaRows.{MetaRows}
-use Rattle.ecore_build.specs.declared.rows.ClassifierRow.TheVariants.{Class as ClassOf, Enum, Plain}
+use Rattle.ecore_drafts.specs.declared.rows.MetaRows.{MetaRows}
+use Rattle.ecore_drafts.specs.declared.rows.ClassRow.{ClassRow}
 
 -- a bound as a natural number, the greatest that a feature holds where it is greater
 abbrev pub natural : ℤ → ℕ
@@ -77,18 +77,19 @@ upper_from d = cond (is_skipped d.target) (Some 1) (cond (int_eq d.upper (negsuc
 abbrev pub feature_from : List EnumOf → List Draft → Draft → Feature
 feature_from enums ds d = record { owner = d.owner; name = d.name; lower = lower_from d; upper = upper_from d; kind = kind_in enums ds d d.target }
 
+-- a class of a document, which has its place, with its features
+abbrev pub class_from : List (List ℕ) → ℕ × ClassRow → Class
+class_from features class = record { name = class.1.name; is_abstract = class.1.is_abstract; features = own_of features class.0 }
+
 -- the classes with the features of each
-abbrev pub classes_from : ℕ → List (List ℕ) → ClassifierRows → List Class
-classes_from n features [] = []
-classes_from n features (ClassOf c ∷ rows) = record { name = c.name; is_abstract = c.is_abstract; features = own_of features n } ∷ classes_from (suc n) features rows
-classes_from n features (Enum e ∷ rows) = classes_from n features rows
-classes_from n features (Plain t ∷ rows) = classes_from n features rows
+abbrev pub classes_from : List (List ℕ) → ClassifierRows → List Class
+classes_from features rows = map (class_from features) (enumerate_from 0 (classes_of rows))
 
 -- the metamodel that a package stands for
 abbrev pub meta_of : MetaRows → Meta
 meta_of rows = record {
   uri = rows.uri;
-  classes = classes_from 0 (features_of rows.classifiers) rows.classifiers;
+  classes = classes_from (features_of rows.classifiers) rows.classifiers;
   above = all_above (supers_in rows.classifiers rows.classifiers);
   features = map (feature_from (enums_in rows.classifiers) (drafts rows.classifiers)) (drafts rows.classifiers);
   enums = enums_in rows.classifiers;
@@ -97,18 +98,3 @@ meta_of rows = record {
 -- a class is another exactly where a list of classes leads there, each a direct supertype of the one before
 abbrev pub Chains : List (List ℕ) → Meta → Type 0
 Chains supers meta = (c d : ℕ) → c < length meta.classes → (IsTrue (is_a meta c d) ↔ Leads supers c d)
-
--- the features or literals of each classifier can be numbered
-abbrev pub AreFew : ClassifierRows → Type 0
-AreFew [] = Unit {0}
-AreFew (row ∷ rows) = Few row × AreFew rows
-
--- fewer than 2^32 - 1 classifiers, features, and literals of an enum
-pub record Numbered (rows : ClassifierRows) : Type 0 where
-  pub classifiers : length rows < 4294967295
-  pub features : feature_total rows < 4294967295
-  pub parts : AreFew rows
-
--- the same as a test
-abbrev pub is_numbered : ClassifierRows → Bool
-is_numbered rows = nat_lt (length rows) 4294967295 && (nat_lt (feature_total rows) 4294967295 && not (list_any is_many rows))

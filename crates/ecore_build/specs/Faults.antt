@@ -1,25 +1,26 @@
 -- The faults of a document, each over the whole of it, in the order in which they are looked for.
-use Rattle.std.specs.Prelude.{◌≡◌, ℕ, pos, negsuc, ◌+◌, ◌<◌, suc, Bool, true, false, List, [], ◌∷◌, Option, None, Some, slice_get, map, length, cond, not, is_some, nat_eq, nat_lt, int_lt, ◌&&◌, ◌||◌}
+use Rattle.std.specs.Prelude.{◌≡◌, ℕ, pos, negsuc, suc, Bool, true, false, List, [], ◌∷◌, Option, None, Some, slice_get, map, length, cond, not, is_some, nat_eq, int_lt, ◌&&◌, ◌||◌}
 use Rattle.std.specs.Ordering.{int_eq}
 use Rattle.std.specs.List.{list_any, filter, flat_map, range_with_len}
 use Rattle.std.specs.Option.{option_map_or}
 use Rattle.ecore_meta.specs.Names.{Name, has_repeat}
-use Rattle.ecore_build.specs.Supers.{is_above, supers_of}
-use Rattle.ecore_build.specs.Document.{ClassifierRows, classifier_name, feature_names, class_number, supers_in}
-use Rattle.ecore_build.specs.Drafts.{drafts}
+use Rattle.ecore_drafts.specs.Supers.{is_above, super_cycle}
+use Rattle.ecore_drafts.specs.Document.{ClassifierRows, classifier_name, enums_of, feature_names, lacks_super, supers_in}
+use Rattle.ecore_drafts.specs.Drafts.{drafts}
 use Rattle.ecore_meta.specs.Values.{value_of}
 use Rattle.ecore_build.specs.declared.fault.MetaFault.{MetaFault}
 use Rattle.ecore_build.specs.declared.fault.MetaFault.TheVariants.{DupName, Unsupported as UnsupportedFault, NoType, SuperCycle, Clash, SelfOpposite, BadOpposite, BadBound, BadDefault, Memory}
 use Rattle.ecore_meta.specs.declared.meta.Enum.{Enum as EnumOf}
 use Rattle.ecore_meta.specs.declared.meta.EnumLiteral.{EnumLiteral}
-use Rattle.ecore_build.specs.declared.rows.ClassifierRow.{ClassifierRow}
-use Rattle.ecore_build.specs.declared.rows.ClassifierRow.TheVariants.{Class, Enum, Plain}
-use Rattle.ecore_build.specs.declared.rows.LiteralRow.{LiteralRow}
-use Rattle.ecore_build.specs.declared.drafts.Draft.{Draft}
-use Rattle.ecore_build.specs.declared.drafts.Target.{Target}
-use Rattle.ecore_build.specs.declared.drafts.Target.TheVariants.{Skipped, Unsupported, Missing, Elements, Values}
-use Rattle.ecore_build.specs.declared.drafts.End.{End}
-use Rattle.ecore_build.specs.declared.drafts.End.TheVariants.{Open, Nowhere, At}
+use Rattle.ecore_drafts.specs.declared.rows.ClassifierRow.{ClassifierRow}
+use Rattle.ecore_drafts.specs.declared.rows.ClassifierRow.TheVariants.{Class, Enum, Plain}
+use Rattle.ecore_drafts.specs.declared.rows.EnumRow.{EnumRow}
+use Rattle.ecore_drafts.specs.declared.rows.LiteralRow.{LiteralRow}
+use Rattle.ecore_drafts.specs.declared.drafts.Draft.{Draft}
+use Rattle.ecore_drafts.specs.declared.drafts.Target.{Target}
+use Rattle.ecore_drafts.specs.declared.drafts.Target.TheVariants.{Skipped, Unsupported, Missing, Elements, Values}
+use Rattle.ecore_drafts.specs.declared.drafts.End.{End}
+use Rattle.ecore_drafts.specs.declared.drafts.End.TheVariants.{Open, Nowhere, At}
 
 -- two features of a class, or two literals of an enum, have one name, or two literals one text
 abbrev pub repeats_within : ClassifierRow → Bool
@@ -51,30 +52,9 @@ is_missing Unsupported = false
 is_missing (Elements c) = false
 is_missing (Values s) = false
 
--- a supertype is no class of the package
-abbrev pub lacks_super : ClassifierRows → ClassifierRow → Bool
-lacks_super all (Class c) = list_any (λ t. not (is_some (class_number all t))) c.supers
-lacks_super all (Enum e) = false
-lacks_super all (Plain t) = false
-
 -- a supertype or a feature's type is none of the package that fits
 abbrev pub no_type : ClassifierRows → List Draft → Bool
 no_type rows ds = list_any (lacks_super rows) rows || list_any (λ d. is_missing d.target) ds
-
--- a class is above one of its supertypes
-abbrev pub is_cyclic : List (List ℕ) → ℕ → Bool
-is_cyclic supers c = list_any (λ b. is_above supers b c) (supers_of supers c)
-
--- a class is above itself
-abbrev pub super_cycle : List (List ℕ) → Bool
-super_cycle supers = list_any (is_cyclic supers) (range_with_len 0 (length supers))
-
--- the numbers of the features that each class declares, from a number on
-abbrev pub own_features : ℕ → ClassifierRows → List (List ℕ)
-own_features f [] = []
-own_features f (Class c ∷ rows) = range_with_len f (length c.features) ∷ own_features (f + length c.features) rows
-own_features f (Enum e ∷ rows) = own_features f rows
-own_features f (Plain t ∷ rows) = own_features f rows
 
 -- the features that the class of that number declares
 abbrev pub own_of : List (List ℕ) → ℕ → List ℕ
@@ -188,12 +168,13 @@ bad_default enums d = int_eq d.upper (pos 1) && no_value enums d.target d.defaul
 abbrev pub literal : LiteralRow → EnumLiteral
 literal row = record { name = row.name; text = row.literal }
 
+-- an enum with its literals
+abbrev pub enum_from : EnumRow → EnumOf
+enum_from e = record { name = e.name; literals = map literal e.literals }
+
 -- the enums with their literals
 abbrev pub enums_in : ClassifierRows → List EnumOf
-enums_in [] = []
-enums_in (Class c ∷ rows) = enums_in rows
-enums_in (Enum e ∷ rows) = record { name = e.name; literals = map literal e.literals } ∷ enums_in rows
-enums_in (Plain t ∷ rows) = enums_in rows
+enums_in rows = map enum_from (enums_of rows)
 
 -- the fault of the first test that holds
 abbrev pub first_true : List (Bool × MetaFault) → Option MetaFault
@@ -226,24 +207,4 @@ fault rows = first_true (tests rows)
 -- an answer of build but out of memory names the first fault
 abbrev pub IsFault : Option MetaFault → MetaFault → Type 0
 IsFault first Memory = Unit {0}
-IsFault first DupName = first ≡ Some DupName
-IsFault first UnsupportedFault = first ≡ Some UnsupportedFault
-IsFault first NoType = first ≡ Some NoType
-IsFault first SuperCycle = first ≡ Some SuperCycle
-IsFault first Clash = first ≡ Some Clash
-IsFault first SelfOpposite = first ≡ Some SelfOpposite
-IsFault first BadOpposite = first ≡ Some BadOpposite
-IsFault first BadBound = first ≡ Some BadBound
-IsFault first BadDefault = first ≡ Some BadDefault
-
--- the features or literals of a classifier can be numbered
-abbrev pub Few : ClassifierRow → Type 0
-Few (Class c) = length c.features < 4294967295
-Few (Enum e) = length e.literals < 4294967295
-Few (Plain t) = Unit {0}
-
--- too many features or literals of a classifier to be numbered
-abbrev pub is_many : ClassifierRow → Bool
-is_many (Class c) = not (nat_lt (length c.features) 4294967295)
-is_many (Enum e) = not (nat_lt (length e.literals) 4294967295)
-is_many (Plain t) = false
+IsFault first e = first ≡ Some e

@@ -1,23 +1,23 @@
 //! The building of a metamodel: names are resolved, faults looked for in their order, and then the tables assembled.
 ghost use Rattle.std.specs.Prelude.{◌≡◌, ◌<◌, IfOk, IfErr, None, map};
-ghost use Rattle.ecore_build.specs.Build.{Chains, Numbered, meta_of};
-ghost use Rattle.ecore_build.specs.Document.{feature_total, supers_in};
-ghost use Rattle.ecore_build.specs.Drafts.{drafts};
-ghost use Rattle.ecore_build.specs.Supers.{all_above};
-ghost use Rattle.ecore_build.specs.Fit.{NamesFit};
+ghost use Rattle.ecore_build.specs.Build.{Chains, meta_of};
+ghost use Rattle.ecore_drafts.specs.Counts.{Numbered};
+ghost use Rattle.ecore_drafts.specs.Document.{feature_total, supers_in};
+ghost use Rattle.ecore_drafts.specs.Drafts.{drafts};
+ghost use Rattle.ecore_drafts.specs.Supers.{all_above};
+ghost use Rattle.ecore_drafts.specs.Fit.{NamesFit};
 ghost use Rattle.ecore_build.specs.Faults.{IsFault, fault, features_of, first_true, last_tests, enums_in};
 
-use crate::classifiers::Classifiers;
-use crate::drafts::Draft;
 use crate::enums::enums_of;
 use crate::fault::MetaFault;
 use crate::faults::{
     any_bad_bound, any_missing, any_repeats_within, any_self, any_unanswered, any_unsupported,
 };
 use crate::features::{all_features, any_bad_default, any_clash, classes_of, features_of};
-use crate::rows::{ClassifierRow, MetaRows};
-use crate::tables::{all_above, any_cycle, own_features};
-use ecore_meta::{Enum, Metamodel, Parts};
+use ecore_drafts::{
+    ClassifierRow, Classifiers, Draft, MetaRows, all_above, any_cycle, own_features,
+};
+use ecore_meta::{Enums, Metamodel, Parts};
 use std::alloc::{AllocError, Global};
 use std::collections::BTreeSet;
 
@@ -27,7 +27,7 @@ pub(crate) struct Resolved {
     pub drafts: Vec<Draft>,
     pub above: Vec<BTreeSet<u32>>,
     pub features: Vec<Vec<u32>>,
-    pub enums: Vec<Enum>,
+    pub enums: Enums,
 }
 
 /// The features of each class, by number: those that it or a class above it declares.
@@ -51,11 +51,11 @@ fn listed(
 fn checked(alloc: Global, rows: &[ClassifierRow]) -> Result<Resolved, MetaFault>
     requires { Numbered rows.now }
     ensures fault { IfErr result (IsFault (fault rows.now)) }
-    ensures rest { IfOk result (λ p. fault rows.now ≡ first_true (last_tests p.drafts.items (p.enums.items))) }
+    ensures rest { IfOk result (λ p. fault rows.now ≡ first_true (last_tests p.drafts.items p.enums)) }
     ensures drafts { IfOk result (λ p. p.drafts.items ≡ drafts rows.now) }
     ensures above { IfOk result (λ p. map (λ s. s.keys) p.above.items ≡ all_above (supers_in rows.now rows.now)) }
     ensures features { IfOk result (λ p. map (λ fs. fs.items) p.features.items ≡ features_of rows.now) }
-    ensures enums { IfOk result (λ p. p.enums.items ≡ enums_in rows.now) }
+    ensures enums { IfOk result (λ p. p.enums ≡ enums_in rows.now) }
 {
     let Some(classifiers) = Classifiers::new(alloc, rows)? else {
         return Err(MetaFault::DupName);
@@ -111,12 +111,13 @@ pub fn build(alloc: Global, rows: &MetaRows) -> Result<Metamodel, MetaFault>
     if any_bad_bound(resolved.drafts.as_slice()) {
         return Err(MetaFault::BadBound);
     }
-    if any_bad_default(alloc, resolved.enums.as_slice(), resolved.drafts.as_slice())? {
+    if any_bad_default(alloc, &resolved.enums, resolved.drafts.as_slice())? {
         return Err(MetaFault::BadDefault);
     }
     Ok(assemble(alloc, rows, resolved)?)
 }
 
+/// The metamodel of a document without a fault.
 fn assemble(alloc: Global, rows: &MetaRows, resolved: Resolved) -> Result<Metamodel, AllocError>
     requires few { Numbered rows.now.classifiers }
     requires fit { NamesFit rows.now.classifiers }
@@ -124,7 +125,7 @@ fn assemble(alloc: Global, rows: &MetaRows, resolved: Resolved) -> Result<Metamo
     requires drafts { resolved.drafts.items ≡ drafts rows.now.classifiers }
     requires above { map (λ s. s.keys) resolved.above.items ≡ all_above (supers_in rows.now.classifiers rows.now.classifiers) }
     requires features { map (λ fs. fs.items) resolved.features.items ≡ features_of rows.now.classifiers }
-    requires enums { resolved.enums.items ≡ enums_in rows.now.classifiers }
+    requires enums { resolved.enums ≡ enums_in rows.now.classifiers }
     ensures { IfOk result (λ m. m ≡ meta_of rows.now) }
 {
     let uri = rows.uri.copy(alloc)?;
@@ -133,7 +134,7 @@ fn assemble(alloc: Global, rows: &MetaRows, resolved: Resolved) -> Result<Metamo
         resolved.features.as_slice(),
         rows.classifiers.as_slice(),
     )?;
-    let features = features_of(alloc, resolved.enums.as_slice(), resolved.drafts.as_slice())?;
+    let features = features_of(alloc, &resolved.enums, resolved.drafts.as_slice())?;
     Metamodel::of_parts(
         alloc,
         Parts {

@@ -1,11 +1,13 @@
 //! The enums of a document with their literals.
 ghost use Rattle.std.specs.Prelude.{◌≡◌, IfOk, map};
 ghost use Rattle.ecore_build.specs.Faults.{enums_in, literal};
+ghost use Rattle.ecore_drafts.specs.Counts.{Numbered};
 
-use crate::rows::{ClassifierRow, LiteralRow};
-use ecore_meta::{Enum, EnumLiteral, List};
+use ecore_drafts::{ClassifierRow, LiteralRow};
+use ecore_meta::{Enum, EnumLiteral, Enums, List};
 use std::alloc::{AllocError, Global};
 
+/// A literal by its name and its text.
 fn literal(alloc: Global, row: &LiteralRow) -> Result<EnumLiteral, AllocError>
     ensures { IfOk result (λ l. l ≡ literal row.now) }
 {
@@ -15,6 +17,7 @@ fn literal(alloc: Global, row: &LiteralRow) -> Result<EnumLiteral, AllocError>
     })
 }
 
+/// The literals of an enum, in their order.
 fn all_literals(alloc: Global, rows: &[LiteralRow]) -> Result<Vec<EnumLiteral>, AllocError>
     ensures { IfOk result (λ v. v.items ≡ map literal rows.now) }
 {
@@ -25,8 +28,8 @@ fn all_literals(alloc: Global, rows: &[LiteralRow]) -> Result<Vec<EnumLiteral>, 
     Ok(literals)
 }
 
-/// The enums with their names and literals.
-pub(crate) fn enums_of(alloc: Global, rows: &[ClassifierRow]) -> Result<Vec<Enum>, AllocError>
+/// The enums in their order.
+fn all_enums(alloc: Global, rows: &[ClassifierRow]) -> Result<Vec<Enum>, AllocError>
     ensures { IfOk result (λ v. v.items ≡ enums_in rows.now) }
 {
     let mut enums = Vec::new(alloc);
@@ -43,4 +46,13 @@ pub(crate) fn enums_of(alloc: Global, rows: &[ClassifierRow]) -> Result<Vec<Enum
         }
     }
     Ok(enums)
+}
+
+/// The enums with their names and literals.
+pub(crate) fn enums_of(alloc: Global, rows: &[ClassifierRow]) -> Result<Enums, AllocError>
+    requires { Numbered rows.now }
+    ensures { IfOk result (λ a. a ≡ enums_in rows.now) }
+{
+    let items = all_enums(alloc, rows)?;
+    Enums::new(alloc, items)
 }

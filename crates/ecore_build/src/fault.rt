@@ -14,7 +14,7 @@ pub enum MetaFault {
     /// An attribute has a type of Ecore other than EString, EBoolean, EByte, EShort, EInt and ELong.
     #[error("an attribute's type of Ecore is not read")]
     Unsupported,
-    /// A supertype or a reference's type is no class of the package, an attribute's type is none of its enums and
+    /// A supertype or a reference's type is no class of the package. Or an attribute's type is none of its enums and
     /// data types, or an enum in use has no literal.
     #[error("a type is missing")]
     NoType,
@@ -27,11 +27,11 @@ pub enum MetaFault {
     /// A reference names itself as its opposite.
     #[error("a reference is its own opposite")]
     SelfOpposite,
-    /// An opposite is not declared there, is no reference, is skipped, does not name this one back, the type of each
-    /// is not the class that declares the other, or both are containments.
+    /// An opposite is not declared there, is no reference, is skipped, or does not name this one back. Or the type of
+    /// each is not the class that declares the other, or both are containments.
     #[error("an opposite does not answer")]
     BadOpposite,
-    /// The lower bound is below 0 or above the upper, the upper is neither -1 nor at least 1, or a reference to the
+    /// The lower bound is below 0 or above the upper, or the upper is neither -1 nor at least 1. Or a reference to the
     /// container has an upper bound other than 1.
     #[error("a bound is none")]
     BadBound,

@@ -1,18 +1,16 @@
-//! The tests for faults of names, supertypes, types, opposites and bounds, each over the whole document.
-ghost use Rattle.std.specs.Prelude.{◌≡◌, ◌<◌, IfOk, Some, None, length, map, not, slice_get, is_some};
+//! The tests for faults of names, types, opposites and bounds, each over the whole document.
+ghost use Rattle.std.specs.Prelude.{◌≡◌, ◌<◌, IfOk, Some, length, map, slice_get};
 ghost use Rattle.std.specs.List.{list_any};
 ghost use Rattle.std.specs.Option.{option_copied};
 ghost use Rattle.ecore_meta.specs.Names.{has_repeat};
-ghost use Rattle.ecore_build.specs.Document.{class_number};
-ghost use Rattle.ecore_build.specs.Faults.{any_from, answers, bad_bound, bad_bounds, contains_back, is_at, is_missing, is_self, is_skipped, is_to, is_unanswered, is_unsupported, lacks_super, repeats_within, unsupported};
+ghost use Rattle.ecore_build.specs.Faults.{any_from, answers, bad_bound, bad_bounds, contains_back, is_at, is_missing, is_self, is_skipped, is_to, is_unanswered, is_unsupported, repeats_within, unsupported};
 
-use crate::classifiers::Classifiers;
-use crate::drafts::{Draft, End, Target};
-use crate::names::{feature_names, index, literal_names, literal_texts};
-use crate::rows::ClassifierRow;
-use ecore_meta::Text;
+use ecore_drafts::{
+    ClassifierRow, Draft, End, Target, feature_names, index, literal_names, literal_texts,
+};
 use std::alloc::{AllocError, Global};
 
+/// Whether some name stands twice.
 pub(crate) fn repeats(alloc: Global, names: &[&str]) -> Result<bool, AllocError>
     ensures { IfOk result (λ b. b ≡ has_repeat (map (λ n. n.now) names.now)) }
 {
@@ -43,6 +41,7 @@ fn repeats_within(alloc: Global, row: &ClassifierRow) -> Result<bool, AllocError
     }
 }
 
+/// Whether some classifier has such a repeat.
 pub(crate) fn any_repeats_within(alloc: Global, rows: &[ClassifierRow]) -> Result<bool, AllocError>
     ensures { IfOk result (λ b. b ≡ list_any repeats_within rows.now) }
 {
@@ -54,6 +53,7 @@ pub(crate) fn any_repeats_within(alloc: Global, rows: &[ClassifierRow]) -> Resul
     Ok(false)
 }
 
+/// Whether the type is one of Ecore that is not read.
 fn is_unsupported(target: &Target) -> bool
     ensures { result ≡ is_unsupported target.now }
 {
@@ -63,6 +63,7 @@ fn is_unsupported(target: &Target) -> bool
     }
 }
 
+/// Whether the type is none of the package that fits.
 fn is_missing(target: &Target) -> bool
     ensures { result ≡ is_missing target.now }
 {
@@ -72,6 +73,7 @@ fn is_missing(target: &Target) -> bool
     }
 }
 
+/// Whether the feature is skipped.
 pub(crate) fn is_skipped(target: &Target) -> bool
     ensures { result ≡ is_skipped target.now }
 {
@@ -81,53 +83,21 @@ pub(crate) fn is_skipped(target: &Target) -> bool
     }
 }
 
+/// Whether some attribute has a type of Ecore that is not read.
 pub(crate) fn any_unsupported(drafts: &[Draft]) -> bool
     ensures { result ≡ unsupported drafts.now }
 {
     drafts.iter().any(|d| is_unsupported(&d.target))
 }
 
+/// Whether some feature has a type that is none of the package that fits.
 pub(crate) fn any_missing(drafts: &[Draft]) -> bool
     ensures { result ≡ list_any (λ d. is_missing d.target) drafts.now }
 {
     drafts.iter().any(|d| is_missing(&d.target))
 }
 
-impl<'a> Classifiers<'a> {
-    fn lacks_one(&self, names: &[Text]) -> bool
-        ensures { result ≡ list_any (λ t. not (is_some (class_number self.now t))) names.now }
-    {
-        for name in names {
-            if self.class_number(name.as_str()).is_none() {
-                return true;
-            }
-        }
-        false
-    }
-
-    fn lacks_super(&self, row: &ClassifierRow) -> bool
-        ensures { result ≡ lacks_super self.now row.now }
-    {
-        match row {
-            ClassifierRow::Class(row) => self.lacks_one(row.supers.as_slice()),
-            ClassifierRow::Enum(_) => false,
-            ClassifierRow::Plain(_) => false,
-        }
-    }
-
-    /// Whether some class names a supertype that is no class of the document.
-    pub fn any_lacks_super(&self, rows: &[ClassifierRow]) -> bool
-        ensures { result ≡ list_any (lacks_super self.now) rows.now }
-    {
-        for row in rows {
-            if self.lacks_super(row) {
-                return true;
-            }
-        }
-        false
-    }
-}
-
+/// Whether the opposite has that number.
 fn is_at(n: u32, end: End) -> bool
     ensures { result ≡ is_at n end }
 {
@@ -138,6 +108,7 @@ fn is_at(n: u32, end: End) -> bool
     }
 }
 
+/// Whether the type is the class of that number.
 fn is_to(class: u32, target: &Target) -> bool
     ensures { result ≡ is_to class target.now }
 {
@@ -147,6 +118,8 @@ fn is_to(class: u32, target: &Target) -> bool
     }
 }
 
+/// Whether the other names the feature of that number back, each has the other's class as its type, and at most one is a
+/// containment.
 fn answers(n: u32, draft: &Draft, other: &Draft) -> bool
     ensures { result ≡ answers n draft.now (Some other.now) }
 {
@@ -156,6 +129,7 @@ fn answers(n: u32, draft: &Draft, other: &Draft) -> bool
         && !(draft.containment && other.containment)
 }
 
+/// Whether a named opposite is none, or does not answer.
 fn is_unanswered(drafts: &[Draft], n: u32, draft: &Draft) -> bool
     ensures { result ≡ is_unanswered drafts.now n draft.now }
 {
@@ -169,12 +143,14 @@ fn is_unanswered(drafts: &[Draft], n: u32, draft: &Draft) -> bool
     }
 }
 
+/// The feature of that number.
 pub(crate) fn at(drafts: &[Draft], n: u32) -> Option<&Draft>
     ensures { option_copied result ≡ slice_get drafts.now n }
 {
     drafts.get(n as usize)
 }
 
+/// Whether some reference names itself as its opposite.
 pub(crate) fn any_self(drafts: &[Draft]) -> bool
     requires { length drafts.now < 4294967296 }
     ensures { result ≡ any_from is_self 0 drafts.now }
@@ -187,6 +163,7 @@ pub(crate) fn any_self(drafts: &[Draft]) -> bool
     false
 }
 
+/// Whether some reference has an opposite that is none, or does not answer.
 pub(crate) fn any_unanswered(drafts: &[Draft]) -> bool
     requires { length drafts.now < 4294967296 }
     ensures { result ≡ any_from (is_unanswered drafts.now) 0 drafts.now }
@@ -199,6 +176,7 @@ pub(crate) fn any_unanswered(drafts: &[Draft]) -> bool
     false
 }
 
+/// Whether the opposite is a containment.
 pub(crate) fn contains_back(drafts: &[Draft], end: End) -> bool
     ensures { result ≡ contains_back drafts.now end }
 {
@@ -212,6 +190,7 @@ pub(crate) fn contains_back(drafts: &[Draft], end: End) -> bool
     }
 }
 
+/// Whether the lower bound is below 0 or above the upper, or the upper is none. A container has an upper bound of 1.
 fn bad_bounds(drafts: &[Draft], draft: &Draft) -> bool
     ensures { result ≡ bad_bounds drafts.now draft.now }
 {
@@ -220,6 +199,7 @@ fn bad_bounds(drafts: &[Draft], draft: &Draft) -> bool
         || contains_back(drafts, draft.end) && draft.upper != 1
 }
 
+/// Whether some feature that is not skipped has such bounds.
 pub(crate) fn any_bad_bound(drafts: &[Draft]) -> bool
     ensures { result ≡ list_any (bad_bound drafts.now) drafts.now }
 {

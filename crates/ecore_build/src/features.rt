@@ -3,17 +3,16 @@
 ghost use Rattle.std.specs.Prelude.{◌≡◌, ◌<◌, ◌++◌, IfOk, OnOk, Some, map};
 ghost use Rattle.std.specs.List.{flat_map, list_any};
 ghost use Rattle.ecore_build.specs.Build.{attribute, classes_from, container, end_number, feature_from, kind_in, lower_from, natural, reference, upper_from};
-ghost use Rattle.ecore_build.specs.Supers.{all_above};
+ghost use Rattle.ecore_drafts.specs.Supers.{all_above};
 ghost use Rattle.ecore_build.specs.Faults.{all_inherited, bad_default, clash, draft_name, no_value, own_of};
-ghost use Rattle.ecore_meta.specs.Values.{AreShort};
 
-use crate::drafts::{Draft, End, Target};
 use crate::faults::{at, contains_back, is_skipped, repeats};
-use crate::rows::ClassifierRow;
-use ecore_meta::{Class, Enum, Feature, Kind, List, Scalar, Text, default_of, value_of};
+use ecore_drafts::{ClassifierRow, Draft, End, Target};
+use ecore_meta::{Class, Enums, Feature, Kind, List, Scalar, Text, default_of, value_of};
 use std::alloc::{AllocError, Global};
 use std::collections::BTreeSet;
 
+/// Adds the features that the class of that number declares.
 fn push_own(own: &[Vec<u32>], class: u32, out: &mut Vec<u32>) -> Result<(), AllocError>
     ensures { OnOk result (out.new.items ≡ out.old.items ++ own_of (map (λ fs. fs.items) own.now) class) }
 {
@@ -23,6 +22,7 @@ fn push_own(own: &[Vec<u32>], class: u32, out: &mut Vec<u32>) -> Result<(), Allo
     }
 }
 
+/// The features that the classes declare, class by class.
 fn gathered(alloc: Global, classes: &[u32], own: &[Vec<u32>]) -> Result<Vec<u32>, AllocError>
     ensures { IfOk result (λ v. v.items ≡ flat_map (own_of (map (λ fs. fs.items) own.now)) classes.now) }
 {
@@ -51,6 +51,7 @@ pub(crate) fn all_features(
     Ok(all)
 }
 
+/// The name of the feature of that number, empty for a number that is none.
 fn name_of(drafts: &[Draft], n: u32) -> &str
     ensures { result.now ≡ draft_name drafts.now n }
 {
@@ -60,6 +61,7 @@ fn name_of(drafts: &[Draft], n: u32) -> &str
     }
 }
 
+/// The names of the features of those numbers.
 fn names_of<'a>(
     alloc: Global,
     drafts: &'a [Draft],
@@ -91,13 +93,13 @@ pub(crate) fn any_clash(
     Ok(false)
 }
 
+/// Whether a default text stands for no value of the type.
 fn no_value(
     alloc: Global,
-    enums: &[Enum],
+    enums: &Enums,
     target: &Target,
     text: &Option<Text>,
 ) -> Result<bool, AllocError>
-    requires { AreShort enums.now }
     ensures { IfOk result (λ b. b ≡ no_value enums.now target.now text.now) }
 {
     match target {
@@ -112,10 +114,9 @@ fn no_value(
 /// Whether the default text of a single attribute gives no value.
 pub(crate) fn any_bad_default(
     alloc: Global,
-    enums: &[Enum],
+    enums: &Enums,
     drafts: &[Draft],
 ) -> Result<bool, AllocError>
-    requires { AreShort enums.now }
     ensures { IfOk result (λ b. b ≡ list_any (bad_default enums.now) drafts.now) }
 {
     for draft in drafts {
@@ -126,6 +127,7 @@ pub(crate) fn any_bad_default(
     Ok(false)
 }
 
+/// A bound as a natural number, the greatest that a feature holds where it is greater.
 fn natural(bound: i64) -> u32
     ensures { result ≡ natural bound }
 {
@@ -138,6 +140,7 @@ fn natural(bound: i64) -> u32
     }
 }
 
+/// The number of the opposite, where there is one.
 fn end_number(end: End) -> Option<u32>
     ensures { result ≡ end_number end }
 {
@@ -148,13 +151,13 @@ fn end_number(end: End) -> Option<u32>
     }
 }
 
+/// An attribute's kind: single where its upper bound is 1, else many-valued.
 fn attribute(
     alloc: Global,
-    enums: &[Enum],
+    enums: &Enums,
     draft: &Draft,
     scalar: &Scalar,
 ) -> Result<Kind, AllocError>
-    requires { AreShort enums.now }
     ensures { IfOk result (λ k. k ≡ attribute enums.now draft.now scalar.now) }
 {
     if draft.upper == 1 {
@@ -174,6 +177,7 @@ fn attribute(
     }
 }
 
+/// The same type.
 fn copy_scalar(scalar: &Scalar) -> Scalar
     ensures { result ≡ scalar.now }
 {
@@ -188,6 +192,7 @@ fn copy_scalar(scalar: &Scalar) -> Scalar
     }
 }
 
+/// A reference to the container, by the containment that is its opposite.
 fn container(class: u32, end: End) -> Kind
     ensures { result ≡ container class end }
 {
@@ -201,6 +206,7 @@ fn container(class: u32, end: End) -> Kind
     }
 }
 
+/// A reference's kind: elements inside, the container, or links with or without a bound.
 fn reference(drafts: &[Draft], draft: &Draft, target: u32) -> Kind
     ensures { result ≡ reference drafts.now draft.now target }
 {
@@ -216,8 +222,8 @@ fn reference(drafts: &[Draft], draft: &Draft, target: u32) -> Kind
     }
 }
 
-fn kind(alloc: Global, enums: &[Enum], drafts: &[Draft], draft: &Draft) -> Result<Kind, AllocError>
-    requires { AreShort enums.now }
+/// The kind of a feature, by what its type is.
+fn kind(alloc: Global, enums: &Enums, drafts: &[Draft], draft: &Draft) -> Result<Kind, AllocError>
     ensures { IfOk result (λ k. k ≡ kind_in enums.now drafts.now draft.now draft.now.target) }
 {
     match &draft.target {
@@ -227,6 +233,7 @@ fn kind(alloc: Global, enums: &[Enum], drafts: &[Draft], draft: &Draft) -> Resul
     }
 }
 
+/// The lower bound; that of a skipped feature is 0.
 fn lower(draft: &Draft) -> u32
     ensures { result ≡ lower_from draft.now }
 {
@@ -237,6 +244,7 @@ fn lower(draft: &Draft) -> u32
     }
 }
 
+/// The upper bound, `None` where there is none; that of a skipped feature is 1.
 fn upper(draft: &Draft) -> Option<u32>
     ensures { result ≡ upper_from draft.now }
 {
@@ -249,13 +257,13 @@ fn upper(draft: &Draft) -> Option<u32>
     }
 }
 
+/// The feature of the metamodel that a draft stands for.
 fn feature(
     alloc: Global,
-    enums: &[Enum],
+    enums: &Enums,
     drafts: &[Draft],
     draft: &Draft,
 ) -> Result<Feature, AllocError>
-    requires { AreShort enums.now }
     ensures { IfOk result (λ f. f ≡ feature_from enums.now drafts.now draft.now) }
 {
     Ok(Feature {
@@ -267,12 +275,12 @@ fn feature(
     })
 }
 
+/// The features of the metamodel, in the order of the drafts.
 pub(crate) fn features_of(
     alloc: Global,
-    enums: &[Enum],
+    enums: &Enums,
     drafts: &[Draft],
 ) -> Result<Vec<Feature>, AllocError>
-    requires { AreShort enums.now }
     ensures { IfOk result (λ v. v.items ≡ map (feature_from enums.now drafts.now) drafts.now) }
 {
     let mut features = Vec::new(alloc);
@@ -282,6 +290,7 @@ pub(crate) fn features_of(
     Ok(features)
 }
 
+/// The features of the class of that number; none for a number that is none.
 fn numbers_of(alloc: Global, features: &[Vec<u32>], class: usize) -> Result<Vec<u32>, AllocError>
     ensures { IfOk result (λ v. v.items ≡ own_of (map (λ fs. fs.items) features.now) class) }
 {
@@ -301,7 +310,7 @@ pub(crate) fn classes_of(
     features: &[Vec<u32>],
     rows: &[ClassifierRow],
 ) -> Result<Vec<Class>, AllocError>
-    ensures { IfOk result (λ v. v.items ≡ classes_from 0 (map (λ fs. fs.items) features.now) rows.now) }
+    ensures { IfOk result (λ v. v.items ≡ classes_from (map (λ fs. fs.items) features.now) rows.now) }
 {
     let mut classes = Vec::new(alloc);
     let mut number: usize = 0;

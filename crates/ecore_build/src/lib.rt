@@ -2,19 +2,13 @@
 #![tactic(auto)]
 
 mod building;
-mod classifiers;
-mod drafts;
 mod enums;
 mod fault;
 mod faults;
 mod features;
-mod names;
-mod rows;
-mod supers;
-mod tables;
 
 pub use building::build;
-pub use fault::MetaFault;
-pub use rows::{
+pub use ecore_drafts::{
     ClassRow, ClassifierRow, EnumRow, FeatureRow, LiteralRow, MetaRows, OppositeRow, TypeName,
 };
+pub use fault::MetaFault;

@@ -6,11 +6,10 @@ use Rattle.std.specs.Cmp.Lexicographic.{slice_cmp}
 use Rattle.serde_json.specs.Data.{Data, null, boolean, number, string, array, object, Items, no_items, item, Members, no_members, member}
 use Rattle.serde_json.specs.Find.{get, get_member, as_array}
 use Rattle.serde_json.specs.Read.{read}
-use Rattle.ecore_build.specs.Build.{Numbered, AreFew}
-use Rattle.ecore_build.specs.Document.{feature_total, features_in}
-use Rattle.ecore_build.specs.Faults.{Few}
-use Rattle.ecore_build.specs.declared.rows.ClassifierRow.{ClassifierRow}
-use Rattle.ecore_build.specs.declared.rows.ClassifierRow.TheVariants.{Class, Enum, Plain}
+use Rattle.ecore_drafts.specs.Counts.{Numbered, AreFew, Few}
+use Rattle.ecore_drafts.specs.Document.{feature_total, features_in}
+use Rattle.ecore_drafts.specs.declared.rows.ClassifierRow.{ClassifierRow}
+use Rattle.ecore_drafts.specs.declared.rows.ClassifierRow.TheVariants.{Class, Enum, Plain}
 use Rattle.ecore_json.specs.Classes.{ecore_class, ecore_enum, ecore_package}
 use Rattle.ecore_meta.specs.Names.{Name}
 use Rattle.ecore_json.specs.Walk.{is_a}

@@ -4,7 +4,7 @@ use Rattle.ecore_build.specs.Faults.{IsFault}
 use Rattle.ecore_meta.specs.Meta.{Meta}
 use Rattle.ecore_build.specs.declared.fault.MetaFault.{MetaFault}
 use Rattle.ecore_build.specs.declared.fault.MetaFault.TheVariants.{DupName, Unsupported, NoType, SuperCycle, Clash, SelfOpposite, BadOpposite, BadBound, BadDefault, Memory}
-use Rattle.ecore_build.specs.declared.rows.MetaRows.{MetaRows}
+use Rattle.ecore_drafts.specs.declared.rows.MetaRows.{MetaRows}
 use Rattle.ecore_json.specs.declared.fault.EcoreFault.{EcoreFault}
 use Rattle.ecore_json.specs.declared.fault.EcoreFault.TheVariants.{Memory as OutOfMemory}
 use Rattle.ecore_json.specs.Metamodel.{built, of_meta, GivesMetamodel}

@@ -13,11 +13,11 @@ use Rattle.std.proofs.lemmas.Map.Lookups.{exact_bytes}
 use Rattle.serde_json.specs.Data.{Data, null, boolean, number, string, array, object, Items, no_items, item, Members, no_members, member}
 use Rattle.serde_json.specs.Find.{as_array, as_str, get, get_member}
 use Rattle.ecore_meta.specs.Named.{has_slash, is_taken}
-use Rattle.ecore_build.specs.Fit.{NamesFit}
+use Rattle.ecore_drafts.specs.Fit.{NamesFit}
 use Rattle.ecore_meta.specs.Names.{Name}
-use Rattle.ecore_build.specs.declared.rows.ClassifierRow.{ClassifierRow}
-use Rattle.ecore_build.specs.declared.rows.ClassifierRow.TheVariants.{Class, Enum, Plain}
-use Rattle.ecore_build.specs.declared.rows.FeatureRow.{FeatureRow}
+use Rattle.ecore_drafts.specs.declared.rows.ClassifierRow.{ClassifierRow}
+use Rattle.ecore_drafts.specs.declared.rows.ClassifierRow.TheVariants.{Class, Enum, Plain}
+use Rattle.ecore_drafts.specs.declared.rows.FeatureRow.{FeatureRow}
 use Rattle.ecore_json.specs.declared.fault.WalkFault.{WalkFault}
 use Rattle.ecore_json.specs.declared.table.Position.{Position}
 use Rattle.ecore_json.specs.declared.table.Shape.{Shape}

@@ -6,10 +6,10 @@ use Rattle.serde_json.specs.Read.{read}
 use Rattle.ecore_build.specs.Build.{meta_of}
 use Rattle.ecore_build.specs.Faults.{fault}
 use Rattle.ecore_meta.specs.Meta.{Meta}
-use Rattle.ecore_build.specs.Fit.{NamesFit}
+use Rattle.ecore_drafts.specs.Fit.{NamesFit}
 use Rattle.ecore_meta.specs.Promised.{IsMetamodel}
 use Rattle.ecore_build.specs.declared.fault.MetaFault.{MetaFault}
-use Rattle.ecore_build.specs.declared.rows.MetaRows.{MetaRows}
+use Rattle.ecore_drafts.specs.declared.rows.MetaRows.{MetaRows}
 use Rattle.ecore_build.proofs.PromiseLaws.{promised}
 use Rattle.ecore_json.specs.declared.fault.WalkFault.{WalkFault}
 use Rattle.ecore_json.specs.declared.fault.WalkFault.TheVariants.{BadKey, LeftOut}

@@ -8,7 +8,7 @@ use Rattle.ecore_build.specs.Faults.{fault}
 use Rattle.ecore_meta.specs.Meta.{Meta}
 use Rattle.ecore_build.specs.declared.fault.MetaFault.{MetaFault}
 use Rattle.ecore_build.specs.declared.fault.MetaFault.TheVariants as meta
-use Rattle.ecore_build.specs.declared.rows.MetaRows.{MetaRows}
+use Rattle.ecore_drafts.specs.declared.rows.MetaRows.{MetaRows}
 use Rattle.ecore_json.specs.Classes.{ecore_package}
 use Rattle.ecore_json.specs.declared.fault.EcoreFault.{EcoreFault}
 use Rattle.ecore_json.specs.declared.fault.EcoreFault.TheVariants.{NotJson, NotPackage, BadKey, LeftOut, Meta as OfMeta, Memory}

@@ -3,16 +3,16 @@ use Rattle.std.specs.Prelude.{ℤ, pos, true, false, List, [], ◌∷◌, ◌++�
 use Rattle.std.specs.Option.{option_map_or}
 use Rattle.serde_json.specs.Data.{Data, Items, no_items, item}
 use Rattle.serde_json.specs.Find.{get, as_array}
-use Rattle.ecore_build.specs.declared.rows.MetaRows.{MetaRows}
-use Rattle.ecore_build.specs.declared.rows.ClassifierRow.{ClassifierRow}
-use Rattle.ecore_build.specs.declared.rows.ClassifierRow.TheVariants.{Class, Enum, Plain}
-use Rattle.ecore_build.specs.declared.rows.ClassRow.{ClassRow}
-use Rattle.ecore_build.specs.declared.rows.EnumRow.{EnumRow}
-use Rattle.ecore_build.specs.declared.rows.LiteralRow.{LiteralRow}
-use Rattle.ecore_build.specs.declared.rows.FeatureRow.{FeatureRow}
-use Rattle.ecore_build.specs.declared.rows.OppositeRow.{OppositeRow}
-use Rattle.ecore_build.specs.declared.rows.TypeName.{TypeName}
-use Rattle.ecore_build.specs.declared.rows.TypeName.TheVariants.{Own, Ecore}
+use Rattle.ecore_drafts.specs.declared.rows.MetaRows.{MetaRows}
+use Rattle.ecore_drafts.specs.declared.rows.ClassifierRow.{ClassifierRow}
+use Rattle.ecore_drafts.specs.declared.rows.ClassifierRow.TheVariants.{Class, Enum, Plain}
+use Rattle.ecore_drafts.specs.declared.rows.ClassRow.{ClassRow}
+use Rattle.ecore_drafts.specs.declared.rows.EnumRow.{EnumRow}
+use Rattle.ecore_drafts.specs.declared.rows.LiteralRow.{LiteralRow}
+use Rattle.ecore_drafts.specs.declared.rows.FeatureRow.{FeatureRow}
+use Rattle.ecore_drafts.specs.declared.rows.OppositeRow.{OppositeRow}
+use Rattle.ecore_drafts.specs.declared.rows.TypeName.{TypeName}
+use Rattle.ecore_drafts.specs.declared.rows.TypeName.TheVariants.{Own, Ecore}
 use Rattle.ecore_json.specs.Classes.{ecore_class, ecore_enum, ecore_reference}
 use Rattle.ecore_meta.specs.Names.{Name}
 use Rattle.ecore_json.specs.References.{ecore_name, own_name, own_feature}

@@ -25,12 +25,12 @@ pub enum EcoreFault {
     /// The document is no package of Ecore, nor an array of one.
     #[error("the document is no package")]
     NotPackage,
-    /// A key that an object may not have or that it lacks, a value of another kind, a name or a reference that is
-    /// none, or an object of an unknown class.
+    /// A key that an object may not have or that it lacks, or a value of another kind. Or a name or a reference that
+    /// is none, or an object of an unknown class.
     #[error("a key or its value is not read")]
     BadKey,
-    /// A part of Ecore that this project's profile leaves out: subpackages, generics, keys of references, or a list of
-    /// references in which one may stand twice.
+    /// A part of Ecore that this project's profile leaves out. Such are packages inside the package, generics, keys of references,
+    /// and references of which one may stand twice.
     #[error("a part of Ecore is left out")]
     LeftOut,
     /// A fault of what the document describes.

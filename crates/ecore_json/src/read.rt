@@ -2,9 +2,9 @@
 ghost use Rattle.std.specs.Prelude.{◌≡◌, ◌<◌, ◌-◌, ◌^◌, Some, length, option_map};
 ghost use Rattle.serde_json.specs.View.{view};
 ghost use Rattle.serde_json.specs.Find.{as_array};
-ghost use Rattle.ecore_build.specs.Build.{Numbered};
+ghost use Rattle.ecore_drafts.specs.Counts.{Numbered};
 ghost use Rattle.ecore_build.specs.Faults.{fault};
-ghost use Rattle.ecore_build.specs.Fit.{NamesFit};
+ghost use Rattle.ecore_drafts.specs.Fit.{NamesFit};
 ghost use Rattle.ecore_json.specs.Metamodel.{root_of, package_of, built, of_package, metamodel_of, GivesMetamodel};
 ghost use Rattle.ecore_json.specs.Rows.{rows_of};
 

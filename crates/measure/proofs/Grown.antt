@@ -2,8 +2,8 @@
 use Rattle.std.proofs.Common.{◌≡◌, ◌+◌, ◌*◌, ℕ, List, [], ◌∷◌, ◌++◌, All, length, subst, sym, ap, ◌∙◌, arith, length-append}
 use Rattle.std.proofs.lemmas.List.Elements.{All-push}
 use Rattle.std.proofs.lemmas.List.Sums.{sum_by-append}
-use Rattle.ecore_build.specs.Document.{feature_total, features_in}
-use Rattle.ecore_build.specs.declared.rows.ClassifierRow.{ClassifierRow}
+use Rattle.ecore_drafts.specs.Document.{feature_total, features_in}
+use Rattle.ecore_drafts.specs.declared.rows.ClassifierRow.{ClassifierRow}
 use Rattle.model_state.specs.declared.operation.Operation.{Operation}
 use Rattle.model_state.specs.Packages.{steps_of}
 use Rattle.measure.specs.Steps.{step_count}

@@ -1,6 +1,6 @@
 //! The rows of a metamodel of many classes.
 ghost use Rattle.std.specs.Prelude.{◌≡◌, ◌*◌, ◌<◌, IfOk, length};
-ghost use Rattle.ecore_build.specs.Document.{feature_total, features_in};
+ghost use Rattle.ecore_drafts.specs.Document.{feature_total, features_in};
 
 use ecore_build::{ClassRow, ClassifierRow, FeatureRow, MetaRows, OppositeRow, TypeName};
 use ecore_meta::{List, Text};

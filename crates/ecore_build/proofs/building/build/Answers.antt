@@ -1,10 +1,8 @@
-use Rattle.std.proofs.Common.{◌∙◌, List, ap, subst, sym, arith, length}
+use Rattle.std.proofs.Common.{◌∙◌, ap, subst, sym, arith, length}
 use Rattle.std.specs.List.{list_any}
-use Rattle.ecore_build.specs.Document.{ClassifierRows, feature_total}
-use Rattle.ecore_build.specs.Faults.{IsFault, any_from, bad_bound, bad_default, fault, is_self, is_unanswered, enums_in}
-use Rattle.ecore_meta.specs.Values.{AreShort}
-use Rattle.ecore_meta.specs.declared.meta.Enum.{Enum}
-use Rattle.ecore_build.proofs.BuildLaws.{drafts_few, fourth, enums_short, no_last, third}
+use Rattle.ecore_drafts.specs.Document.{ClassifierRows, feature_total}
+use Rattle.ecore_build.specs.Faults.{IsFault, any_from, bad_bound, bad_default, fault, is_self, is_unanswered}
+use Rattle.ecore_build.proofs.BuildLaws.{drafts_few, fourth, no_last, third}
 use Rattle.ecore_build.proofs.ChainLaws.{chains}
 use Rattle.ecore_build.proofs.building.build.Goals as goal
 
@@ -29,13 +27,6 @@ returns-then-any_bad_bound-clause-fault c =
     (sym c.if-any_unanswered.false ∙ c.any_unanswered.ensures ∙ ap (λ ds. any_from (is_unanswered ds) 0 ds) c.as_slice-3.ensures.value)
     (sym c.if-any_bad_bound.true ∙ c.any_bad_bound.ensures ∙ ap (λ ds. list_any (bad_bound ds) ds) c.as_slice-4.ensures.value)
 
-pub any_bad_default-requires : goal.any_bad_default-requires
-any_bad_default-requires c =
-    let P : List Enum → Type 0 = λ ls. AreShort ls in
-    let Q : ClassifierRows → Type 0 = λ rows. AreShort (enums_in rows) in
-    subst P (sym (c.as_slice-5.ensures.value ∙ c.in-Ok.ensures.enums))
-    (subst Q (sym c.as_slice.ensures) (enums_short c.args.rows.now.classifiers c.requires.numbered.parts))
-
 pub returns-then-branch-clause-fault : goal.returns-then-branch-clause-fault
 returns-then-branch-clause-fault c =
     ap fault (sym c.as_slice.ensures) ∙ c.in-Ok.ensures.rest
@@ -44,8 +35,7 @@ returns-then-branch-clause-fault c =
     (sym c.if-any_unanswered.false ∙ c.any_unanswered.ensures ∙ ap (λ ds. any_from (is_unanswered ds) 0 ds) c.as_slice-3.ensures.value)
     (sym c.if-any_bad_bound.false ∙ c.any_bad_bound.ensures ∙ ap (λ ds. list_any (bad_bound ds) ds) c.as_slice-4.ensures.value)
     (sym c.if-branch.true ∙ c.in_ok-any_bad_default.ensures
-    ∙ ap (λ ls. list_any (bad_default ls) c.as_slice-6.result.now) c.as_slice-5.ensures.value
-    ∙ ap (λ ds. list_any (bad_default c.in-Ok.resolved.enums.items) ds) c.as_slice-6.ensures.value)
+    ∙ ap (λ ds. list_any (bad_default c.in-Ok.resolved.enums) ds) c.as_slice-5.ensures.value)
 
 pub returns-clause-none : goal.returns-clause-none
 returns-clause-none c =
@@ -55,8 +45,7 @@ returns-clause-none c =
     (sym c.if-any_unanswered.false ∙ c.any_unanswered.ensures ∙ ap (λ ds. any_from (is_unanswered ds) 0 ds) c.as_slice-3.ensures.value)
     (sym c.if-any_bad_bound.false ∙ c.any_bad_bound.ensures ∙ ap (λ ds. list_any (bad_bound ds) ds) c.as_slice-4.ensures.value)
     (sym c.if-branch.false ∙ c.in_ok-any_bad_default.ensures
-    ∙ ap (λ ls. list_any (bad_default ls) c.as_slice-6.result.now) c.as_slice-5.ensures.value
-    ∙ ap (λ ds. list_any (bad_default c.in-Ok.resolved.enums.items) ds) c.as_slice-6.ensures.value)
+    ∙ ap (λ ds. list_any (bad_default c.in-Ok.resolved.enums) ds) c.as_slice-5.ensures.value)
 
 pub returns-clause-chain : goal.returns-clause-chain
 returns-clause-chain c = chains c.args.rows.now _ c.in_ok-assemble.ensures

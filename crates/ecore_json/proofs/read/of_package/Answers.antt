@@ -1,8 +1,8 @@
 use Rattle.std.proofs.Common.{◌≡◌, ap, sym, subst, ◌∙◌, None}
 use Rattle.serde_json.specs.View.{view}
 use Rattle.ecore_build.specs.Faults.{fault}
-use Rattle.ecore_build.specs.Fit.{NamesFit}
-use Rattle.ecore_build.specs.declared.rows.MetaRows.{MetaRows}
+use Rattle.ecore_drafts.specs.Fit.{NamesFit}
+use Rattle.ecore_drafts.specs.declared.rows.MetaRows.{MetaRows}
 use Rattle.ecore_json.specs.declared.table.Position.TheVariants.{Root}
 use Rattle.ecore_json.specs.Walk.{package_fault, object_fault}
 use Rattle.ecore_json.specs.Rows.{own_prefix, rows_of}

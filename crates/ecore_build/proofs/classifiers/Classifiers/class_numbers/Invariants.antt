@@ -1,7 +1,0 @@
-use Rattle.std.proofs.Common.{◌≡◌, ◌++◌, drop}
-use Rattle.std.specs.List.{filter_map}
-use Rattle.ecore_build.specs.Document.{class_number}
-use Rattle.ecore_build.proofs.classifiers.Classifiers.class_numbers.Given as goal
-
-abbrev pub invariant-loop-name : goal.invariant-loop-name
-invariant-loop-name l = l.numbers.items ++ filter_map (class_number l.self) (drop l.name-index l.names) ≡ filter_map (class_number l.self) l.names

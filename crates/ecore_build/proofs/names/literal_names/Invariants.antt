@@ -1,5 +1,0 @@
-use Rattle.std.proofs.Common.{◌≡◌, map, take}
-use Rattle.ecore_build.proofs.names.literal_names.Given as goal
-
-abbrev pub invariant-loop-row : goal.invariant-loop-row
-invariant-loop-row l = map (λ n. n.now) l.names.items ≡ map (λ x. x.name) (take l.row-index l.rows)

@@ -1,0 +1,17 @@
+use Rattle.std.proofs.Common.{◌∙◌, ap, refl}
+use Rattle.std.specs.Prelude.{is_some}
+use Rattle.std.proofs.lemmas.Map.Text.{btree_map_updates_str}
+use Rattle.ecore_meta.proofs.NameLaws.{repeat_found, still_apart, still_told}
+use Rattle.ecore_drafts.proofs.names.index.Goals as goal
+
+pub returns-then-contains_key : goal.returns-then-contains_key
+returns-then-contains_key c =
+    repeat_found (λ n. n.now) c.args.names.now c.loop-n.n _ c.loop-n-test.true (c.if-contains_key.ensures ∙ ap is_some (c.loop-n.invariant.told _))
+
+pub loop-n-preserved : goal.loop-n-preserved
+loop-n-preserved c = record {
+  apart = still_apart (λ n. n.now) c.args.names.now c.loop-n.n _ c.loop-n-test.true c.loop-n.invariant.apart (c.if-contains_key.ensures ∙ ap is_some (c.loop-n.invariant.told _));
+  told = λ q.
+      btree_map_updates_str _ c.loop-n.index c.insert.new.self _ c.in_ok-insert.ensures.updates q
+      ∙ still_told (λ n. n.now) c.args.names.now c.loop-n.n _ c.loop-n-test.true (c.if-contains_key.ensures ∙ ap is_some (c.loop-n.invariant.told _)) _ refl _ c.loop-n.invariant.told q;
+}

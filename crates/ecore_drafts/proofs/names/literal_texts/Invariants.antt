@@ -1,0 +1,5 @@
+use Rattle.std.proofs.Common.{◌≡◌, map, take}
+use Rattle.ecore_drafts.proofs.names.literal_texts.Given as goal
+
+abbrev pub invariant-loop-row : goal.invariant-loop-row
+invariant-loop-row l = map (λ n. n.now) l.names.items ≡ map (λ x. x.literal) (take l.row-index l.rows)

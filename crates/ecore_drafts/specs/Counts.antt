@@ -1,0 +1,33 @@
+-- Which documents can be numbered.
+use Rattle.std.specs.Prelude.{◌<◌, [], ◌∷◌, length, Bool, false, nat_lt, not, ◌&&◌}
+use Rattle.std.specs.List.{list_any}
+use Rattle.ecore_drafts.specs.Document.{ClassifierRows, feature_total}
+use Rattle.ecore_drafts.specs.declared.rows.ClassifierRow.{ClassifierRow}
+use Rattle.ecore_drafts.specs.declared.rows.ClassifierRow.TheVariants.{Class, Enum, Plain}
+
+-- the features or literals of a classifier can be numbered
+abbrev pub Few : ClassifierRow → Type 0
+Few (Class c) = length c.features < 4294967295
+Few (Enum e) = length e.literals < 4294967295
+Few (Plain t) = Unit {0}
+
+-- too many features or literals of a classifier to be numbered
+abbrev pub is_many : ClassifierRow → Bool
+is_many (Class c) = not (nat_lt (length c.features) 4294967295)
+is_many (Enum e) = not (nat_lt (length e.literals) 4294967295)
+is_many (Plain t) = false
+
+-- the features or literals of each classifier can be numbered
+abbrev pub AreFew : ClassifierRows → Type 0
+AreFew [] = Unit {0}
+AreFew (row ∷ rows) = Few row × AreFew rows
+
+-- fewer than 2^32 - 1 classifiers, features, and literals of an enum
+pub record Numbered (rows : ClassifierRows) : Type 0 where
+  pub classifiers : length rows < 4294967295
+  pub features : feature_total rows < 4294967295
+  pub parts : AreFew rows
+
+-- the same as a test
+abbrev pub is_numbered : ClassifierRows → Bool
+is_numbered rows = nat_lt (length rows) 4294967295 && (nat_lt (feature_total rows) 4294967295 && not (list_any is_many rows))
