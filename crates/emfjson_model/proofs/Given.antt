@@ -1,13 +1,13 @@
 -- The lists of references that each element gives: one for each plain reference of its class, with targets of its type, each once.
-use Rattle.std.proofs.Common.{◌≡◌, ℕ, suc, Bool, true, false, ◌&&◌, ◌||◌, not, cond, List, [], ◌∷◌, ◌++◌, nat_eq, refl, sym, ap, subst, ◌∙◌, ◌⊎◌, inl, inr, append-nil}
+use Rattle.std.proofs.Common.{◌≡◌, ℕ, suc, Bool, true, false, ◌&&◌, ◌||◌, not, cond, List, [], ◌∷◌, ◌++◌, nat_eq, refl, sym, ap, subst, ◌∙◌, inl, inr}
 use Rattle.std.specs.Prelude.{Option, None, Some, Ok, option_and_then, slice_get}
-use Rattle.std.specs.List.{list_any}
 use Rattle.std.specs.Option.{option_map_or}
-use Rattle.finite_maps.proofs.Cases.{true_false}
 use Rattle.finite_maps.proofs.EqualLaws.{and_both, and_first, and_second, nat_equality}
 use Rattle.ecore_meta.specs.Meta.{Meta, features_of}
-use Rattle.ecore_meta.specs.declared.meta.Class.{Class}
 use Rattle.ecore_meta.specs.Names.{Name}
+use Rattle.ecore_meta.specs.Promised.{ListsDeclared}
+use Rattle.ecore_meta.proofs.DeclaredLaws.{has_any}
+use Rattle.ecore_meta.proofs.RisingLaws.{kept_is}
 use Rattle.model_state.specs.Typing.{has_feature, is_plain, kind_of, plain_to}
 use Rattle.emfjson_model.specs.declared.doc.DocRefs.{DocRefs}
 use Rattle.emfjson_drafts.specs.declared.draft.Draft.{Draft}
@@ -17,95 +17,35 @@ use Rattle.emfjson_model.specs.Fits.{Follows, numbers_differ}
 use Rattle.emfjson_model.specs.Merged.{targets_at}
 use Rattle.emfjson_drafts.specs.Reads.{Read, collected, unless}
 use Rattle.emfjson_drafts.specs.Places.{class_at}
-use Rattle.emfjson_model.specs.References.{entries_at, given_by, located, new_target, plain_features, plain_more, refs_at, refs_of, target_of, targets_of}
+use Rattle.emfjson_model.specs.References.{entries_at, given_by, located, new_target, plain_features, refs_at, refs_of, target_of, targets_of}
 use Rattle.emfjson_model.proofs.Apart.{then_ok, unless_ok, unless_true}
-use Rattle.emfjson_model.proofs.InOrder.{Longer, OneOrNone, no_longer, one_first}
+use Rattle.emfjson_model.proofs.InOrder.{features_differ, filter_follows, follows_differ}
 use Rattle.emfjson_model.proofs.Keys.{and_then_some}
 use Rattle.emfjson_model.proofs.Located.{IsRow, located_row}
-use Rattle.emfjson_model.proofs.Numbers.{apart_last, has, has_either, has_left, has_one, has_right, is_either, not_is, not_not}
+use Rattle.emfjson_model.proofs.Numbers.{apart_last, has, has_either, has_left, has_one, has_right, not_not}
 use Rattle.emfjson_model.proofs.Pairs.{Paired, all_pairs}
 
 -- ---- the plain references of a class
 abbrev pub plain_of : Meta → ℕ → List ℕ
-plain_of meta c = plain_features meta [] (features_of meta c)
+plain_of meta c = plain_features meta (features_of meta c)
 
 module _ (meta : Meta) where
-  pub has_is : (c f : ℕ) → has_feature meta c f ≡ has (features_of meta c) f
-  has_is c f = by_class (slice_get meta.classes c)
-    where
-      by_class : (o : Option Class) → option_map_or (λ class. list_any (nat_eq f) class.features) o false ≡ has (option_map_or (λ class. class.features) o []) f
-      by_class None = refl
-      by_class (Some class) = refl
-
-  abbrev new : List ℕ → ℕ → Bool
-  new plain f = is_plain (kind_of meta f) && not (has plain f)
-
-  more_apart : (plain : List ℕ) (f : ℕ) (b : Bool) → new plain f ≡ b → numbers_differ plain ≡ true → numbers_differ (cond b (plain ++ f ∷ []) plain) ≡ true
-  more_apart plain f true is h = apart_last plain f h (not_not (has plain f) (and_second (is_plain (kind_of meta f)) (not (has plain f)) is))
-  more_apart plain f false is h = h
-
-  features_apart : (plain fs : List ℕ) → numbers_differ plain ≡ true → numbers_differ (plain_features meta plain fs) ≡ true
-  features_apart plain [] h = h
-  features_apart plain (f ∷ fs) h = features_apart (plain_more meta plain f) fs (more_apart plain f (new plain f) refl h)
-
-  pub plain_apart : (c : ℕ) → numbers_differ (plain_of meta c) ≡ true
-  plain_apart c = features_apart [] (features_of meta c) refl
-
-  more_is : (plain : List ℕ) (f : ℕ) (b : Bool) → (some : List ℕ) × OneOrNone f some × (cond b (plain ++ f ∷ []) plain ≡ plain ++ some)
-  more_is plain f true = (f ∷ [], inr refl, refl)
-  more_is plain f false = ([], inl refl, sym (append-nil plain))
-
-  features_follow : (plain fs : List ℕ) → Longer plain fs (plain_features meta plain fs)
-  features_follow plain [] = no_longer plain
-  features_follow plain (f ∷ fs) =
-      let more = more_is plain f (new plain f) in
-      one_first f fs plain more.0 (plain_more meta plain f) (plain_features meta (plain_more meta plain f) fs) more.1 more.2 (features_follow (plain_more meta plain f) fs)
-
   pub plain_in_order : (c : ℕ) → Follows (plain_of meta c) (features_of meta c)
-  plain_in_order c = let all = features_follow [] (features_of meta c) in subst (λ fs. Follows fs (features_of meta c)) (sym all.1) all.2
+  plain_in_order c = filter_follows (λ f. is_plain (kind_of meta f)) (features_of meta c)
 
-  abbrev Among : List ℕ → List ℕ → ℕ → Type 0
-  Among plain fs x = (has plain x ≡ true) ⊎ ((is_plain (kind_of meta x) ≡ true) × (has fs x ≡ true))
+  pub plain_apart : ListsDeclared meta → (c : ℕ) → numbers_differ (plain_of meta c) ≡ true
+  plain_apart lists c = follows_differ (plain_of meta c) (features_of meta c) (plain_in_order c) (features_differ meta lists c)
 
-  more_has : (plain : List ℕ) (f x : ℕ) (b : Bool) → new plain f ≡ b → has (cond b (plain ++ f ∷ []) plain) x ≡ true → Among plain (f ∷ []) x
-  more_has plain f x true is h =
-      elim (has_either plain (f ∷ []) x h) [ inl e ↦ inl e | inr e ↦ inr (subst (λ y. is_plain (kind_of meta y) ≡ true) (sym (has_one f x e)) (and_first (is_plain (kind_of meta f)) (not (has plain f)) is), e) ]
-  more_has plain f x false is h = inl h
-
-  has_more : (plain : List ℕ) (f x : ℕ) (b : Bool) → new plain f ≡ b → Among plain (f ∷ []) x → has (cond b (plain ++ f ∷ []) plain) x ≡ true
-  has_more plain f x true is (inl e) = has_left plain (f ∷ []) x e
-  has_more plain f x true is (inr e) = has_right plain (f ∷ []) x e.1
-  has_more plain f x false is (inl e) = e
-  has_more plain f x false is (inr e) =
-      let same : x ≡ f = has_one f x e.1 in
-      elim (is_either (has plain f)) [
-        | inl h ↦ subst (λ y. has plain y ≡ true) (sym same) h
-        | inr h ↦ absurd (true_false (new plain f) (and_both (is_plain (kind_of meta f)) (not (has plain f)) (subst (λ y. is_plain (kind_of meta y) ≡ true) same e.0) (not_is (has plain f) h)) is)
-      ]
-
-  in_features : (plain fs : List ℕ) (x : ℕ) → has (plain_features meta plain fs) x ≡ true → Among plain fs x
-  in_features plain [] x h = inl h
-  in_features plain (f ∷ fs) x h =
-      elim (in_features (plain_more meta plain f) fs x h) [
-        | inl e ↦ elim (more_has plain f x (new plain f) refl e) [ inl k ↦ inl k | inr k ↦ inr (k.0, has_left (f ∷ []) fs x k.1) ]
-        | inr e ↦ inr (e.0, has_right (f ∷ []) fs x e.1)
-      ]
-
-  features_in : (plain fs : List ℕ) (x : ℕ) → Among plain fs x → has (plain_features meta plain fs) x ≡ true
-  features_in plain [] x (inl e) = e
-  features_in plain [] x (inr e) = cc
-  features_in plain (f ∷ fs) x (inl e) = features_in (plain_more meta plain f) fs x (inl (has_more plain f x (new plain f) refl (inl e)))
-  features_in plain (f ∷ fs) x (inr e) =
-      elim (has_either (f ∷ []) fs x e.1) [
-        | inl h ↦ features_in (plain_more meta plain f) fs x (inl (has_more plain f x (new plain f) refl (inr (e.0, h))))
-        | inr h ↦ features_in (plain_more meta plain f) fs x (inr (e.0, h))
-      ]
+  plain_is : (c f : ℕ) → has (plain_of meta c) f ≡ is_plain (kind_of meta f) && has_feature meta c f
+  plain_is c f = kept_is (λ g. is_plain (kind_of meta g)) f (features_of meta c) ∙ ap (λ b. is_plain (kind_of meta f) && b) (sym (has_any meta c f))
 
   pub plain_has : (c f : ℕ) → has (plain_of meta c) f ≡ true → (is_plain (kind_of meta f) ≡ true) × (has_feature meta c f ≡ true)
-  plain_has c f h = elim (in_features [] (features_of meta c) f h) [ inl e ↦ cc | inr e ↦ (e.0, has_is c f ∙ e.1) ]
+  plain_has c f h =
+      let both = sym (plain_is c f) ∙ h in
+      (and_first (is_plain (kind_of meta f)) (has_feature meta c f) both, and_second (is_plain (kind_of meta f)) (has_feature meta c f) both)
 
   pub has_plain : (c f : ℕ) → is_plain (kind_of meta f) ≡ true → has_feature meta c f ≡ true → has (plain_of meta c) f ≡ true
-  has_plain c f p h = features_in [] (features_of meta c) f (inr (p, sym (has_is c f) ∙ h))
+  has_plain c f p h = plain_is c f ∙ and_both (is_plain (kind_of meta f)) (has_feature meta c f) p h
 
 -- ---- targets
 -- each once, and of rows of the reference's type

@@ -4,7 +4,7 @@ use Rattle.std.specs.Prelude.{Option, None, Some, Ok, slice_get}
 use Rattle.std.specs.Option.{option_map_or}
 use Rattle.finite_maps.proofs.EqualLaws.{and_both, and_first, and_second}
 use Rattle.ecore_meta.specs.Meta.{Meta, features_of}
-use Rattle.ecore_meta.specs.Sound.{Sound}
+use Rattle.ecore_meta.specs.Promised.{IsMetamodel}
 use Rattle.ecore_meta.specs.declared.meta.Kind.{Kind}
 use Rattle.ecore_meta.specs.declared.meta.Kind.TheVariants.{Attr, AttrMany, Bounded, Free, Contains, Container, Skip}
 use Rattle.model_state.specs.Typing.{has_feature, is_plain, kind_of, links, opposite_of, plain_to}
@@ -49,7 +49,7 @@ pub record Made (meta : Meta) (drafts : List Draft) (given : List (List DocRefs)
   pub merged : Paired (λ k q m. IsMerged meta given n q m) 0 lists w.refs
   pub same : row_of meta draft w.refs ≡ w
 
-module _ (meta : Meta) (sound : Sound meta) (drafts : List Draft) (given : List (List DocRefs)) (rows : List DocRow) (gives : given_by meta drafts ≡ Ok given) (makes : rows_by meta given drafts ≡ Ok rows) where
+module _ (meta : Meta) (promised : IsMetamodel meta) (drafts : List Draft) (given : List (List DocRefs)) (rows : List DocRow) (gives : given_by meta drafts ≡ Ok given) (makes : rows_by meta given drafts ≡ Ok rows) where
   abbrev MadeOf : ℕ → Draft → DocRow → Type 0
   MadeOf n r w = (merged_all meta given n (given_at given n) ≡ Ok w.refs) × (row_of meta r w.refs ≡ w)
 
@@ -104,7 +104,7 @@ module _ (meta : Meta) (sound : Sound meta) (drafts : List Draft) (given : List 
       let same : typed.1.0 ≡ r = some_draft n typed.1.0 r typed.1.1 at in
       let linked : links meta b.class g r.class ≡ true =
       and_both (has_feature meta b.class g) (plain_to meta (kind_of meta g) r.class) plain.1 (subst (λ (x : Draft). plain_to meta (kind_of meta g) x.class ≡ true) same typed.1.2) in
-      sound.mirrors b.class g r.class f (sound.both f g other) linked
+      promised.sound.mirrors b.class g r.class f (promised.sound.both f g other) linked
 
   -- ---- the lists of a row
   module _ (n : ℕ) (w : DocRow) (m : Made meta drafts given n w) where
@@ -118,7 +118,7 @@ module _ (meta : Meta) (sound : Sound meta) (drafts : List Draft) (given : List 
     features_of_row = features_same meta given n 0 m.lists w.refs m.merged ∙ lists_are
 
     pub refs_apart : numbers_differ (features w.refs) ≡ true
-    refs_apart = ap numbers_differ features_of_row ∙ plain_apart meta c
+    refs_apart = ap numbers_differ features_of_row ∙ plain_apart meta promised.lists c
 
     pub refs_in_order : Follows (features w.refs) (features_of meta c)
     refs_in_order = subst (λ fs. Follows fs (features_of meta c)) (sym features_of_row) (plain_in_order meta c)
@@ -215,7 +215,7 @@ module _ (meta : Meta) (sound : Sound meta) (drafts : List Draft) (given : List 
   mirrored n w f b x g here there other =
       let m = made n w here in
       let l = made b x there in
-      let back = sound.both f g other in
+      let back = promised.sound.both f g other in
       same_bool (has (targets_at f w.refs) b) (has (targets_at g x.refs) n)
       (λ h. come_back b n x w l m g f back (turned n f b g m.lists l.lists (forth n b w x m l f g other h)))
       (λ h. come_back n b w x m l f g other (turned b g n f l.lists m.lists (forth b n x w l m g f back h)))

@@ -1,5 +1,5 @@
 -- Lists of numbers, and which numbers they have.
-use Rattle.std.proofs.Common.{◌≡◌, ℕ, Bool, true, false, ◌||◌, not, List, [], ◌∷◌, ◌++◌, map, nat_eq, refl, sym, ap, subst, ◌∙◌, ◌⊎◌, inl, inr}
+use Rattle.std.proofs.Common.{◌≡◌, ℕ, Bool, true, false, ◌||◌, not, List, [], ◌∷◌, ◌++◌, nat_eq, refl, sym, ap, subst, ◌∙◌, ◌⊎◌, inl, inr}
 use Rattle.std.specs.Prelude.{Some, slice_get, zero, suc}
 use Rattle.std.specs.List.{list_any}
 use Rattle.std.proofs.lemmas.List.Folds.{list_any-append}
@@ -67,8 +67,3 @@ apart_append (x ∷ xs) ys h g other =
 
 pub apart_last : (xs : List ℕ) (n : ℕ) → numbers_differ xs ≡ true → has xs n ≡ false → numbers_differ (xs ++ n ∷ []) ≡ true
 apart_last xs n h g = apart_append xs (n ∷ []) h refl (λ m e. not_so (has (n ∷ []) m) (λ k. true_false (has xs n) (subst (λ x. has xs x ≡ true) (has_one n m k) e) g))
-
--- numbers of items, and a test of them
-pub any_map : {A : Type 0} (f : A → ℕ) (xs : List A) (n : ℕ) → list_any (λ x. nat_eq n (f x)) xs ≡ has (map f xs) n
-any_map f [] n = refl
-any_map f (x ∷ xs) n = ap (λ b. nat_eq n (f x) || b) (any_map f xs n)

@@ -4,7 +4,7 @@ use Rattle.std.specs.List.{count_by, list_any}
 use Rattle.finite_maps.specs.Maps.{is_within}
 use Rattle.finite_maps.specs.Equal.{option_eq}
 use Rattle.ecore_meta.specs.Meta.{Meta, features_of}
-use Rattle.ecore_meta.specs.Sound.{Sound}
+use Rattle.ecore_meta.specs.Promised.{IsMetamodel}
 use Rattle.model_state.specs.Good.{ValuesOk}
 use Rattle.model_state.specs.Typing.{child_upper, contains_to, has_feature, is_concrete, is_plain, kind_of, links, opposite_of, row_upper, upper_of}
 use Rattle.emfjson_drafts.specs.declared.doc.DocAttr.{DocAttr}
@@ -72,4 +72,4 @@ pub record DocumentFits (meta : Meta) (rows : List DocRow) : Type 0 where
 
 -- the elements of each document that is read fit
 abbrev pub DocumentsFit : Type 0
-DocumentsFit = (meta : Meta) → Sound meta → (text : List ℕ) (rows : List DocRow) → doc_of meta text ≡ Ok rows → DocumentFits meta rows
+DocumentsFit = (meta : Meta) → IsMetamodel meta → (text : List ℕ) (rows : List DocRow) → doc_of meta text ≡ Ok rows → DocumentFits meta rows

@@ -1,6 +1,6 @@
 -- Lists of references with the targets that either side gives.
-use Rattle.std.specs.Prelude.{ℕ, suc, Bool, ◌&&◌, not, cond, List, [], ◌∷◌, ◌++◌, Option, None, Some, Ok, length, nat_eq, slice_get}
-use Rattle.std.specs.List.{list_any}
+use Rattle.std.specs.Prelude.{ℕ, suc, ◌&&◌, not, cond, List, [], ◌∷◌, ◌++◌, Option, None, Some, Ok, length, nat_eq, slice_get}
+use Rattle.std.specs.List.{flat_map, list_any}
 use Rattle.std.specs.Option.{option_map_or}
 use Rattle.ecore_meta.specs.Meta.{Meta, features_of}
 use Rattle.model_state.specs.Typing.{opposite_of, row_upper}
@@ -48,22 +48,13 @@ abbrev pub attr_at : ℕ → List DocAttr → List DocAttr
 attr_at f [] = []
 attr_at f (a ∷ attrs) = cond (nat_eq f a.feature) (a ∷ []) (attr_at f attrs)
 
--- the attribute is set
-abbrev pub is_set : ℕ → List DocAttr → Bool
-is_set f all = list_any (λ (a : DocAttr). nat_eq f a.feature) all
-
--- an attribute that is set is one more, where it is not there yet
-abbrev pub attrs_more : List DocAttr → List DocAttr → ℕ → List DocAttr
-attrs_more attrs all f = cond (is_set f all) all (all ++ attr_at f attrs)
-
--- the attributes by number, each once, after those that are there
-abbrev pub attrs_by : List DocAttr → List DocAttr → List ℕ → List DocAttr
-attrs_by attrs all [] = all
-attrs_by attrs all (f ∷ fs) = attrs_by attrs (attrs_more attrs all f) fs
+-- the attributes that are set, in the order of these features
+abbrev pub attrs_by : List DocAttr → List ℕ → List DocAttr
+attrs_by attrs fs = flat_map (λ f. attr_at f attrs) fs
 
 -- the row of an element: its attributes by number, and these references
 abbrev pub row_of : Meta → Draft → List DocRefs → DocRow
-row_of meta r refs = record { id = r.id; class = r.class; parent = r.parent; attrs = attrs_by r.attrs [] (features_of meta r.class); refs = refs }
+row_of meta r refs = record { id = r.id; class = r.class; parent = r.parent; attrs = attrs_by r.attrs (features_of meta r.class); refs = refs }
 
 -- the references that the element of that number gives
 abbrev pub given_at : List (List DocRefs) → ℕ → List DocRefs

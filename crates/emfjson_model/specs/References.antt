@@ -1,6 +1,6 @@
 -- The element that a reference finds: by its id, or by the path to it.
-use Rattle.std.specs.Prelude.{ℕ, Bool, true, false, ◌&&◌, ◌==◌, not, cond, List, [], ◌∷◌, ◌++◌, ◌^◌, Option, None, Some, Ok, Err, length, codes, nat_eq, nat_lt, option_and_then}
-use Rattle.std.specs.List.{list_all, list_any, slice_split}
+use Rattle.std.specs.Prelude.{ℕ, Bool, true, false, ◌&&◌, ◌==◌, not, cond, List, [], ◌∷◌, ◌^◌, Option, None, Some, Ok, Err, length, codes, nat_eq, nat_lt, option_and_then}
+use Rattle.std.specs.List.{filter, list_all, list_any, slice_split}
 use Rattle.std.specs.Char.{is_ascii_digit}
 use Rattle.std.specs.Str.Parse.{digits_value}
 use Rattle.ecore_meta.specs.Meta.{Meta, feature_named, features_of}
@@ -101,18 +101,13 @@ entries_at f (l ∷ ls) = cond (nat_eq f l.feature) l.entries (entries_at f ls)
 abbrev pub refs_at : Meta → List Draft → List Links → List DocRefs → ℕ → Read DocRefs
 refs_at meta rows links before f = «then» (targets_of meta rows f (entries_at f links)) (λ ts. Ok (record { feature = f; targets = ts }))
 
--- a plain reference is one more, where it is not there yet
-abbrev pub plain_more : Meta → List ℕ → ℕ → List ℕ
-plain_more meta plain f = cond (is_plain (kind_of meta f) && not (list_any (nat_eq f) plain)) (plain ++ f ∷ []) plain
-
--- those of the features that are plain references, each once, after those that are there
-abbrev pub plain_features : Meta → List ℕ → List ℕ → List ℕ
-plain_features meta plain [] = plain
-plain_features meta plain (f ∷ fs) = plain_features meta (plain_more meta plain f) fs
+-- those of the features that are plain references
+abbrev pub plain_features : Meta → List ℕ → List ℕ
+plain_features meta fs = filter (λ f. is_plain (kind_of meta f)) fs
 
 -- what an element gives of its plain references, by number
 abbrev pub refs_of : Meta → List Draft → List (List DocRefs) → Draft → Read (List DocRefs)
-refs_of meta rows before r = collected (refs_at meta rows r.links) [] (plain_features meta [] (features_of meta r.class))
+refs_of meta rows before r = collected (refs_at meta rows r.links) [] (plain_features meta (features_of meta r.class))
 
 -- what each element gives of its plain references
 abbrev pub given_by : Meta → List Draft → Read (List (List DocRefs))

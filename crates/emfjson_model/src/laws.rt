@@ -3,7 +3,7 @@ ghost use Rattle.emfjson_model.specs.Fits.{DocumentsFit};
 ghost use Rattle.emfjson_model.specs.Laws.{IdsAreApart, ParentsComeFirst};
 
 /// The law of documents that are read: no id comes twice, each element stands after the one that contains it, and
-/// all fit a sound metamodel and each other.
+/// all fit the metamodel and each other.
 pub fn law_of_documents()
     ensures apart { IdsAreApart }
     ensures parents { ParentsComeFirst }

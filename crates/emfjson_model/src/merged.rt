@@ -2,7 +2,7 @@
 ghost use Rattle.std.specs.Prelude.{◌≡◌, IfOk, [], ◌++◌, nat_eq, not, option_to_list};
 ghost use Rattle.std.specs.List.{filter, list_any};
 ghost use Rattle.emfjson_drafts.specs.Answers.{Gives};
-ghost use Rattle.emfjson_model.specs.Merged.{attr_at, attrs_by, is_set, merged, merged_all, merged_at, merged_within, naming, next_row, others, row_of, rows_by};
+ghost use Rattle.emfjson_model.specs.Merged.{attr_at, attrs_by, merged, merged_all, merged_at, merged_within, naming, next_row, others, row_of, rows_by};
 
 use crate::doc::{DocRefs, DocRow};
 use crate::references::has;
@@ -152,21 +152,12 @@ fn attr_at(alloc: Global, attrs: &[DocAttr], f: u32) -> Result<Option<DocAttr>, 
     Ok(None)
 }
 
-fn is_set(attrs: &[DocAttr], f: u32) -> bool
-    ensures { result ≡ is_set f attrs.now }
-{
-    attrs.iter().any(|attr| f == attr.feature)
-}
-
-/// The attributes by number, each once.
+/// The attributes that are set, in the order of the features.
 fn attrs_by(alloc: Global, features: &[u32], attrs: &[DocAttr]) -> Result<List<DocAttr>, AllocError>
-    ensures { IfOk result (λ all. all ≡ attrs_by attrs.now [] features.now) }
+    ensures { IfOk result (λ all. all ≡ attrs_by attrs.now features.now) }
 {
     let mut all = List::new(alloc);
     for f in features {
-        if is_set(all.as_slice(), *f) {
-            continue;
-        }
         if let Some(attr) = attr_at(alloc, attrs, *f)? {
             all.push(attr)?;
         }

@@ -115,23 +115,17 @@ fn entries_at(links: &[Links], f: u32) -> &[Option<Text>]
     &[]
 }
 
-fn has_feature(features: &[u32], f: u32) -> bool
-    ensures { result ≡ list_any (nat_eq f) features.now }
-{
-    features.iter().any(|other| f == *other)
-}
-
-/// Those of the features that are plain references, each once.
+/// Those of the features that are plain references.
 fn plain_features(
     alloc: Global,
     meta: &Metamodel,
     features: &[u32],
 ) -> Result<List<u32>, AllocError>
-    ensures { IfOk result (λ fs. fs ≡ plain_features meta.now [] features.now) }
+    ensures { IfOk result (λ fs. fs ≡ plain_features meta.now features.now) }
 {
     let mut plain = List::new(alloc);
     for f in features {
-        if is_plain(meta, *f) && !has_feature(plain.as_slice(), *f) {
+        if is_plain(meta, *f) {
             plain.push(*f)?;
         }
     }

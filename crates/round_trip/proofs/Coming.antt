@@ -3,7 +3,8 @@ use Rattle.std.proofs.Common.{◌≡◌, ◌∙◌, ℕ, zero, suc, ◌<◌, ◌
 use Rattle.std.specs.Prelude.{◌||◌, is_some, Option, None, Some, Result, Ok, Err, slice_get, if◌then◌else◌}
 use Rattle.std.specs.FinMap.{empty, get-empty}
 use Rattle.ecore_meta.specs.Meta.{Meta}
-use Rattle.model_state.specs.Good.{Good, Sound}
+use Rattle.ecore_meta.specs.Promised.{IsMetamodel}
+use Rattle.model_state.specs.Good.{Good}
 use Rattle.model_state.specs.Keys.{IdBytes, id_cmp}
 use Rattle.model_state.specs.Listing.{children}
 use Rattle.model_state.specs.State.{State, nothing}
@@ -74,15 +75,15 @@ module _ (meta : Meta) (names : List IdBytes) (rows : List DocRow) (all : List S
       ∙ ap (λ (r : Result (List Step) EditFault). of_steps rows (and_then r (values_made meta names rows ++ links_made meta names rows))) come
 
 -- what rows that describe a model leave in the empty project is shown as that model
-comes : (meta : Meta) → Sound meta → (m : State) → Good meta m → (ws : ℕ) (names : List IdBytes) (rows : List DocRow) → doc_of meta (text meta m) ≡ Ok rows → Describes m names rows → length rows < 4294967295 → ComesBack meta ws (text meta m)
-comes meta sound m good ws names rows read tells few =
-    let fit = documents_fit meta sound (text meta m) rows read in
+comes : (meta : Meta) → IsMetamodel meta → (m : State) → Good meta m → (ws : ℕ) (names : List IdBytes) (rows : List DocRow) → doc_of meta (text meta m) ≡ Ok rows → Describes m names rows → length rows < 4294967295 → ComesBack meta ws (text meta m)
+comes meta promised m good ws names rows read tells few =
+    let fit = documents_fit meta promised (text meta m) rows read in
     let differ = names_apart m names rows tells fit.ids_apart in
     let come = all_come meta names rows fit tells.as_many differ few in
     let are = given_names nothing rows ws 1 rows names tells.as_many (λ n r e here there. (tells.each n r e here there).id) in
     let operation = composite rows (steps meta names rows come.0 come.1) in
     let imported = is_import meta names rows come.0 come.1 in
-    let leads = imports_lead meta sound nothing (starts_good meta) ws rows fit names are operation imported in
+    let leads = imports_lead meta promised.sound nothing (starts_good meta) ws rows fit names are operation imported in
     record {
       rows = rows;
       operation = operation;
@@ -90,13 +91,13 @@ comes meta sound m good ws names rows read tells few =
       read = read;
       recorded = ap (λ (l : List IdBytes). import_of meta nothing l rows) (sym (names_are nothing rows ws 1 rows names are)) ∙ imported;
       run = leads.run;
-      shown = tellings_are_shown meta sound m good names rows fit tells (omega (arith, few));
+      shown = tellings_are_shown meta promised.sound m good names rows fit tells (omega (arith, few));
     }
 
 pub texts_come_back : TextsComeBack
-texts_come_back meta is m good ids shallow short ws =
-    let told = texts_are_told meta is.named m good ids shallow in
-    comes meta is.sound m good ws told.0 told.1 told.2 told.3 (fewer (length told.1) (length (text meta m)) told.4 short)
+texts_come_back meta promised m good ids shallow short ws =
+    let told = texts_are_told meta promised m good ids shallow in
+    comes meta promised m good ws told.0 told.1 told.2 told.3 (fewer (length told.1) (length (text meta m)) told.4 short)
   where
     fewer : (a b : ℕ) → a ≤ b → b < 2 ^ 32 - 1 → a < 4294967295
     fewer a b le lt = omega (arith, le, lt)

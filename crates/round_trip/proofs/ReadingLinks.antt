@@ -1,8 +1,8 @@
 -- The references of the elements are read, and merged lists are those that the elements give.
-use Rattle.std.proofs.Common.{◌≡◌, ℕ, zero, suc, Bool, true, false, cond, not, ◌&&◌, ◌||◌, List, [], ◌∷◌, ◌++◌, map, refl, sym, ap, subst, ◌∙◌, nat_eq, ◌⊎◌, inl, inr, append_assoc, append-nil}
+use Rattle.std.proofs.Common.{◌≡◌, ℕ, zero, suc, Bool, true, false, cond, List, [], ◌∷◌, ◌++◌, map, refl, sym, ap, subst, ◌∙◌, nat_eq, ◌⊎◌, inl, inr, append_assoc, append-nil}
 use Rattle.std.specs.Prelude.{Option, None, Some, is_some, Ok, unwrap_or}
 use Rattle.std.specs.FinMap.{get}
-use Rattle.std.specs.List.{AllByRecursion, list_any}
+use Rattle.std.specs.List.{AllByRecursion}
 use Rattle.finite_maps.proofs.EqualLaws.{and_first, and_second, nat_equality}
 use Rattle.ecore_meta.specs.Meta.{Meta, features_of, has_feature}
 use Rattle.ecore_meta.specs.Typing.{kind_of, plain_to}
@@ -18,7 +18,7 @@ use Rattle.model_state.specs.Typing.{is_plain}
 use Rattle.edit_laws.proofs.Lists.{targets_held}
 use Rattle.emfjson_model.specs.Merged.{targets_at}
 use Rattle.emfjson_drafts.specs.Reads.{Read, «then», collected}
-use Rattle.emfjson_model.specs.References.{entries_at, plain_features, plain_more}
+use Rattle.emfjson_model.specs.References.{entries_at, plain_features}
 use Rattle.emfjson_text.specs.Keys.{key_number, keys_of}
 use Rattle.emfjson_text.specs.Tree.{target_ids}
 use Rattle.round_trip.proofs.KeysFound.{Stands, feature_stands}
@@ -117,56 +117,33 @@ module _ (meta : Meta) (m : State) (e : IdBytes) where
       by_targets (inr h) = inr (key_has f h (keys_of meta c) (feature_stands meta c f s))
 
 -- ---- plain references of a class
-stands_first : (f : ℕ) (xs ys : List ℕ) → Stands f xs → Stands f (xs ++ ys)
-stands_first f [] ys s = absurd s
-stands_first f (x ∷ xs) ys (inl e) = inl e
-stands_first f (x ∷ xs) ys (inr s) = inr (stands_first f xs ys s)
-
-stands_second : (f : ℕ) (xs ys : List ℕ) → Stands f ys → Stands f (xs ++ ys)
-stands_second f [] ys s = s
-stands_second f (x ∷ xs) ys s = inr (stands_second f xs ys s)
-
-stands_if : (f : ℕ) (xs : List ℕ) → list_any (nat_eq f) xs ≡ true → Stands f xs
-stands_if f [] h = cc
-stands_if f (x ∷ xs) h = by_test (nat_eq f x) refl (stands_if f xs) h
-  where
-    by_test : (b : Bool) → nat_eq f x ≡ b → (list_any (nat_eq f) xs ≡ true → Stands f xs) → b || list_any (nat_eq f) xs ≡ true → Stands f (x ∷ xs)
-    by_test true is more h = inl (nat_equality.exact f x is)
-    by_test false is more h = inr (more h)
-
 module _ (meta : Meta) (all : List ℕ) where
-  abbrev pub IsPlainOf : ℕ → Type 0
+  abbrev IsPlainOf : ℕ → Type 0
   IsPlainOf f = (is_plain (kind_of meta f) ≡ true) × Stands f all
 
-  plain_more_all : (plain : List ℕ) (g : ℕ) → AllByRecursion IsPlainOf plain → Stands g all → (b c : Bool) → is_plain (kind_of meta g) ≡ b → AllByRecursion IsPlainOf (cond (b && not c) (plain ++ g ∷ []) plain)
-  plain_more_all plain g so s true true is = so
-  plain_more_all plain g so s true false is = all_append IsPlainOf plain (g ∷ []) so ((is, s), tt)
-  plain_more_all plain g so s false c is = so
+  plain_from : (fs : List ℕ) → ((f : ℕ) → Stands f fs → Stands f all) → AllByRecursion IsPlainOf (plain_features meta fs)
+  plain_from [] sub = tt
+  plain_from (g ∷ fs) sub = by_test (is_plain (kind_of meta g)) refl (plain_from fs (λ f s. sub f (inr s)))
+    where
+      by_test : (b : Bool) → is_plain (kind_of meta g) ≡ b → AllByRecursion IsPlainOf (plain_features meta fs) → AllByRecursion IsPlainOf (cond b (g ∷ plain_features meta fs) (plain_features meta fs))
+      by_test true is later = ((is, sub g (inl refl)), later)
+      by_test false is later = later
 
-  plain_from : (plain fs : List ℕ) → AllByRecursion IsPlainOf plain → ((f : ℕ) → Stands f fs → Stands f all) → AllByRecursion IsPlainOf (plain_features meta plain fs)
-  plain_from plain [] so sub = so
-  plain_from plain (g ∷ fs) so sub = plain_from (plain_more meta plain g) fs (plain_more_all plain g so (sub g (inl refl)) (is_plain (kind_of meta g)) (list_any (nat_eq g) plain) refl) (λ f s. sub f (inr s))
+pub plain_all : (meta : Meta) (fs : List ℕ) → AllByRecursion (λ f. (is_plain (kind_of meta f) ≡ true) × Stands f fs) (plain_features meta fs)
+plain_all meta fs = plain_from meta fs fs (λ f s. s)
 
-pub plain_all : (meta : Meta) (fs : List ℕ) → AllByRecursion (λ f. (is_plain (kind_of meta f) ≡ true) × Stands f fs) (plain_features meta [] fs)
-plain_all meta fs = plain_from meta fs [] fs tt (λ f s. s)
-
-plain_kept : (meta : Meta) (f : ℕ) (plain fs : List ℕ) → Stands f plain → Stands f (plain_features meta plain fs)
-plain_kept meta f plain [] s = s
-plain_kept meta f plain (g ∷ fs) s = plain_kept meta f (plain_more meta plain g) fs (kept (is_plain (kind_of meta g) && not (list_any (nat_eq g) plain)))
+plain_stands : (meta : Meta) (f : ℕ) (fs : List ℕ) → is_plain (kind_of meta f) ≡ true → Stands f fs → Stands f (plain_features meta fs)
+plain_stands meta f [] is s = absurd s
+plain_stands meta f (g ∷ fs) is (inl e) = now (is_plain (kind_of meta g)) (subst (λ x. is_plain (kind_of meta x) ≡ true) e is)
   where
-    kept : (b : Bool) → Stands f (cond b (plain ++ g ∷ []) plain)
-    kept true = stands_first f plain (g ∷ []) s
-    kept false = s
-
-plain_stands : (meta : Meta) (f : ℕ) (plain fs : List ℕ) → is_plain (kind_of meta f) ≡ true → Stands f fs → Stands f (plain_features meta plain fs)
-plain_stands meta f plain [] is s = absurd s
-plain_stands meta f plain (g ∷ fs) is (inl e) = plain_kept meta f (plain_more meta plain g) fs (subst (λ x. Stands f (plain_more meta plain x)) e (now (is_plain (kind_of meta f)) is (list_any (nat_eq f) plain) refl))
+    now : (b : Bool) → b ≡ true → Stands f (cond b (g ∷ plain_features meta fs) (plain_features meta fs))
+    now true h = inl e
+    now false h = cc
+plain_stands meta f (g ∷ fs) is (inr s) = later (is_plain (kind_of meta g)) (plain_stands meta f fs is s)
   where
-    now : (b : Bool) → b ≡ true → (c : Bool) → list_any (nat_eq f) plain ≡ c → Stands f (cond (b && not c) (plain ++ f ∷ []) plain)
-    now true h true at = stands_if f plain at
-    now true h false at = stands_second f plain (f ∷ []) (inl refl)
-    now false h c at = cc
-plain_stands meta f plain (g ∷ fs) is (inr s) = plain_stands meta f (plain_more meta plain g) fs is s
+    later : (b : Bool) → Stands f (plain_features meta fs) → Stands f (cond b (g ∷ plain_features meta fs) (plain_features meta fs))
+    later true more = inr more
+    later false more = more
 
 plain_kind : (meta : Meta) (k : Kind) (d : ℕ) → plain_to meta k d ≡ true → is_plain k ≡ true
 plain_kind meta (Attr scalar default) d h = cc
@@ -219,12 +196,12 @@ module _ (meta : Meta) (m : State) (good : Good meta m) where
   targets_linked a f = entries_linked a f (targets m.row a f) (targets_held m.row a f)
 
   -- the targets are none, or the reference is a plain one of the class
-  pub targets_held_by : (a : IdBytes) (f : ℕ) → (target_ids m a f ≡ []) ⊎ Stands f (plain_features meta [] (features_of meta (class_at meta m a)))
+  pub targets_held_by : (a : IdBytes) (f : ℕ) → (target_ids m a f ≡ []) ⊎ Stands f (plain_features meta (features_of meta (class_at meta m a)))
   targets_held_by a f = by_targets (target_ids m a f) refl (targets_linked a f)
     where
-      by_targets : (bs : List IdBytes) → target_ids m a f ≡ bs → AllByRecursion (IsLink meta m a f) bs → (target_ids m a f ≡ []) ⊎ Stands f (plain_features meta [] (features_of meta (class_at meta m a)))
+      by_targets : (bs : List IdBytes) → target_ids m a f ≡ bs → AllByRecursion (IsLink meta m a f) bs → (target_ids m a f ≡ []) ⊎ Stands f (plain_features meta (features_of meta (class_at meta m a)))
       by_targets [] is all = inl is
-      by_targets (b ∷ bs) is all = inr (plain_stands meta f [] (features_of meta (class_at meta m a)) all.0.plain all.0.held)
+      by_targets (b ∷ bs) is all = inr (plain_stands meta f (features_of meta (class_at meta m a)) all.0.plain all.0.held)
 
 -- ---- lists of references by feature
 pub targets_at_map : (ts : ℕ → List ℕ) (f : ℕ) (fs : List ℕ) → (ts f ≡ []) ⊎ Stands f fs → targets_at f (map (λ g. record { feature = g; targets = ts g }) fs) ≡ ts f

@@ -61,7 +61,7 @@ module _ (meta : Meta) (m : State) (good : Good meta m) (forms : (e : IdBytes) �
 
   -- what an element gives of its references
   abbrev pub refs_told : IdBytes → List DocRefs
-  refs_told e = map (list_told e) (plain_features meta [] (features_of meta (class_at meta m e)))
+  refs_told e = map (list_told e) (plain_features meta (features_of meta (class_at meta m e)))
 
   -- what the element of a row gives
   abbrev pub refs_of_row : Draft → List DocRefs
@@ -85,23 +85,23 @@ module _ (meta : Meta) (m : State) (good : Good meta m) (forms : (e : IdBytes) �
   refs_ok : (r : Draft) (e : IdBytes) → IsRow meta m names r e → (before : List (List DocRefs)) → refs_of meta rows before r ≡ Ok (refs_of_row r)
   refs_ok r e row before =
       subst (λ q. refs_of meta rows before q ≡ Ok (refs_of_row q)) (sym row.is)
-      (collected_map (refs_at meta rows (own_row meta m row.parent e).links) (list_told e) [] (plain_features meta [] (features_of meta (class_at meta m e)))
+      (collected_map (refs_at meta rows (own_row meta m row.parent e).links) (list_told e) [] (plain_features meta (features_of meta (class_at meta m e)))
       (all_so (λ f. (is_plain (kind_of meta f) ≡ true) × Stands f (features_of meta (class_at meta m e))) (λ f. (bs : List DocRefs) → refs_at meta rows (own_row meta m row.parent e).links bs f ≡ Ok (list_told e f))
       (λ f h bs.
       ap (λ es. «then» (targets_of meta rows f es) (λ ts. Ok (record { feature = f; targets = ts }))) (entries_told meta m e (class_at meta m e) f h.1 h.0)
       ∙ ap (λ r. «then» r (λ ts. Ok (record { feature = f; targets = ts })))
       (targets_read meta m names rows ids all f [] (target_ids m e f) (all_so (IsLink meta m e f) (IsReady meta m names rows ids all f) (ready e f) (target_ids m e f) (targets_linked meta m good e f)) (targets_differ e f)
       (all_of (λ x. list_any (nat_eq (spot names x)) [] ≡ false) (λ x. refl) (target_ids m e f))))
-      (plain_features meta [] (features_of meta (class_at meta m e))) (plain_all meta (features_of meta (class_at meta m e)))))
+      (plain_features meta (features_of meta (class_at meta m e))) (plain_all meta (features_of meta (class_at meta m e)))))
 
   given_ok : given_by meta rows ≡ Ok (map refs_of_row rows)
   given_ok = collected_map (refs_of meta rows) refs_of_row [] rows (all_so (RowOk meta m names) (λ r. (bs : List (List DocRefs)) → refs_of meta rows bs r ≡ Ok (refs_of_row r)) (λ r h bs. refs_ok r h.0 h.1 bs) rows all)
 
   -- ---- the other side gives nothing more
   pub told_at : (x : IdBytes) (g : ℕ) → targets_at g (refs_told x) ≡ spots x g
-  told_at x g = targets_at_map (spots x) g (plain_features meta [] (features_of meta (class_at meta m x))) (by_targets (targets_held_by meta m good x g))
+  told_at x g = targets_at_map (spots x) g (plain_features meta (features_of meta (class_at meta m x))) (by_targets (targets_held_by meta m good x g))
     where
-      by_targets : (target_ids m x g ≡ []) ⊎ Stands g (plain_features meta [] (features_of meta (class_at meta m x))) → (spots x g ≡ []) ⊎ Stands g (plain_features meta [] (features_of meta (class_at meta m x)))
+      by_targets : (target_ids m x g ≡ []) ⊎ Stands g (plain_features meta (features_of meta (class_at meta m x))) → (spots x g ≡ []) ⊎ Stands g (plain_features meta (features_of meta (class_at meta m x)))
       by_targets (inl none) = inl (ap (map (spot names)) none)
       by_targets (inr s) = inr s
 
@@ -181,7 +181,7 @@ module _ (meta : Meta) (m : State) (good : Good meta m) (forms : (e : IdBytes) �
 
   merged_ok : (e : IdBytes) → Stands e names → merged_all meta given (spot names e) (refs_told e) ≡ Ok (refs_told e)
   merged_ok e s =
-      let fs = plain_features meta [] (features_of meta (class_at meta m e)) in
+      let fs = plain_features meta (features_of meta (class_at meta m e)) in
       collected_same (merged_at meta given (spot names e)) [] (refs_told e) (all_map (λ r. (bs : List DocRefs) → merged_at meta given (spot names e) bs r ≡ Ok r) (list_told e) fs (all_of (λ f. (bs : List DocRefs) → merged_at meta given (spot names e) bs (list_told e f) ≡ Ok (list_told e f)) (λ f bs. merged_list e f s bs) fs))
 
   -- ---- the rows

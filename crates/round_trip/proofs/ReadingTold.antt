@@ -24,7 +24,7 @@ use Rattle.emfjson_drafts.specs.Reads.{«then»}
 use Rattle.emfjson_text.specs.Laws.{IsNested}
 use Rattle.emfjson_text.specs.Tree.{child_ids, target_ids, text, tree, whole}
 use Rattle.emfjson_text.proofs.Nested.{text_is_whole}
-use Rattle.ecore_meta.specs.Named.{IsNamed}
+use Rattle.ecore_meta.specs.Promised.{IsMetamodel}
 use Rattle.round_trip.specs.Describes.{Describes, DescribesElement, standing_in}
 use Rattle.round_trip.proofs.KeysFound.{Stands}
 use Rattle.round_trip.proofs.KeysPairs.{Pairs}
@@ -116,26 +116,26 @@ module _ (meta : Meta) (m : State) (good : Good meta m) (forms : (e : IdBytes) �
       none i = omega arith
 
 -- ---- put together
-pub texts_are_told : (meta : Meta) → IsNamed meta → (m : State) → Good meta m → ((e : IdBytes) → is_live m e ≡ true → is_id e ≡ true) → depth (tree meta m) ≤ max_depth
+pub texts_are_told : (meta : Meta) → IsMetamodel meta → (m : State) → Good meta m → ((e : IdBytes) → is_live m e ≡ true → is_id e ≡ true) → depth (tree meta m) ≤ max_depth
     → (names : List IdBytes) × (rows : List DocRow) × (doc_of meta (text meta m) ≡ Ok rows) × Describes m names rows × (length rows ≤ length (text meta m))
 unfolding doc_of
-texts_are_told meta named m good forms shallow =
+texts_are_told meta promised m good forms shallow =
     let n = depth (tree meta m) in
     let nested : IsNested meta m = text_is_whole meta m good in
     let deep : AllByRecursion (λ c. depth (whole meta m c) ≤ n) (child_ids m Root) = listed_depths (whole meta m) n true (child_ids m Root) (one_or_list_within n (map (whole meta m) (child_ids m Root)) (omega arith)) in
     let names = model_names meta m good n in
-    let rows = model_rows meta named m good forms in
-    let apart = roots_apart meta named m good n in
-    let covered = all_covered meta named m good nested n deep in
+    let rows = model_rows meta promised m good forms in
+    let apart = roots_apart meta promised.named m good n in
+    let covered = all_covered meta promised.named m good nested n deep in
     let ids = forest_names (tree_rows meta m n) (tree_names meta m n) (tree_named meta m n) 0 None (child_ids m Root) in
     let all = model_ok meta m good n in
-    let walk = roots_walked meta named m good forms in
+    let walk = roots_walked meta promised m good forms in
     let shown = final meta m good forms names apart covered rows ids all in
     let many = walked_short meta (tree meta m) rows walk in
     let as_many = length-map rows shown in (
       names,
       map shown rows,
-      ap (of_json meta) (text_reads meta named m good shallow) ∙ ap (λ r. «then» r (resolved meta)) walk ∙ resolved_ok meta m good forms names apart covered rows ids all,
-      model_told meta m good forms names apart covered rows ids all (names_kept meta named m good nested n deep),
+      ap (of_json meta) (text_reads meta promised.named m good shallow) ∙ ap (λ r. «then» r (resolved meta)) walk ∙ resolved_ok meta m good forms names apart covered rows ids all,
+      model_told meta m good forms names apart covered rows ids all (names_kept meta promised.named m good nested n deep),
       omega arith,
     )

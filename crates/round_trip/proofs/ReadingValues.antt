@@ -15,7 +15,7 @@ use Rattle.model_state.specs.Good.{AttrOk, Good, ValuesOk}
 use Rattle.model_state.specs.Keys.{IdBytes}
 use Rattle.model_state.specs.State.{State}
 use Rattle.emfjson_drafts.specs.declared.doc.DocAttr.{DocAttr}
-use Rattle.emfjson_model.specs.Merged.{attr_at, attrs_by, attrs_more, is_set}
+use Rattle.emfjson_model.specs.Merged.{attr_at, attrs_by}
 use Rattle.emfjson_model.proofs.SetAttrs.{by_keeps}
 use Rattle.emfjson_text.specs.Keys.{key_number, keys_of}
 use Rattle.model_state.specs.Listing.{values_at}
@@ -64,31 +64,10 @@ has_at f (a ∷ attrs) h = by_test (nat_eq f a.feature) refl (has_at f attrs) h
     by_test false e more (inl same) = let yes : nat_eq f a.feature ≡ true = subst (λ x. nat_eq f x ≡ true) same (nat_equality.own f) in cc
     by_test false e more (inr h) = more h
 
--- one that is there stays, whatever comes after it
-has_kept : (f : ℕ) (attrs all : List DocAttr) (fs : List ℕ) → Has f all → Has f (attrs_by attrs all fs)
-has_kept f attrs all [] h = h
-has_kept f attrs all (g ∷ fs) h = has_kept f attrs (attrs_more attrs all g) fs (kept (is_set g all))
-  where
-    kept : (b : Bool) → Has f (cond b all (all ++ attr_at g attrs))
-    kept true = h
-    kept false = has_first f all (attr_at g attrs) h
-
-set_has_it : (g : ℕ) (all : List DocAttr) → is_set g all ≡ true → Has g all
-set_has_it g [] h = cc
-set_has_it g (a ∷ all) h = by_test (nat_eq g a.feature) refl (set_has_it g all) h
-  where
-    by_test : (b : Bool) → nat_eq g a.feature ≡ b → (is_set g all ≡ true → Has g all) → b || is_set g all ≡ true → Has g (a ∷ all)
-    by_test true is more h = inl (nat_equality.exact g a.feature is)
-    by_test false is more h = inr (more h)
-
-has_by : (f : ℕ) (attrs all : List DocAttr) (fs : List ℕ) → Stands f fs → Has f attrs → Has f (attrs_by attrs all fs)
-has_by f attrs all [] s h = absurd s
-has_by f attrs all (g ∷ fs) (inl e) h = has_kept f attrs (attrs_more attrs all g) fs (subst (λ x. Has x (attrs_more attrs all g)) (sym e) (now (is_set g all) refl))
-  where
-    now : (b : Bool) → is_set g all ≡ b → Has g (cond b all (all ++ attr_at g attrs))
-    now true is = set_has_it g all is
-    now false is = has_second g all (attr_at g attrs) (has_at g attrs (subst (λ x. Has x attrs) e h))
-has_by f attrs all (g ∷ fs) (inr s) h = has_by f attrs (attrs_more attrs all g) fs s h
+has_by : (f : ℕ) (attrs : List DocAttr) (fs : List ℕ) → Stands f fs → Has f attrs → Has f (attrs_by attrs fs)
+has_by f attrs [] s h = absurd s
+has_by f attrs (g ∷ fs) (inl e) h = has_first f (attr_at g attrs) (attrs_by attrs fs) (subst (λ x. Has f (attr_at x attrs)) e (has_at f attrs h))
+has_by f attrs (g ∷ fs) (inr s) h = has_second f (attr_at g attrs) (attrs_by attrs fs) (has_by f attrs fs s h)
 
 -- ---- the values of an element
 module _ (meta : Meta) (m : State) (e : IdBytes) where
@@ -155,12 +134,12 @@ module _ (meta : Meta) (m : State) (e : IdBytes) where
   entry_has c f (Some []) ok is = inl (ap (λ o. unwrap_or o []) is)
   entry_has c f (Some (v ∷ vs)) ok is = inr (in_class meta c f ok.0, kind_has f (kind_of meta f) (upper_of meta f) v vs ok.1 (ap (λ o. unwrap_or o []) is))
 
-  pub values_are_told : Good meta m → (c : ℕ) → get m.kind e ≡ Some c → (f : ℕ) → values_given f (attrs_by (keys_attrs meta m e (keys_of meta c)) [] (features_of meta c)) ≡ values_at m e f
+  pub values_are_told : Good meta m → (c : ℕ) → get m.kind e ≡ Some c → (f : ℕ) → values_given f (attrs_by (keys_attrs meta m e (keys_of meta c)) (features_of meta c)) ≡ values_at m e f
   values_are_told good c kind f =
       let attrs = keys_attrs meta m e (keys_of meta c) in
       let ok : AttrOk meta (Some c) f (get m.attr (e, f)) = subst (λ k. AttrOk meta k f (get m.attr (e, f))) kind (good.attrs.typed e f) in
-      first_told f (attrs_by attrs [] (features_of meta c)) (by_keeps IsTold attrs [] (features_of meta c) (keys_told (keys_of meta c)) tt) (by_entry (entry_has c f (get m.attr (e, f)) ok refl))
+      first_told f (attrs_by attrs (features_of meta c)) (by_keeps IsTold attrs (features_of meta c) (keys_told (keys_of meta c))) (by_entry (entry_has c f (get m.attr (e, f)) ok refl))
     where
-      by_entry : (values_at m e f ≡ []) ⊎ (Stands f (features_of meta c) × Has f (kind_attrs m e f (kind_of meta f))) → (values_at m e f ≡ []) ⊎ Has f (attrs_by (keys_attrs meta m e (keys_of meta c)) [] (features_of meta c))
+      by_entry : (values_at m e f ≡ []) ⊎ (Stands f (features_of meta c) × Has f (kind_attrs m e f (kind_of meta f))) → (values_at m e f ≡ []) ⊎ Has f (attrs_by (keys_attrs meta m e (keys_of meta c)) (features_of meta c))
       by_entry (inl none) = inl none
-      by_entry (inr h) = inr (has_by f (keys_attrs meta m e (keys_of meta c)) [] (features_of meta c) h.0 (key_has f h.1 (keys_of meta c) (feature_stands meta c f h.0)))
+      by_entry (inr h) = inr (has_by f (keys_attrs meta m e (keys_of meta c)) (features_of meta c) h.0 (key_has f h.1 (keys_of meta c) (feature_stands meta c f h.0)))

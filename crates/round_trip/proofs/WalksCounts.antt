@@ -1,9 +1,10 @@
 -- How many elements and targets a good state has in a list.
 use Rattle.std.proofs.Common.{◌≡◌, ℕ, suc, ◌+◌, ◌≤◌, Bool, true, false, cond, List, [], ◌∷◌, length, map, refl, sym, ap, subst, ◌∙◌, arith, ◌&&◌, nat_eq}
-use Rattle.std.specs.Prelude.{Option, None, Some, nat_le}
+use Rattle.std.specs.Prelude.{Option, None, Some, is_some, nat_le, not, slice_get}
 use Rattle.std.specs.declared.cmp.Ordering.{Ordering}
 use Rattle.std.specs.Ordering.{is_lt}
 use Rattle.std.specs.List.{filter}
+use Rattle.std.specs.Option.{option_map_or}
 use Rattle.std.specs.FinMap.{entries}
 use Rattle.std.proofs.lemmas.Bool.Decides.{nat_tests}
 use Rattle.std.proofs.lemmas.List.{length-map}
@@ -11,9 +12,11 @@ use Rattle.finite_maps.specs.Equal.{text_eq}
 use Rattle.finite_maps.specs.Maps.{count, is_within, tally}
 use Rattle.finite_maps.specs.Sorts.{put_in, in_order, picked}
 use Rattle.finite_maps.proofs.EqualLaws.{nat_equality}
+use Rattle.ecore_meta.specs.Bounds.{IsBounded, agrees}
 use Rattle.ecore_meta.specs.Meta.{Meta}
 use Rattle.ecore_meta.specs.Typing.{is_one, kind_of, upper_of}
-use Rattle.ecore_meta.specs.declared.meta.Kind.TheVariants.{Bounded, Free, Contains}
+use Rattle.ecore_meta.specs.declared.meta.Feature.{Feature}
+use Rattle.ecore_meta.specs.declared.meta.Kind.TheVariants.{Bounded, Free, Contains, Skip}
 use Rattle.model_state.specs.declared.entry.Entry.{Entry}
 use Rattle.model_state.specs.declared.step.Place.{Place}
 use Rattle.model_state.specs.declared.step.Place.TheVariants.{Inside}
@@ -23,7 +26,6 @@ use Rattle.model_state.specs.Listing.{children, targets, entry_cmp, rank_at, row
 use Rattle.model_state.specs.State.{State, place_eq}
 use Rattle.model_state.specs.Typing.{bounded_kind, contains_kind, child_upper, row_upper}
 use Rattle.emfjson_text.specs.Tree.{child_ids, is_single, target_ids}
-use Rattle.ecore_meta.specs.Named.{IsNamed}
 
 module _ {A : Type 0} where
   length-put_in : (cmp : A → A → Ordering) (x : A) (ys : List A) → length (put_in cmp x ys) ≡ suc (length ys)
@@ -80,12 +82,17 @@ module _ (meta : Meta) (m : State) (good : Good meta m) where
       let upper : row_upper meta f ≡ upper_of meta f = ap (λ k. cond (bounded_kind k) (upper_of meta f) None) kind in
       subst (λ n. n ≤ 1) (sym (target_count m a f)) (few _ (upper_of meta f) single (subst (λ u. is_within (count (λ e. text_eq a e.0.0 && nat_eq f e.0.1) m.row) u ≡ true) upper (good.rows.bound a f)))
 
-  pub free_few : IsNamed meta → (a : IdBytes) (f target : ℕ) (opposite : Option ℕ) → kind_of meta f ≡ Free target opposite → is_single meta f ≡ true → length (target_ids m a f) ≤ 1
-  free_few named a f target opposite kind single = absurd (none_one (upper_of meta f) (named.unbounded f target opposite kind) single)
+  pub free_few : IsBounded meta → (a : IdBytes) (f target : ℕ) (opposite : Option ℕ) → kind_of meta f ≡ Free target opposite → is_single meta f ≡ true → length (target_ids m a f) ≤ 1
+  free_few bounds a f target opposite kind single = by_feature (slice_get meta.features f) refl kind single
     where
-      none_one : (u : Option ℕ) → u ≡ None → is_one u ≡ true → ⊥
-      none_one None h k = cc
-      none_one (Some n) h k = cc
+      -- a reference without a bound is not single
+      neither : (u : Option ℕ) → not (is_some u) ≡ true → is_one u ≡ true → ⊥
+      neither None h k = cc
+      neither (Some n) h k = cc
+
+      by_feature : (o : Option Feature) → slice_get meta.features f ≡ o → option_map_or (λ (x : Feature). x.kind) o Skip ≡ Free target opposite → is_one (option_map_or (λ (x : Feature). x.upper) o None) ≡ true → length (target_ids m a f) ≤ 1
+      by_feature None is kind single = cc
+      by_feature (Some x) is kind single = absurd (neither x.upper (subst (λ k. agrees k x.upper ≡ true) kind (bounds.agree f x is)) single)
 
   pub children_within : (a : IdBytes) (f target : ℕ) (opposite : Option ℕ) → kind_of meta f ≡ Contains target opposite → is_within (length (child_ids m (Inside a f))) (upper_of meta f) ≡ true
   children_within a f target opposite kind =

@@ -17,7 +17,7 @@ use Rattle.emfjson_text.specs.Laws.{IsNested}
 use Rattle.emfjson_text.specs.Tree.{child_ids, listed, one_or_list, tree, whole}
 use Rattle.emfjson_text.proofs.Children.{each_child}
 use Rattle.emfjson_text.proofs.Nested.{text_is_whole}
-use Rattle.ecore_meta.specs.Named.{IsNamed}
+use Rattle.ecore_meta.specs.Promised.{IsMetamodel}
 use Rattle.round_trip.proofs.KeysTypes.{Draft}
 use Rattle.round_trip.proofs.ReadingKinds.{IsObject}
 use Rattle.round_trip.proofs.WalksApart.{rows_come}
@@ -41,7 +41,7 @@ pub one_or_list_within : (n : ℕ) (ds : List Data) → depth (one_or_list true 
 one_or_list_within n [] h = tt
 one_or_list_within n (d ∷ ds) h = h
 
-module _ (meta : Meta) (named : IsNamed meta) (m : State) (good : Good meta m) (forms : (e : IdBytes) → is_live m e ≡ true → is_id e ≡ true) where
+module _ (meta : Meta) (promised : IsMetamodel meta) (m : State) (good : Good meta m) (forms : (e : IdBytes) → is_live m e ≡ true → is_id e ≡ true) where
   -- the rows that the walk gives
   abbrev pub model_rows : List Draft
   model_rows = forest (tree_rows meta m (depth (tree meta m))) 0 None (child_ids m Root)
@@ -50,8 +50,8 @@ module _ (meta : Meta) (named : IsNamed meta) (m : State) (good : Good meta m) (
   roots_walked =
       let n = depth (tree meta m) in
       let nested : IsNested meta m = text_is_whole meta m good in
-      list_walked meta (tree_rows meta m n) (whole meta m) (objects meta named m good forms nested) (child_ids m Root)
+      list_walked meta (tree_rows meta m n) (whole meta m) (objects meta promised m good forms nested) (child_ids m Root)
       (all_both (λ c. get m.place c ≡ Some Root) (λ c. depth (whole meta m c) ≤ n) (Walked meta (tree_rows meta m n) (whole meta m) None None)
-      (λ c at deep. let p = placed meta m.kind (get m.kind c) (get m.place c) Root (get m.prank c) (good.places.stands c) at in walk meta named m good forms nested n None None c p.0 p.1 refl deep)
+      (λ c at deep. let p = placed meta m.kind (get m.kind c) (get m.place c) Root (get m.prank c) (good.places.stands c) at in walk meta promised m good forms nested n None None c p.0 p.1 refl deep)
       (child_ids m Root) (each_child m Root) (listed_depths (whole meta m) n true (child_ids m Root) (one_or_list_within n (map (whole meta m) (child_ids m Root)) (omega arith))))
-      (rows_come meta named m good n)
+      (rows_come meta promised.named m good n)

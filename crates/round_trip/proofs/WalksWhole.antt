@@ -32,6 +32,7 @@ use Rattle.model_state.specs.Listing.{values_at}
 use Rattle.emfjson_text.specs.Tree.{child_ids, class_text, content, is_single, listed, members, object_of, part, whole, with_member}
 use Rattle.emfjson_text.proofs.Children.{each_child}
 use Rattle.ecore_meta.specs.Named.{IsNamed}
+use Rattle.ecore_meta.specs.Promised.{IsMetamodel}
 use Rattle.round_trip.proofs.KeysFound.{Stands, all_stand, class_again, class_stands, feature_found, feature_stands, ident_stands, member_at}
 use Rattle.round_trip.proofs.KeysRise.{keys_rise}
 use Rattle.round_trip.proofs.KeysTypes.{Draft, Key, Ident, Class, Feature}
@@ -107,7 +108,7 @@ id_read : (ids : Ids) (e : IdBytes) → among (Some e) ids ≡ false → is_id e
 id_read ids e new form = ap (λ b. unless (not b) DupId (unless (is_id e) BadId (Ok (Some e)))) new ∙ ap (λ b. unless b BadId (Ok (Some e))) form
 
 -- ---- the walk
-module _ (meta : Meta) (named : IsNamed meta) (m : State) (good : Good meta m) (forms : (e : IdBytes) → is_live m e ≡ true → is_id e ≡ true) (nested : IsNested meta m) where
+module _ (meta : Meta) (promised : IsMetamodel meta) (m : State) (good : Good meta m) (forms : (e : IdBytes) → is_live m e ≡ true → is_id e ≡ true) (nested : IsNested meta m) where
   pub objects : (c : IdBytes) → IsObject (whole meta m c)
   objects c = by_kind (get m.kind c) (nested c)
     where
@@ -126,11 +127,11 @@ module _ (meta : Meta) (named : IsNamed meta) (m : State) (good : Good meta m) (
         let p = placed meta m.kind (get m.kind x) (get m.place x) (Inside e f) (get m.prank x) (good.places.stands x) at in
         below (Some (record { row = own; feature = f })) (Some target) x p.0 p.1 (ap (λ k. contains_to meta k p.0) (sym kind) ∙ p.3.1) deep
 
-    content_fits : (f : ℕ) (k : Kind) → kind_of meta f ≡ k → IsWithinIf n (content meta m (whole meta m) e f k) → ContentFits meta named m (tree_rows meta m n) (whole meta m) objects own e f k
+    content_fits : (f : ℕ) (k : Kind) → kind_of meta f ≡ k → IsWithinIf n (content meta m (whole meta m) e f k) → ContentFits meta promised.named m (tree_rows meta m n) (whole meta m) objects own e f k
     content_fits f (Attr scalar default) kind deep = subst (λ k. AreOk meta k (upper_of meta f) (values_at m e f)) kind (values_ok meta m good e f)
     content_fits f (AttrMany scalar unique) kind deep = subst (λ k. AreOk meta k (upper_of meta f) (values_at m e f)) kind (values_ok meta m good e f)
     content_fits f (Bounded target opposite) kind deep = bounded_few meta m good e f target opposite kind
-    content_fits f (Free target opposite) kind deep = free_few meta m good named e f target opposite kind
+    content_fits f (Free target opposite) kind deep = free_few meta m good promised.bounded e f target opposite kind
     content_fits f (Contains target opposite) kind deep = (
       children_within meta m good e f target opposite kind,
       all_both (λ x. get m.place x ≡ Some (Inside e f)) (λ x. depth (whole meta m x) ≤ n) (Walked meta (tree_rows meta m n) (whole meta m) (Some (record { row = own; feature = f })) (Some target)) (child_walked f target opposite kind)
@@ -144,9 +145,9 @@ module _ (meta : Meta) (named : IsNamed meta) (m : State) (good : Good meta m) (
     Due key = KeyOk meta m e (tree_rows meta m n) own c (part meta m (whole meta m) e c) key (part meta m (whole meta m) e c key)
 
     named_key : (f : ℕ) → Stands f (features_of meta c) → key_named meta c (name_at meta.features f) ≡ feature_key (Some f)
-    named_key f h = ap (λ b. cond b (key_named meta c (codes "_id")) (feature_key (feature_named meta c (name_at meta.features f)))) (named.keys f) ∙ ap feature_key (feature_found meta named c f h)
+    named_key f h = ap (λ b. cond b (key_named meta c (codes "_id")) (feature_key (feature_named meta c (name_at meta.features f)))) (promised.named.keys f) ∙ ap feature_key (feature_found meta promised.named c f h)
 
-    feature_due : (f : ℕ) → Stands f (features_of meta c) → (o : Option Data) → FeatureOk meta named m (tree_rows meta m n) (whole meta m) objects own e f (kind_of meta f) o
+    feature_due : (f : ℕ) → Stands f (features_of meta c) → (o : Option Data) → FeatureOk meta promised.named m (tree_rows meta m n) (whole meta m) objects own e f (kind_of meta f) o
         → KeyOk meta m e (tree_rows meta m n) own c (part meta m (whole meta m) e c) (Feature f) o
     unfolding keys_of Feature
     feature_due f h None ok = ok
@@ -158,7 +159,7 @@ module _ (meta : Meta) (named : IsNamed meta) (m : State) (good : Good meta m) (
     features_due (f ∷ fs) in_class deep =
         let h = in_class f (inl refl) in
         let deep_here : IsWithinIf n (content meta m (whole meta m) e f (kind_of meta f)) = all_stand (λ k. IsWithinIf n (part meta m (whole meta m) e c k)) (keys_of meta c) deep (Feature f) (feature_stands meta c f h) in (
-          feature_due f h (content meta m (whole meta m) e f (kind_of meta f)) (feature_ok meta named m (tree_rows meta m n) (whole meta m) objects own e f (kind_of meta f) refl (content_fits f (kind_of meta f) refl deep_here)),
+          feature_due f h (content meta m (whole meta m) e f (kind_of meta f)) (feature_ok meta promised.named m (tree_rows meta m n) (whole meta m) objects own e f (kind_of meta f) refl (content_fits f (kind_of meta f) refl deep_here)),
           features_due fs (λ g s. in_class g (inr s)) deep,
         )
 
@@ -188,13 +189,13 @@ module _ (meta : Meta) (named : IsNamed meta) (m : State) (good : Good meta m) (
       let deep = depths (key_name meta) p n (keys_of meta c) shallow in
       let inside : Ids = ids ++ Some e ∷ [] in
       let concrete = live_concrete meta m.kind (get m.kind e) (get m.place e) (get m.prank e) c (good.places.stands e) kind in
-      let class_there : get_member (codes "eClass") ms ≡ Some (string (class_text meta c)) = member_at meta p (keys_of meta c) (keys_rise meta named c) Class (string (class_text meta c)) (class_stands meta c) refl in
-      let id_there : get_member (codes "_id") ms ≡ Some (string e) = member_at meta p (keys_of meta c) (keys_rise meta named c) Ident (string e) (ident_stands meta c) refl in
+      let class_there : get_member (codes "eClass") ms ≡ Some (string (class_text meta c)) = member_at meta p (keys_of meta c) (keys_rise meta promised.named c) Class (string (class_text meta c)) (class_stands meta c) refl in
+      let id_there : get_member (codes "_id") ms ≡ Some (string e) = member_at meta p (keys_of meta c) (keys_rise meta promised.named c) Ident (string e) (ident_stands meta c) refl in
       let rows = keys_rows meta m e (tree_rows meta m n) own (suc own) (keys_of meta c) in
       let keys_read : members_rows meta c own inside no_part ms ≡ Ok (told meta m e (tree_rows meta m n) own (suc own) (keys_of meta c)) =
       members_walk meta m e (tree_rows meta m n) own c p inside (keys_of meta c) (keys_due n below own e c deep) no_part (suc own) (counted ids (Some e)) (subst (λ zs. Come zs (ids_of rows)) (sym (append-nil inside)) come.1) in
       ap (λ o. «then» (class_of meta default o) (λ c. «then» (id_of ids (get_member (codes "_id") ms)) (λ id. own_rows parent id c (members_rows meta c own (ids ++ id ∷ []) no_part ms)))) class_there
-      ∙ ap (λ r. «then» r (λ c. «then» (id_of ids (get_member (codes "_id") ms)) (λ id. own_rows parent id c (members_rows meta c own (ids ++ id ∷ []) no_part ms)))) (class_read meta named default c concrete may)
+      ∙ ap (λ r. «then» r (λ c. «then» (id_of ids (get_member (codes "_id") ms)) (λ id. own_rows parent id c (members_rows meta c own (ids ++ id ∷ []) no_part ms)))) (class_read meta promised.named default c concrete may)
       ∙ ap (λ r. «then» r (λ id. own_rows parent id c (members_rows meta c own (ids ++ id ∷ []) no_part ms))) (ap (id_of ids) id_there ∙ id_read ids e come.0 (forms e (ap is_some kind)))
       ∙ ap (own_rows parent (Some e) c) keys_read
     where

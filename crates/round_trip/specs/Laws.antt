@@ -31,7 +31,7 @@ TextsReadBack = (meta : Meta) → IsNamed meta → (m : State) → Good meta m �
 
 -- a good model of elements with ids has a text that stands for rows, which describe the model, and are no more than the text has bytes
 abbrev pub TextsDescribe : Type 0
-TextsDescribe = (meta : Meta) → IsNamed meta → (m : State) → Good meta m → HasIds m → depth (tree meta m) ≤ max_depth
+TextsDescribe = (meta : Meta) → IsMetamodel meta → (m : State) → Good meta m → HasIds m → depth (tree meta m) ≤ max_depth
     → (names : List IdBytes) × (rows : List DocRow) × (doc_of meta (text meta m) ≡ Ok rows) × Describes m names rows × (length rows ≤ length (text meta m))
 
 -- a text brought into the empty project: it is read, it is recorded without a refusal, its steps can be taken, and the model that they leave has that text

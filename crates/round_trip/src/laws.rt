@@ -6,7 +6,8 @@ pub fn law_of_reading_back()
     ensures { TextsReadBack }
 {}
 
-/// The law of reading: the document that the text of a good model stands for describes the model.
+/// The law of reading: the document that the text of a good model stands for describes the model. What it asks of a metamodel
+/// holds of each, by `ecore_meta::Metamodel::promised`.
 pub fn law_of_reading()
     ensures { TextsDescribe }
 {}

@@ -1,6 +1,6 @@
-use Rattle.std.proofs.Common.{◌≡◌, [], drop}
+use Rattle.std.proofs.Common.{◌≡◌, ◌++◌, drop}
 use Rattle.emfjson_model.specs.Merged.{attrs_by}
 use Rattle.emfjson_model.proofs.merged.attrs_by.Given as goal
 
 abbrev pub invariant-loop-f : goal.invariant-loop-f
-invariant-loop-f l = attrs_by l.attrs l.all (drop l.f-index l.features) ≡ attrs_by l.attrs [] l.features
+invariant-loop-f l = l.all ++ attrs_by l.attrs (drop l.f-index l.features) ≡ attrs_by l.attrs l.features
