@@ -7,18 +7,17 @@ use Rattle.std.specs.Ordering.{eq_by_cmp, nat_cmp}
 use Rattle.std.specs.FinMap.{FinMap, get, empty, get-empty}
 use Rattle.ecore_meta.specs.declared.meta.Value.{Value}
 use Rattle.finite_maps.specs.Maps.{set}
-use Rattle.spread_maps.specs.Spread.{mapped, inner, spread}
-use Rattle.finite_maps.proofs.MapLaws.{IsKeyOrder, same, get-set, get-set_same, set_here, set_twice, same_key}
-use Rattle.spread_maps.proofs.SpreadLaws.{IsJoined, get-mapped, mapped-set, get-spread, spread_alike, spread-set}
-use Rattle.model_state.specs.declared.step.Place.{Place}
+use Rattle.spread_maps.specs.Spread.{inner}
+use Rattle.finite_maps.proofs.MapLaws.{same, get-set, get-set_same, set_here, set_twice, same_key}
+use Rattle.spread_maps.proofs.SpreadLaws.{IsJoined, get-mapped, mapped-set, get-spread, spread-set}
 use Rattle.model_state.specs.declared.step.Placed.{Placed}
-use Rattle.model_state.specs.Keys.{IdBytes, AttrKey, RowKey, id_cmp, attr_cmp, row_cmp}
-use Rattle.model_state.specs.State.{State, nothing}
+use Rattle.model_state.specs.Keys.{IdBytes, id_cmp, attr_cmp, row_cmp}
+use Rattle.model_state.specs.State.{nothing}
 use Rattle.model_state.proofs.Orders.{id_order, nat_order, attr_order, row_order}
-use Rattle.model_graph.specs.declared.element.Node.{Node}
-use Rattle.model_graph.specs.Parts.{ListKey, list_key_cmp}
+use Rattle.graph_parts.specs.declared.element.Node.{Node}
+use Rattle.graph_parts.specs.Parts.{ListKey, list_key_cmp}
 use Rattle.model_graph.specs.Seen.{Elements, by_feature, by_target, nodes_state, placed_at}
-use Rattle.model_graph.proofs.ListLaws.{list_key_order}
+use Rattle.graph_parts.proofs.ListLaws.{list_key_order}
 
 -- a node taken out for a while and put back changed
 pub rewritten : (m one two : Elements) (e : IdBytes) (bare n : Node) → one ≡ set m e (Some bare) → two ≡ set one e (Some n) → two ≡ set m e (Some n)

@@ -1,18 +1,18 @@
 -- Elements that are copied one by one.
-use Rattle.std.proofs.Common.{◌≡◌, ℕ, Bool, true, false, cond, List, [], ◌∷◌, ◌++◌, refl, sym, ap, subst, ◌∙◌, ◌||◌}
+use Rattle.std.proofs.Common.{◌≡◌, Bool, true, false, cond, List, [], ◌∷◌, ◌++◌, refl, sym, ap, ◌∙◌, ◌||◌}
 use Rattle.std.proofs.lemmas.List.Folds.{list_any-append}
 use Rattle.std.proofs.Common.{Bor}
 use Rattle.std.specs.Option.{option_copied}
 use Rattle.std.specs.Prelude.{Option, None, Some, is_some}
 use Rattle.std.specs.List.{list_any}
 use Rattle.std.specs.Ordering.{eq_by_cmp}
-use Rattle.std.specs.FinMap.{FinMap, get, keys, contains_key-keys}
+use Rattle.std.specs.FinMap.{get, keys, contains_key-keys}
 use Rattle.finite_maps.specs.Maps.{set}
 use Rattle.finite_maps.proofs.MapLaws.{by_key, own_key, get-set, same}
 use Rattle.spread_maps.proofs.SpreadLaws.{none_of}
 use Rattle.model_state.specs.Keys.{IdBytes, id_cmp}
 use Rattle.model_state.proofs.Orders.{id_order}
-use Rattle.model_graph.specs.declared.element.Node.{Node}
+use Rattle.graph_parts.specs.declared.element.Node.{Node}
 use Rattle.model_graph.specs.Seen.{Elements, either_node}
 
 -- nothing is copied where the first has it, or the second has not

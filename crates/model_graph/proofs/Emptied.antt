@@ -1,15 +1,15 @@
 -- Elements that hold nothing and that nothing names.
-use Rattle.std.proofs.Common.{◌≡◌, ℕ, Bool, true, false, cond, List, refl, sym, ap, subst, ◌∙◌, nat_eq, ◌||◌, ◌&&◌}
+use Rattle.std.proofs.Common.{◌≡◌, ℕ, Bool, true, false, cond, List, refl, sym, ap, ◌∙◌, nat_eq, ◌||◌, ◌&&◌}
 use Rattle.std.specs.Prelude.{Option, None, Some}
 use Rattle.std.specs.Option.{option_map}
 use Rattle.std.specs.declared.cmp.Ordering.{Ordering}
 use Rattle.std.specs.FinMap.{FinMap, get}
 use Rattle.ecore_meta.specs.declared.meta.Value.{Value}
 use Rattle.finite_maps.specs.Equal.{text_eq}
-use Rattle.spread_maps.specs.Spread.{inner, is_bare}
+use Rattle.spread_maps.specs.Spread.{inner}
 use Rattle.spread_maps.proofs.BareLaws.{bare_none, not_bare_some, none_pass}
 use Rattle.finite_maps.proofs.Cases.{not_so, some_none}
-use Rattle.finite_maps.proofs.EqualLaws.{text_equality, nat_equality, and_first, and_second}
+use Rattle.finite_maps.proofs.EqualLaws.{text_equality, and_first, and_second}
 use Rattle.finite_maps.proofs.MapLaws.{IsKeyOrder}
 use Rattle.model_state.specs.declared.step.Place.{Place}
 use Rattle.model_state.specs.declared.step.Place.TheVariants.{Root, Inside}
@@ -18,11 +18,11 @@ use Rattle.model_state.specs.Keys.{IdBytes, AttrKey, RowKey}
 use Rattle.model_state.specs.State.{place_eq, is_inside, value_count, link_count, inner_count}
 use Rattle.model_state.proofs.Orders.{id_order, nat_order, attr_order, row_order}
 use Rattle.model_state.proofs.StepTests.{place_equality}
-use Rattle.model_graph.specs.declared.element.Node.{Node}
+use Rattle.graph_parts.specs.declared.element.Node.{Node}
 use Rattle.ranked_lists.specs.Ranks.{Ranks, stood}
-use Rattle.model_graph.specs.Seen.{Elements, nodes_state, placed_at, standing, IsHoused, IsMirrored, bare_part}
+use Rattle.model_graph.specs.Seen.{Elements, nodes_state, placed_at, IsHoused, IsMirrored, bare_part}
 use Rattle.model_graph.proofs.Changed.{attr_of, row_of, place_of}
-use Rattle.model_graph.proofs.ListLaws.{list_key_order}
+use Rattle.graph_parts.proofs.ListLaws.{list_key_order}
 
 module _ {L X : Type 0} {Q : L → L → Ordering} (o : IsKeyOrder Q) (part : Node → FinMap Q X) where
   pub part_none : (w : Option Node) → bare_part part w ≡ true → (l : L) → inner part w l ≡ None

@@ -1,12 +1,12 @@
 -- How the lists of places change, and where they agree with the places of the elements.
 use Rattle.std.proofs.Common.{◌≡◌, ℕ, Bool, true, false, cond, refl, sym, ap, subst, ◌∙◌, nat_eq, ◌&&◌}
-use Rattle.std.specs.Prelude.{Option, None, Some, IsSome, is_some}
+use Rattle.std.specs.Prelude.{Option, None, Some, IsSome}
 use Rattle.std.specs.Option.{option_map}
 use Rattle.std.specs.Ordering.{eq_by_cmp, nat_cmp, is_eq, ordering_then}
 use Rattle.std.specs.declared.cmp.Ordering.{Ordering}
 use Rattle.std.specs.declared.cmp.Ordering.TheVariants.{Less, Equal, Greater}
 use Rattle.std.specs.Cmp.Lexicographic.{texts_ties, nat_list_eq_equiv}
-use Rattle.std.specs.FinMap.{FinMap, get, empty, get-empty}
+use Rattle.std.specs.FinMap.{get, empty, get-empty}
 use Rattle.finite_maps.specs.Equal.{text_eq}
 use Rattle.finite_maps.specs.Maps.{set}
 use Rattle.spread_maps.specs.Spread.{inner}
@@ -19,12 +19,12 @@ use Rattle.model_state.specs.Keys.{IdBytes, AttrKey, id_cmp, attr_cmp}
 use Rattle.model_state.specs.State.{State, place_eq}
 use Rattle.model_state.proofs.Orders.{id_order, nat_order, attr_order}
 use Rattle.model_state.proofs.StepTests.{place_equality}
-use Rattle.model_graph.specs.declared.element.Node.{Node}
+use Rattle.graph_parts.specs.declared.element.Node.{Node}
 use Rattle.ranked_lists.specs.Ranks.{Ranks, stood}
-use Rattle.model_graph.specs.Parts.{ListKey, list_key_cmp}
+use Rattle.graph_parts.specs.Parts.{ListKey, list_key_cmp}
 use Rattle.model_graph.specs.Seen.{Elements, nodes_state, placed_at, standing, IsHoused, IsMirrored, IsPlaceThere, Rewrites, IsListWritten}
-use Rattle.model_graph.proofs.Changed.{kept, hit, part_hit, same_class, same_place, same_prank, same_attr, same_row, out_written, placed_written, made, gone, some_is, live_after}
-use Rattle.model_graph.proofs.ListLaws.{list_key_order}
+use Rattle.model_graph.proofs.Changed.{kept, hit, part_hit, same_class, same_place, same_prank, same_attr, same_row, out_written, some_is}
+use Rattle.graph_parts.proofs.ListLaws.{list_key_order}
 
 -- ---- elements that agree but in what stands inside them
 pub record Alike (m n : Elements) : Type 0 where

@@ -1,5 +1,3 @@
-pub mod Results
-pub mod ListLaws
 pub mod Changed
 pub mod Housed
 pub mod Listings

@@ -1,23 +1,19 @@
 -- References put in, taken back and taken out.
-use Rattle.std.proofs.Common.{◌≡◌, ℕ, Bool, true, false, cond, refl, sym, ap, subst, ◌∙◌}
-use Rattle.std.specs.Prelude.{Option, None, Some, IsSome, is_some}
+use Rattle.std.proofs.Common.{◌≡◌, ℕ, true, sym, ap, subst, ◌∙◌}
+use Rattle.std.specs.Prelude.{Option, Some, IsSome, is_some}
 use Rattle.std.specs.Option.{option_map}
-use Rattle.std.specs.FinMap.{FinMap, get, empty, get-empty}
+use Rattle.std.specs.FinMap.{get, empty, get-empty}
 use Rattle.finite_maps.specs.Maps.{set}
 use Rattle.spread_maps.specs.Spread.{inner}
-use Rattle.finite_maps.proofs.MapLaws.{get-set_same, set_back, set_here, set_twice}
-use Rattle.model_state.specs.declared.step.Place.{Place}
+use Rattle.finite_maps.proofs.MapLaws.{get-set_same, set_back, set_here}
 use Rattle.model_state.specs.declared.step.Place.TheVariants.{Root, Inside}
-use Rattle.model_state.specs.declared.step.Placed.{Placed}
 use Rattle.model_state.specs.Keys.{IdBytes, AttrKey, id_cmp}
 use Rattle.model_state.specs.State.{State, is_live}
 use Rattle.model_state.proofs.Orders.{id_order, attr_order}
-use Rattle.model_graph.specs.declared.element.Node.{Node}
+use Rattle.graph_parts.specs.declared.element.Node.{Node}
 use Rattle.ranked_lists.specs.Ranks.{Ranks, stood}
-use Rattle.model_graph.specs.Parts.{ListKey}
-use Rattle.model_graph.specs.Seen.{Elements, nodes_state, standing, placed_at, IsHoused, IsMirrored, Rewrites}
-use Rattle.model_graph.proofs.Changed.{rewritten, live_node, live_after, some_is}
-use Rattle.model_graph.proofs.ListLaws.{list_key_order}
+use Rattle.model_graph.specs.Seen.{Elements, nodes_state, IsHoused, IsMirrored, Rewrites}
+use Rattle.model_graph.proofs.Changed.{rewritten, live_node, live_after}
 use Rattle.model_graph.proofs.Housed.{mirrored_set, placed_linked, standing_linked, housed_by}
 
 pub out_key : (m one : Elements) (a b copy : IdBytes) (f : ℕ) (v : Option ℕ) → copy ≡ b → Rewrites m one a (λ n. record n { out = set n.out (f, copy) v }) → Rewrites m one a (λ n. record n { out = set n.out (f, b) v })

@@ -1,5 +1,5 @@
 -- The lists of the state, from those beside each element.
-use Rattle.std.proofs.Common.{◌≡◌, ℕ, Bool, true, false, cond, List, [], ◌∷◌, refl, sym, ap, subst, ◌∙◌, map, length, suc, nat_eq, ◌&&◌, ◌+◌, arith}
+use Rattle.std.proofs.Common.{◌≡◌, ℕ, Bool, true, false, cond, List, [], ◌∷◌, refl, sym, ap, ◌∙◌, map, length, suc, ◌&&◌, ◌+◌, arith}
 use Rattle.std.specs.Prelude.{Option, None, Some, unwrap_or}
 use Rattle.std.specs.Option.{option_map}
 use Rattle.std.specs.declared.cmp.Ordering.{Ordering}
@@ -10,7 +10,7 @@ use Rattle.std.specs.Cmp.{IsTotalOrder, tied_itself}
 use Rattle.std.specs.FinMap.{FinMap, get, entries, keys, empty, len-entries, len-empty}
 use Rattle.finite_maps.specs.Equal.{text_eq}
 use Rattle.finite_maps.specs.Maps.{count, tally}
-use Rattle.finite_maps.specs.Sorts.{in_order, picked}
+use Rattle.finite_maps.specs.Sorts.{in_order}
 use Rattle.spread_maps.specs.Spread.{mapped}
 use Rattle.finite_maps.proofs.EqualLaws.{text_equality, nat_equality, and_first, and_second}
 use Rattle.finite_maps.proofs.MapLaws.{IsKeyOrder}
@@ -18,13 +18,12 @@ use Rattle.spread_maps.proofs.PartLaws.{part, entries-part}
 use Rattle.spread_maps.proofs.SpreadLaws.{get-mapped}
 use Rattle.model_state.specs.declared.step.Place.{Place}
 use Rattle.model_state.specs.declared.step.Placed.{Placed}
-use Rattle.model_state.specs.declared.entry.Entry.{Entry}
-use Rattle.model_state.specs.Keys.{IdBytes, AttrKey, RowKey, id_cmp, attr_cmp, row_cmp}
-use Rattle.model_state.specs.Listing.{is_of, row_entry, rank_at, row_incoming, incoming, targets, children, entry_cmp}
+use Rattle.model_state.specs.Keys.{IdBytes, AttrKey, RowKey, id_cmp, row_cmp}
+use Rattle.model_state.specs.Listing.{is_of, rank_at, incoming, targets, children, entry_cmp}
 use Rattle.model_state.specs.State.{place_eq}
 use Rattle.model_state.proofs.Orders.{id_order, nat_order, attr_order, row_order}
 use Rattle.ranked_lists.specs.Ranks.{Ranks, ranked_entry, stood}
-use Rattle.model_graph.specs.Parts.{Sources, arrived}
+use Rattle.graph_parts.specs.Parts.{Sources, arrived}
 
 pub map_map : {A B C : Type 0} (f : B → C) (h : A → B) (xs : List A) → map f (map h xs) ≡ map (λ x. f (h x)) xs
 map_map f h [] = refl

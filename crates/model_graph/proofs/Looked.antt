@@ -1,21 +1,15 @@
 -- What is read of the elements is what the state has.
-use Rattle.std.proofs.Common.{◌≡◌, ℕ, refl, sym, ap, ◌∙◌, List, [], nat_eq, length}
+use Rattle.std.proofs.Common.{◌≡◌, ℕ, refl, sym, ap, ◌∙◌}
 use Rattle.std.specs.Prelude.{Option, None, Some}
 use Rattle.std.specs.Option.{option_map}
-use Rattle.std.specs.declared.cmp.Ordering.{Ordering}
-use Rattle.std.specs.FinMap.{FinMap, get, empty, entries, keys}
-use Rattle.ecore_meta.specs.declared.meta.Value.{Value}
+use Rattle.std.specs.FinMap.{get, keys}
 use Rattle.spread_maps.specs.Spread.{inner}
-use Rattle.spread_maps.proofs.SpreadLaws.{get-mapped}
-use Rattle.model_state.specs.declared.step.Place.{Place}
 use Rattle.model_state.specs.declared.step.Placed.{Placed}
-use Rattle.model_state.specs.Keys.{IdBytes, AttrKey, id_cmp}
+use Rattle.model_state.specs.Keys.{IdBytes}
 use Rattle.model_state.specs.State.{State}
 use Rattle.model_state.proofs.Orders.{id_order}
-use Rattle.model_graph.specs.declared.element.Node.{Node}
-use Rattle.ranked_lists.specs.Ranks.{Ranks, stood}
-use Rattle.model_graph.specs.Parts.{ListKey}
-use Rattle.model_graph.specs.Seen.{Elements, nodes_state, placed_at, standing, IsMirrored, IsHoused}
+use Rattle.graph_parts.specs.declared.element.Node.{Node}
+use Rattle.model_graph.specs.Seen.{Elements, nodes_state, placed_at, IsMirrored}
 use Rattle.model_graph.proofs.Changed.{class_of, place_of, prank_of, attr_of, row_of}
 use Rattle.model_graph.proofs.Listings.{keys_mapped}
 

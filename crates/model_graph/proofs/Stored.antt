@@ -1,9 +1,8 @@
 -- What the writes of a graph are for its state, and that what is kept beside each element agrees after them.
-use Rattle.std.proofs.Common.{◌≡◌, ◌≢◌, ℕ, Bool, true, false, cond, List, [], ◌∷◌, refl, sym, ap, subst, ◌∙◌, nat_eq, ◌&&◌, length, arith}
+use Rattle.std.proofs.Common.{◌≡◌, ◌≢◌, ℕ, true, false, cond, List, [], ◌∷◌, refl, sym, ap, subst, ◌∙◌, nat_eq, ◌&&◌, length, arith}
 use Rattle.std.specs.Prelude.{Option, None, Some, IsSome, is_some}
 use Rattle.std.specs.Option.{option_map}
-use Rattle.std.specs.Ordering.{nat_cmp}
-use Rattle.std.specs.FinMap.{FinMap, get, empty, get-empty}
+use Rattle.std.specs.FinMap.{get, empty, get-empty}
 use Rattle.ecore_meta.specs.declared.meta.Value.{Value}
 use Rattle.finite_maps.specs.Maps.{set}
 use Rattle.spread_maps.specs.Spread.{inner}
@@ -11,21 +10,20 @@ use Rattle.finite_maps.proofs.EqualLaws.{and_first, and_second}
 use Rattle.finite_maps.proofs.MapLaws.{set_here}
 use Rattle.model_state.specs.declared.step.Place.{Place}
 use Rattle.model_state.specs.declared.step.Place.TheVariants.{Root, Inside}
-use Rattle.model_state.specs.declared.step.Placed.{Placed}
-use Rattle.model_state.specs.Keys.{IdBytes, AttrKey, id_cmp, attr_cmp}
+use Rattle.model_state.specs.Keys.{IdBytes, AttrKey, attr_cmp}
 use Rattle.model_state.specs.Lists.{entry_of}
 use Rattle.model_state.specs.State.{State, is_live, place_eq, value_count, link_count, inner_count}
 use Rattle.model_state.specs.Steps.{place_live}
 use Rattle.model_state.proofs.Orders.{id_order, nat_order, attr_order}
 use Rattle.model_state.proofs.StepTests.{place_equality}
-use Rattle.model_graph.specs.declared.element.Node.{Node}
+use Rattle.graph_parts.specs.declared.element.Node.{Node}
 use Rattle.ranked_lists.specs.Ranks.{Ranks, stood}
-use Rattle.model_graph.specs.Parts.{ListKey, list_key_cmp}
-use Rattle.model_graph.specs.Seen.{Elements, nodes_state, placed_at, standing, IsMirrored, IsHoused, IsPlaceThere, Rewrites, IsListWritten, bare_part}
+use Rattle.graph_parts.specs.Parts.{ListKey, list_key_cmp}
+use Rattle.model_graph.specs.Seen.{Elements, nodes_state, IsMirrored, IsHoused, IsPlaceThere, Rewrites, IsListWritten, bare_part}
 use Rattle.model_graph.proofs.Changed.{kept, attr_written, placed_written, made, gone, some_is, no_node, live_after}
 use Rattle.model_graph.proofs.Emptied.{no_values, no_rows, no_children, part_none}
-use Rattle.model_graph.proofs.ListLaws.{list_key_order}
-use Rattle.model_graph.proofs.Housed.{Alike, alike_state, alike_there, alike_place, lists_alike, mirrored_by, housed_by, housed_made, housed_gone, housed_reranked, housed_moved, standing_kept}
+use Rattle.graph_parts.proofs.ListLaws.{list_key_order}
+use Rattle.model_graph.proofs.Housed.{Alike, alike_state, lists_alike, mirrored_by, housed_by, housed_made, housed_gone, housed_reranked, housed_moved, standing_kept}
 use Rattle.model_graph.proofs.Linked.{live_there}
 use Rattle.model_graph.proofs.Looked.{read_class, read_place, read_row, read_into}
 

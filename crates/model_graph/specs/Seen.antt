@@ -1,5 +1,5 @@
 -- The state that elements in slots are, and what is kept beside each element.
-use Rattle.std.specs.Prelude.{◌≡◌, ℕ, Bool, true, Option, None, Some, IsSome, cond}
+use Rattle.std.specs.Prelude.{◌≡◌, ℕ, Bool, true, Option, None, Some, IsSome}
 use Rattle.std.specs.Option.{option_map}
 use Rattle.std.specs.declared.cmp.Ordering.{Ordering}
 use Rattle.std.specs.FinMap.{FinMap, get}
@@ -9,10 +9,10 @@ use Rattle.model_state.specs.declared.step.Place.{Place}
 use Rattle.model_state.specs.declared.step.Place.TheVariants.{Root, Inside}
 use Rattle.model_state.specs.declared.step.Placed.{Placed}
 use Rattle.model_state.specs.Keys.{IdBytes, AttrKey, RowKey, id_cmp, attr_cmp, row_cmp}
-use Rattle.model_state.specs.State.{State, place_eq}
-use Rattle.model_graph.specs.declared.element.Node.{Node}
+use Rattle.model_state.specs.State.{State}
+use Rattle.graph_parts.specs.declared.element.Node.{Node}
 use Rattle.ranked_lists.specs.Ranks.{Ranks, stood}
-use Rattle.model_graph.specs.Parts.{ListKey}
+use Rattle.graph_parts.specs.Parts.{ListKey}
 
 -- the elements by their ids
 abbrev pub Elements : Type 0

@@ -6,7 +6,7 @@ use Rattle.ecore_meta.specs.declared.meta.Value.{Value}
 use Rattle.ecore_meta.specs.contracts.meta.Value as value_type
 use Rattle.model_state.specs.declared.step.Place.{Place}
 use Rattle.model_state.specs.contracts.step.Place as place_type
-use Rattle.model_state.specs.Keys.{IdBytes, AttrKey, RowKey, id_cmp, attr_cmp, row_cmp}
+use Rattle.model_state.specs.Keys.{IdBytes, RowKey, id_cmp, attr_cmp, row_cmp}
 use Rattle.model_state.specs.State.{State}
 use Rattle.ranked_lists.specs.Ranks.{coded_id}
 

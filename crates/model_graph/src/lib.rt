@@ -2,11 +2,6 @@
 //! elements inside it.
 #![tactic(auto)]
 
-mod arrivals;
-mod attrs;
-mod copies;
-mod element;
-mod feature_lists;
 mod graph;
 mod lists;
 mod look;

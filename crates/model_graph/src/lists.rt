@@ -2,8 +2,8 @@
 ghost use Rattle.std.specs.Prelude.{◌≡◌, OnOk, OnErr, Some, None};
 ghost use Rattle.model_graph.specs.Seen.{IsPlaceThere, IsListWritten};
 
-use crate::element::Node;
 use crate::writes::{drop_inside, put_inside};
+use graph_parts::Node;
 use model_state::{Id, Place};
 use nodes::Nodes;
 use ranked_lists::RankedList;

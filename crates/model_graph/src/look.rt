@@ -8,15 +8,15 @@ ghost use Rattle.model_state.specs.Listing.{children, targets};
 ghost use Rattle.model_graph.specs.Seen.{standing};
 
 use crate::Graph;
-use crate::element::Node;
 use crate::graph::rank_out;
 use ecore_meta::{List, Value};
+use graph_parts::Node;
 use model_state::{Entry, Id, Incoming, Look, Place, Placed};
 use nodes::Nodes;
 use ranked_lists::RankedList;
 use std::alloc::{AllocError, Global};
 
-/// The targets of a feature of an element, `None` where there are none.
+/// The targets of a feature of an element. `None` stands for an empty list.
 pub(crate) fn targets_of<'a>(nodes: &'a Nodes<Node>, a: &Id, f: u32) -> Option<&'a RankedList>
     ensures { (b : IdBytes) → get (unwrap_or (option_copied result) empty) b ≡ inner (λ n. n.out) (get nodes.now a.now) (f, b) }
 {
@@ -26,7 +26,7 @@ pub(crate) fn targets_of<'a>(nodes: &'a Nodes<Node>, a: &Id, f: u32) -> Option<&
     }
 }
 
-/// The elements of a place, `None` where there are none.
+/// The elements of a place. `None` stands for an empty list.
 pub(crate) fn children_of<'a>(
     roots: &'a RankedList,
     nodes: &'a Nodes<Node>,

@@ -2,11 +2,11 @@
 ghost use Rattle.std.specs.Prelude.{◌≡◌};
 
 use crate::Graph;
-use crate::element::Node;
 use crate::lists::{list_in, list_out};
 use crate::look::targets_of;
 use crate::writes::{drop_attr, put_attr, write_placed};
 use ecore_meta::{List, Metamodel, Value};
+use graph_parts::Node;
 use model_state::{Change, Id, Place, Placed, Step, StepFault};
 use std::alloc::AllocError;
 use step_rules::{Write, take_step};
@@ -91,9 +91,7 @@ impl Write for Graph {
             None => self.put_row(a, f, b, ra),
             Some(g) => {
                 let key = (a.copy(self.alloc)?, f);
-                let Some(rank) = rb else {
-                    return Err(AllocError);
-                };
+                let Some(rank) = rb else { unreachable!() };
                 self.put_row(a, f, b, ra)?;
                 match self.put_row(b, g, a, rank) {
                     Ok(()) => Ok(()),
@@ -142,7 +140,7 @@ impl Write for Graph {
 
     fn rerank(&mut self, e: &Id, rank: u64) -> Result<(), AllocError> {
         let Some(node) = self.nodes.find(e) else {
-            return Ok(());
+            unreachable!()
         };
         let place = node.placed.place.copy(self.alloc)?;
         let id = e.copy(self.alloc)?;

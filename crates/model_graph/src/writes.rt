@@ -5,8 +5,8 @@ ghost use Rattle.finite_maps.specs.Maps.{set};
 ghost use Rattle.spread_maps.specs.Spread.{inner};
 ghost use Rattle.model_graph.specs.Seen.{Rewrites};
 
-use crate::element::Node;
 use ecore_meta::{List, Value};
+use graph_parts::Node;
 use model_state::{Id, Place, Placed};
 use nodes::Nodes;
 use std::alloc::{AllocError, Global};

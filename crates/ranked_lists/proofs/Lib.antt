@@ -1,3 +1,5 @@
-pub mod Ranked
-pub mod Sorted
+pub mod Held
+pub mod Places
+pub mod Taken
+pub mod Keyed
 pub mod Ends

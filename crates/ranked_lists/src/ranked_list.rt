@@ -1,47 +1,76 @@
 //! One list of elements with their ranks, found by id and ordered by rank.
 ghost use Rattle.std.specs.Prelude.{◌≡◌, Some, None, OnOk, OnErr, IfOk, length, slice_get};
-ghost use Rattle.std.specs.BTreeMap.{IsOrdered};
-ghost use Rattle.std.specs.BTreeSet as sorted_set;
 ghost use Rattle.std.specs.FinMap.{get, entries, empty};
 ghost use Rattle.std.specs.Option.{option_copied};
-ghost use Rattle.finite_maps.specs.Maps.{set, set_all};
-ghost use Rattle.finite_maps.specs.Tables.{table};
+ghost use Rattle.finite_maps.specs.Maps.{set};
 ghost use Rattle.spread_maps.specs.Spread.{is_bare};
-ghost use Rattle.spread_maps.specs.Writes.{puts};
-ghost use Rattle.model_state.specs.Keys.{id_cmp};
-ghost use Rattle.model_state.specs.Listing.{entry_cmp, last_rank};
+ghost use Rattle.model_state.specs.Listing.{last_rank};
 ghost use Rattle.ranked_lists.specs.Ranks.{entries_by_rank};
+ghost use Rattle.ranked_lists.specs.Ranked.{ranks_of, AreRanked};
 
+use crate::few::{copied_entries, drop_among, put_among, rank_among};
+use crate::many::Many;
 use ecore_meta::List;
 use model_state::{Entry, Id};
 use std::alloc::{AllocError, Global};
-use std::collections::{BTreeMap, BTreeSet};
 use std::marker::Model;
+
+/// How many entries one vector has at most.
+const FEW: usize = 16;
 
 /// Elements with their ranks, which contracts see as a finite map.
 ///
-/// Beside the rank of each element stand the entries by rank and then by id. So to find, put or take out an element, and
-/// to find the last, costs a logarithm; to find the entry at an index as many steps as entries lie between it and the
-/// nearer end; and to list a copy of each entry.
+/// A list begins in one vector, by rank and then by id. From its 17th entry on, and for good, it stands in a hash table by
+/// id and in an ordered set, by rank and then by id. Then to find an element costs a look-up by hash. To put it in, to take
+/// it out and to find the last costs a logarithm more. To find the entry at an index costs as many steps as entries lie
+/// between it and the nearer end. To list costs a copy of each entry.
 #[derive(Drop)]
 pub struct RankedList {
-    by_id: BTreeMap<Id, u64>,
-    by_rank: BTreeSet<Entry>,
+    few: Vec<Entry>,
+    many: Option<Box<Many>>,
 }
 
 impl Model for RankedList {
-    ghost use Rattle.finite_maps.specs.Tables.{table};
-    ghost use Rattle.model_state.specs.Keys.{id_cmp};
     ghost use Rattle.ranked_lists.specs.Ranks.{Ranks, ranks_code};
-    ghost use Rattle.ranked_lists.specs.Ranked.{IsRanked};
+    ghost use Rattle.ranked_lists.specs.Ranked.{held, IsHeld};
 
     ghost Value = { Ranks };
 
     ghost coded = { ranks_code };
 
-    ghost view = { λ a. table id_cmp a.by_id };
+    ghost view = { λ a. held a.few.items a.many };
 
-    ghost invariant = { λ a. IsRanked a.by_id a.by_rank };
+    ghost invariant = { λ a. IsHeld a.few.items a.many };
+}
+
+/// The same entries by id and by rank.
+fn many_of(alloc: Global, entries: &[Entry]) -> Result<Many, AllocError>
+    requires { AreRanked entries.now }
+    ensures { IfOk result (λ m. m ≡ ranks_of entries.now) }
+{
+    let mut many = Many::new(alloc);
+    for entry in entries {
+        many.put(alloc, entry.id.copy(alloc)?, entry.rank)?;
+    }
+    Ok(many)
+}
+
+/// The same entries by id and by rank, where an element has another rank or is new.
+fn grown(alloc: Global, entries: &[Entry], e: Id, rank: u64) -> Result<Box<Many>, AllocError>
+    requires { AreRanked entries.now }
+    ensures { IfOk result (λ m. m.value ≡ set (ranks_of entries.now) e (Some rank)) }
+{
+    let mut many = many_of(alloc, entries)?;
+    many.put(alloc, e, rank)?;
+    Ok(Box::new(alloc, many)?)
+}
+
+/// The same elements, in memory of their own.
+fn copied_many(alloc: Global, many: &Many) -> Result<Many, AllocError>
+    ensures { IfOk result (λ m. m ≡ many.now) }
+{
+    let entries = many.list(alloc)?;
+    many_of(alloc, entries.as_slice())
 }
 
 impl RankedList {
@@ -50,8 +79,8 @@ impl RankedList {
         ensures { result ≡ empty }
     {
         RankedList {
-            by_id: BTreeMap::new(alloc),
-            by_rank: BTreeSet::new(alloc),
+            few: Vec::new(alloc),
+            many: None,
         }
     }
 
@@ -59,21 +88,27 @@ impl RankedList {
     pub fn rank(&self, e: &Id) -> Option<u64>
         ensures { result ≡ get self.now e.now }
     {
-        self.by_id.get(e).copied()
+        match &self.many {
+            None => rank_among(self.few.as_slice(), e),
+            Some(many) => many.rank(e),
+        }
     }
 
     /// How many elements there are.
     pub fn len(&self) -> usize
         ensures { result ≡ length (entries self.now) }
     {
-        self.by_id.len()
+        match &self.many {
+            None => self.few.len(),
+            Some(many) => many.len(),
+        }
     }
 
     /// Whether there is no element.
     pub fn is_empty(&self) -> bool
         ensures { result ≡ is_bare self.now }
     {
-        self.by_id.len() == 0
+        self.len() == 0
     }
 
     /// Gives an element its rank, a new element or one that is there. The error is out of memory.
@@ -81,23 +116,17 @@ impl RankedList {
         ensures ok { OnOk result (self.new ≡ set self.old e (Some rank)) }
         ensures err { OnErr result (self.new ≡ self.old) }
     {
-        let own = e.copy(alloc)?;
-        let stale = e.copy(alloc)?;
-        self.by_rank.insert(Entry { rank, id: own })?;
-        match self.by_id.insert(e, rank) {
-            Err(_) => {
-                self.by_rank.remove(&Entry { rank, id: stale });
-                Err(AllocError)
-            }
-            Ok(None) => Ok(()),
-            Ok(Some(old)) => {
-                if old != rank {
-                    self.by_rank.remove(&Entry {
-                        rank: old,
-                        id: stale,
-                    });
+        match &mut self.many {
+            Some(many) => many.put(alloc, e, rank),
+            None => {
+                if self.few.len() < FEW || rank_among(self.few.as_slice(), &e).is_some() {
+                    put_among(&mut self.few, e, rank)
+                } else {
+                    let many = grown(alloc, self.few.as_slice(), e, rank)?;
+                    self.many = Some(many);
+                    self.few = Vec::new(alloc);
+                    Ok(())
                 }
-                Ok(())
             }
         }
     }
@@ -106,8 +135,9 @@ impl RankedList {
     pub fn drop_at(&mut self, e: &Id)
         ensures { self.new ≡ set self.old e.now None }
     {
-        if let Some((id, rank)) = self.by_id.remove_entry(e) {
-            self.by_rank.remove(&Entry { rank, id });
+        match &mut self.many {
+            Some(many) => many.drop_at(e),
+            None => drop_among(&mut self.few, e),
         }
     }
 
@@ -115,12 +145,12 @@ impl RankedList {
     pub fn last(&self) -> Option<u64>
         ensures { result ≡ last_rank (entries_by_rank self.now) }
     {
-        // For what the calls' contracts say.
-        let _ids = self.by_id.len();
-        let _entries = self.by_rank.len();
-        match self.by_rank.last() {
-            None => None,
-            Some(entry) => Some(entry.rank),
+        match &self.many {
+            Some(many) => many.last(),
+            None => match self.few.last() {
+                None => None,
+                Some(entry) => Some(entry.rank),
+            },
         }
     }
 
@@ -129,15 +159,9 @@ impl RankedList {
     pub fn entry_at(&self, index: usize) -> Option<&Entry>
         ensures { option_copied result ≡ slice_get (entries_by_rank self.now) index }
     {
-        // For what the call's contract says.
-        let _ids = self.by_id.len();
-        let count = self.by_rank.len();
-        if index >= count {
-            None
-        } else if index < count / 2 {
-            self.by_rank.iter().nth(index)
-        } else {
-            self.by_rank.iter().nth_back(count - 1 - index)
+        match &self.many {
+            Some(many) => many.entry_at(index),
+            None => self.few.get(index),
         }
     }
 
@@ -145,42 +169,25 @@ impl RankedList {
     pub fn list(&self, alloc: Global) -> Result<List<Entry>, AllocError>
         ensures { IfOk result (λ l. l ≡ entries_by_rank self.now) }
     {
-        // For what the call's contract says.
-        let _ids = self.by_id.len();
-        entries_of(alloc, &self.by_rank)
+        match &self.many {
+            Some(many) => many.list(alloc),
+            None => Ok(List::from_vec(copied_entries(alloc, self.few.as_slice())?)),
+        }
     }
 
     /// The same list in memory of its own.
     pub fn copy(&self, alloc: Global) -> Result<RankedList, AllocError>
         ensures { IfOk result (λ l. l ≡ self.now) }
     {
-        copied(alloc, &self.by_id)
+        match &self.many {
+            None => Ok(RankedList {
+                few: copied_entries(alloc, self.few.as_slice())?,
+                many: None,
+            }),
+            Some(many) => Ok(RankedList {
+                few: Vec::new(alloc),
+                many: Some(Box::new(alloc, copied_many(alloc, many)?)?),
+            }),
+        }
     }
-}
-
-/// A list of these elements with their ranks.
-fn copied(alloc: Global, by_id: &BTreeMap<Id, u64>) -> Result<RankedList, AllocError>
-    ensures copy { IfOk result (λ l. l ≡ set_all empty (puts by_id.now.entries)) }
-    ensures ordered { IsOrdered id_cmp by_id.now }
-{
-    let mut copy = RankedList::new(alloc);
-    for (id, rank) in by_id {
-        copy.put(alloc, id.copy(alloc)?, *rank)?;
-    }
-    Ok(copy)
-}
-
-/// The entries of a set, in its order.
-fn entries_of(alloc: Global, by_rank: &BTreeSet<Entry>) -> Result<List<Entry>, AllocError>
-    ensures entries { IfOk result (λ l. l ≡ by_rank.now.keys) }
-    ensures ordered { sorted_set.IsOrdered entry_cmp by_rank.now }
-{
-    let mut found = List::new(alloc);
-    for entry in by_rank {
-        found.push(Entry {
-            rank: entry.rank,
-            id: entry.id.copy(alloc)?,
-        })?;
-    }
-    Ok(found)
 }

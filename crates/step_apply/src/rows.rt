@@ -191,13 +191,6 @@ impl Rows {
         }
     }
 
-    /// The rank of the row from the first element to the second by the feature between them, `None` where there is no such row.
-    pub fn find(&self, key: &(Id, u32, Id)) -> Option<u64>
-        ensures { result ≡ get self.now key.now }
-    {
-        self.tree.get(key).copied()
-    }
-
     /// The rank of the row from an element to another by a feature, `None` where there is no such row. This takes no memory.
     pub fn rank(&self, a: &Id, f: u32, b: &Id) -> Option<u64>
         ensures { result ≡ get self.now (a.now, f, b.now) }

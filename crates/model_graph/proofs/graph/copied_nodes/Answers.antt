@@ -1,9 +1,9 @@
-use Rattle.std.proofs.Common.{◌≡◌, ◌+◌, ◌++◌, ◌∷◌, [], sym, ap, subst, ◌∙◌, take, cond, List}
+use Rattle.std.proofs.Common.{◌≡◌, ◌++◌, ◌∷◌, [], sym, ap, subst, ◌∙◌, take, cond, List}
 use Rattle.std.proofs.lemmas.List.{take_more, take_all}
 use Rattle.std.specs.Prelude.{None}
 use Rattle.std.specs.List.{list_any}
 use Rattle.std.specs.Ordering.{eq_by_cmp}
-use Rattle.std.specs.FinMap.{get, get-empty, keys}
+use Rattle.std.specs.FinMap.{get, get-empty}
 use Rattle.model_state.specs.Keys.{IdBytes, id_cmp}
 use Rattle.model_graph.proofs.Copied.{copied_more, copied_all}
 use Rattle.model_graph.proofs.graph.copied_nodes.Goals as goal

@@ -1,9 +1,8 @@
-use Rattle.std.proofs.Common.{◌≡◌, sym, ap, subst, ◌∙◌, nat_eq, length, map, [], refl}
-use Rattle.std.specs.Prelude.{None, Some, IfOk, unwrap_or}
+use Rattle.std.proofs.Common.{ap, ◌∙◌}
 use Rattle.std.specs.FinMap.{get-empty}
 use Rattle.spread_maps.specs.Spread.{inner}
 use Rattle.model_state.specs.Keys.{id_cmp}
-use Rattle.model_graph.specs.declared.element.Node.{Node}
+use Rattle.graph_parts.specs.declared.element.Node.{Node}
 use Rattle.model_graph.proofs.look.targets_of.Goals as goal
 
 pub returns-in-None : goal.returns-in-None

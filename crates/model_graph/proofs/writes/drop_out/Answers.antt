@@ -1,12 +1,9 @@
 -- the node is put back changed
-use Rattle.std.proofs.Common.{◌≡◌, refl, sym, ap, subst, ◌∙◌}
-use Rattle.std.specs.Prelude.{Some, None, is_some}
-use Rattle.std.specs.FinMap.{get}
-use Rattle.std.proofs.lemmas.Result.{on_ok_weaker, on_err_weaker}
+use Rattle.std.proofs.Common.{ap, ◌∙◌}
+use Rattle.std.specs.Prelude.{Some}
 use Rattle.finite_maps.specs.Maps.{set}
-use Rattle.spread_maps.specs.Spread.{inner}
-use Rattle.model_graph.specs.declared.element.Node.{Node}
-use Rattle.model_graph.proofs.Changed.{rewritten, put_back, there}
+use Rattle.graph_parts.specs.declared.element.Node.{Node}
+use Rattle.model_graph.proofs.Changed.{rewritten, there}
 use Rattle.model_graph.proofs.writes.drop_out.Goals as goal
 
 pub swap-requires : goal.swap-requires

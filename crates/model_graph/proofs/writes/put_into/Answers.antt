@@ -1,11 +1,9 @@
 -- the node is put back changed, or as it was
-use Rattle.std.proofs.Common.{◌≡◌, refl, sym, ap, subst, ◌∙◌}
-use Rattle.std.specs.Prelude.{Some, None, is_some}
-use Rattle.std.specs.FinMap.{get}
+use Rattle.std.proofs.Common.{ap, ◌∙◌}
+use Rattle.std.specs.Prelude.{Some}
 use Rattle.std.proofs.lemmas.Result.{on_ok_weaker, on_err_weaker}
 use Rattle.finite_maps.specs.Maps.{set}
-use Rattle.spread_maps.specs.Spread.{inner}
-use Rattle.model_graph.specs.declared.element.Node.{Node}
+use Rattle.graph_parts.specs.declared.element.Node.{Node}
 use Rattle.model_graph.proofs.Changed.{rewritten, put_back, there}
 use Rattle.model_graph.proofs.writes.put_into.Goals as goal
 

@@ -1,4 +1,4 @@
-use Rattle.std.proofs.Common.{◌≡◌, sym, ap, subst, ◌∙◌}
+use Rattle.std.proofs.Common.{sym, ap, subst, ◌∙◌}
 use Rattle.ranked_lists.specs.Ranks.{Ranks}
 use Rattle.model_graph.specs.Seen.{Elements, nodes_state}
 use Rattle.model_graph.proofs.Stored.{AreKept}

@@ -1,5 +1,5 @@
 -- the empty state is good
-use Rattle.std.proofs.Common.{◌≡◌, sym, ap, subst, ◌∙◌}
+use Rattle.std.proofs.Common.{sym, ap, subst, ◌∙◌}
 use Rattle.model_laws.proofs.Start.{starts_good}
 use Rattle.model_state.specs.Good.{Good}
 use Rattle.model_graph.specs.Seen.{nodes_state}

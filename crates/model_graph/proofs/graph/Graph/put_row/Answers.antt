@@ -1,12 +1,12 @@
 -- a reference put in at both ends, or at none
-use Rattle.std.proofs.Common.{◌≡◌, sym, ap, subst, ◌∙◌}
+use Rattle.std.proofs.Common.{sym, ap, subst, ◌∙◌}
 use Rattle.std.specs.Prelude.{Some, IsSome, is_some}
 use Rattle.std.specs.FinMap.{get}
 use Rattle.finite_maps.specs.Maps.{set}
 use Rattle.spread_maps.specs.Spread.{inner}
 use Rattle.model_state.specs.Keys.{AttrKey}
 use Rattle.model_state.specs.State.{State}
-use Rattle.model_graph.specs.declared.element.Node.{Node}
+use Rattle.graph_parts.specs.declared.element.Node.{Node}
 use Rattle.model_graph.specs.Seen.{Elements, nodes_state, Rewrites, IsMirrored, IsHoused}
 use Rattle.model_graph.proofs.Housed.{row_written}
 use Rattle.model_graph.proofs.Linked.{out_key, into_key, live_there, live_rewritten, into_there, linked, row_back}

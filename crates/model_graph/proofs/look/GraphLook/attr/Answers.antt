@@ -1,5 +1,5 @@
-use Rattle.std.proofs.Common.{◌≡◌, sym, ap, subst, ◌∙◌, nat_eq, length, map, [], refl}
-use Rattle.std.specs.Prelude.{None, Some, IfOk, unwrap_or}
+use Rattle.std.proofs.Common.{ap, ◌∙◌, []}
+use Rattle.std.specs.Prelude.{None, Some, unwrap_or}
 use Rattle.model_graph.proofs.Looked.{read_attr}
 use Rattle.model_graph.proofs.look.GraphLook.attr.Goals as goal
 

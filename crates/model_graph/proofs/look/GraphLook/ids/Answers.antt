@@ -1,5 +1,5 @@
-use Rattle.std.proofs.Common.{◌≡◌, sym, ap, subst, ◌∙◌, nat_eq, length, map, [], refl}
-use Rattle.std.specs.Prelude.{None, Some, IfOk, unwrap_or}
+use Rattle.std.proofs.Common.{◌≡◌, subst}
+use Rattle.std.specs.Prelude.{IfOk}
 use Rattle.model_graph.proofs.Looked.{keys_are}
 use Rattle.model_graph.proofs.look.GraphLook.ids.Goals as goal
 

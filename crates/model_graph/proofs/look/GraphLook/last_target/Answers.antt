@@ -1,4 +1,4 @@
-use Rattle.std.proofs.Common.{◌≡◌, sym, ap, ◌∙◌, map}
+use Rattle.std.proofs.Common.{sym, ap, ◌∙◌, map}
 use Rattle.std.specs.FinMap.{empty}
 use Rattle.finite_maps.specs.Sorts.{in_order}
 use Rattle.model_state.specs.Keys.{id_cmp}

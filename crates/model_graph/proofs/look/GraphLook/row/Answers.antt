@@ -1,5 +1,4 @@
-use Rattle.std.proofs.Common.{◌≡◌, sym, ap, subst, ◌∙◌, nat_eq, length, map, [], refl}
-use Rattle.std.specs.Prelude.{None, Some, IfOk, unwrap_or}
+use Rattle.std.proofs.Common.{◌∙◌}
 use Rattle.model_graph.proofs.Looked.{read_row}
 use Rattle.model_graph.proofs.look.GraphLook.row.Goals as goal
 

@@ -1,7 +1,6 @@
-use Rattle.std.proofs.Common.{◌≡◌, sym, ap, subst, ◌∙◌, nat_eq, length, map, [], refl}
-use Rattle.std.specs.Prelude.{None, Some, IfOk, unwrap_or}
+use Rattle.std.proofs.Common.{ap, ◌∙◌, nat_eq}
 use Rattle.model_state.specs.State.{State, value_count}
-use Rattle.model_graph.specs.declared.element.Node.{Node}
+use Rattle.graph_parts.specs.declared.element.Node.{Node}
 use Rattle.model_graph.specs.Seen.{bare_part}
 use Rattle.model_graph.proofs.Emptied.{no_values}
 use Rattle.model_graph.proofs.write.GraphWrite.has_no_value.Goals as goal

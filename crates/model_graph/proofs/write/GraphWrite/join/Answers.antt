@@ -1,11 +1,18 @@
 use Rattle.std.proofs.Common.{ap, ◌∙◌}
 use Rattle.std.specs.Prelude.{Some, None}
 use Rattle.finite_maps.specs.Maps.{set}
+use Rattle.finite_maps.proofs.Cases.{true_false}
 use Rattle.finite_maps.proofs.MapLaws.{set_back}
 use Rattle.model_state.specs.Keys.{RowKey}
 use Rattle.model_state.specs.State.{State}
+use Rattle.model_state.specs.Steps.{mirror_given}
 use Rattle.model_state.proofs.Orders.{row_order}
 use Rattle.model_graph.proofs.write.GraphWrite.join.Goals as goal
+
+-- an opposite has a rank
+pub unreachable-requires : goal.unreachable-requires
+unreachable-requires c =
+    true_false (mirror_given c.args.opposite c.args.f c.args.rb) c.requires.given (λ i. mirror_given (c.in-Some.is i) c.args.f (c.in_default.is i))
 
 -- where the mirror is refused, the row that was put in goes again
 pub returns-clause-err : goal.returns-clause-err

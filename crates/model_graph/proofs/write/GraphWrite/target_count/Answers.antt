@@ -1,12 +1,6 @@
-use Rattle.std.proofs.Common.{◌≡◌, sym, ap, subst, ◌∙◌, nat_eq, length, map, [], refl}
-use Rattle.std.specs.Prelude.{None, Some, IfOk, unwrap_or}
-use Rattle.std.specs.FinMap.{empty, get-empty}
-use Rattle.finite_maps.specs.Sorts.{in_order}
-use Rattle.model_state.specs.Keys.{id_cmp, attr_cmp}
-use Rattle.model_state.specs.Listing.{entry_cmp}
-use Rattle.ranked_lists.specs.Ranks.{ranked_entry}
-use Rattle.model_graph.specs.Parts.{arrived}
-use Rattle.model_graph.specs.Seen.{placed_at}
+use Rattle.std.proofs.Common.{sym, ap, ◌∙◌, length}
+use Rattle.std.specs.FinMap.{empty}
+use Rattle.model_state.specs.Keys.{id_cmp}
 use Rattle.model_graph.proofs.Listings.{targets_count, no_entries}
 use Rattle.model_graph.proofs.Looked.{read_row}
 use Rattle.model_graph.proofs.write.GraphWrite.target_count.Goals as goal

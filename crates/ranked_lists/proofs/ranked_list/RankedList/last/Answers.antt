@@ -1,24 +1,13 @@
-use Rattle.std.proofs.Common.{◌≡◌, refl, sym, ap, ◌∙◌}
-use Rattle.std.specs.Prelude.{Option, None, IsSome, is_some}
-use Rattle.finite_maps.proofs.Cases.{true_false}
+use Rattle.std.proofs.Common.{sym, ap, subst, ◌∙◌}
 use Rattle.model_state.specs.Listing.{last_rank}
 use Rattle.ranked_lists.specs.Ranks.{entries_by_rank}
-use Rattle.ranked_lists.proofs.Sorted.{keys_are}
-use Rattle.ranked_lists.proofs.Ends.{last_entry, no_items}
+use Rattle.ranked_lists.specs.Ranked.{held, IsHeld}
+use Rattle.ranked_lists.proofs.Ends.{last_entry}
 use Rattle.ranked_lists.proofs.ranked_list.RankedList.last.Goals as goal
 
-none_some : {A : Type 0} (o : Option A) → o ≡ None → IsSome o → ⊥
-none_some o none some = true_false (is_some o) some (ap is_some none)
-
-pub returns-in-None : goal.returns-in-None
-returns-in-None c =
-    let keys = c.self.inside.by_rank.keys in
-    let gone = no_items keys (λ more. none_some _ c.in-None.is (c.last.ensures.variant.1 more)) in
-    sym (ap last_rank (sym (keys_are c.self.inside.by_id c.self.inside.by_rank c.self.invariant c.len-ids.ensures.ordered c.len-entries.ensures.ordered) ∙ gone))
-    ∙ ap (λ m. last_rank (entries_by_rank m)) c.self.view_is
-
-pub returns-in-Some : goal.returns-in-Some
-returns-in-Some c =
-    sym (last_entry c.self.inside.by_rank.keys c.in-Some.entry.now c.in-Some.ensures.last)
-    ∙ ap last_rank (keys_are c.self.inside.by_id c.self.inside.by_rank c.self.invariant c.len-ids.ensures.ordered c.len-entries.ensures.ordered)
-    ∙ ap (λ m. last_rank (entries_by_rank m)) c.self.view_is
+pub returns-in-Some-last : goal.returns-in-Some-last
+returns-in-Some-last c =
+    let a = c.self.inside in
+    sym (last_entry c.deref-in-None.result.now c.in-Some-last.entry.now (sym c.in-Some-last.ensures.value))
+    ∙ ap last_rank (c.deref-in-None.ensures.value ∙ subst (IsHeld a.few.items) c.in-None.is c.self.invariant)
+    ∙ ap (λ m. last_rank (entries_by_rank m)) (ap (held a.few.items) (sym c.in-None.is) ∙ c.self.view_is)

@@ -1,8 +1,11 @@
-use Rattle.std.proofs.Common.{sym, ap, ◌∙◌, length}
+use Rattle.std.proofs.Common.{sym, ap, subst, ◌∙◌, length}
 use Rattle.std.specs.FinMap.{entries}
-use Rattle.finite_maps.proofs.TableLaws.{entries-table}
-use Rattle.model_state.proofs.Orders.{id_order}
+use Rattle.ranked_lists.specs.Ranked.{ranks_of, held, IsHeld}
+use Rattle.ranked_lists.proofs.Held.{length_ranked}
 use Rattle.ranked_lists.proofs.ranked_list.RankedList.len.Goals as goal
 
-pub returns : goal.returns
-returns c = c.len.ensures.len ∙ ap length (sym (entries-table id_order c.self.inside.by_id c.len.ensures.ordered)) ∙ ap (λ m. length (entries m)) c.self.view_is
+pub returns-in-None : goal.returns-in-None
+returns-in-None c =
+    let a = c.self.inside in
+    c.len.ensures ∙ a.few.ok.0 ∙ ap length (subst (IsHeld a.few.items) c.in-None.is c.self.invariant) ∙ length_ranked (ranks_of a.few.items)
+    ∙ ap (λ m. length (entries m)) (ap (held a.few.items) (sym c.in-None.is) ∙ c.self.view_is)

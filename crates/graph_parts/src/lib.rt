@@ -1,0 +1,15 @@
+//! What a model in memory is made of: an element with its class, its place and its values, its references and those to it,
+//! and the elements inside it.
+#![tactic(auto)]
+
+mod arrivals;
+mod attrs;
+mod by_feature;
+mod copies;
+mod element;
+mod feature_lists;
+
+pub use arrivals::Arrivals;
+pub use attrs::Attrs;
+pub use element::Node;
+pub use feature_lists::FeatureLists;
