@@ -1,28 +1,36 @@
 //! Batches of steps of one kind, spread over the elements of a model.
 //!
-//! All elements of the model stand at the root, each at a rank of its own, and a fifth of them cites the element of number 1. A
-//! batch has a step for each of 500 of them.
+//! All elements of the model stand at the root, each at a rank of its own, and have two attributes. A fifth of them cites the
+//! element of number 1. A batch has a step for each of 500 of them, and two insertions for each.
 
 use crate::fault::TimesFault;
 use ecore_meta::{List, Text, Value};
-use model_state::{Id, Place, Step};
+use model_state::{Id, OpKind, Place, Step};
 use std::alloc::Global;
 
-/// How many steps a batch has.
+/// How many elements a batch has steps for.
 pub const COUNT: u64 = 500;
 
 /// The features of the metamodel, by their numbers.
-const LABEL: u32 = 0;
+pub const LABEL: u32 = 0;
 
 const SIZES: u32 = 1;
 
-const CITES: u32 = 2;
+pub const CITES: u32 = 2;
 
 const NEXT: u32 = 3;
 
 const BACK: u32 = 4;
 
-const INNER: u32 = 5;
+pub const INNER: u32 = 5;
+
+const WEIGHT: u32 = 6;
+
+/// How far apart the first ranks of two elements are that follow one another.
+const APART: u64 = 1_048_576;
+
+/// How many elements are built at a time.
+const PIECE: u64 = 1000;
 
 /// The kinds of steps, in an order in which the batches can be taken.
 #[derive(Clone, Copy, Drop)]
@@ -56,6 +64,18 @@ pub const BATCHES: [Batch; 11] = [
 ];
 
 impl Batch {
+    /// The kind of an operation that has the batch's steps.
+    pub fn kind(self) -> OpKind {
+        match self {
+            Batch::Put => OpKind::Attribute,
+            Batch::Ins | Batch::Shift | Batch::Del => OpKind::ManyAttribute,
+            Batch::Link | Batch::RerankRow | Batch::Unlink => OpKind::Reference,
+            Batch::RerankPlace | Batch::Move => OpKind::Move,
+            Batch::New => OpKind::Create,
+            Batch::Gone => OpKind::Delete,
+        }
+    }
+
     /// The word under which the batch is told.
     pub fn word(self) -> &'static str {
         match self {
@@ -81,7 +101,7 @@ pub fn element(alloc: Global, number: u64) -> Result<Id, TimesFault> {
 
 /// The rank at which the element of a number stands first.
 fn rank_of(number: u64) -> u64 {
-    number.saturating_mul(1_048_576).saturating_add(1_048_576)
+    number.saturating_mul(APART).saturating_add(APART)
 }
 
 /// The creation of the element of a number, last at the root.
@@ -99,21 +119,49 @@ fn citation(alloc: Global, number: u64) -> Result<Step, TimesFault> {
     Ok(Step::Link {
         a: element(alloc, number)?,
         f: CITES,
-        ra: 1_048_576,
+        ra: APART,
         b: element(alloc, 1)?,
         rb: None,
     })
 }
 
-fn put_creations(alloc: Global, steps: &mut List<Step>, elements: u64) -> Result<(), TimesFault> {
-    for number in 0..elements {
+/// The label and the weight of the element of a number.
+fn put_values(alloc: Global, steps: &mut List<Step>, number: u64) -> Result<(), TimesFault> {
+    steps.push(Step::Put {
+        e: element(alloc, number)?,
+        f: LABEL,
+        old: None,
+        new: Some(label(alloc)?),
+    })?;
+    steps.push(Step::Put {
+        e: element(alloc, number)?,
+        f: WEIGHT,
+        old: None,
+        new: Some(Value::Whole(7)),
+    })?;
+    Ok(())
+}
+
+fn put_creations(
+    alloc: Global,
+    steps: &mut List<Step>,
+    from: u64,
+    to: u64,
+) -> Result<(), TimesFault> {
+    for number in from..to {
         steps.push(creation(alloc, number)?)?;
+        put_values(alloc, steps, number)?;
     }
     Ok(())
 }
 
-fn put_citations(alloc: Global, steps: &mut List<Step>, elements: u64) -> Result<(), TimesFault> {
-    for number in 0..elements {
+fn put_citations(
+    alloc: Global,
+    steps: &mut List<Step>,
+    from: u64,
+    to: u64,
+) -> Result<(), TimesFault> {
+    for number in from..to {
         if number % 5 == 0 {
             steps.push(citation(alloc, number)?)?;
         }
@@ -121,18 +169,29 @@ fn put_citations(alloc: Global, steps: &mut List<Step>, elements: u64) -> Result
     Ok(())
 }
 
-/// The steps that make a model of so many elements.
-pub fn building(alloc: Global, elements: u64) -> Result<List<Step>, TimesFault> {
+/// How many pieces a model of so many elements is built in.
+pub fn pieces(elements: u64) -> u64 {
+    elements.div_ceil(PIECE)
+}
+
+/// The steps that make a piece of a model of so many elements.
+pub fn building(alloc: Global, elements: u64, piece: u64) -> Result<List<Step>, TimesFault> {
+    let from = piece.saturating_mul(PIECE);
+    let to = from.saturating_add(PIECE).min(elements);
     let mut steps = List::new(alloc);
-    put_creations(alloc, &mut steps, elements)?;
-    put_citations(alloc, &mut steps, elements)?;
+    put_creations(alloc, &mut steps, from, to)?;
+    put_citations(alloc, &mut steps, from, to)?;
     Ok(steps)
 }
 
-/// The element of a step, by the step's place in its batch.
+/// The number of a step's element, by the step's index in its batch.
 pub fn number_of(elements: u64, at: u64) -> u64 {
     let apart = elements.saturating_sub(2) / COUNT;
     at.saturating_mul(apart).saturating_add(2)
+}
+
+fn label(alloc: Global) -> Result<Value, TimesFault> {
+    Ok(Value::Text(Text::new(alloc, "a label")?))
 }
 
 fn text(alloc: Global) -> Result<Value, TimesFault> {
@@ -147,61 +206,85 @@ fn inside(alloc: Global) -> Result<Place, TimesFault> {
     })
 }
 
-/// A step on the values of an element.
-fn value_step(alloc: Global, batch: Batch, e: Id) -> Result<Step, TimesFault> {
-    match batch {
-        Batch::Put => Ok(Step::Put {
-            e,
-            f: LABEL,
-            old: None,
-            new: Some(text(alloc)?),
-        }),
-        Batch::Shift => Ok(Step::Shift {
-            e,
-            f: SIZES,
-            from: 0,
-            to: 1,
-        }),
-        Batch::Del => Ok(Step::Del {
-            e,
-            f: SIZES,
-            at: 0,
-            v: Value::Whole(2),
-        }),
-        _ => Ok(Step::Ins {
-            e,
-            f: SIZES,
-            at: 0,
-            v: Value::Whole(1),
-        }),
+/// Another label for an element.
+fn relabeling(alloc: Global, e: Id) -> Result<Step, TimesFault> {
+    Ok(Step::Put {
+        e,
+        f: LABEL,
+        old: Some(label(alloc)?),
+        new: Some(text(alloc)?),
+    })
+}
+
+/// A number put into the sizes of an element.
+fn insertion(e: Id, at: u32, size: i64) -> Step {
+    Step::Ins {
+        e,
+        f: SIZES,
+        at,
+        v: Value::Whole(size),
     }
 }
 
-/// A step on the reference from an element to the element of number 1.
-fn row_step(alloc: Global, batch: Batch, a: Id, rank: u64) -> Result<Step, TimesFault> {
-    let b = element(alloc, 1)?;
-    match batch {
-        Batch::Link => Ok(Step::Link {
-            a,
-            f: NEXT,
-            ra: 1,
-            b,
-            rb: Some(rank),
-        }),
-        Batch::RerankRow => Ok(Step::RerankRow {
-            a: b,
-            f: BACK,
-            b: a,
-            old: rank,
-            new: rank.saturating_add(1),
-        }),
-        _ => Ok(Step::Unlink {
-            a,
-            f: NEXT,
-            ra: 1,
-            b,
-            rb: Some(rank.saturating_add(1)),
-        }),
+/// The first size of an element, put after the second.
+fn shift(e: Id) -> Step {
+    Step::Shift {
+        e,
+        f: SIZES,
+        from: 0,
+        to: 1,
+    }
+}
+
+/// The first size of an element, once it was shifted, taken out.
+fn deletion(e: Id) -> Step {
+    Step::Del {
+        e,
+        f: SIZES,
+        at: 0,
+        v: Value::Whole(2),
+    }
+}
+
+/// A reference from an element to the element of number 1, with its mirror.
+fn link(alloc: Global, a: Id, rank: u64) -> Result<Step, TimesFault> {
+    Ok(Step::Link {
+        a,
+        f: NEXT,
+        ra: 1,
+        b: element(alloc, 1)?,
+        rb: Some(rank),
+    })
+}
+
+/// Another rank for the mirror of that reference.
+fn rerank_row(alloc: Global, a: Id, rank: u64) -> Result<Step, TimesFault> {
+    Ok(Step::RerankRow {
+        a: element(alloc, 1)?,
+        f: BACK,
+        b: a,
+        old: rank,
+        new: rank.saturating_add(1),
+    })
+}
+
+/// That reference taken out, with its mirror at its other rank.
+fn unlink(alloc: Global, a: Id, rank: u64) -> Result<Step, TimesFault> {
+    Ok(Step::Unlink {
+        a,
+        f: NEXT,
+        ra: 1,
+        b: element(alloc, 1)?,
+        rb: Some(rank.saturating_add(1)),
+    })
+}
+
+/// Another rank for an element at the root.
+fn rerank_place(e: Id, rank: u64) -> Step {
+    Step::RerankPlace {
+        e,
+        old: rank,
+        new: rank.saturating_add(1),
     }
 }
 
@@ -212,71 +295,66 @@ fn containers(alloc: Global) -> Result<List<Id>, TimesFault> {
     Ok(above)
 }
 
-/// The move of the element of a number from the root into the element of number 1.
-fn move_step(alloc: Global, number: u64, from_rank: u64, to_rank: u64) -> Result<Step, TimesFault> {
-    let e = element(alloc, number)?;
+/// The move of an element, which has another rank by now, from the root into the element of number 1.
+fn move_step(alloc: Global, e: Id, rank: u64) -> Result<Step, TimesFault> {
     let to = inside(alloc)?;
     let above_to = containers(alloc)?;
     Ok(Step::Move {
         e,
         from: Place::Root,
-        from_rank,
+        from_rank: rank.saturating_add(1),
         to,
-        to_rank,
+        to_rank: rank,
         above_from: List::new(alloc),
         above_to,
     })
 }
 
-/// A step on where an element stands, or that makes or deletes one more.
-fn place_step(alloc: Global, batch: Batch, number: u64, at: u64) -> Result<Step, TimesFault> {
-    let old = rank_of(number);
-    let new = old.saturating_add(1);
-    match batch {
-        Batch::RerankPlace => Ok(Step::RerankPlace {
-            e: element(alloc, number)?,
-            old,
-            new,
-        }),
-        Batch::Move => move_step(alloc, number, new, old),
-        Batch::New => Ok(Step::New {
-            e: Id::read(alloc, format!(in alloc; "m{at}")?.as_str())?,
-            class: 0,
-            place: Place::Root,
-            rank: new,
-        }),
-        _ => Ok(Step::Gone {
-            e: Id::read(alloc, format!(in alloc; "m{at}")?.as_str())?,
-            class: 0,
-            place: Place::Root,
-            rank: new,
-        }),
-    }
+/// The element that a batch makes at an index, and that another deletes.
+fn passing(alloc: Global, at: u64) -> Result<Id, TimesFault> {
+    Ok(Id::read(alloc, format!(in alloc; "m{at}")?.as_str())?)
 }
 
-fn step_of(alloc: Global, batch: Batch, number: u64, at: u64) -> Result<Step, TimesFault> {
-    match batch {
-        Batch::Put | Batch::Ins | Batch::Shift | Batch::Del => {
-            value_step(alloc, batch, element(alloc, number)?)
-        }
-        Batch::Link | Batch::RerankRow | Batch::Unlink => {
-            row_step(alloc, batch, element(alloc, number)?, rank_of(number))
-        }
-        _ => place_step(alloc, batch, number, at),
-    }
-}
-
-/// The second insertion into the values of an element.
-fn insertion(alloc: Global, number: u64) -> Result<Step, TimesFault> {
-    Ok(Step::Ins {
-        e: element(alloc, number)?,
-        f: SIZES,
-        at: 1,
-        v: Value::Whole(2),
+/// One more element at the root.
+fn making(alloc: Global, at: u64, rank: u64) -> Result<Step, TimesFault> {
+    Ok(Step::New {
+        e: passing(alloc, at)?,
+        class: 0,
+        place: Place::Root,
+        rank: rank.saturating_add(1),
     })
 }
 
-/// Puts the step of a batch at a place in it after others, and after an insertion a second one.
+/// That element deleted.
+fn unmaking(alloc: Global, at: u64, rank: u64) -> Result<Step, TimesFault> {
+    Ok(Step::Gone {
+        e: passing(alloc, at)?,
+        class: 0,
+        place: Place::Root,
+        rank: rank.saturating_add(1),
+    })
+}
+
+/// The step at an index of a batch, on the element of a number.
+fn step_of(alloc: Global, batch: Batch, number: u64, at: u64) -> Result<Step, TimesFault> {
+    let e = element(alloc, number)?;
+    let rank = rank_of(number);
+    match batch {
+        Batch::Put => relabeling(alloc, e),
+        Batch::Ins => Ok(insertion(e, 0, 1)),
+        Batch::Shift => Ok(shift(e)),
+        Batch::Del => Ok(deletion(e)),
+        Batch::Link => link(alloc, e, rank),
+        Batch::RerankRow => rerank_row(alloc, e, rank),
+        Batch::Unlink => unlink(alloc, e, rank),
+        Batch::RerankPlace => Ok(rerank_place(e, rank)),
+        Batch::Move => move_step(alloc, e, rank),
+        Batch::New => making(alloc, at, rank),
+        Batch::Gone => unmaking(alloc, at, rank),
+    }
+}
+
+/// Puts the step at an index of a batch after others, and after an insertion a second one.
 fn put_step(
     alloc: Global,
     steps: &mut List<Step>,
@@ -286,7 +364,7 @@ fn put_step(
 ) -> Result<(), TimesFault> {
     steps.push(step_of(alloc, batch, number, at)?)?;
     if matches!(batch, Batch::Ins) {
-        steps.push(insertion(alloc, number)?)?;
+        steps.push(insertion(element(alloc, number)?, 1, 2))?;
     }
     Ok(())
 }

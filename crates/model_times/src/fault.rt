@@ -8,7 +8,7 @@ use thiserror::Error;
 #[derive(Debug, Drop, Error)]
 pub enum TimesFault {
     /// A word is none of the program's, or no number of elements from 1,000 on.
-    #[error("usage: model_times [plain|graph] ELEMENTS [timed]")]
+    #[error("usage: model_times plain|graph ELEMENTS [timed]")]
     Usage,
     /// The metamodel was not read.
     #[error("no metamodel")]

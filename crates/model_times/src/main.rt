@@ -1,4 +1,5 @@
-//! Times the steps and the queries of a model, over ordered maps or over elements in slots.
+//! Times the steps and the queries of a model, over ordered maps or over elements in slots: three times over the same elements, of
+//! which the first time finds them untouched since the model was built.
 #![tactic(auto)]
 
 mod batches;
@@ -10,20 +11,27 @@ ghost use Rattle.ecore_meta.specs.Sound.{Sound};
 ghost use Rattle.model_state.specs.Good.{Good};
 
 use anyhow::Result;
-use batches::{BATCHES, Batch, batch_of, building};
+use batches::{BATCHES, Batch, batch_of, building, pieces};
 use ecore_json::read_metamodel;
-use ecore_meta::Metamodel;
+use ecore_meta::{List, Metamodel};
 use fault::TimesFault;
 use model_graph::Graph;
 use model_laws::replay;
-use model_state::{Change, Id, Look, Step};
+use model_state::{Change, Id, Look, Operation, Package, Step};
+use op_form::reverse;
 use queries::{QUERIES, Query, ask, asked};
 use std::alloc::Global;
 use std::env;
 use std::time::{Duration, Instant};
 use step_apply::Plain;
 
-/// One class: a text, whole numbers, references without and with an opposite, and a containment.
+/// How many elements a model has at least, so that each step of a batch has one of its own.
+const LEAST: u32 = 1000;
+
+/// How often each batch is taken and each query asked.
+const ROUNDS: u32 = 3;
+
+/// One class: a text, whole numbers, references without and with an opposite, a containment, and a whole number.
 const METAMODEL: &str =
     r#"{"eClass":"http://www.eclipse.org/emf/2002/Ecore#//EPackage","name":"t","nsURI":"t","eClassifiers":[
 {"eClass":"http://www.eclipse.org/emf/2002/Ecore#//EClass","name":"Node","eStructuralFeatures":[
@@ -32,7 +40,8 @@ const METAMODEL: &str =
 {"eClass":"http://www.eclipse.org/emf/2002/Ecore#//EReference","name":"cites","upperBound":-1,"eType":{"$ref":"//Node"}},
 {"eClass":"http://www.eclipse.org/emf/2002/Ecore#//EReference","name":"next","upperBound":-1,"eType":{"$ref":"//Node"},"eOpposite":{"$ref":"//Node/back"}},
 {"eClass":"http://www.eclipse.org/emf/2002/Ecore#//EReference","name":"back","upperBound":-1,"eType":{"$ref":"//Node"},"eOpposite":{"$ref":"//Node/next"}},
-{"eClass":"http://www.eclipse.org/emf/2002/Ecore#//EReference","name":"inner","upperBound":-1,"containment":true,"eType":{"$ref":"//Node"}}]}
+{"eClass":"http://www.eclipse.org/emf/2002/Ecore#//EReference","name":"inner","upperBound":-1,"containment":true,"eType":{"$ref":"//Node"}},
+{"eClass":"http://www.eclipse.org/emf/2002/Ecore#//EAttribute","name":"weight","eType":{"$ref":"http://www.eclipse.org/emf/2002/Ecore#//EInt"}}]}
 ]}"#;
 
 fn metamodel(alloc: Global) -> Result<Metamodel, TimesFault>
@@ -68,24 +77,22 @@ fn take<M: Change>(meta: &Metamodel, model: &mut M, steps: &[Step]) -> Result<()
     }
 }
 
-/// Takes steps that are told by a word, and tells how many they are.
-fn measure_steps<M: Change>(
-    rt: &HostRuntime,
-    is_timed: bool,
+/// Builds a model of so many elements, piece by piece.
+fn build<M: Change>(
+    alloc: Global,
     meta: &Metamodel,
     model: &mut M,
-    word: &str,
-    steps: &[Step],
-) -> Result<()>
+    elements: u64,
+) -> Result<(), TimesFault>
     requires sound { Sound meta.now }
     requires good { Good meta.now (M.state model.old) }
     ensures { OnOk result (Good meta.now (M.state model.new)) }
 {
-    let start = Instant::now(rt)?;
-    take(meta, model, steps)?;
-    let taken = start.elapsed(rt)?;
-    println!(rt; "{word}: {}", steps.len())?;
-    print_time(rt, is_timed, taken)
+    for piece in 0..pieces(elements) {
+        let steps = building(alloc, elements, piece)?;
+        take(meta, model, steps.as_slice())?;
+    }
+    Ok(())
 }
 
 fn measure_building<M: Change>(
@@ -99,10 +106,14 @@ fn measure_building<M: Change>(
     requires good { Good meta.now (M.state model.old) }
     ensures { OnOk result (Good meta.now (M.state model.new)) }
 {
-    let steps = building(rt.alloc(), elements)?;
-    measure_steps(rt, is_timed, meta, model, "build", steps.as_slice())
+    let start = Instant::now(rt)?;
+    build(rt.alloc(), meta, model, elements)?;
+    let taken = start.elapsed(rt)?;
+    println!(rt; "build: {elements}")?;
+    print_time(rt, is_timed, taken)
 }
 
+/// Takes a batch, and gives the operation that its steps are.
 fn measure_batch<M: Change>(
     rt: &HostRuntime,
     is_timed: bool,
@@ -110,27 +121,55 @@ fn measure_batch<M: Change>(
     model: &mut M,
     batch: Batch,
     elements: u64,
-) -> Result<()>
+) -> Result<Operation>
     requires sound { Sound meta.now }
     requires good { Good meta.now (M.state model.old) }
     ensures { OnOk result (Good meta.now (M.state model.new)) }
 {
     let steps = batch_of(rt.alloc(), batch, elements)?;
-    measure_steps(rt, is_timed, meta, model, batch.word(), steps.as_slice())
+    let start = Instant::now(rt)?;
+    take(meta, model, steps.as_slice())?;
+    let taken = start.elapsed(rt)?;
+    println!(rt; "{}: {}", batch.word(), steps.len())?;
+    print_time(rt, is_timed, taken)?;
+    let kind = batch.kind();
+    Ok(Operation::Simple { kind, steps })
 }
 
+/// Takes each batch, and gives the operations that they are.
 fn measure_batches<M: Change>(
     rt: &HostRuntime,
     is_timed: bool,
     meta: &Metamodel,
     model: &mut M,
     elements: u64,
-) -> Result<()>
+) -> Result<Package>
     requires sound { Sound meta.now }
     requires good { Good meta.now (M.state model.old) }
+    ensures { OnOk result (Good meta.now (M.state model.new)) }
 {
+    let mut done = List::new(rt.alloc());
     for batch in BATCHES {
-        measure_batch(rt, is_timed, meta, model, batch, elements)?;
+        done.push(measure_batch(rt, is_timed, meta, model, batch, elements)?)?;
+    }
+    Ok(done)
+}
+
+fn steps_of(operation: &Operation) -> &[Step] {
+    match operation {
+        Operation::Simple { steps, .. } => steps.as_slice(),
+        Operation::Composite { steps, .. } => steps.as_slice(),
+    }
+}
+
+/// Takes the steps of operations one by one.
+fn take_all<M: Change>(meta: &Metamodel, model: &mut M, package: &Package) -> Result<(), TimesFault>
+    requires sound { Sound meta.now }
+    requires good { Good meta.now (M.state model.old) }
+    ensures { OnOk result (Good meta.now (M.state model.new)) }
+{
+    for operation in package.as_slice() {
+        take(meta, model, steps_of(operation))?;
     }
     Ok(())
 }
@@ -161,7 +200,27 @@ fn measure_queries<L: Look>(
     Ok(())
 }
 
-/// Builds the model, takes each batch, and asks each query.
+/// Takes each batch, asks each query, and undoes what the batches did.
+fn measure_round<M: Change>(
+    rt: &HostRuntime,
+    is_timed: bool,
+    meta: &Metamodel,
+    model: &mut M,
+    elements: u64,
+    asked: &[Id],
+) -> Result<()>
+    requires sound { Sound meta.now }
+    requires good { Good meta.now (M.state model.old) }
+    ensures { OnOk result (Good meta.now (M.state model.new)) }
+{
+    let done = measure_batches(rt, is_timed, meta, model, elements)?;
+    measure_queries(rt, is_timed, model, asked)?;
+    let reversals = reverse(rt.alloc(), &done)?;
+    take_all(meta, model, &reversals)?;
+    Ok(())
+}
+
+/// Builds the model, and measures each round.
 fn measure<M: Change>(
     rt: &HostRuntime,
     is_timed: bool,
@@ -173,9 +232,11 @@ fn measure<M: Change>(
     requires good { Good meta.now (M.state model.old) }
 {
     measure_building(rt, is_timed, meta, model, elements)?;
-    measure_batches(rt, is_timed, meta, model, elements)?;
     let asked = asked(rt.alloc(), elements)?;
-    measure_queries(rt, is_timed, model, asked.as_slice())
+    for _ in 0..ROUNDS {
+        measure_round(rt, is_timed, meta, model, elements, asked.as_slice())?;
+    }
+    Ok(())
 }
 
 fn measure_plain(rt: &HostRuntime, is_timed: bool, meta: &Metamodel, elements: u64) -> Result<()>
@@ -200,6 +261,9 @@ fn run(rt: &HostRuntime, words: &[String]) -> Result<()> {
     let Ok(elements) = elements.as_str().parse::<u32>() else {
         return Err(TimesFault::Usage.into());
     };
+    if elements < LEAST {
+        return Err(TimesFault::Usage.into());
+    }
     let meta = metamodel(rt.alloc())?;
     let is_timed = !rest.is_empty();
     match kind.as_str() {

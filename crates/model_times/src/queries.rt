@@ -1,6 +1,6 @@
 //! Queries of a model, each asked of the elements over which the batches are spread.
 
-use crate::batches::{COUNT, element, number_of};
+use crate::batches::{CITES, COUNT, INNER, LABEL, element, number_of};
 use crate::fault::TimesFault;
 use ecore_meta::List;
 use model_state::{Id, Look, Place};
@@ -52,24 +52,10 @@ fn yes(is_so: bool) -> usize {
 fn count_inside<L: Look>(alloc: Global, model: &L, e: &Id) -> Result<usize, TimesFault> {
     let place = Place::Inside {
         parent: e.copy(alloc)?,
-        feature: 5,
+        feature: INNER,
     };
     let list = model.children(alloc, &place)?;
     Ok(list.len())
-}
-
-/// How long the list is that a query of an element gives.
-fn count_list<L: Look>(
-    alloc: Global,
-    model: &L,
-    query: Query,
-    e: &Id,
-) -> Result<usize, TimesFault> {
-    match query {
-        Query::Targets => Ok(model.targets(alloc, e, 2)?.len()),
-        Query::Incoming => Ok(model.incoming(alloc, e)?.len()),
-        _ => count_inside(alloc, model, e),
-    }
 }
 
 /// A query of an element, and how much it found.
@@ -77,12 +63,14 @@ fn ask_one<L: Look>(alloc: Global, model: &L, query: Query, e: &Id) -> Result<us
     match query {
         Query::Class => Ok(yes(model.class(e).is_some())),
         Query::Placed => Ok(yes(model.placed(e).is_some())),
-        Query::Attr => Ok(model.attr(e, 1).len()),
-        Query::Row => Ok(yes(model.row(e, 2, e).is_some())),
-        Query::LastTarget => Ok(yes(model.last_target(e, 2).is_some())),
+        Query::Attr => Ok(model.attr(e, LABEL).len()),
+        Query::Row => Ok(yes(model.row(e, CITES, e).is_some())),
+        Query::LastTarget => Ok(yes(model.last_target(e, CITES).is_some())),
         Query::LastChild => Ok(yes(model.last_child(&Place::Root).is_some())),
         Query::ChildCount => Ok(model.child_count(&Place::Root)),
-        Query::Targets | Query::Incoming | Query::Children => count_list(alloc, model, query, e),
+        Query::Targets => Ok(model.targets(alloc, e, CITES)?.len()),
+        Query::Children => count_inside(alloc, model, e),
+        Query::Incoming => Ok(model.incoming(alloc, e)?.len()),
     }
 }
 
