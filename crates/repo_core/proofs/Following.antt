@@ -1,6 +1,7 @@
 -- What is recorded of an edit or of a document can be taken.
 use Rattle.std.proofs.Common.{◌≡◌, ℕ, List, [], ◌∷◌, true, Option, Some, is_some, Ok, ap, subst}
 use Rattle.ecore_meta.specs.Meta.{Meta}
+use Rattle.ecore_meta.specs.Promised.{IsMetamodel}
 use Rattle.model_state.specs.State.{State}
 use Rattle.model_state.specs.Steps.{fold}
 use Rattle.model_state.specs.declared.operation.Operation.{Operation}
@@ -31,8 +32,8 @@ recorded_follows meta sound m good ws edit r o is operation_is =
     one_follows meta m (after meta m leads.effect) o (subst (λ (x : Option Operation). fold meta m (steps_in x) ≡ Some (after meta m leads.effect)) operation_is leads.run)
 
 -- what is recorded of a document that was read can be taken
-pub imported_follows : (meta : Meta) → Sound meta → (m : State) → Good meta m → (ws : ℕ) (text : List ℕ) (rows : List DocRow) (o : Operation) → doc_of meta text ≡ Ok rows → Imports meta m ws rows (Ok (Some o))
+pub imported_follows : (meta : Meta) → IsMetamodel meta → (m : State) → Good meta m → (ws : ℕ) (text : List ℕ) (rows : List DocRow) (o : Operation) → doc_of meta text ≡ Ok rows → Imports meta m ws rows (Ok (Some o))
     → is_some (fold_package meta m (o ∷ [])) ≡ true
-imported_follows meta sound m good ws text rows o is imports =
-    let leads = imports_lead meta sound m good ws rows (documents_fit meta sound text rows is) imports.0 imports.1 (Some o) imports.2 in
+imported_follows meta promised m good ws text rows o is imports =
+    let leads = imports_lead meta promised.sound m good ws rows (documents_fit meta promised text rows is) imports.0 imports.1 (Some o) imports.2 in
     one_follows meta m (import_after m imports.0 rows) o leads.run

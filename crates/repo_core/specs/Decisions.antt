@@ -1,5 +1,5 @@
 -- A decision of the repository in memory, beside the plain repository's.
-use Rattle.std.specs.Prelude.{◌≡◌, ℕ, ◌<◌, ◌-◌, ◌^◌, List, length, Option, Some, None, IsTrue}
+use Rattle.std.specs.Prelude.{◌≡◌, ℕ, ◌<◌, ◌-◌, ◌^◌, List, length, Option, Some, None, IfSome, IsTrue}
 use Rattle.commit_journal.specs.Journal.{RecordFits}
 use Rattle.op_form.specs.declared.event.Event.{Event}
 use Rattle.op_form.specs.Events.{event_encoding}
@@ -31,5 +31,4 @@ CanMakeIt state (Some made) = CanMake state made
 
 -- the text of a block is shorter than the texts that a metamodel is read from may be
 abbrev pub IsShortBlock : Option (List ℕ) → Type 0
-IsShortBlock None = Unit {0}
-IsShortBlock (Some text) = length text < 2 ^ 32 - 1
+IsShortBlock block = IfSome block (λ text. length text < 2 ^ 32 - 1)

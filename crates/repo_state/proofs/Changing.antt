@@ -56,6 +56,10 @@ set_same [] i new d below is = absurd (omega arith)
 set_same (w ∷ ws) zero new d below is = ap (λ (x : Option Workspace). x ∷ map plain_any ws) is
 set_same (w ∷ ws) (suc i) new d below is = ap (λ (l : List (Option Workspace)). plain_any w ∷ l) (set_same ws i new d (omega arith) is)
 
+-- one set to what stands for the same
+pub set_at : (ws : List (Option Kept)) (i : ℕ) (old d new : Option Kept) → i < length ws → old ≡ get_or ws i d → plain_any new ≡ plain_any old → map plain_any (set ws i new) ≡ map plain_any ws
+set_at ws i old d new below old_is same = set_same ws i new d below (same ∙ ap plain_any old_is)
+
 -- each model that is kept fits, where the one that is set does
 pub fit_set : (b : Option Begun) (begun : Begun) (ws : List (Option Kept)) (i : ℕ) (w : Option Kept) → b ≡ Some begun → FitsAny begun.meta begun.history.history w → AllFit b ws → AllFit b (set ws i w)
 fit_set b begun ws i w is fits all = subst (λ (b : Option Begun). AllFit b (set ws i w)) (sym is) (All-set (FitsAny begun.meta begun.history.history) ws i w fits (subst (λ (b : Option Begun). AllFit b ws) is all))

@@ -16,7 +16,8 @@ use Rattle.plain_repository.specs.Events.{effect, playable_with}
 use Rattle.plain_repository.proofs.Kept.{event_kept, same_meta}
 use Rattle.repo_state.specs.declared.repo.Begun.{Begun}
 use Rattle.repo_state.specs.declared.workspace.Workspace.{Workspace as Kept}
-use Rattle.repo_state.specs.Keeping.{AllFit, ModelFits, FitsAny, history_of, meta_of, plain_any, plain_of}
+use Rattle.std.specs.List.{Contains}
+use Rattle.repo_state.specs.Keeping.{AllFit, KeepersAmong, ModelFits, FitsAny, history_of, keeps_model, meta_of, plain_any, plain_of}
 use Rattle.repo_state.proofs.Changing.{at_is, below_is, fit_at, held, none_fits, set_same}
 
 -- ---- what a call gives by its result
@@ -79,6 +80,12 @@ number_set change b ws events end s k i d new view number below is =
     ∙ ap (λ (t : State). record t { workspaces = changed_at change t.workspaces i }) view
     ∙ ap (λ (n : ℕ). record s { workspaces = changed_by_number change s.workspaces n }) (sym number)
 
+-- what is at a place that is there, whatever would stand for none
+any_default : (ws : List (Option Kept)) (i : ℕ) (d e : Option Kept) → i < length ws → get_or ws i d ≡ get_or ws i e
+any_default [] i d e below = absurd (omega arith)
+any_default (w ∷ ws) zero d e below = refl
+any_default (w ∷ ws) (suc i) d e below = any_default ws i d e (omega arith)
+
 module _ {b : Option Begun} {ws : List (Option Kept)} {events end : ℕ} {s : State} {k i : ℕ} {d : Option Kept} {w : Kept} (p : Placed b ws events end s k i d w) where
   within : i < length ws
   within = below_is s ws i (ap (λ (s : State). s.workspaces) p.view) p.below
@@ -92,6 +99,10 @@ module _ {b : Option Begun} {ws : List (Option Kept)} {events end : ℕ} {s : St
 
   pub placed_there : workspace_of s k ≡ Some (plain_of w)
   placed_there = at_is s ws k i (Some w) d (ap (λ (s : State). s.workspaces) p.view) p.number p.below (sym p.at)
+
+  -- it has its place among those used last where it kept its model
+  pub keeper_before : (places : List ℕ) → KeepersAmong places ws → keeps_model (Some w) ≡ true → Contains places i
+  keeper_before places all keeps = all i (ap keeps_model (any_default ws i None d within ∙ p.at) ∙ keeps)
 
   pub fit_before : (begun : Begun) → b ≡ Some begun → AllFit b ws → ModelFits begun.meta begun.history.history w
   fit_before begun is all = subst (FitsAny begun.meta begun.history.history) p.at (fit_at b begun ws i (get_or ws i d) d is within refl all)

@@ -1,11 +1,11 @@
 pub mod Caching
 pub mod Changing
 pub mod Could
-pub mod Counted
 pub mod Effects
 pub mod Folding
 pub mod Grown
 pub mod Initial
+pub mod Keepers
 pub mod Merges
 pub mod Models
 pub mod Ordered

@@ -1,12 +1,10 @@
 -- How much a repository holds.
-use Rattle.std.specs.Prelude.{◌≡◌, ℕ, ◌≤◌, ◌<◌, ◌^◌, Option, Some, None, is_some, length, count_by}
+use Rattle.std.specs.Prelude.{◌≡◌, ℕ, ◌<◌, ◌^◌, Option, Some, None, is_some, length, count_by}
 use Rattle.ecore_meta.specs.Meta.{Meta}
 use Rattle.model_state.specs.Listing.{ids}
 use Rattle.history_tree.specs.History.{head}
 use Rattle.history_tree.specs.States.{state_of}
 use Rattle.plain_repository.specs.State.{State}
-use Rattle.plain_repository.specs.Answers.{most_events}
-use Rattle.plain_repository.specs.Laws.{IsReached}
 use Rattle.repo_state.specs.declared.counting.Counts.{Counts}
 
 -- the workspaces that are there; those that were dropped are not counted
@@ -33,7 +31,3 @@ pub record AreCounts (s : State) (counts : Counts) : Type 0 where
   pub branches : counts.branches ≡ length s.history.branches
   pub tags : counts.tags ≡ length s.history.tags
   pub workspaces : live_workspaces s < 2 ^ 32 → counts.workspaces ≡ live_workspaces s
-
--- after any events that could be made there are no more workspaces than events, and no more of these than a journal has room for
-abbrev pub WorkspacesAreFew : Type 0
-WorkspacesAreFew = (s : State) → IsReached s → (live_workspaces s ≤ s.events) × (s.events ≤ most_events)

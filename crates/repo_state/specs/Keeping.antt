@@ -1,5 +1,6 @@
 -- A workspace in memory, and the model that it may keep beside what is recorded in it.
-use Rattle.std.specs.Prelude.{◌≡◌, List, All, Option, Some, None}
+use Rattle.std.specs.Prelude.{◌≡◌, ℕ, Bool, true, false, List, All, Option, Some, None, get_or, is_some}
+use Rattle.std.specs.List.{Contains}
 use Rattle.std.specs.Option.{option_map}
 use Rattle.ecore_meta.specs.Meta.{Meta}
 use Rattle.model_state.specs.Good.{Good}
@@ -46,3 +47,12 @@ history_of (Some begun) = begun.history.history
 abbrev pub AllFit : Option Begun → List (Option Workspace) → Type 0
 AllFit None workspaces = Unit {0}
 AllFit (Some begun) workspaces = All (FitsAny begun.meta begun.history.history) workspaces
+
+-- a workspace is there, and keeps its model
+abbrev pub keeps_model : Option Workspace → Bool
+keeps_model None = false
+keeps_model (Some w) = is_some w.model
+
+-- each workspace that keeps its model stands at one of these places
+abbrev pub KeepersAmong : List ℕ → List (Option Workspace) → Type 0
+KeepersAmong places workspaces = (at : ℕ) → keeps_model (get_or workspaces at None) ≡ true → Contains places at

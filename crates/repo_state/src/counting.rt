@@ -1,14 +1,10 @@
 //! What a repository holds, for those who look at it and send it no command.
 ghost use Rattle.std.specs.Prelude.{◌≡◌, ◌<◌, ◌^◌, IfOk, None, count_by, is_some};
-ghost use Rattle.std.specs.Option.{option_copied, option_map};
-ghost use Rattle.plain_repository.specs.State.{workspace_of};
 ghost use Rattle.version_states.specs.Cached.{MayUse, Uses};
 ghost use Rattle.repo_state.specs.Cached.{HasForms};
-ghost use Rattle.repo_state.specs.Counting.{AreCounts, element_count, live_workspaces, WorkspacesAreFew};
+ghost use Rattle.repo_state.specs.Counting.{AreCounts, element_count, live_workspaces};
 
 use crate::repo::Repo;
-use ecore_meta::Metamodel;
-use history_tree::History;
 use model_state::Look;
 use page_pool::Pool;
 use state_cache::Cache;
@@ -18,7 +14,7 @@ use std::alloc::{AllocError, Global};
 const TRUNK: u32 = 0;
 
 /// How many there are of each. Workspaces that were dropped are not counted.
-#[derive(Clone, Copy, Debug, PartialEq, Eq)]
+#[derive(Clone, Copy)]
 pub struct Counts {
     pub events: u32,
     pub versions: u32,
@@ -28,36 +24,6 @@ pub struct Counts {
 }
 
 impl Repo {
-    /// The metamodel, once there is one.
-    pub fn metamodel(&self) -> Option<&Metamodel>
-        ensures { option_copied result ≡ self.now.meta }
-    {
-        match &self.begun {
-            None => None,
-            Some(begun) => Some(&begun.meta),
-        }
-    }
-
-    /// The history, once there is a metamodel.
-    pub fn history(&self) -> Option<&History>
-        ensures { option_map (λ h. h.history) (option_copied result) ≡ option_map (λ _. self.now.history) self.now.meta }
-    {
-        match &self.begun {
-            None => None,
-            Some(begun) => Some(&begun.history),
-        }
-    }
-
-    /// The number of the branch that a workspace is on.
-    pub fn branch_of(&self, ws: u32) -> Option<u32>
-        ensures { result ≡ option_map (λ w. w.branch) (workspace_of self.now ws) }
-    {
-        match self.workspace(ws) {
-            None => None,
-            Some(workspace) => Some(workspace.branch),
-        }
-    }
-
     /// What there is of each.
     pub fn counts(&self) -> Counts
         ensures { AreCounts self.now result }
@@ -118,9 +84,3 @@ impl Repo {
         Ok(ids.len() as u64)
     }
 }
-
-/// The law of counts: after any events that could be made there are no more workspaces than events, whose number has
-/// 32 bits.
-pub fn law_of_counts()
-    ensures few { WorkspacesAreFew }
-{}

@@ -4,7 +4,6 @@
 mod counting;
 mod fault;
 mod growing;
-mod lists;
 mod making;
 mod merged;
 mod planning;
@@ -13,7 +12,7 @@ mod repo;
 mod versions;
 mod workspace;
 
-pub use counting::{Counts, law_of_counts};
+pub use counting::Counts;
 pub use fault::ReplayFault;
 pub use repo::{Begun, Repo};
 pub use workspace::{Composite, Workspace};

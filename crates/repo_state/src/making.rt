@@ -13,6 +13,7 @@ ghost use Rattle.repo_state.specs.Making.{LeadTo, can_take};
 ghost use Rattle.repo_state.specs.Working.{IsWorkingModel};
 
 use crate::fault::{ReplayFault, package_fault};
+use crate::recent::to_keep;
 use crate::repo::{Begun, Repo};
 use crate::workspace::Workspace;
 use ecore_json::{EcoreFault, read_metamodel};
@@ -117,7 +118,7 @@ impl Repo {
         }
         let mut model = self.take_model(alloc, cache, pool, ws)?;
         self.advance(ws, &mut model, &package)?;
-        self.install(alloc, ws, package, model)?;
+        self.install(ws, package, model)?;
         Ok(())
     }
 
@@ -139,14 +140,8 @@ impl Repo {
         }
     }
 
-    /// Records operations in a workspace, with the model after them.
-    fn install(
-        &mut self,
-        alloc: Global,
-        ws: u32,
-        package: Package,
-        model: Working,
-    ) -> Result<(), AllocError>
+    /// Records operations in a workspace, with the model after them, which it keeps where it is among those that used theirs last.
+    fn install(&mut self, ws: u32, package: Package, model: Working) -> Result<(), AllocError>
         requires there { is_some (workspace_of self.old ws) ≡ true }
         requires could { playable_with self.old self.old.meta (Edit ws «package») ≡ true }
         requires spelled { IsEvent (Edit ws «package») }
@@ -160,10 +155,11 @@ impl Repo {
         let Some(_begun) = &self.begun else {
             unreachable!()
         };
+        let kept = to_keep(&self.recent, at, model);
         let Some(workspace) = &mut self.workspaces[at] else {
             unreachable!()
         };
-        workspace.install(alloc, package, model)
+        workspace.install(package, kept)
     }
 
     /// Opens a composite of that name in a workspace.

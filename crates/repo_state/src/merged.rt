@@ -8,7 +8,6 @@ ghost use Rattle.plain_repository.specs.State.{with_changed, workspace_of};
 ghost use Rattle.repo_state.specs.Planning.{restarted, taken_up};
 
 use crate::fault::ReplayFault;
-use crate::lists::items_of;
 use crate::repo::Repo;
 use canoniser::{is_tidy, tidy};
 use ecore_meta::Text;
@@ -53,7 +52,7 @@ impl Repo {
         let list = tidy(alloc, &package, &begun.meta)?;
         Ok(Local {
             base: workspace.base,
-            operations: items_of(alloc, list)?,
+            operations: list.into_vec(),
         })
     }
 
@@ -81,7 +80,7 @@ impl Repo {
         let list = plan.update_list(alloc, &begun.meta, letters.as_str())?;
         Ok(Local {
             base: head,
-            operations: items_of(alloc, list)?,
+            operations: list.into_vec(),
         })
     }
 
@@ -138,7 +137,7 @@ impl Repo {
     }
 
     /// Further operations are added to a workspace, of a version that is merged.
-    fn take_up(&mut self, alloc: Global, ws: u32, merged: Merged) -> Result<(), AllocError>
+    fn take_up(&mut self, ws: u32, merged: Merged) -> Result<(), AllocError>
         requires there { is_some (workspace_of self.old ws) ≡ true }
         requires orderly { IsOrderly (with_changed (taken_up merged.more merged.version) ws self.old) }
         ensures done { OnOk result (self.new ≡ with_changed (taken_up merged.more merged.version) ws self.old) }
@@ -153,7 +152,7 @@ impl Repo {
         let Some(workspace) = &mut self.workspaces[at] else {
             unreachable!()
         };
-        workspace.take_up(alloc, merged)
+        workspace.take_up(merged)
     }
 
     /// Tidies a workspace.
@@ -200,7 +199,7 @@ impl Repo {
     {
         self.orderly();
         let merged = self.merged(alloc, ws, branch, letters)?;
-        self.take_up(alloc, ws, merged)?;
+        self.take_up(ws, merged)?;
         Ok(())
     }
 }

@@ -1,45 +1,59 @@
-//! Which workspaces' working models are held: those used last, 64 of them at most.
-ghost use Rattle.std.specs.Prelude.{◌≡◌};
+//! Which workspaces keep their working models: those that used theirs last.
+ghost use Rattle.std.specs.Prelude.{◌≡◌, ◌≢◌, ℕ, None, Some, IfSome, All, get_or, map, true, false};
+ghost use Rattle.std.specs.List.{Contains};
+ghost use Rattle.ecore_meta.specs.Meta.{Meta};
+ghost use Rattle.history_tree.specs.History.{History};
+ghost use Rattle.repo_state.specs.Keeping.{FitsAny, keeps_model, plain_any};
 
 use crate::repo::Repo;
+use crate::workspace::Workspace;
+use recently_used::Recent;
 use std::alloc::AllocError;
+use working_model::Working;
 
-/// The most working models that are held at once.
-const MOST_MODELS: usize = 64;
+/// A workspace, where it is there, doesn't keep its model any more.
+fn drop_model(place: &mut Option<Workspace>)
+    ensures same { plain_any place.new ≡ plain_any place.old }
+    ensures gone { keeps_model place.new ≡ false }
+{
+    if let Some(workspace) = place {
+        workspace.model = None;
+    }
+}
+
+/// The workspace at that place, where there is one, doesn't keep its model any more.
+fn forget(workspaces: &mut Vec<Option<Workspace>>, out: Option<usize>)
+    ensures same { map plain_any workspaces.new.items ≡ map plain_any workspaces.old.items }
+    ensures fits { (meta : Meta) (h : History) → All (FitsAny meta h) workspaces.old.items → All (FitsAny meta h) workspaces.new.items }
+    ensures gone { (at : ℕ) → keeps_model (get_or workspaces.new.items at None) ≡ true → (keeps_model (get_or workspaces.old.items at None) ≡ true) × (out ≢ Some at) }
+{
+    let Some(at) = out else {
+        return;
+    };
+    if at < workspaces.len() {
+        drop_model(&mut workspaces[at]);
+    }
+}
+
+/// The model, where the place is among those of the workspaces that used theirs last.
+pub(crate) fn to_keep(recent: &Recent, at: usize, model: Working) -> Option<Working>
+    ensures same { IfSome result (λ m. m ≡ model) }
+    ensures among { IfSome result (λ _. Contains recent.now at) }
+{
+    if recent.has(at) {
+        return Some(model);
+    }
+    None
+}
 
 impl Repo {
-    /// The model of a workspace is used now. Where more than 64 may be held, the one that was used least recently is dropped: it is made anew when it
-    /// is wanted again.
-    pub(crate) fn touch(&mut self, ws: u32) -> Result<(), AllocError>
+    /// The model of the workspace at a place is used now. Where one model more would be kept than may be, the workspace that used its own least recently
+    /// doesn't keep it: it is made anew when it is wanted again.
+    pub(crate) fn touch(&mut self, at: usize) -> Result<(), AllocError>
         ensures same { self.new ≡ self.old }
     {
-        if let Some(at) = self.recent.iter().position(|other| *other == ws) {
-            self.recent.remove(at);
-        }
-        if self.recent.push(ws).is_err() {
-            self.forget(ws);
-            return Err(AllocError);
-        }
-        if self.recent.len() > MOST_MODELS {
-            let old = self.recent.remove(0);
-            self.forget(old);
-        }
+        let out = self.recent.note(at)?;
+        forget(&mut self.workspaces, out);
         Ok(())
-    }
-
-    /// A workspace doesn't hold its model any more.
-    fn forget(&mut self, ws: u32)
-        ensures same { self.new ≡ self.old }
-    {
-        let Some(at) = self.place_of(ws) else {
-            return;
-        };
-        let Some(_begun) = &self.begun else {
-            return;
-        };
-        let Some(workspace) = &mut self.workspaces[at] else {
-            return;
-        };
-        workspace.forget_model();
     }
 }

@@ -9,11 +9,13 @@ ghost use Rattle.repo_state.specs.Cached.{HasForms};
 ghost use Rattle.repo_state.specs.Keeping.{plain_of};
 ghost use Rattle.repo_state.specs.Working.{IsWorkingModel};
 
+use crate::recent::to_keep;
 use crate::workspace::Workspace;
 use commit_journal::FIRST_GATE;
 use ecore_meta::Metamodel;
 use history_tree::History;
 use page_pool::Pool;
+use recently_used::Recent;
 use state_cache::Cache;
 use std::alloc::{AllocError, Global};
 use std::marker::Model;
@@ -29,12 +31,12 @@ pub struct Begun {
 }
 
 /// The metamodel and the history once there are such, the workspaces, and how much of the journal is used. Contracts see all but the models that
-/// workspaces keep, and which of these were used last.
+/// workspaces keep, and the places of the workspaces that used theirs last, 64 at most. Each that keeps its model is among these.
 #[derive(Drop)]
 pub struct Repo {
     pub(crate) begun: Option<Begun>,
     pub(crate) workspaces: Vec<Option<Workspace>>,
-    pub(crate) recent: Vec<u32>,
+    pub(crate) recent: Recent,
     pub(crate) events: u32,
     pub(crate) end: u64,
 }
@@ -43,13 +45,13 @@ impl Model for Repo {
     ghost use Rattle.std.specs.Prelude.{◌^◌, ◌≤◌, map};
     ghost use Rattle.plain_repository.specs.State.{State};
     ghost use Rattle.plain_repository.specs.Orderly.{IsOrderly};
-    ghost use Rattle.repo_state.specs.Keeping.{AllFit, meta_of, history_of, plain_any};
+    ghost use Rattle.repo_state.specs.Keeping.{AllFit, KeepersAmong, meta_of, history_of, plain_any};
 
     ghost Value = { State };
 
     ghost view = { λ r. record { meta = meta_of r.begun; history = history_of r.begun; workspaces = map plain_any r.workspaces.items; events = r.events; end = r.end } };
 
-    ghost invariant = { λ r. (r.end ≤ 2 ^ 40) × AllFit r.begun r.workspaces.items × IsOrderly (record { meta = meta_of r.begun; history = history_of r.begun; workspaces = map plain_any r.workspaces.items; events = r.events; end = r.end }) };
+    ghost invariant = { λ r. (r.end ≤ 2 ^ 40) × AllFit r.begun r.workspaces.items × IsOrderly (record { meta = meta_of r.begun; history = history_of r.begun; workspaces = map plain_any r.workspaces.items; events = r.events; end = r.end }) × KeepersAmong r.recent r.workspaces.items };
 }
 
 impl Repo {
@@ -60,7 +62,7 @@ impl Repo {
         Repo {
             begun: None,
             workspaces: Vec::new(alloc),
-            recent: Vec::new(alloc),
+            recent: Recent::new(alloc),
             events: 0,
             end: FIRST_GATE,
         }
@@ -165,7 +167,10 @@ impl Repo {
         ensures uses { Uses pool.old pool.new cache.old cache.new }
         ensures forms { HasForms self.old pool.new cache.new }
     {
-        self.touch(ws)?;
+        let Some(at) = self.place_of(ws) else {
+            unreachable!()
+        };
+        self.touch(at)?;
         self.model_out(alloc, cache, pool, ws)
     }
 
@@ -198,7 +203,7 @@ impl Repo {
         workspace.take_model(alloc, cache, pool, &begun.meta, &begun.history)
     }
 
-    /// The workspace keeps its working model.
+    /// The workspace keeps its working model, where it is among those that used theirs last.
     pub fn keep_model(&mut self, ws: u32, model: Working)
         requires there { is_some (workspace_of self.old ws) ≡ true }
         requires model { IsWorkingModel self.old ws model }
@@ -211,9 +216,10 @@ impl Repo {
             unreachable!()
         };
         begun.meta.sound();
+        let kept = to_keep(&self.recent, at, model);
         let Some(workspace) = &mut self.workspaces[at] else {
             unreachable!()
         };
-        workspace.keep_model(model);
+        workspace.keep_model(kept);
     }
 }

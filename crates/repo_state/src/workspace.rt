@@ -1,5 +1,5 @@
 //! A workspace in memory, which may keep its working model.
-ghost use Rattle.std.specs.Prelude.{◌≡◌, ◌≢◌, ◌<◌, ◌&&◌, ◌||◌, length, is_some, true, None, IfOk, IfSome, OnOk, OnErr, IfErr, Some};
+ghost use Rattle.std.specs.Prelude.{◌≡◌, ◌≢◌, ◌<◌, ◌++◌, length, is_some, true, None, IfOk, IfSome, OnOk, OnErr, IfErr, Some};
 ghost use Rattle.std.specs.Option.{option_copied};
 ghost use Rattle.ecore_meta.specs.Sound.{Sound};
 ghost use Rattle.model_state.specs.Good.{Good};
@@ -10,24 +10,22 @@ ghost use Rattle.plain_repository.specs.State.{model_of, folded, recorded_steps,
 ghost use Rattle.plain_repository.specs.Commits.{version_of, committed};
 ghost use Rattle.plain_repository.specs.Composites.{with_open, with_closed};
 ghost use Rattle.plain_repository.specs.Edits.{takes, with_more};
-ghost use Rattle.plain_repository.specs.Local.{can_discard, can_undo, without_any, without_last};
+ghost use Rattle.plain_repository.specs.Local.{can_undo, without_any, without_last};
 ghost use Rattle.state_form.specs.Spelled.{IsSpelled};
 ghost use Rattle.state_cache.specs.Entries.{stands};
 ghost use Rattle.version_states.specs.Cached.{AreForms, MayUse, Uses};
 ghost use Rattle.repo_state.specs.Keeping.{plain_of, ModelFits};
 ghost use Rattle.repo_state.specs.Planning.{restarted, taken_up};
 
-use crate::lists::{append, items_of, steps_out};
 use crate::merged::{Local, Merged};
 use ecore_meta::{List, Metamodel, Text};
 use history_tree::{History, Version};
 use model_state::{Operation, Package, Step, StepFault};
-use op_form::reverse_op;
 use page_pool::Pool;
 use state_cache::Cache;
 use std::alloc::{AllocError, Global};
 use std::mem::replace;
-use version_states::{follow, state_at, steps_in, take_steps};
+use version_states::{follow, state_at, steps_out, take_back, take_steps};
 use working_model::Working;
 
 /// A composite that is open: its name, and the steps recorded in it so far.
@@ -48,26 +46,13 @@ pub struct Workspace {
     pub(crate) model: Option<Working>,
 }
 
-/// The model before an operation, whose steps were the last taken; none when out of memory.
-fn take_back(
-    alloc: Global,
-    meta: &Metamodel,
-    model: Working,
-    operation: &Operation,
-) -> Option<Working>
-    requires sound { Sound meta.now }
-    requires good { Good meta.now model }
-    ensures back { IfSome result (λ m. fold meta.now model (steps_of (rev_op operation.now)) ≡ Some m) }
-    ensures good { IfSome result (λ m. Good meta.now m) }
+/// Moves the items of a list after others. When out of memory the others stay as they are.
+fn append<T: Drop>(items: &mut Vec<T>, more: List<T>) -> Result<(), AllocError>
+    ensures more { OnOk result (items.new.items ≡ items.old.items ++ more) }
+    ensures same { OnErr result (items.new.items ≡ items.old.items) }
 {
-    let Ok(reversal) = reverse_op(alloc, operation) else {
-        return None;
-    };
-    let mut model = model;
-    match model.replay(meta, steps_in(&reversal)) {
-        Ok(()) => Some(model),
-        Err(_) => None,
-    }
+    let mut more = more.into_vec();
+    items.append(&mut more)
 }
 
 impl Workspace {
@@ -121,13 +106,6 @@ impl Workspace {
         self.composite.is_some()
     }
 
-    /// Whether there is something to discard.
-    pub fn is_touched(&self) -> bool
-        ensures { result ≡ can_discard (Some (plain_of self.now)) }
-    {
-        self.is_open() || self.has_local()
-    }
-
     /// The working model, taken out of the workspace, or made anew where it is not kept.
     #[tactic(auto, using(version_states::proofs::Caching::uses_none))]
     pub(crate) fn take_model(
@@ -160,34 +138,33 @@ impl Workspace {
     }
 
     /// Operations are added after the others, or the steps of one join the composite that is open. When out of memory the workspace stays as it is, but for
-    /// its model, which is given: the one after the operations.
+    /// its model, which is given, if it is kept: the one after the operations.
     pub(crate) fn install(
         &mut self,
-        alloc: Global,
         package: Package,
-        model: Working,
+        model: Option<Working>,
     ) -> Result<(), AllocError>
         requires takes { takes (plain_of self.old).composite «package» ≡ true }
         ensures more { OnOk result (plain_of self.new ≡ with_more «package» (plain_of self.old)) }
-        ensures kept { OnOk result (self.new.model ≡ Some model) }
+        ensures kept { OnOk result (self.new.model ≡ model) }
         ensures same { OnErr result (plain_of self.new ≡ plain_of self.old) }
         ensures gone { OnErr result (self.new.model ≡ None) }
     {
         self.model = None;
-        self.push_all(alloc, package)?;
-        self.model = Some(model);
+        self.push_all(package)?;
+        self.model = model;
         Ok(())
     }
 
-    fn push_all(&mut self, alloc: Global, package: Package) -> Result<(), AllocError>
+    fn push_all(&mut self, package: Package) -> Result<(), AllocError>
         requires takes { takes (plain_of self.old).composite «package» ≡ true }
         ensures more { OnOk result (plain_of self.new ≡ with_more «package» (plain_of self.old)) }
         ensures same { OnErr result (plain_of self.new ≡ plain_of self.old) }
         ensures model { self.new.model ≡ self.old.model }
     {
         match &mut self.composite {
-            None => append(alloc, &mut self.operations, package),
-            Some(composite) => append(alloc, &mut composite.steps, steps_out(package)),
+            None => append(&mut self.operations, package),
+            Some(composite) => append(&mut composite.steps, steps_out(package)),
         }
     }
 
@@ -229,6 +206,7 @@ impl Workspace {
         requires fits { ModelFits meta.now _history.now.history self.old }
         ensures undone { plain_of self.new ≡ without_last (plain_of self.old) }
         ensures fits { ModelFits meta.now _history.now.history self.new }
+        ensures kept { is_some self.new.model ≡ true → is_some self.old.model ≡ true }
     {
         let Some(operation) = self.operations.pop() else {
             unreachable!()
@@ -279,13 +257,13 @@ impl Workspace {
 
     /// Takes further operations after the others, of a version that is pending from now on. The model is not kept. When out of memory nothing
     /// else changes.
-    pub(crate) fn take_up(&mut self, alloc: Global, merged: Merged) -> Result<(), AllocError>
+    pub(crate) fn take_up(&mut self, merged: Merged) -> Result<(), AllocError>
         ensures taken { OnOk result (plain_of self.new ≡ taken_up merged.more merged.version (plain_of self.old)) }
         ensures same { OnErr result (plain_of self.new ≡ plain_of self.old) }
         ensures gone { self.new.model ≡ None }
     {
         self.model = None;
-        let mut more = items_of(alloc, merged.more)?;
+        let mut more = merged.more.into_vec();
         self.pending.push(merged.version)?;
         match self.operations.append(&mut more) {
             Ok(()) => Ok(()),
@@ -296,20 +274,12 @@ impl Workspace {
         }
     }
 
-    /// The workspace keeps a model.
-    pub(crate) fn keep_model(&mut self, model: Working)
+    /// The workspace keeps this model, or none.
+    pub(crate) fn keep_model(&mut self, model: Option<Working>)
         ensures same { plain_of self.new ≡ plain_of self.old }
-        ensures kept { self.new.model ≡ Some model }
+        ensures kept { self.new.model ≡ model }
     {
-        self.model = Some(model);
-    }
-
-    /// The workspace doesn't keep its model any more.
-    pub(crate) fn forget_model(&mut self)
-        ensures same { plain_of self.new ≡ plain_of self.old }
-        ensures gone { self.new.model ≡ None }
-    {
-        self.model = None;
+        self.model = model;
     }
 
     /// The working model, made anew.

@@ -1,13 +1,15 @@
 -- What calls leave of a pool and of a cache of states.
-use Rattle.std.proofs.Common.{◌≡◌, ◌≢◌, ℕ, ◌<◌, Bool, true, false, List, [], ◌∷◌, ◌++◌, length, Option, Some, None, is_some, Result, Ok, Err, refl, sym, ◌∙◌, ap, subst, arith}
+use Rattle.std.proofs.Common.{◌≡◌, ◌≢◌, ℕ, ◌<◌, Bool, true, false, List, [], ◌∷◌, ◌++◌, length, reverse, Option, Some, None, is_some, Result, Ok, Err, refl, sym, ◌∙◌, ap, subst, arith}
 use Rattle.std.specs.Prelude.{All, nat_eq, unwrap_or}
 use Rattle.std.specs.Map.{lookup}
-use Rattle.std.proofs.lemmas.List.Elements.{All-from_recursion, recursion_from_All}
+use Rattle.std.specs.Option.{option_map}
+use Rattle.std.proofs.lemmas.Grind.{reverse_onto}
+use Rattle.std.proofs.lemmas.List.Elements.{All-append, All-cons, All-from_recursion, All-head, All-nil, All-tail, recursion_from_All}
 use Rattle.lru.specs.LruCache.{promoted}
 use Rattle.page_pool.specs.Frames.{Frames, SameFrames}
-use Rattle.page_pool.specs.Paged.{IsAmong}
+use Rattle.page_pool.specs.Paged.{IsAmong, PagedState, content}
 use Rattle.state_cache.specs.Entries.{Entries, IsCached, IsStored, held, stands}
-use Rattle.state_cache.proofs.Listed.{promoted_within}
+use Rattle.state_cache.proofs.Listed.{lookup_stands, promoted_none, promoted_within}
 use Rattle.state_cache.proofs.Standing.{all_stored, stands_alike}
 use Rattle.std.specs.Bool.{OnTrue, OnFalse}
 use Rattle.ecore_meta.specs.Meta.{Meta}
@@ -52,6 +54,19 @@ uses_found pool v old new is cached out same = record {
   apart = λ k bytes not at. (λ among. not (promoted_within (nat_eq v) pool old (lookup (nat_eq v) old) refl cached k (subst (λ (es : Entries). IsAmong k (held es)) is among)), at);
   count = omega (arith, same);
 }
+
+-- where nothing is found all entries stay as they are
+pub absent_same : (pool : Frames) (v : ℕ) (old new : Entries) → lookup (nat_eq v) (stands pool old) ≡ None → new ≡ promoted (nat_eq v) old → new ≡ old
+absent_same pool v old new none is = is ∙ promoted_none (nat_eq v) old (by (lookup (nat_eq v) old) (sym (lookup_stands (nat_eq v) pool old) ∙ none))
+  where
+    by : (o : Option PagedState) → option_map (λ p. content pool p) o ≡ None → o ≡ None
+    by None is = refl
+    by (Some p) is = absurd cc
+
+-- ---- lists
+pub all_reversed : (P : ℕ → Type 0) (xs : List ℕ) → All P xs → All P (reverse xs)
+all_reversed P [] all = all
+all_reversed P (x ∷ xs) all = subst (All P) (sym (reverse_onto xs x [])) (All-append P (reverse xs) (x ∷ []) (all_reversed P xs (All-tail P x xs all)) (All-cons P x [] (All-head P x xs all) (All-nil P)))
 
 -- ---- what entries are
 again : PackagesAreReadAgain

@@ -1,5 +1,5 @@
 //! States of versions in a cache, each as the bytes of a package that leads to it.
-ghost use Rattle.std.specs.Prelude.{◌≡◌, ◌<◌, All, IfNone, IfOk, IfSome, None, OnOk, Some, is_some, length, nat_eq, true};
+ghost use Rattle.std.specs.Prelude.{◌≡◌, ◌≢◌, ◌<◌, All, IfNone, IfOk, IfSome, None, OnOk, Some, is_some, length, nat_eq, true};
 ghost use Rattle.std.specs.Map.{lookup};
 ghost use Rattle.ecore_meta.specs.Sound.{Sound};
 ghost use Rattle.model_state.specs.Good.{Good};
@@ -65,6 +65,7 @@ pub(crate) fn cached_state(
     ensures good { IfOk result (λ found. IfSome found (λ m. Good meta.now m)) }
     ensures first { IfOk result (λ found. IfSome found (λ _. IsFirst v cache.new)) }
     ensures none { IfOk result (λ found. IfNone found (lookup (nat_eq v) (stands pool.now cache.old) ≡ None)) }
+    ensures same { IfOk result (λ found. IfNone found (cache.new ≡ cache.old)) }
     ensures uses { Uses pool.now pool.now cache.old cache.new }
     ensures forms { AreForms (Some meta.now) history.now.history (stands pool.now cache.new) }
 {
@@ -78,7 +79,7 @@ pub(crate) fn cached_state(
 }
 
 /// The versions at the end of a version's path that have no entry, and the state before them: that of the last version before it that has one, else
-/// the empty project.
+/// the empty project. Whether the version itself has an entry is not looked up again.
 pub(crate) fn nearest(
     alloc: Global,
     cache: &mut Cache,
@@ -95,6 +96,8 @@ pub(crate) fn nearest(
     ensures leads { IfOk result (λ r. state_folded meta.now history.now.history v ≡ fold_package meta.now r.1 (operations_of history.now.history.versions r.0.items)) }
     ensures good { IfOk result (λ r. Good meta.now r.1) }
     ensures there { IfOk result (λ r. All (λ u. u < length history.now.history.versions) r.0.items) }
+    // So no more steps are taken than there are after the last version that has an entry.
+    ensures missing { IfOk result (λ r. All (λ u. u ≢ v → lookup (nat_eq u) (stands pool.now cache.old) ≡ None) r.0.items) }
     ensures uses { Uses pool.now pool.now cache.old cache.new }
     ensures forms { AreForms (Some meta.now) history.now.history (stands pool.now cache.new) }
 {

@@ -1,7 +1,7 @@
-//! The state of a version: made from the nearest one before it that a cache has, and kept there.
+//! The state of a version: made from the nearest one before it that a cache has, and kept there. Steps taken, and taken back.
 #![tactic(auto)]
 
 mod cached;
 mod states;
 
-pub use states::{follow, state_at, steps_in, stop_in, take_steps};
+pub use states::{follow, state_at, steps_in, steps_out, stop_in, take_back, take_steps};

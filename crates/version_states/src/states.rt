@@ -1,9 +1,9 @@
 //! Steps and operations taken one by one, and the state of a version.
-ghost use Rattle.std.specs.Prelude.{◌≡◌, ◌≢◌, ◌<◌, ◌^◌, All, length, is_some, option_map, true, None, Some, IfOk, OnOk, IfErr};
+ghost use Rattle.std.specs.Prelude.{◌≡◌, ◌≢◌, ◌<◌, ◌^◌, All, length, is_some, option_map, true, None, Some, IfOk, IfSome, OnOk, IfErr};
 ghost use Rattle.ecore_meta.specs.Sound.{Sound};
 ghost use Rattle.model_state.specs.Faults.{IsFault};
 ghost use Rattle.model_state.specs.Good.{Good};
-ghost use Rattle.model_state.specs.Packages.{fold_package, steps_all, steps_of};
+ghost use Rattle.model_state.specs.Packages.{fold_package, rev_op, steps_all, steps_of};
 ghost use Rattle.model_state.specs.Steps.{fault_along, first_stop, fold};
 ghost use Rattle.history_tree.specs.States.{operations_of, state_folded, state_of};
 ghost use Rattle.state_form.specs.Spelled.{IsSpelled};
@@ -11,9 +11,10 @@ ghost use Rattle.state_cache.specs.Entries.{stands};
 ghost use Rattle.version_states.specs.Cached.{AreForms, LeavesFirst, MayUse, Uses};
 
 use crate::cached::{cached_state, keep_state, nearest};
-use ecore_meta::Metamodel;
+use ecore_meta::{List, Metamodel};
 use history_tree::History;
-use model_state::{Operation, Step, StepFault};
+use model_state::{Operation, Package, Step, StepFault};
+use op_form::reverse_op;
 use page_pool::Pool;
 use state_cache::Cache;
 use std::alloc::{AllocError, Global};
@@ -26,6 +27,19 @@ pub fn steps_in(operation: &Operation) -> &[Step]
     match operation {
         Operation::Simple { steps, .. } => steps.as_slice(),
         Operation::Composite { steps, .. } => steps.as_slice(),
+    }
+}
+
+/// The steps of the one operation of a package.
+pub fn steps_out(package: Package) -> List<Step>
+    requires one { length «package» ≡ 1 }
+    ensures { result ≡ steps_all «package» }
+{
+    let mut package = package;
+    match package.pop() {
+        Some(Operation::Simple { steps, .. }) => steps,
+        Some(Operation::Composite { steps, .. }) => steps,
+        None => unreachable!(),
     }
 }
 
@@ -59,6 +73,28 @@ pub fn follow(
         take_steps(model, meta, steps_in(operation))?;
     }
     Ok(())
+}
+
+/// The model before an operation, whose steps were the last taken; none when out of memory.
+pub fn take_back(
+    alloc: Global,
+    meta: &Metamodel,
+    model: Working,
+    operation: &Operation,
+) -> Option<Working>
+    requires sound { Sound meta.now }
+    requires good { Good meta.now model }
+    ensures back { IfSome result (λ m. fold meta.now model (steps_of (rev_op operation.now)) ≡ Some m) }
+    ensures good { IfSome result (λ m. Good meta.now m) }
+{
+    let Ok(reversal) = reverse_op(alloc, operation) else {
+        return None;
+    };
+    let mut model = model;
+    match model.replay(meta, steps_in(&reversal)) {
+        Ok(()) => Some(model),
+        Err(_) => None,
+    }
 }
 
 /// The number, from 0 over all operations, of the first step that can't be taken, None where each can. The steps before it are taken on the model.

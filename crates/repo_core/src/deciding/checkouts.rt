@@ -43,10 +43,7 @@ pub(crate) fn decide_checkout(
         Err(fault) => return Ok(refuse(alloc, unknown(fault))),
     };
     let lines = text_of(alloc, cache, pool, repo, begun, found.version)?;
-    let made = repo.made_workspaces() as u64;
-    let Some(number) = made.checked_add(1) else {
-        return Err(AllocError);
-    };
+    let number = repo.made_workspaces() as u128 + 1;
     let branch = begun.history.branch_name(found.branch);
     let mut words = String::new(alloc);
     write!(words, "{} {} {}", number, found.version, branch)?;

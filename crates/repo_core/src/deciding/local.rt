@@ -46,7 +46,7 @@ pub(crate) fn decide_discard(alloc: Global, repo: &Repo, ws: u32) -> Result<Deci
         return Ok(refuse(alloc, Refusal::NoWorkspace));
     };
     let words = Text::new(alloc, "")?;
-    if !workspace.is_touched() {
+    if !workspace.is_open() && !workspace.has_local() {
         return Ok(tell(List::new(alloc), words));
     }
     with_room(alloc, repo, List::new(alloc), words, Event::Discard { ws })

@@ -121,7 +121,7 @@ pub(crate) fn decide_import(
         Err(ModelFault::Memory) => return Err(AllocError),
         Err(fault) => return Ok(refuse(alloc, Refusal::BadModel { n: fault.number() })),
     };
-    begun.meta.sound();
+    begun.meta.promised();
     let operation = match import_doc(alloc, model, &begun.meta, ws, &doc) {
         Ok(operation) => operation,
         Err(fault) => match refusal_of(fault) {

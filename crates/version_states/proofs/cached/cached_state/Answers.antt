@@ -3,7 +3,7 @@ use Rattle.std.specs.Map.{lookup}
 use Rattle.state_cache.specs.Entries.{stands}
 use Rattle.state_cache.proofs.Standing.{all_found, all_promoted, found_first}
 use Rattle.version_states.specs.Cached.{IsVersionForm}
-use Rattle.version_states.proofs.Caching.{uses_found}
+use Rattle.version_states.proofs.Caching.{absent_same, uses_found}
 use Rattle.version_states.proofs.cached.cached_state.Goals as goal
 
 pub read_state-requires-clause-form : goal.read_state-requires-clause-form
@@ -26,6 +26,9 @@ returns-in-None-clause-forms c = all_promoted (IsVersionForm c.args.meta.now c.a
 
 pub returns-in-None-clause-none : goal.returns-in-None-clause-none
 returns-in-None-clause-none c = sym (rw c.in-None.is at c.in_ok-lookup.ensures.found)
+
+pub returns-in-None-clause-same : goal.returns-in-None-clause-same
+returns-in-None-clause-same c = absent_same c.args.pool.now c.args.v c.args.cache.now c.lookup.new.self (sym (rw c.in-None.is at c.in_ok-lookup.ensures.found)) c.in_ok-lookup.ensures.first
 
 pub returns-in_ok-model-in-Some-clause-first : goal.returns-in_ok-model-in-Some-clause-first
 returns-in_ok-model-in-Some-clause-first c =

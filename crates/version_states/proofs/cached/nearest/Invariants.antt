@@ -1,6 +1,8 @@
--- the path of the version is that of the parent of the last one found, and then what was found
-use Rattle.std.proofs.Common.{◌≡◌, ◌<◌, ◌++◌, length, reverse, Some}
-use Rattle.std.specs.Prelude.{slice_get}
+-- the path of the version is that of the parent of the last one found, and then what was found; but for the version itself none of
+-- these has an entry
+use Rattle.std.proofs.Common.{◌≡◌, ◌≢◌, ◌<◌, ◌++◌, length, reverse, Some, None}
+use Rattle.std.specs.Prelude.{All, nat_eq, slice_get}
+use Rattle.std.specs.Map.{lookup}
 use Rattle.state_cache.specs.Entries.{stands}
 use Rattle.history_tree.specs.declared.version.Version.{Version}
 use Rattle.history_tree.specs.History.{path}
@@ -12,6 +14,8 @@ abbrev pub invariant-loop-parent : goal.invariant-loop-parent
 invariant-loop-parent l = record {
   there : l.at < length l.history.history.versions;
   found : (version : Version) → slice_get l.history.history.versions l.at ≡ Some version → path l.history.history l.v ≡ path_of_parent l.history.history version.parent ++ reverse l.back.items;
+  same : l.cache ≡ l.fn.cache;
+  missing : All (λ u. u ≢ l.v → lookup (nat_eq u) (stands l.pool l.fn.cache) ≡ None) l.back.items;
   uses : Uses l.pool l.pool l.fn.cache l.cache;
   forms : AreForms (Some l.meta) l.history.history (stands l.pool l.cache);
 }

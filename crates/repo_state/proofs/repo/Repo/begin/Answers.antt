@@ -11,4 +11,5 @@ invariant_of-self c =
       c.self.invariant.0,
       begin_fit c.self.inside.begun c.self.inside.workspaces.items c.self.inside.events c.self.inside.end c.args.self.now c.args.text.now c.in_ok-begun.begun c.self.view_is none orderly c.in_ok-begun.ensures.meta c.in_ok-begun.ensures.history,
       begin_orderly c.self.inside.begun c.self.inside.workspaces.items c.self.inside.events c.self.inside.end c.args.self.now c.args.text.now c.in_ok-begun.begun c.self.view_is none orderly c.in_ok-begun.ensures.meta c.in_ok-begun.ensures.history c.requires.spelled,
+      c.self.invariant.3,
     )

@@ -1,9 +1,10 @@
-use Rattle.std.proofs.Common.{subst}
+use Rattle.std.proofs.Common.{Some, subst}
 use Rattle.op_form.specs.declared.event.Event.TheVariants.{Branch}
 use Rattle.plain_repository.specs.Orderly.{IsOrderly}
 use Rattle.repo_state.specs.Keeping.{plain_of}
-use Rattle.repo_state.proofs.Effects.{begun_is, both_err, both_ok, either, either_orderly, history_is, on_err, on_ok, placed, placed_there}
+use Rattle.repo_state.proofs.Effects.{begun_is, both_err, both_ok, either, either_orderly, history_is, keeper_before, on_err, on_ok, placed, placed_there}
 use Rattle.repo_state.proofs.Grown.{branch_done, branch_fit, branch_new, grown_same, grown_same_fit, stands_in}
+use Rattle.repo_state.proofs.Keepers.{keepers_set, same_keeps}
 use Rattle.repo_state.proofs.repo.Repo.branch.Goals as goal
 
 pub branch-begun-requires-clause-base : goal.branch-begun-requires-clause-base
@@ -45,6 +46,7 @@ invariant_of-self c =
       c.self.invariant.0,
       either r made not_made (λ is. branch_fit c.self.inside.begun begun new c.self.inside.workspaces.items c.self.inside.events c.self.inside.end s c.self.view_is c.in-Some-begun.is c.branch-begun.ensures.meta orderly c.self.invariant.1 p w' c.branch-begun.ensures.model c.args.name is.0 is.1) (λ is. grown_same_fit c.self.inside.begun begun new c.self.inside.workspaces.items c.self.inside.events c.self.inside.end s c.self.view_is c.in-Some-begun.is c.branch-begun.ensures.meta orderly c.self.invariant.1 p w' c.branch-begun.ensures.model is.0 is.1),
       either_orderly r s _ begun.meta (Branch c.args.ws c.args.name) is_begun c.requires.could c.requires.spelled orderly done same,
+      keepers_set c.self.inside.recent c.self.inside.workspaces.items c.in-Some.at (Some w') (λ keeps. keeper_before p c.self.inside.recent c.self.invariant.3 (same_keeps w w' c.branch-begun.ensures.model keeps)) c.self.invariant.3,
     )
 
 pub returns : goal.returns

@@ -4,6 +4,7 @@ use Rattle.plain_repository.specs.State.{State}
 use Rattle.plain_repository.specs.Orderly.{IsOrderly}
 use Rattle.repo_state.specs.Keeping.{meta_of}
 use Rattle.repo_state.proofs.Effects.{pushed_fit, pushed_order}
+use Rattle.repo_state.proofs.Keepers.{keepers_pushed}
 use Rattle.repo_state.proofs.repo.Repo.check_out.Goals as goal
 
 abbrev meta_in : State → Option Meta
@@ -18,4 +19,5 @@ invariant_of-self c =
       pushed_fit c.self.inside.begun c.self.inside.workspaces.items c.push.new.self.items c.new.result (is_ok c.push.result) c.new.ensures.model c.push.ensures.items c.self.invariant.1,
       pushed_order c.self.inside.begun c.self.inside.workspaces.items c.push.new.self.items c.self.inside.events c.self.inside.end s meta c.new.result (is_ok c.push.result) c.args.version c.args.branch c.self.view_is is_begun
           c.requires.could c.requires.spelled (subst IsOrderly c.self.view_is c.self.invariant.2) c.new.ensures.untouched c.push.ensures.items,
+      keepers_pushed c.self.inside.recent c.self.inside.workspaces.items c.push.new.self.items c.new.result (is_ok c.push.result) c.new.ensures.model c.push.ensures.items c.self.invariant.3,
     )

@@ -5,8 +5,9 @@ use Rattle.plain_repository.specs.Composites.{with_closed}
 use Rattle.plain_repository.specs.State.{folded}
 use Rattle.repo_state.specs.Keeping.{plain_of}
 use Rattle.repo_state.proofs.Changing.{fit_set}
-use Rattle.repo_state.proofs.Effects.{begun_is, changed_view, either, either_orderly, fit_before, on_err, on_ok, placed, unchanged_view}
+use Rattle.repo_state.proofs.Effects.{begun_is, changed_view, either, either_orderly, fit_before, keeper_before, on_err, on_ok, placed, unchanged_view}
 use Rattle.repo_state.proofs.Models.{closed_folded, fits_same}
+use Rattle.repo_state.proofs.Keepers.{keepers_set, same_keeps}
 use Rattle.repo_state.proofs.repo.Repo.close_composite.Goals as goal
 
 pub invariant_of-self : goal.invariant_of-self
@@ -25,6 +26,7 @@ invariant_of-self c =
       either_orderly c.close_composite.result s _ begun.meta (End c.args.ws) is_begun c.requires.could c.requires.spelled (subst IsOrderly c.self.view_is c.self.invariant.2)
           (on_ok c.close_composite.result (changed_view p with_closed new) c.close_composite.ensures.closed)
           (on_err c.close_composite.result (unchanged_view p new) c.close_composite.ensures.same),
+      keepers_set c.self.inside.recent c.self.inside.workspaces.items c.in-Some.at (Some new) (λ keeps. keeper_before p c.self.inside.recent c.self.invariant.3 (same_keeps w new c.close_composite.ensures.model keeps)) c.self.invariant.3,
     )
 
 pub returns : goal.returns

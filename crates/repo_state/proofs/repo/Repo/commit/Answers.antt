@@ -1,9 +1,10 @@
-use Rattle.std.proofs.Common.{subst}
+use Rattle.std.proofs.Common.{Some, subst}
 use Rattle.op_form.specs.declared.event.Event.TheVariants.{Commit}
 use Rattle.plain_repository.specs.Orderly.{IsOrderly}
 use Rattle.repo_state.specs.Keeping.{plain_of}
-use Rattle.repo_state.proofs.Effects.{begun_is, both_err, both_ok, either, either_orderly, history_is, on_err, on_ok, placed, placed_there}
+use Rattle.repo_state.proofs.Effects.{begun_is, both_err, both_ok, either, either_orderly, history_is, keeper_before, on_err, on_ok, placed, placed_there}
 use Rattle.repo_state.proofs.Grown.{commit_at_head, commit_done, commit_fit, grown_same, grown_same_fit, stands_in}
+use Rattle.repo_state.proofs.Keepers.{keepers_set, same_keeps}
 use Rattle.repo_state.proofs.repo.Repo.commit.Goals as goal
 
 pub commit-requires-clause-branch : goal.commit-requires-clause-branch
@@ -55,6 +56,7 @@ invariant_of-self c =
       c.self.invariant.0,
       either r made not_made (λ is. commit_fit c.self.inside.begun begun new c.self.inside.workspaces.items c.self.inside.events c.self.inside.end s c.self.view_is c.in-Some-begun.is c.commit.ensures.meta orderly c.self.invariant.1 p w' c.commit.ensures.model c.args.message c.requires.could is.0 is.1) (λ is. grown_same_fit c.self.inside.begun begun new c.self.inside.workspaces.items c.self.inside.events c.self.inside.end s c.self.view_is c.in-Some-begun.is c.commit.ensures.meta orderly c.self.invariant.1 p w' c.commit.ensures.model is.0 is.1),
       either_orderly r s _ begun.meta (Commit c.args.ws c.args.message) is_begun c.requires.could c.requires.spelled orderly done same,
+      keepers_set c.self.inside.recent c.self.inside.workspaces.items c.in-Some.at (Some w') (λ keeps. keeper_before p c.self.inside.recent c.self.invariant.3 (same_keeps w w' c.commit.ensures.model keeps)) c.self.invariant.3,
     )
 
 pub returns : goal.returns

@@ -4,6 +4,7 @@ use Rattle.op_form.specs.declared.event.Event.TheVariants.{Discard}
 use Rattle.plain_repository.specs.Local.{without_any}
 use Rattle.repo_state.proofs.Changing.{fit_set, none_fits}
 use Rattle.repo_state.proofs.Effects.{begun_is, changed_view, effect_orderly, placed}
+use Rattle.repo_state.proofs.Keepers.{keepers_set, none_keeps}
 use Rattle.repo_state.proofs.repo.Repo.discard.Goals as goal
 
 pub invariant_of-self : goal.invariant_of-self
@@ -18,6 +19,7 @@ invariant_of-self c =
       c.self.invariant.0,
       fit_set c.self.inside.begun begun c.self.inside.workspaces.items c.in-Some.at (Some new) c.in-Some-begun.is fits c.self.invariant.1,
       effect_orderly s _ begun.meta (Discard c.args.ws) is_begun c.requires.could c.requires.spelled (subst IsOrderly c.self.view_is c.self.invariant.2) (changed_view p without_any new c.discard.ensures.discarded),
+      keepers_set c.self.inside.recent c.self.inside.workspaces.items c.in-Some.at (Some new) (none_keeps new _ c.discard.ensures.gone) c.self.invariant.3,
     )
 
 pub returns : goal.returns

@@ -1,8 +1,9 @@
-use Rattle.std.proofs.Common.{None, refl, subst}
+use Rattle.std.proofs.Common.{◌≡◌, true, false, None, refl, subst}
 use Rattle.op_form.specs.declared.event.Event.TheVariants.{Drop}
 use Rattle.plain_repository.specs.Orderly.{IsOrderly}
 use Rattle.repo_state.proofs.Changing.{fit_set}
 use Rattle.repo_state.proofs.Effects.{begun_is, effect_orderly, number_set}
+use Rattle.repo_state.proofs.Keepers.{keepers_set}
 use Rattle.repo_state.proofs.repo.Repo.drop_workspace.Goals as goal
 
 pub invariant_of-self : goal.invariant_of-self
@@ -14,6 +15,7 @@ invariant_of-self c =
       fit_set c.self.inside.begun begun c.self.inside.workspaces.items c.in-Some.at None c.in-Some-begun.is tt c.self.invariant.1,
       effect_orderly s _ begun.meta (Drop c.args.ws) is_begun c.requires.could c.requires.spelled (subst IsOrderly c.self.view_is c.self.invariant.2)
           (number_set (λ o. None) c.self.inside.begun c.self.inside.workspaces.items c.self.inside.events c.self.inside.end s c.args.ws c.in-Some.at None None c.self.view_is c.in-Some.ensures.there.0 c.in-Some.ensures.there.1 refl),
+      keepers_set c.self.inside.recent c.self.inside.workspaces.items c.in-Some.at None (λ keeps. let clash : false ≡ true = keeps in absurd cc) c.self.invariant.3,
     )
 
 pub returns : goal.returns

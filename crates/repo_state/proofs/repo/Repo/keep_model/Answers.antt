@@ -7,6 +7,7 @@ use Rattle.plain_repository.specs.Laws.{IsThere}
 use Rattle.repo_state.specs.Keeping.{meta_of, history_of, plain_any, plain_of}
 use Rattle.repo_state.proofs.Changing.{at_is, below_is, fit_set, kept_fits, order_same, same_at, view_same}
 use Rattle.repo_state.proofs.Ordered.{is_there}
+use Rattle.repo_state.proofs.Keepers.{fits_if, keepers_set, kept_if}
 use Rattle.repo_state.proofs.repo.Repo.keep_model.Goals as goal
 
 abbrev meta_in : State → Option Meta
@@ -27,8 +28,10 @@ invariant_of-self c =
     let same = same_at c.self.inside.workspaces.items c.in-Some.at c.index_mut.result.now _ c.in-Some-index_mut.workspace c.keep_model.new.self (below_is c.args.self.now c.self.inside.workspaces.items c.in-Some.at (ap (λ (s : State). s.workspaces) c.self.view_is) c.in-Some.ensures.there.1) c.index_mut.ensures.value c.in-Some-index_mut.is c.keep_model.ensures.same in (
       c.self.invariant.0,
       fit_set c.self.inside.begun c.in-Some-begun.begun c.self.inside.workspaces.items c.in-Some.at (Some c.keep_model.new.self) c.in-Some-begun.is
-          (kept_fits s c.args.ws meta c.in-Some-begun.begun.history.history w c.keep_model.new.self c.args.model begun hist there at c.requires.model c.keep_model.ensures.same c.keep_model.ensures.kept) c.self.invariant.1,
+          (fits_if meta c.in-Some-begun.begun.history.history c.to_keep-kept.result c.args.model c.keep_model.new.self c.to_keep-kept.ensures.same c.keep_model.ensures.kept
+          (kept_fits s c.args.ws meta c.in-Some-begun.begun.history.history w c.keep_model.new.self c.args.model begun hist there at c.requires.model c.keep_model.ensures.same)) c.self.invariant.1,
       order_same c.self.inside.begun c.self.inside.workspaces.items _ c.self.inside.events c.self.inside.end same c.self.invariant.2,
+      keepers_set c.self.inside.recent c.self.inside.workspaces.items c.in-Some.at (Some c.keep_model.new.self) (kept_if c.self.inside.recent c.in-Some.at c.to_keep-kept.result c.keep_model.new.self c.to_keep-kept.ensures.among c.keep_model.ensures.kept) c.self.invariant.3,
     )
 
 pub returns : goal.returns

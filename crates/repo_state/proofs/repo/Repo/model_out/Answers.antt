@@ -11,6 +11,7 @@ use Rattle.repo_state.proofs.Caching.{forms_back, forms_begun}
 use Rattle.history_tree.specs.States.{state_of}
 use Rattle.state_form.specs.Spelled.{IsSpelled}
 use Rattle.state_cache.specs.Entries.{stands}
+use Rattle.repo_state.proofs.Keepers.{keepers_set, none_keeps}
 use Rattle.repo_state.proofs.repo.Repo.model_out.Goals as goal
 
 abbrev meta_in : State → Option Meta
@@ -42,6 +43,7 @@ invariant_of-self c =
       c.self.invariant.0,
       fit_set c.self.inside.begun c.in-Some-begun.begun c.self.inside.workspaces.items c.in-Some.at (Some c.take_model.new.self) c.in-Some-begun.is (none_fits c.in-Some-begun.begun.meta c.in-Some-begun.begun.history.history c.take_model.new.self c.take_model.ensures.taken) c.self.invariant.1,
       order_same c.self.inside.begun c.self.inside.workspaces.items _ c.self.inside.events c.self.inside.end same c.self.invariant.2,
+      keepers_set c.self.inside.recent c.self.inside.workspaces.items c.in-Some.at (Some c.take_model.new.self) (none_keeps c.take_model.new.self _ c.take_model.ensures.taken) c.self.invariant.3,
     )
 
 pub returns-clause-same : goal.returns-clause-same

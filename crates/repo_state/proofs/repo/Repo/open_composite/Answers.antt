@@ -6,8 +6,9 @@ use Rattle.plain_repository.specs.State.{folded}
 use Rattle.repo_state.specs.Keeping.{plain_of}
 use Rattle.repo_state.proofs.Changing.{fit_set}
 use Rattle.repo_state.proofs.Could.{begin_closed}
-use Rattle.repo_state.proofs.Effects.{begun_is, changed_view, effect_orderly, fit_before, placed, placed_there}
+use Rattle.repo_state.proofs.Effects.{begun_is, changed_view, effect_orderly, fit_before, keeper_before, placed, placed_there}
 use Rattle.repo_state.proofs.Models.{fits_same, open_folded}
+use Rattle.repo_state.proofs.Keepers.{keepers_set, same_keeps}
 use Rattle.repo_state.proofs.repo.Repo.open_composite.Goals as goal
 
 pub invariant_of-self : goal.invariant_of-self
@@ -24,6 +25,7 @@ invariant_of-self c =
       c.self.invariant.0,
       fit_set c.self.inside.begun begun c.self.inside.workspaces.items c.in-Some.at (Some new) c.in-Some-begun.is fits c.self.invariant.1,
       effect_orderly s _ begun.meta (Begin c.args.ws c.args.name) is_begun c.requires.could c.requires.spelled (subst IsOrderly c.self.view_is c.self.invariant.2) (changed_view p (with_open c.args.name) new c.open_composite.ensures.opened),
+      keepers_set c.self.inside.recent c.self.inside.workspaces.items c.in-Some.at (Some new) (λ keeps. keeper_before p c.self.inside.recent c.self.invariant.3 (same_keeps w new c.open_composite.ensures.model keeps)) c.self.invariant.3,
     )
 
 pub returns : goal.returns

@@ -3,6 +3,7 @@ use Rattle.plain_repository.specs.Orderly.{IsOrderly}
 use Rattle.repo_state.specs.Planning.{restarted}
 use Rattle.repo_state.proofs.Changing.{fit_set, none_fits}
 use Rattle.repo_state.proofs.Effects.{changed_view, placed}
+use Rattle.repo_state.proofs.Keepers.{keepers_set, none_keeps}
 use Rattle.repo_state.proofs.repo.Repo.restart.Goals as goal
 
 pub invariant_of-self : goal.invariant_of-self
@@ -14,6 +15,7 @@ invariant_of-self c =
       c.self.invariant.0,
       fit_set c.self.inside.begun begun c.self.inside.workspaces.items c.in-Some.at (Some new) c.in-Some-begun.is fits c.self.invariant.1,
       subst IsOrderly (sym (changed_view p (restarted c.args.local.base c.args.local.operations.items) new c.restart.ensures.restarted)) c.requires.orderly,
+      keepers_set c.self.inside.recent c.self.inside.workspaces.items c.in-Some.at (Some new) (none_keeps new _ c.restart.ensures.gone) c.self.invariant.3,
     )
 
 pub returns : goal.returns

@@ -32,6 +32,7 @@ invariant_of-self c =
       c.self.invariant.0,
       either r c.tag.ensures.tag c.tag.ensures.same (tag_fit c.self.inside.begun begun new c.self.inside.workspaces.items c.self.inside.events c.self.inside.end s c.self.view_is c.in-Some.is c.tag.ensures.meta orderly c.self.invariant.1 c.args.name c.args.version) (same_fit c.self.inside.begun begun new c.self.inside.workspaces.items c.self.inside.events c.self.inside.end s c.self.view_is c.in-Some.is c.tag.ensures.meta orderly c.self.invariant.1),
       either_orderly r s _ begun.meta (Tag c.args.name c.args.version) is_begun c.requires.could c.requires.spelled orderly done same,
+      c.self.invariant.3,
     )
 
 pub returns : goal.returns

@@ -3,6 +3,7 @@ use Rattle.plain_repository.specs.Orderly.{IsOrderly}
 use Rattle.repo_state.specs.Planning.{taken_up}
 use Rattle.repo_state.proofs.Changing.{fit_set, none_fits}
 use Rattle.repo_state.proofs.Effects.{changed_view, either, on_err, on_ok, placed, unchanged_view}
+use Rattle.repo_state.proofs.Keepers.{keepers_set, none_keeps}
 use Rattle.repo_state.proofs.repo.Repo.take_up.Goals as goal
 
 pub invariant_of-self : goal.invariant_of-self
@@ -16,6 +17,7 @@ invariant_of-self c =
       either c.take_up.result c.take_up.ensures.taken c.take_up.ensures.same
           (λ is. subst IsOrderly (sym (changed_view p (taken_up c.args.merged.more c.args.merged.version) new is)) c.requires.orderly)
           (λ is. subst IsOrderly (sym (unchanged_view p new is)) (subst IsOrderly c.self.view_is c.self.invariant.2)),
+      keepers_set c.self.inside.recent c.self.inside.workspaces.items c.in-Some.at (Some new) (none_keeps new _ c.take_up.ensures.gone) c.self.invariant.3,
     )
 
 pub returns : goal.returns

@@ -16,4 +16,4 @@ returns-clause-leads c =
     let w = plain_of c.in-Some-workspace.workspace.now in
     let begun : s.meta ≡ Some meta = sym (ap meta_in c.self.view_is) ∙ ap meta_of c.in-Some.is in
     let there = sym c.in-Some-workspace.ensures.found in
-    tidy_leads s meta c.args.ws w c.in_ok-items_of.field-0.items begun there (c.in_ok-items_of.ensures ∙ c.in_ok-list.ensures.tidied ∙ ap (tidy meta) (c.in_ok-package.ensures.copied ∙ c.operations.ensures))
+    tidy_leads s meta c.args.ws w c.into_vec.result.items begun there (c.into_vec.ensures ∙ c.in_ok-list.ensures.tidied ∙ ap (tidy meta) (c.in_ok-package.ensures.copied ∙ c.operations.ensures))

@@ -5,7 +5,8 @@ use Rattle.plain_repository.specs.Local.{without_last}
 use Rattle.repo_state.specs.Keeping.{plain_of}
 use Rattle.repo_state.proofs.Changing.{fit_set}
 use Rattle.repo_state.proofs.Could.{base_good, undo_can}
-use Rattle.repo_state.proofs.Effects.{begun_is, changed_view, effect_orderly, fit_before, history_is, placed, placed_there}
+use Rattle.repo_state.proofs.Effects.{begun_is, changed_view, effect_orderly, fit_before, history_is, keeper_before, placed, placed_there}
+use Rattle.repo_state.proofs.Keepers.{keepers_set}
 use Rattle.repo_state.proofs.repo.Repo.undo.Goals as goal
 
 pub undo-requires-clause-can : goal.undo-requires-clause-can
@@ -48,6 +49,7 @@ invariant_of-self c =
       c.self.invariant.0,
       fit_set c.self.inside.begun begun c.self.inside.workspaces.items c.in-Some.at (Some new) c.in-Some-begun.is fits c.self.invariant.1,
       effect_orderly s _ begun.meta (Undo c.args.ws) is_begun c.requires.could c.requires.spelled (subst IsOrderly c.self.view_is c.self.invariant.2) (changed_view p without_last new c.undo.ensures.undone),
+      keepers_set c.self.inside.recent c.self.inside.workspaces.items c.in-Some.at (Some new) (λ keeps. keeper_before p c.self.inside.recent c.self.invariant.3 (c.undo.ensures.kept keeps)) c.self.invariant.3,
     )
 
 pub returns : goal.returns
