@@ -1,4 +1,4 @@
--- Runs of a machine over the items of a script, each decided on the state that the events before it leave.
+-- Runs of a program over the items of a script, each decided on the state that the events before it leave.
 use Rattle.std.specs.Prelude.{ℕ, ◌-◌, ◌==◌, ◌+◌, List, [], ◌∷◌, ◌++◌, Bool, false, ◌||◌, Option, Some, None, length, if◌then◌else◌}
 use Rattle.host_port.specs.Cut.{Item}
 

@@ -9,8 +9,8 @@ use Rattle.command_runs.proofs.Going.{Going}
 use Rattle.op_form.specs.declared.event.Event.{Event}
 use Rattle.plain_repository.specs.State.{State}
 use Rattle.plain_repository.specs.Store.{StandsForEvents}
-use Rattle.emf_session.specs.Session.{IsStoreOf}
-use Rattle.emf_session.proofs.Entering.{holds_stands}
+use Rattle.emf_top.specs.Session.{IsStoreOf}
+use Rattle.emf_top.proofs.Entering.{holds_stands}
 use Rattle.emf_top.specs.Headline.{IsUnanswered, IsHalted}
 use Rattle.emf_top.specs.Tasks.{Task}
 

@@ -13,16 +13,16 @@ use Rattle.plain_repository.specs.State.{State, empty}
 use Rattle.plain_repository.specs.Events.{play}
 use Rattle.plain_repository.specs.Store.{StandsForEvents, StandsForNoEvents, IsDamaged}
 use Rattle.plain_repository.proofs.Stores.{same_events}
-use Rattle.emf_session.specs.declared.answered.SessionFault.{SessionFault}
-use Rattle.emf_session.specs.declared.answered.SessionFault.TheVariants as session
-use Rattle.emf_session.specs.Session.{IsStoreOf, AtDamage}
-use Rattle.emf_session.proofs.Opening.{IsMounting, is_long}
+use Rattle.emf_top.specs.declared.answered.SessionFault.{SessionFault}
+use Rattle.emf_top.specs.declared.answered.SessionFault.TheVariants as session
+use Rattle.emf_top.specs.Session.{IsStoreOf, AtDamage}
+use Rattle.emf_top.proofs.Opening.{IsMounting, is_long}
 use Rattle.emf_top.specs.declared.top.Status.{Status}
 use Rattle.emf_top.specs.declared.top.Status.TheVariants.{Accepted, Refused, BadWords, ReadFault, WriteFault, DiskFault, Damaged, Memory, Input}
 use Rattle.emf_top.specs.Headline.{Ends, NothingRose, KeepsFile, IsFoundDamaged, IsUnsaid, IsUnopened, IsUnanswered, IsHalted, IsKept, session_status}
 use Rattle.emf_top.specs.Tasks.{Task, task_of}
-use Rattle.emf_top.specs.declared.words.Request.{Request}
-use Rattle.emf_top.specs.declared.words.Request.TheVariants.{Serve, Check, Generate}
+use Rattle.script_items.specs.declared.words.Request.{Request}
+use Rattle.script_items.specs.declared.words.Request.TheVariants.{Serve, Check, Generate}
 
 -- whether the input is read goes by what is asked for alone
 pub same_reads : (request : Request) (s t : State) (one two : List ℕ) → (task_of request s one).reads ≡ (task_of request t two).reads

@@ -10,8 +10,8 @@ use Rattle.command_runs.proofs.RunLaws.{events-more}
 use Rattle.op_form.specs.declared.event.Event.{Event}
 use Rattle.plain_repository.specs.State.{State}
 use Rattle.plain_repository.specs.Store.{StandsForEvents}
-use Rattle.emf_session.specs.Session.{IsStoreOf}
-use Rattle.emf_session.proofs.Entering.{holds_stands, none_added, say_step}
+use Rattle.emf_top.specs.Session.{IsStoreOf}
+use Rattle.emf_top.proofs.Entering.{holds_stands, none_added, say_step}
 use Rattle.emf_top.specs.Headline.{IsServed, IsUnsaid}
 use Rattle.emf_top.specs.Tasks.{Task, printing}
 

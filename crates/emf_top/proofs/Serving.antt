@@ -17,12 +17,12 @@ use Rattle.plain_repository.specs.State.{State}
 use Rattle.plain_repository.specs.Events.{play}
 use Rattle.plain_repository.specs.Repository.{decide}
 use Rattle.plain_repository.specs.Store.{StandsForEvents}
-use Rattle.emf_session.specs.declared.answered.SessionFault.{SessionFault}
-use Rattle.emf_session.specs.declared.answered.SessionFault.TheVariants as session
-use Rattle.emf_session.specs.Session.{answer_to, IsStoreOf, IfMade}
-use Rattle.emf_session.proofs.Entering.{rest_leaves, holds_stands, none_added, quiet_step}
+use Rattle.emf_top.specs.declared.answered.SessionFault.{SessionFault}
+use Rattle.emf_top.specs.declared.answered.SessionFault.TheVariants as session
+use Rattle.emf_top.specs.Session.{answer_to, IsStoreOf, IfMade}
+use Rattle.emf_top.proofs.Entering.{rest_leaves, holds_stands, none_added, quiet_step}
 use Rattle.emf_top.specs.declared.top.Status.TheVariants.{ReadFault}
-use Rattle.emf_top.specs.Items.{GotItem}
+use Rattle.script_items.specs.Items.{GotItem}
 use Rattle.emf_top.specs.Headline.{IsServed, IsUnsaid, IsUnanswered, IsHalted, Ends, session_status}
 use Rattle.emf_top.specs.Tasks.{Task, serving, input_status, end_of}
 use Rattle.emf_top.proofs.Halting.{halted, kept_too, unanswered}

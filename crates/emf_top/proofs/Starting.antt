@@ -9,10 +9,11 @@ use Rattle.op_form.specs.declared.event.Event.{Event}
 use Rattle.plain_repository.specs.Lines.{takes_block}
 use Rattle.plain_repository.specs.State.{State}
 use Rattle.plain_repository.specs.Store.{StandsForEvents}
-use Rattle.emf_session.specs.Session.{IsStoreOf}
-use Rattle.emf_session.proofs.Entering.{rest_leaves}
+use Rattle.emf_top.specs.Session.{IsStoreOf}
+use Rattle.emf_top.proofs.Entering.{rest_leaves}
 use Rattle.emf_top.specs.Headline.{IsHalted}
-use Rattle.emf_top.specs.Tasks.{Task, script, serving}
+use Rattle.script_items.specs.Items.{script}
+use Rattle.emf_top.specs.Tasks.{Task, serving}
 use Rattle.emf_top.proofs.Halting.{halted}
 
 -- a reader that begins reads the input's script

@@ -5,8 +5,8 @@ use Rattle.command_runs.specs.Runs.{Answer, replies, events, answered}
 use Rattle.command_runs.specs.Crashes.{IsAmong}
 use Rattle.op_form.specs.declared.event.Event.{Event}
 use Rattle.plain_repository.specs.Store.{StandsForEvents, StandsForNoEvents, IsDamaged}
-use Rattle.emf_session.specs.declared.answered.SessionFault.{SessionFault}
-use Rattle.emf_session.specs.declared.answered.SessionFault.TheVariants as session
+use Rattle.emf_top.specs.declared.answered.SessionFault.{SessionFault}
+use Rattle.emf_top.specs.declared.answered.SessionFault.TheVariants as session
 use Rattle.emf_top.specs.Tasks.{Task}
 use Rattle.emf_top.specs.declared.top.Status.{Status}
 use Rattle.emf_top.specs.declared.top.Status.TheVariants.{Accepted, Refused, BadWords, ReadFault, WriteFault, DiskFault, Damaged, Memory, Input}

@@ -1,5 +1,5 @@
-pub mod Generator
+pub mod Counts
 pub mod Headline
-pub mod Items
+pub mod Session
+pub mod State
 pub mod Tasks
-pub mod Words

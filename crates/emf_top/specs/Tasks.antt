@@ -1,19 +1,19 @@
 -- What a run has to do.
 use Rattle.std.specs.Prelude.{ℕ, List, [], ◌∷◌, ◌++◌, codes, not, Bool, true, false, length, Option, Some, None, count_by}
 use Rattle.std.specs.Fmt.{decimal}
-use Rattle.host_port.specs.Cut.{Item, Script, script_of}
+use Rattle.host_port.specs.Cut.{Item, Script}
 use Rattle.host_port.specs.declared.lines.LineFault.{LineFault}
 use Rattle.host_port.specs.declared.lines.LineFault.TheVariants as faults
 use Rattle.command_runs.specs.Runs.{Answer, answers, events, refuses, played}
 use Rattle.op_form.specs.declared.event.Event.{Event}
-use Rattle.plain_repository.specs.Lines.{takes_block}
 use Rattle.plain_repository.specs.State.{State}
 use Rattle.plain_repository.specs.Events.{play}
 use Rattle.plain_repository.specs.Repository.{decide}
 use Rattle.repo_state.specs.Counting.{live_workspaces, element_count}
-use Rattle.emf_top.specs.Generator.{generated}
-use Rattle.emf_top.specs.declared.words.Request.{Request}
-use Rattle.emf_top.specs.declared.words.Request.TheVariants.{Serve, Check, Generate}
+use Rattle.script_items.specs.Items.{script}
+use Rattle.script_items.specs.Generator.{generated}
+use Rattle.script_items.specs.declared.words.Request.{Request}
+use Rattle.script_items.specs.declared.words.Request.TheVariants.{Serve, Check, Generate}
 use Rattle.emf_top.specs.declared.top.Status.{Status}
 use Rattle.emf_top.specs.declared.top.Status.TheVariants.{Accepted, Refused, ReadFault, Memory, Input}
 
@@ -25,10 +25,6 @@ pub record Task : Type 0 where
   pub reads : Bool
 
 -- ---- without words
--- the script that an input is
-abbrev pub script : List ℕ → Script
-script input = script_of takes_block input
-
 -- the status of a fault of the input
 abbrev pub input_status : LineFault → Status
 input_status (faults.LineTooLong at) = Input 1 at

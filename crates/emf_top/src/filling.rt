@@ -5,16 +5,16 @@ ghost use Rattle.command_runs.specs.Runs.{replies, events, answered};
 ghost use Rattle.command_runs.specs.Crashes.{IsRunning};
 ghost use Rattle.op_form.specs.declared.event.Event.{Event};
 ghost use Rattle.plain_repository.specs.Store.{StandsForEvents};
-ghost use Rattle.emf_session.specs.Session.{IsStoreOf, answered_as};
+ghost use Rattle.emf_top.specs.Session.{IsStoreOf, answered_as};
 ghost use Rattle.emf_top.specs.Headline.{Ends, KeepsUnread};
-ghost use Rattle.emf_top.specs.Items.{IsAnswered};
+ghost use Rattle.script_items.specs.Items.{IsAnswered};
 ghost use Rattle.emf_top.specs.Tasks.{filling, outcome_line};
 
-use crate::item::Item;
-use crate::line::push_count;
+use crate::answered::Answered;
+use crate::session::Session;
 use crate::top::{Status, status_of};
-use emf_session::{Answered, Session};
 use host_port::Host;
+use script_items::{Item, push_count};
 use std::alloc::{AllocError, Global};
 
 /// How many refusals an answer is.

@@ -1,13 +1,15 @@
-//! All that the program does, as one call over a host.
+//! All that the program does, as one call over a host; and below it a session over one store: it is opened, and answers one command
+//! after another. The event of a command is in the file before any byte of its reply is printed.
 #![tactic(auto)]
 
+mod answered;
 mod filling;
-mod generator;
-mod item;
-mod line;
+mod laws;
 mod looking;
+mod plan;
+mod session;
 mod top;
-mod words;
 
-pub use generator::generate;
+pub use laws::{law_of_counts, law_of_stores};
+pub use script_items::generate;
 pub use top::{Status, run};

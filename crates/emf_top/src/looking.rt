@@ -5,15 +5,15 @@ ghost use Rattle.command_runs.specs.Runs.{replies, events, answered};
 ghost use Rattle.command_runs.specs.Crashes.{IsRunning};
 ghost use Rattle.op_form.specs.declared.event.Event.{Event};
 ghost use Rattle.plain_repository.specs.Store.{StandsForEvents};
-ghost use Rattle.emf_session.specs.Session.{IsStoreOf};
+ghost use Rattle.emf_top.specs.Session.{IsStoreOf};
 ghost use Rattle.repo_state.specs.Counting.{live_workspaces};
 ghost use Rattle.emf_top.specs.Headline.{Ends, KeepsUnread};
 ghost use Rattle.emf_top.specs.Tasks.{checking, check_line};
 
-use crate::line::push_count;
+use crate::session::Session;
 use crate::top::Status;
-use emf_session::Session;
 use host_port::Host;
+use script_items::push_count;
 use std::alloc::{AllocError, Global};
 
 /// The line that says how many there are of each.

@@ -9,19 +9,18 @@ ghost use Rattle.plain_repository.specs.Lines.{takes_block};
 ghost use Rattle.plain_repository.specs.State.{empty};
 ghost use Rattle.plain_repository.specs.Events.{play};
 ghost use Rattle.plain_repository.specs.Store.{StandsForEvents, StandsForNoEvents};
-ghost use Rattle.emf_session.specs.Session.{IsStoreOf, answered_as};
+ghost use Rattle.emf_top.specs.Session.{IsStoreOf, answered_as};
 ghost use Rattle.emf_top.specs.Headline.{code_of, Ends, session_status, NothingRose, IsKept, KeepsFile, KeepsUnread, IsFoundDamaged};
 ghost use Rattle.emf_top.specs.Tasks.{serving, task_of, input_status};
-ghost use Rattle.emf_top.specs.Words.{AskFor, AreBad};
-ghost use Rattle.emf_top.specs.declared.words.Request.{Request};
+ghost use Rattle.script_items.specs.Words.{AskFor, AreBad};
+ghost use Rattle.script_items.specs.declared.words.Request.{Request};
 
+use crate::answered::{Answered, SessionFault};
 use crate::filling::fill;
-use crate::generator::generated;
-use crate::item::next_item;
 use crate::looking::look;
-use crate::words::{Request, request_of};
-use emf_session::{Answered, Session, SessionFault};
+use crate::session::Session;
 use host_port::{Host, LineFault, Lines};
+use script_items::{Request, generated, next_item, request_of};
 use std::alloc::Global;
 
 /// How a run ended.

@@ -1,4 +1,4 @@
-//! The program's edge: the file `emfstore.journal` in the working folder and the standard streams.
+//! The program: `run` over the file `emfstore.journal` in the working folder and the standard streams.
 #![tactic(auto)]
 
 mod file_host;

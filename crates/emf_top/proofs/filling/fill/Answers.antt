@@ -1,6 +1,6 @@
 use Rattle.std.proofs.Common.{◌+◌, ◌-◌, length, arith, ℕ, List, Option, refl, sym, ◌∙◌, ap, ◌≡◌, true, false}
 use Rattle.host_port.proofs.Course.{told_next}
-use Rattle.emf_session.specs.Session.{answer_to}
+use Rattle.emf_top.specs.Session.{answer_to}
 use Rattle.emf_top.specs.Tasks.{filling, outcome}
 use Rattle.emf_top.proofs.Halting.{halted}
 use Rattle.emf_top.proofs.Quietly.{given, gets_reply, fills_start, fill_part, fill_moments, fault_ends, filled_on, outcome_is, at_outcome}

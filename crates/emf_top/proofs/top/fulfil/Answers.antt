@@ -7,9 +7,9 @@ use Rattle.command_runs.specs.Runs.{replies, events, answered}
 use Rattle.command_runs.specs.Crashes.{IsRunning}
 use Rattle.plain_repository.specs.Store.{StandsForEvents}
 use Rattle.emf_top.specs.Headline.{Ends}
-use Rattle.emf_top.specs.Items.{IsAnswered}
+use Rattle.script_items.specs.Items.{IsAnswered}
 use Rattle.emf_top.specs.Tasks.{Task, task_of, filling}
-use Rattle.emf_top.proofs.Plain.{all_answered}
+use Rattle.script_items.proofs.Plain.{all_answered}
 use Rattle.emf_top.proofs.Starting.{from_start, halted_at_start, part_at_start, moments_at_start}
 use Rattle.emf_top.proofs.top.fulfil.Goals as goal
 

@@ -8,10 +8,10 @@ use Rattle.plain_repository.specs.State.{empty}
 use Rattle.plain_repository.specs.Events.{play}
 use Rattle.plain_repository.specs.Store.{StandsForEvents}
 use Rattle.emf_top.specs.declared.top.Status.TheVariants.{Memory}
-use Rattle.emf_top.specs.declared.words.Request.{Request}
+use Rattle.script_items.specs.declared.words.Request.{Request}
 use Rattle.emf_top.specs.Headline.{Ends, IsKept, KeepsUnread}
 use Rattle.emf_top.specs.Tasks.{task_of}
-use Rattle.emf_top.proofs.Asked.{same_request}
+use Rattle.script_items.proofs.Asked.{same_request}
 use Rattle.emf_top.proofs.Headlines.{file_still, complete, stopped}
 use Rattle.emf_top.proofs.top.run.Goals as goal
 

@@ -4,7 +4,7 @@ use Rattle.host_port.proofs.Course.{told_next, rose_second, keeps_input_on}
 use Rattle.command_runs.specs.Runs.{played}
 use Rattle.plain_repository.specs.State.{empty}
 use Rattle.plain_repository.specs.Events.{play}
-use Rattle.emf_session.proofs.Opening.{is_long}
+use Rattle.emf_top.proofs.Opening.{is_long}
 use Rattle.emf_top.specs.Tasks.{task_of}
 use Rattle.emf_top.proofs.Headlines.{same_reads, unopened, opening_part, opening_moments, whole_ends, whole_part, whole_moments, unopened_ends, unopened_damaged, unopened_damages, status_disk, status_say}
 use Rattle.emf_top.proofs.top.run_request.Goals as goal

@@ -2,7 +2,7 @@ use Rattle.std.proofs.Common.{arith, Bool, ℕ, List, ◌++◌, Option, None, re
 use Rattle.host_port.specs.Cut.{script_from}
 use Rattle.host_port.proofs.Course.{told_next, rose_second}
 use Rattle.plain_repository.specs.Lines.{takes_block}
-use Rattle.emf_session.specs.Session.{answer_to}
+use Rattle.emf_top.specs.Session.{answer_to}
 use Rattle.emf_top.specs.Tasks.{serving, end_of}
 use Rattle.emf_top.proofs.Serving.{serving_starts, fault_ends, end_ends, looked_part, looked_moments, status_failed, open_for, skipped_on, decide_read, item_part, item_moments, step_fault_ends, serving_on}
 use Rattle.emf_top.proofs.top.serve.Goals as goal

@@ -1,6 +1,0 @@
-use Rattle.std.proofs.Common.{◌≡◌, ◌++◌, drop}
-use Rattle.emf_top.specs.Generator.{script_bytes}
-use Rattle.emf_top.proofs.generator.generate.Given as goal
-
-abbrev pub invariant-items : goal.invariant-items
-invariant-items l = l.bytes.items ++ script_bytes (drop l.item-index l.item-items) ≡ script_bytes l.item-items

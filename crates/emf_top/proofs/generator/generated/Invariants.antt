@@ -1,6 +1,0 @@
-use Rattle.std.proofs.Common.{◌≡◌, ◌++◌, map}
-use Rattle.emf_top.specs.Generator.{without_block, opening, rounds}
-use Rattle.emf_top.proofs.generator.generated.Given as goal
-
-abbrev pub invariant-rounds : goal.invariant-rounds
-invariant-rounds l = l.items ≡ opening ++ map without_block (rounds l.seed l.k)

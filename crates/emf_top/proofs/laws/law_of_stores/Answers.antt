@@ -1,0 +1,11 @@
+use Rattle.plain_repository.proofs.Stores.{same_events, same_damage, damaged_for_none}
+use Rattle.emf_top.proofs.laws.law_of_stores.Goals as goal
+
+pub returns-clause-meaning : goal.returns-clause-meaning
+returns-clause-meaning c = same_events
+
+pub returns-clause-place : goal.returns-clause-place
+returns-clause-place c = same_damage
+
+pub returns-clause-none : goal.returns-clause-none
+returns-clause-none c = damaged_for_none

@@ -1,0 +1,7 @@
+pub mod Asked
+pub mod Digits
+pub mod Graphic
+pub mod Items
+pub mod Plain
+pub mod Rounds
+pub mod Script
