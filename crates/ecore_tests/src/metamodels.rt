@@ -166,44 +166,41 @@ Some(1) literal g
 Some(1) literal green
 None literal blue";
 
-// What is shown of that metamodel and of the library, a class or a feature a line, with texts in place of the structures that hold them.
-const INHERITED_SHOWN: &str =
-    r#"Metamodel { uri: "http://p", classes: [Class { name: "Titled", is_abstract: true, features: List { items: [0] } },
-Class { name: "Low", is_abstract: false, features: List { items: [0, 1, 2, 3] } },
-Class { name: "Middle", is_abstract: false, features: List { items: [0, 2, 3] } },
-Class { name: "Named", is_abstract: true, features: List { items: [3] } }], features: [Feature { owner: 0, name: "title", lower: 0, upper: Some(1), kind: Attr { scalar: Text, default: None } },
-Feature { owner: 1, name: "low", lower: 0, upper: Some(1), kind: Attr { scalar: Int, default: Some(Whole(0)) } },
-Feature { owner: 2, name: "middle", lower: 0, upper: Some(1), kind: Attr { scalar: Literal(0), default: Some(Literal(0)) } },
-Feature { owner: 3, name: "name", lower: 1, upper: Some(1), kind: Attr { scalar: Text, default: None } }], above: [{0}, {0, 1, 2, 3}, {0, 2, 3}, {3}], enums: [Enum { name: "Colour", literals: List { items: [EnumLiteral { name: "red", text: "r" }, EnumLiteral { name: "green", text: "g" }] } }],
-class_index: {"Low": 1, "Middle": 2, "Named": 3, "Titled": 0}, literal_index: [{"g": 1, "green": 1, "r": 0, "red": 0}], feature_names: {"low": 1, "middle": 2, "name": 3, "title": 0}, feature_index: [{0: 0}, {0: 0, 1: 1, 2: 2, 3: 3}, {0: 0, 2: 2, 3: 3}, {3: 3}] }"#;
+// What is shown of that metamodel and of the library, a class or a feature a line, with texts in place of the structures that hold them. After a class
+// stand the classes that it is.
+const INHERITED_SHOWN: &str = r#"http://p
+Class { name: "Titled", is_abstract: true, features: List { items: [0] } } is [0]
+Class { name: "Low", is_abstract: false, features: List { items: [0, 1, 2, 3] } } is [0, 1, 2, 3]
+Class { name: "Middle", is_abstract: false, features: List { items: [0, 2, 3] } } is [0, 2, 3]
+Class { name: "Named", is_abstract: true, features: List { items: [3] } } is [3]
+Feature { owner: 0, name: "title", lower: 0, upper: Some(1), kind: Attr { scalar: Text, default: None } }
+Feature { owner: 1, name: "low", lower: 0, upper: Some(1), kind: Attr { scalar: Int, default: Some(Whole(0)) } }
+Feature { owner: 2, name: "middle", lower: 0, upper: Some(1), kind: Attr { scalar: Literal(0), default: Some(Literal(0)) } }
+Feature { owner: 3, name: "name", lower: 1, upper: Some(1), kind: Attr { scalar: Text, default: None } }
+1 enums"#;
 
-const LIBRARY_SHOWN: &str =
-    r#"Metamodel { uri: "http://lib/1", classes: [Class { name: "Library", is_abstract: false, features: List { items: [0] } },
-Class { name: "Book", is_abstract: false, features: List { items: [1, 2, 3, 4, 5, 6, 7] } },
-Class { name: "Writer", is_abstract: false, features: List { items: [8, 9, 10] } },
-Class { name: "Shelf", is_abstract: false, features: List { items: [11, 12] } }], features: [Feature { owner: 0, name: "books", lower: 0, upper: None, kind: Contains { target: 1, opposite: Some(7) } },
-Feature { owner: 1, name: "title", lower: 0, upper: Some(1), kind: Attr { scalar: Text, default: None } },
-Feature { owner: 1, name: "pages", lower: 0, upper: Some(1), kind: Attr { scalar: Int, default: Some(Whole(0)) } },
-Feature { owner: 1, name: "tags", lower: 0, upper: None, kind: AttrMany { scalar: Text, unique: true } },
-Feature { owner: 1, name: "authors", lower: 0, upper: None, kind: Free { target: 2, opposite: Some(9) } },
-Feature { owner: 1, name: "sequel", lower: 0, upper: Some(1), kind: Bounded { target: 1, opposite: Some(6) } },
-Feature { owner: 1, name: "prequel", lower: 0, upper: Some(1), kind: Bounded { target: 1, opposite: Some(5) } },
-Feature { owner: 1, name: "library", lower: 0, upper: Some(1), kind: Container { target: 0, opposite: 0 } },
-Feature { owner: 2, name: "name", lower: 0, upper: Some(1), kind: Attr { scalar: Text, default: None } },
-Feature { owner: 2, name: "books", lower: 0, upper: None, kind: Free { target: 1, opposite: Some(4) } },
-Feature { owner: 2, name: "pair", lower: 0, upper: Some(2), kind: Bounded { target: 2, opposite: None } },
-Feature { owner: 3, name: "name", lower: 0, upper: Some(1), kind: Attr { scalar: Text, default: None } },
-Feature { owner: 3, name: "parts", lower: 0, upper: None, kind: Contains { target: 3, opposite: None } }], above: [{0}, {1}, {2}, {3}], enums: [],
-class_index: {"Book": 1, "Library": 0, "Shelf": 3, "Writer": 2}, literal_index: [], feature_names: {"authors": 4, "books": 0, "library": 7, "name": 8, "pages": 2, "pair": 10, "parts": 12, "prequel": 6, "sequel": 5, "tags": 3, "title": 1}, feature_index: [{0: 0}, {1: 1, 2: 2, 3: 3, 4: 4, 5: 5, 6: 6, 7: 7}, {0: 9, 8: 8, 10: 10}, {8: 11, 12: 12}] }"#;
+const LIBRARY_SHOWN: &str = r#"http://lib/1
+Class { name: "Library", is_abstract: false, features: List { items: [0] } } is [0]
+Class { name: "Book", is_abstract: false, features: List { items: [1, 2, 3, 4, 5, 6, 7] } } is [1]
+Class { name: "Writer", is_abstract: false, features: List { items: [8, 9, 10] } } is [2]
+Class { name: "Shelf", is_abstract: false, features: List { items: [11, 12] } } is [3]
+Feature { owner: 0, name: "books", lower: 0, upper: None, kind: Contains { target: 1, opposite: Some(7) } }
+Feature { owner: 1, name: "title", lower: 0, upper: Some(1), kind: Attr { scalar: Text, default: None } }
+Feature { owner: 1, name: "pages", lower: 0, upper: Some(1), kind: Attr { scalar: Int, default: Some(Whole(0)) } }
+Feature { owner: 1, name: "tags", lower: 0, upper: None, kind: AttrMany { scalar: Text, unique: true } }
+Feature { owner: 1, name: "authors", lower: 0, upper: None, kind: Free { target: 2, opposite: Some(9) } }
+Feature { owner: 1, name: "sequel", lower: 0, upper: Some(1), kind: Bounded { target: 1, opposite: Some(6) } }
+Feature { owner: 1, name: "prequel", lower: 0, upper: Some(1), kind: Bounded { target: 1, opposite: Some(5) } }
+Feature { owner: 1, name: "library", lower: 0, upper: Some(1), kind: Container { target: 0, opposite: 0 } }
+Feature { owner: 2, name: "name", lower: 0, upper: Some(1), kind: Attr { scalar: Text, default: None } }
+Feature { owner: 2, name: "books", lower: 0, upper: None, kind: Free { target: 1, opposite: Some(4) } }
+Feature { owner: 2, name: "pair", lower: 0, upper: Some(2), kind: Bounded { target: 2, opposite: None } }
+Feature { owner: 3, name: "name", lower: 0, upper: Some(1), kind: Attr { scalar: Text, default: None } }
+Feature { owner: 3, name: "parts", lower: 0, upper: None, kind: Contains { target: 3, opposite: None } }
+0 enums"#;
 
 // What a text is replaced by.
-const PLAIN: [(&str, &str); 5] = [
-    (r#"Text { text: ""#, r#"""#),
-    (r#"" }"#, r#"""#),
-    (", Class", ",\nClass"),
-    (", Feature", ",\nFeature"),
-    (", class_index", ",\nclass_index"),
-];
+const PLAIN: [(&str, &str); 2] = [(r#"Text { text: ""#, r#"""#), (r#"" }"#, r#"""#)];
 
 fn replace_all(alloc: Global, text: &mut String) -> Result<(), Fail> {
     for (old, new) in PLAIN {
@@ -213,8 +210,41 @@ fn replace_all(alloc: Global, text: &mut String) -> Result<(), Fail> {
     Ok(())
 }
 
+// The classes that a class is.
+fn above(alloc: Global, meta: &Metamodel, c: u32) -> Result<Vec<u32>, Fail> {
+    let mut above = Vec::new(alloc);
+    for d in 0..meta.class_count() {
+        if meta.is_a(c, d) {
+            above.push(d)?;
+        }
+    }
+    Ok(above)
+}
+
+fn show_classes(alloc: Global, meta: &Metamodel, shown: &mut String) -> Result<(), Fail> {
+    for c in 0..meta.class_count() {
+        if let Some(class) = meta.get_class(c) {
+            let above = above(alloc, meta, c)?;
+            shown.push_str(format!(in alloc; "\n{class:?} is {above:?}")?.as_str())?;
+        }
+    }
+    Ok(())
+}
+
+fn show_features(alloc: Global, meta: &Metamodel, shown: &mut String) -> Result<(), Fail> {
+    for f in 0..meta.feature_count() {
+        if let Some(feature) = meta.get_feature(f) {
+            shown.push_str(format!(in alloc; "\n{feature:?}")?.as_str())?;
+        }
+    }
+    Ok(())
+}
+
 fn shown(alloc: Global, meta: &Metamodel) -> Result<String, Fail> {
-    let mut shown = format!(in alloc; "{meta:?}")?;
+    let mut shown = String::from_str(alloc, meta.uri())?;
+    show_classes(alloc, meta, &mut shown)?;
+    show_features(alloc, meta, &mut shown)?;
+    shown.push_str(format!(in alloc; "\n{} enums", meta.enum_count())?.as_str())?;
     replace_all(alloc, &mut shown)?;
     Ok(shown)
 }

@@ -4,8 +4,8 @@ ghost use Rattle.state_form.specs.Spelled.{IsSpelled};
 ghost use Rattle.plain_repository.specs.Laws.{StartsInOrder, StaysInOrder, AllIsInOrder, OfModels, OfVersions, HasIds, ModelsAreDefined, VersionsAreDefined, MetamodelsHold, HistoriesAreWhole, WorkspacesStand, HistoryOnlyGrows, StatesStay, WorkspacesStayApart, ModelsStayApart, NumbersOnlyGrow, DroppedStayDropped, RefusalsMakeNone, LastLinesLook, DataLinesAreApart, EventsChange, CommitsAreStale, UndoGivesBack, CommitsKeepModels, ShownByOwn, ShownApart};
 ghost use Rattle.plain_repository.specs.MergeLaws.{TidyingKeepsModels, UpdatesMerge, MergesMerge, MergesCount, RevertsTakeOut};
 
-/// The law of order: all is in order in the empty repository, and each event that could be made keeps it so. The other laws are about such a state, so a
-/// holder of one that keeps order has them all.
+/// The law of order: all is in order in the empty repository, and each event that could be made keeps it so. The other laws are
+/// about such a state, so a holder of one that keeps order has them all.
 pub fn law_of_order()
     ensures start { StartsInOrder }
     ensures stays { StaysInOrder }
@@ -13,8 +13,8 @@ pub fn law_of_order()
 {}
 
 /// The law of working models: the steps recorded in each workspace lead one by one from the state of its base to its
-/// working model; it is good, its elements have ids of the form of ids, and each id, number and value that steps name of it
-/// has a spelling; and what holds of every metamodel holds of the one that is there after any events that could be made.
+/// working model. It is good, and its elements have ids of the form of ids. Each id, number and value that steps name of it
+/// has a spelling. And what holds of every metamodel holds of the one that is there after any events that could be made.
 pub fn law_of_working_models()
     ensures defined { ModelsAreDefined }
     ensures good { OfModels Good }
@@ -24,8 +24,8 @@ pub fn law_of_working_models()
 {}
 
 /// The law of versions: the operations on the path of each version lead one by one from the empty project to its
-/// state; it is good, its elements have ids of the form of ids, and each id, number and value that steps name of it has a spelling; and each number in
-/// the history names something.
+/// state. It is good, and its elements have ids of the form of ids. Each id, number and value that steps name of it has a
+/// spelling. And each number in the history names something.
 pub fn law_of_versions()
     ensures defined { VersionsAreDefined }
     ensures good { OfVersions Good }
@@ -34,17 +34,17 @@ pub fn law_of_versions()
     ensures whole { HistoriesAreWhole }
 {}
 
-/// The law of growth: no event changes a version, a version's state, a tag, or a branch's name and start; and the base of each workspace is on the path
-/// of its branch's head.
+/// The law of growth: no event changes a version, a version's state, a tag, or a branch's name and start. The base of each
+/// workspace is on the path of its branch's head.
 pub fn law_of_growth()
     ensures grows { HistoryOnlyGrows }
     ensures states { StatesStay }
     ensures stand { WorkspacesStand }
 {}
 
-/// The law of workspaces apart: an event of another workspace leaves what is recorded in this one, and its model. The replies to `show`, `changes` and
-/// `validate` go by the metamodel, the state of the base and what is recorded in the workspace, so such an event leaves them. No number of a workspace
-/// is used again.
+/// The law of workspaces apart: an event of another workspace leaves what is recorded in this one, and its model. The replies to
+/// `show`, `changes` and `validate` go by the metamodel, the state of the base and what is recorded in the workspace. So such an
+/// event leaves them. No number of a workspace is used again.
 pub fn law_of_workspaces_apart()
     ensures workspaces { WorkspacesStayApart }
     ensures models { ModelsStayApart }
@@ -61,15 +61,15 @@ pub fn law_of_events()
     ensures change { EventsChange }
 {}
 
-/// The law of replies: the last line of a reply begins with `ok` or `no`, and no data line begins so but those of `validate`, which begin with ids. So
-/// where a reply ends is known by its lines.
+/// The law of replies: the last line of a reply begins with `ok` or `no`. No data line begins so but those of `validate`, which
+/// begin with ids. So where a reply ends is known by its lines.
 pub fn law_of_replies()
     ensures last { LastLinesLook }
     ensures lines { DataLinesAreApart }
 {}
 
-/// The law of commits: one is refused as stale just where the base is not the head and no earlier refusal applies, and one that is made leaves the
-/// working model.
+/// The law of commits: one is refused as stale just where the base is not the head and no earlier refusal applies. One that is
+/// made leaves the working model.
 pub fn law_of_commits()
     ensures stale { CommitsAreStale }
     ensures models { CommitsKeepModels }
@@ -80,9 +80,9 @@ pub fn law_of_undoing()
     ensures back { UndoGivesBack }
 {}
 
-/// The law of merging: tidying leaves the working model; an update and a merge lead to the merged model, which is what the choices keep of theirs and
-/// then of mine, from the state where both begin; and a merge counts the version as merged. A revert leads to what the versions on the path
-/// but for the one that is reverted, and then the local operations, lead to.
+/// The law of merging: tidying leaves the working model. An update and a merge lead to the merged model. That is what the choices
+/// keep of theirs and then of mine, from the state where both begin. A merge counts the version as merged. A revert leads to what
+/// the versions on the path but for the one that is reverted, and then the local operations, lead to.
 pub fn law_of_merging()
     ensures tidying { TidyingKeepsModels }
     ensures updates { UpdatesMerge }
