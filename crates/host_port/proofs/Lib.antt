@@ -7,3 +7,4 @@ pub mod ScriptCuts
 pub mod ScriptEnds
 pub mod ScriptItems
 pub mod ScriptHeads
+pub mod ScriptRuns

@@ -1,12 +1,13 @@
 -- What a reader of lines has done.
-use Rattle.std.specs.Prelude.{◌≡◌, ◌⊎◌, ◌<◌, ◌≤◌, ℕ, ◌+◌, List, length, Bool, true, false, Option, Some, None, Result, Ok, Err, string_bytes}
+use Rattle.std.specs.Prelude.{◌≡◌, ◌⊎◌, ◌<◌, ◌≤◌, ℕ, ◌+◌, List, [], ◌∷◌, ◌++◌, All, length, Bool, true, false, Option, Some, None, Result, Ok, Err, string_bytes}
 use Rattle.std.specs.List.{after_first}
+use Rattle.std.specs.Str.{IsUtf8}
 use Rattle.host_port.specs.declared.lines.LineFault.{LineFault}
 use Rattle.host_port.specs.declared.lines.LineFault.TheVariants.{Failed, Memory, BlockTooLong, InputTooLong, UnendedBlock, NotText}
 use Rattle.host_port.specs.declared.lines.block.Block.{Block}
 use Rattle.host_port.specs.declared.lines.Got.{Got}
 use Rattle.host_port.specs.declared.lines.Got.TheVariants.{Line, End}
-use Rattle.host_port.specs.Cut.{is_lf, Script, ends_by, with_item, ends_block, block_line}
+use Rattle.host_port.specs.Cut.{is_lf, Script, ends_by, with_item, ends_block, block_line, without_cr, is_dot}
 use Rattle.host_port.specs.declared.lines.unread.Stop.{Stop}
 use Rattle.host_port.specs.declared.lines.unread.Stop.TheVariants.{Feed, Close, Far}
 use Rattle.host_port.specs.declared.lines.TheConstants.{BLOCK_LIMIT, INPUT_LIMIT}
@@ -92,3 +93,25 @@ so_far text (Some at) = Err (NotText at)
 -- the same of a block that is being read
 abbrev pub read_so_far : Block → Result (List ℕ) LineFault
 read_so_far block = so_far (string_bytes block.text) block.not_text
+
+-- the lines, with a line feed after each
+abbrev pub with_feeds : List (List ℕ) → List ℕ
+with_feeds [] = []
+with_feeds (raw ∷ raws) = raw ++ 10 ∷ with_feeds raws
+
+-- a line that stands in a block's text as it is: no carriage return is cut off, and it isn't the one that ends the block
+pub record IsPlain (raw : List ℕ) : Type 0 where
+  pub no_feed : All (λ b. is_lf b ≡ false) raw
+  pub whole : without_cr raw ≡ raw
+  pub no_end : is_dot raw ≡ false
+
+-- the bytes are lines that are plain, each with its line feed
+pub record ArePlain (bytes : List ℕ) : Type 0 where
+  pub raws : List (List ℕ)
+  pub are : bytes ≡ with_feeds raws
+  pub plain : All IsPlain raws
+
+-- the text of a block with such lines, all of them UTF-8; where a line before is none, that stays its fault
+abbrev pub AddsRun : Result (List ℕ) LineFault → List ℕ → Result (List ℕ) LineFault → Type 0
+AddsRun (Err e) run new = new ≡ Err e
+AddsRun (Ok text) run new = IsUtf8 run × (new ≡ Ok (text ++ run))

@@ -2,13 +2,17 @@
 ghost use Rattle.std.specs.Prelude.{◌≡◌, ◌≢◌, false, ◌+◌, ◌<◌, ◌≤◌, ◌^◌, ℕ, [], ◌++◌, List, Bool, length, drop, take, IsTrue, IfOk, OnOk, IfErr, IsErrOf, if◌then◌else◌, string_bytes, Ok};
 ghost use Rattle.std.specs.List.{slice_split};
 ghost use Rattle.host_port.specs.Host.{GoesOn, KeepsDisk, KeepsSaid, RaisesTakesAlone, Rose};
-ghost use Rattle.host_port.specs.Cut.{cut_block, script_from, after_block, is_lf, text_with};
-ghost use Rattle.host_port.specs.Reads.{GotBlock, GotBlockLine, BlockLine, FarFault, is_feed, read_so_far};
+ghost use Rattle.host_port.specs.Cut.{cut_block, script_from, after_block, is_dot, is_lf, text_with, without_cr};
+ghost use Rattle.host_port.specs.Reads.{AddsRun, ArePlain, GotBlock, GotBlockLine, BlockLine, FarFault, is_feed, read_so_far};
 
 use super::unread::{Stop, Unread, line_bytes};
 use super::{BLOCK_LIMIT, INPUT_LIMIT, LineFault};
 use crate::Host;
+use memchr::memchr;
 use std::alloc::{AllocError, Global};
+
+/// How many lines are read one by one where none at hand was plain, before plain ones are looked for again.
+const WAIT: u32 = 15;
 
 /// The lines of a block so far: their text, or the offset of the first byte that is no UTF-8.
 #[derive(Drop)]
@@ -39,6 +43,42 @@ fn is_feed(stop: Stop) -> bool
         Stop::Feed => true,
         Stop::Close => false,
         Stop::Far => false,
+    }
+}
+
+/// Whether a line's bytes up to its line feed stand in a block's text as they are, and don't end it.
+fn is_plain(raw: &[u8]) -> bool
+    ensures plain { IsTrue result → (without_cr raw.now ≡ raw.now) × (is_dot raw.now ≡ false) }
+{
+    let len = raw.len();
+    len == 0 || (raw[len - 1] != b'\r' && (len > 1 || raw[0] != b'.'))
+}
+
+/// How many bytes at the front are whole lines that are plain, up to the first that isn't, and within `room` bytes.
+fn plain_end(bytes: &[u8], room: usize) -> usize
+    ensures within { (result ≤ length bytes.now) × (result ≤ room) }
+    ensures plain { ArePlain (take result bytes.now) }
+{
+    let mut end = 0;
+    'bytes: for i in 0..bytes.len().min(room) {
+        if bytes[i] == b'\n' {
+            if !is_plain(&bytes[end..i]) {
+                return end;
+            }
+            end = i + 1;
+        }
+    }
+    end
+}
+
+/// The same, and sooner where the first line isn't plain or isn't whole.
+fn run_len(bytes: &[u8], room: usize) -> usize
+    ensures within { (result ≤ length bytes.now) × (result ≤ room) }
+    ensures plain { ArePlain (take result bytes.now) }
+{
+    match memchr(b'\n', bytes) {
+        Some(at) if is_plain(&bytes[..at]) => plain_end(bytes, room),
+        _ => 0,
     }
 }
 
@@ -79,6 +119,56 @@ impl Block {
                 self.text.push('\n')
             }
         }
+    }
+
+    /// Adds lines that are plain, or passes them where a line before is no UTF-8; false where these are none.
+    fn add_run(&mut self, run: &[u8]) -> Result<bool, AllocError>
+        ensures added { IfOk result (λ added. IsTrue added → AddsRun (read_so_far self.old) run.now (read_so_far self.new)) }
+        ensures same { IfOk result (λ added. added ≡ false → read_so_far self.new ≡ read_so_far self.old) }
+        ensures short { IfOk result (λ added. length (string_bytes self.new.text) ≤ length (string_bytes self.old.text) + (if added then length run.now else 0)) }
+    {
+        if self.not_text.is_some() {
+            return Ok(true);
+        }
+        match std::str::from_utf8(run) {
+            Ok(lines) => {
+                self.text.push_str(lines)?;
+                Ok(true)
+            }
+            Err(_) => Ok(false),
+        }
+    }
+
+    /// Adds at once the lines at hand that are plain, of UTF-8 and within the block's limit, or none of them. After a call that found none
+    /// the next few, counted by `wait`, don't look.
+    fn add_plain(
+        &mut self,
+        unread: &mut Unread,
+        start: u64,
+        wait: &mut u32,
+    ) -> Result<(), AllocError>
+        requires started { start ≤ unread.old.place }
+        requires near { unread.old.place ≤ start + BLOCK_LIMIT }
+        ensures step { OnOk result ((takes : List ℕ → Bool) (line left : List ℕ) →
+            cut_block takes line start unread.old.place (read_so_far self.old) (slice_split is_lf (unread.old.pending ++ left))
+            ≡ cut_block takes line start unread.new.place (read_so_far self.new) (slice_split is_lf (unread.new.pending ++ left))) }
+        ensures near { OnOk result (unread.new.place ≤ start + BLOCK_LIMIT) }
+        ensures short { OnOk result (length (string_bytes self.old.text) + start ≤ unread.old.place → length (string_bytes self.new.text) + start ≤ unread.new.place) }
+        ensures later { unread.old.place ≤ unread.new.place }
+    {
+        if *wait > 0 {
+            *wait -= 1;
+            return Ok(());
+        }
+        let room = (BLOCK_LIMIT - (unread.place - start)) as usize;
+        let bytes = unread.pending.as_slice();
+        let run = run_len(bytes, room);
+        if run > 0 && self.add_run(&bytes[..run])? {
+            unread.go_past(run);
+        } else {
+            *wait = WAIT;
+        }
+        Ok(())
     }
 
     /// What a line is, and the way past it; true where it is the block's end.
@@ -175,7 +265,11 @@ impl Block {
     {
         let start = unread.place;
         self.clear();
+        let mut wait = 0;
         'lines: loop {
+            if self.add_plain(unread, start, &mut wait).is_err() {
+                return Err(LineFault::Memory);
+            }
             if self.line(unread, host, start)? {
                 return match self.not_text {
                     Some(at) => Err(LineFault::NotText { at }),

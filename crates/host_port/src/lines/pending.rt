@@ -52,21 +52,29 @@ impl Pending {
         ensures added { OnOk result (self.new ≡ self.old ++ more.now) }
         ensures same { OnErr result (self.new ≡ self.old) }
     {
+        self.make_room();
         self.bytes.extend_from_slice(more)?;
         Ok(())
     }
 
-    /// Reads the first bytes. Once half of all bytes are read the others are moved to the beginning, so a byte is moved once at most.
+    /// Moves the bytes that are not read to the beginning, where no more of them are left than are read. So a byte is moved once at most for each
+    /// byte that was read.
+    fn make_room(&mut self)
+        ensures same { self.new ≡ self.old }
+    {
+        let left = self.bytes.len() - self.read;
+        if left <= self.read {
+            self.bytes.copy_within(self.read.., 0);
+            self.bytes.truncate(left);
+            self.read = 0;
+        }
+    }
+
+    /// Reads the first bytes.
     pub fn go_past(&mut self, count: usize)
         requires { count ≤ length self.old }
         ensures past { self.new ≡ drop count self.old }
     {
         self.read += count;
-        let left = self.bytes.len() - self.read;
-        if self.read >= left {
-            self.bytes.copy_within(self.read.., 0);
-            self.bytes.truncate(left);
-            self.read = 0;
-        }
     }
 }
