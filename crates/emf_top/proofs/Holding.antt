@@ -1,20 +1,20 @@
 -- The frames that are out of the pool: those that the cache holds, and those of a record.
-use Rattle.std.proofs.Common.{◌≡◌, ◌⊎◌, inl, inr, ℕ, zero, suc, ◌+◌, ◌<◌, ◌≤◌, List, [], ◌∷◌, ◌++◌, length, take, Option, Some, None, Result, Ok, Err, refl, sym, ◌∙◌, ap, subst, arith, length-append}
+use Rattle.std.proofs.Common.{◌≡◌, ◌⊎◌, inl, inr, ℕ, zero, suc, ◌+◌, ◌≤◌, List, [], ◌∷◌, length, take, Option, Some, None, Result, Ok, Err, refl, sym, ◌∙◌, ap, subst, arith}
 use Rattle.std.specs.Prelude.{OnErr}
 use Rattle.ecore_meta.specs.Meta.{Meta}
-use Rattle.page_pool.specs.Frames.{Frames, frame_at, out_of, IsOut, SameFrames}
-use Rattle.page_pool.specs.Paged.{PagedState, IsAmong, AreFree, AreOut, KeepsOthers, frames_for, joined}
+use Rattle.page_pool.specs.Frames.{Frames, frame_at, out_of, SameFrames}
+use Rattle.page_pool.specs.Paged.{PagedState, IsAmong, AreFree, KeepsOthers, frames_for}
 use Rattle.page_pool.proofs.Among.{all_kept, joined_kept, out_each, out_not_free}
-use Rattle.state_cache.specs.Entries.{Entries, HoldsAll, IsCached, IsYielded, held, stands}
+use Rattle.state_cache.specs.Entries.{Entries, HoldsAll, IsYielded, held, stands}
 use Rattle.state_cache.proofs.Listed.{stands_kept}
 use Rattle.state_cache.proofs.Standing.{all_yielded}
-use Rattle.commit_journal.specs.Journal.{HoldsRecord, IsShort, after_gate}
+use Rattle.commit_journal.specs.Journal.{HoldsRecord}
 use Rattle.commit_journal.proofs.Ends.{length-after_gate}
 use Rattle.plain_repository.specs.State.{State}
 use Rattle.history_tree.specs.History.{History}
 use Rattle.version_states.specs.Cached.{AreForms, IsVersionForm, MayUse, Uses}
 use Rattle.repo_state.specs.Cached.{HasForms}
-use Rattle.emf_top.specs.Session.{HoldsBoth, LeavesRecord, frames_held}
+use Rattle.emf_top.specs.Session.{HoldsBoth, LeavesRecord}
 
 -- ---- the cache alone
 pub all_may : (p : Frames) (c : Entries) → HoldsAll p c → MayUse p c

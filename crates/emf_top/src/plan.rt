@@ -19,10 +19,11 @@ ghost use Rattle.emf_top.specs.declared.answered.SessionFault.TheVariants.{DiskF
 use crate::answered::{Answered, SessionFault, kind_of};
 use commit_journal::{Journal, Prepared, give_up};
 use ecore_meta::Text;
+use event_play::play;
 use host_port::Host;
 use op_form::Event;
 use page_pool::{Pool, count_frames};
-use repo_core::{Decision, Made, decide, play};
+use repo_core::{Decision, Made, decide};
 use repo_state::Repo;
 use script_lang::print_reply;
 use state_cache::Cache;

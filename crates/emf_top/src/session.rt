@@ -7,7 +7,7 @@ ghost use Rattle.op_form.specs.declared.event.Event.{Event};
 ghost use Rattle.plain_repository.specs.Events.{play};
 ghost use Rattle.plain_repository.specs.Store.{StandsForEvents, IsDamaged, StandsForNoEvents};
 ghost use Rattle.commit_journal.specs.Journal.{StandsForSame};
-ghost use Rattle.repo_state.specs.Counting.{AreCounts, element_count};
+ghost use Rattle.repo_core.specs.Counting.{AreCounts, element_count};
 ghost use Rattle.repo_core.specs.Decisions.{IsShortBlock};
 ghost use Rattle.emf_top.specs.Session.{answer_to, IsStoreOf, IsEntering, IfMade, AtDamage, answered_as};
 
@@ -15,10 +15,11 @@ use crate::answered::{Answered, SessionFault, session_fault};
 use crate::plan::{answer, answer_quietly};
 use commit_journal::{Journal, Walk};
 use ecore_meta::Text;
+use event_play::replay;
 use host_port::Host;
 use page_pool::Pool;
-use repo_core::replay;
-use repo_state::{Counts, ReplayFault, Repo};
+use repo_core::Counts;
+use repo_state::{ReplayFault, Repo};
 use state_cache::Cache;
 use std::alloc::{AllocError, Global};
 use std::marker::Model;
@@ -96,7 +97,7 @@ impl Session {
     pub(crate) fn counts(&self) -> Counts
         ensures { AreCounts self.now.state result }
     {
-        self.repo.counts()
+        repo_core::counts_of(&self.repo)
     }
 
     /// How many elements the state at trunk's head has; none before there is a metamodel.
@@ -104,7 +105,7 @@ impl Session {
         ensures elements { IfOk result (λ n. n ≡ element_count self.old.state) }
         ensures same { self.new ≡ self.old }
     {
-        self.repo.elements(alloc, &mut self.cache, &mut self.pool)
+        repo_core::elements_at_head(alloc, &mut self.cache, &mut self.pool, &self.repo)
     }
 
     /// Answers a command: its event is in the file before its reply is printed.

@@ -1,10 +1,7 @@
-pub mod Caching
 pub mod Chosen
 pub mod Following
 pub mod Naming
 pub mod Needed
 pub mod Playable
-pub mod Replaying
 pub mod Reverted
-pub mod There
 pub mod Typed

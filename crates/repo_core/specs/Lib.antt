@@ -1,4 +1,4 @@
+pub mod Counting
 pub mod Decisions
 pub mod Needs
-pub mod Playing
 pub mod Shown

@@ -1,8 +1,9 @@
-//! What a line is answered, the event that it makes, and which events are made of those that could be.
+//! What a line is answered, and the event that it makes; what a repository holds, for those who look at it.
 #![tactic(auto)]
 
+mod counting;
 mod deciding;
-mod playing;
+mod versions;
 
+pub use counting::{Counts, counts_of, elements_at_head};
 pub use deciding::{Decision, Made, decide};
-pub use playing::{play, replay};

@@ -1,5 +1,5 @@
 -- What is recorded in a workspace, taken one operation after another.
-use Rattle.std.proofs.Common.{◌≡◌, ◌≢◌, ◌+◌, List, ◌++◌, Some, None, Result, Ok, Err, ⊎_elim, ◌∙◌, ap}
+use Rattle.std.proofs.Common.{◌≡◌, ◌≢◌, List, ◌++◌, Some, None, Result, Ok, Err, ⊎_elim, ◌∙◌, ap}
 use Rattle.std.specs.Prelude.{IfErr, OnOk}
 use Rattle.std.specs.Result.{IsErr, IsErrAnd}
 use Rattle.model_state.specs.declared.step.StepFault.TheVariants.{Memory}

@@ -9,5 +9,4 @@ pub mod Keepers
 pub mod Merges
 pub mod Models
 pub mod Ordered
-pub mod Putting
 pub mod Taking

@@ -1,33 +1,7 @@
--- How much a repository holds.
-use Rattle.std.specs.Prelude.{◌≡◌, ℕ, ◌<◌, ◌^◌, Option, Some, None, is_some, length, count_by}
-use Rattle.ecore_meta.specs.Meta.{Meta}
-use Rattle.model_state.specs.Listing.{ids}
-use Rattle.history_tree.specs.History.{head}
-use Rattle.history_tree.specs.States.{state_of}
+-- How many workspaces a repository holds.
+use Rattle.std.specs.Prelude.{ℕ, is_some, count_by}
 use Rattle.plain_repository.specs.State.{State}
-use Rattle.repo_state.specs.declared.counting.Counts.{Counts}
 
 -- the workspaces that are there; those that were dropped are not counted
 abbrev pub live_workspaces : State → ℕ
 live_workspaces s = count_by is_some s.workspaces
-
--- the branch that version 0 begins
-abbrev pub trunk : ℕ
-trunk = 0
-
--- the live elements of the state at trunk's head, by the metamodel; none before there is one
-abbrev pub elements_with : State → Option Meta → ℕ
-elements_with s None = 0
-elements_with s (Some meta) = length (ids (state_of meta s.history (head s.history trunk)))
-
--- how many elements there are at trunk's head
-abbrev pub element_count : State → ℕ
-element_count s = elements_with s s.meta
-
--- The counts are the state's. That of the workspaces is so where it has 32 bits, as it has after any events that could be made.
-pub record AreCounts (s : State) (counts : Counts) : Type 0 where
-  pub events : counts.events ≡ s.events
-  pub versions : counts.versions ≡ length s.history.versions
-  pub branches : counts.branches ≡ length s.history.branches
-  pub tags : counts.tags ≡ length s.history.tags
-  pub workspaces : live_workspaces s < 2 ^ 32 → counts.workspaces ≡ live_workspaces s

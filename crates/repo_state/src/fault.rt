@@ -3,15 +3,13 @@ ghost use Rattle.std.specs.Prelude.{◌≡◌, ◌≢◌};
 
 use model_state::StepFault;
 use std::alloc::AllocError;
-use thiserror::Error;
 
 /// Why the bytes of a record are not played.
-#[derive(Clone, Copy, Debug, Error)]
+#[derive(Clone, Copy)]
 pub enum ReplayFault {
     /// They are no event that a command could make here.
-    #[error("no event that a command could make here")]
     NotPlayable,
-    #[error("out of memory")]
+    /// Out of memory.
     Memory,
 }
 

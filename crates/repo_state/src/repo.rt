@@ -1,11 +1,13 @@
 //! The repository in memory.
-ghost use Rattle.std.specs.Prelude.{◌≡◌, ◌≤◌, ◌<◌, ◌^◌, suc, None, IfNone, IfOk, IfSome, length, is_some, true, Some};
+ghost use Rattle.std.specs.Prelude.{◌≡◌, ◌≤◌, ◌<◌, ◌^◌, suc, None, IfNone, IfOk, IfSome, length, is_some, true, Some, count_by};
 ghost use Rattle.std.specs.Bool.{OnTrue, OnFalse};
 ghost use Rattle.std.specs.Option.{option_copied, option_map};
+ghost use Rattle.history_tree.specs.History.{no_history};
 ghost use Rattle.plain_repository.specs.State.{empty, workspace_of};
 ghost use Rattle.plain_repository.specs.Orderly.{IsOrderly};
 ghost use Rattle.version_states.specs.Cached.{MayUse, Uses};
 ghost use Rattle.repo_state.specs.Cached.{HasForms};
+ghost use Rattle.repo_state.specs.Counting.{live_workspaces};
 ghost use Rattle.repo_state.specs.Keeping.{plain_of};
 ghost use Rattle.repo_state.specs.Working.{IsWorkingModel};
 
@@ -102,6 +104,7 @@ impl Repo {
         ensures meta { IfSome result (λ b. self.now.meta ≡ Some b.now.meta) }
         ensures history { IfSome result (λ b. self.now.history ≡ b.now.history.history) }
         ensures none { IfNone result (self.now.meta ≡ None) }
+        ensures empty { IfNone result (self.now.history ≡ no_history) }
     {
         match &self.begun {
             None => None,
@@ -114,6 +117,18 @@ impl Repo {
         ensures { result ≡ length self.now.workspaces }
     {
         self.workspaces.len()
+    }
+
+    /// How many workspaces are there, as far as 32 bits go. Those that were dropped are not counted.
+    pub fn live_workspaces(&self) -> u32
+        ensures { live_workspaces self.now < 2 ^ 32 → result ≡ live_workspaces self.now }
+    {
+        let live = self
+            .workspaces
+            .iter()
+            .filter(|workspace| workspace.is_some())
+            .count();
+        u32::try_from(live).unwrap_or(u32::MAX)
     }
 
     /// How many events were made.

@@ -283,7 +283,7 @@ impl Workspace {
     }
 
     /// The working model, made anew.
-    pub(crate) fn fold_model(
+    pub fn fold_model(
         &self,
         alloc: Global,
         cache: &mut Cache,

@@ -16,6 +16,7 @@ ghost use Rattle.repo_state.specs.Keeping.{plain_of};
 
 use crate::deciding::answers::{Decision, refuse, tell, with_room};
 use crate::deciding::naming::unknown;
+use crate::versions::model_anew;
 use ecore_meta::{List, Text};
 use merge_plans::{copy_operations, first_interfering, have_pair, path_after};
 use model_state::Package;
@@ -66,7 +67,7 @@ pub(crate) fn decide_apply(
         Err(FormFault::Memory) => return Err(AllocError),
     };
     begun.meta.sound();
-    let mut model = repo.model_anew(alloc, cache, pool, begun, ws, workspace)?;
+    let mut model = model_anew(alloc, cache, pool, repo, begun, ws, workspace)?;
     match stop_in(&mut model, &begun.meta, package.as_slice())? {
         Some(step) => Ok(refuse(alloc, Refusal::NotApplicable { step })),
         None => with_operations(alloc, repo, ws, package),

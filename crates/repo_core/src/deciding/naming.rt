@@ -6,6 +6,7 @@ ghost use Rattle.plain_repository.specs.Specs.{named, unknown};
 ghost use Rattle.version_states.specs.Cached.{LeavesFirst, MayUse, Uses};
 ghost use Rattle.repo_state.specs.Cached.{HasForms};
 
+use crate::versions::version_state;
 use ecore_meta::{List, Text};
 use emfjson_text::write_model;
 use history_tree::{FindFault, Found, History};
@@ -57,7 +58,7 @@ pub(crate) fn text_of(
     ensures uses { Uses pool.old pool.new cache.old cache.new }
     ensures forms { HasForms repo.now pool.new cache.new }
 {
-    let model = repo.version_state(alloc, cache, pool, begun, v)?;
+    let model = version_state(alloc, cache, pool, repo, begun, v)?;
     let mut lines = List::new(alloc);
     lines.push(write_model(alloc, model.graph(), &begun.meta)?)?;
     Ok(lines)

@@ -1,4 +1,4 @@
-use Rattle.std.proofs.Common.{◌≡◌, sym, subst}
+use Rattle.std.proofs.Common.{sym, subst}
 use Rattle.plain_repository.specs.State.{State}
 use Rattle.repo_state.specs.Cached.{HasForms}
 use Rattle.emf_top.proofs.Holding.{all_may, all_on}

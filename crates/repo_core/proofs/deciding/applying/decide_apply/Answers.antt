@@ -1,13 +1,11 @@
-use Rattle.std.proofs.Common.{◌≡◌, ◌<◌, ◌^◌, List, true, is_some, length, sym, ◌∙◌, ap, subst, arith}
-use Rattle.history_tree.specs.History.{History}
+use Rattle.std.proofs.Common.{◌≡◌, ◌<◌, ◌^◌, List, true, is_some, length, sym, ◌∙◌, subst, arith}
 use Rattle.model_state.specs.State as models
 use Rattle.model_state.specs.Packages.{fold_package, steps_all}
 use Rattle.model_state.specs.declared.operation.Operation.{Operation}
 use Rattle.op_reading.proofs.Codes.{whole_spelled}
 use Rattle.op_reading.proofs.PackageCodes.{package_codes}
-use Rattle.plain_repository.specs.State.{folded, model_of}
+use Rattle.plain_repository.specs.State.{model_of}
 use Rattle.repo_state.specs.Keeping.{plain_of}
-use Rattle.repo_state.proofs.Ordered.{is_there, model_leads}
 use Rattle.repo_core.proofs.Reverted.{applied_could}
 use Rattle.version_states.proofs.Stopping.{none_stops, package_few}
 use Rattle.repo_core.proofs.deciding.applying.decide_apply.Goals as goal

@@ -1,4 +1,4 @@
-use Rattle.std.proofs.Common.{◌≡◌, true, is_some, sym, ◌∙◌, subst}
+use Rattle.std.proofs.Common.{◌≡◌, true, is_some, sym, subst}
 use Rattle.std.specs.Prelude.{IfOk}
 use Rattle.plain_repository.specs.State.{State, workspace_of}
 use Rattle.repo_state.specs.Cached.{HasForms}

@@ -1,0 +1,4 @@
+pub mod Caching
+pub mod Putting
+pub mod Replaying
+pub mod There

@@ -1,0 +1,14 @@
+use Rattle.std.proofs.Common.{◌≡◌, Some, sym, ◌∙◌, ap}
+use Rattle.tidy_laws.specs.Tidy.{tidy}
+use Rattle.repo_state.specs.Keeping.{plain_of}
+use Rattle.event_play.proofs.Putting.{tidy_leads}
+use Rattle.event_play.proofs.merged.tidied.Goals as goal
+
+pub returns-clause-leads : goal.returns-clause-leads
+returns-clause-leads c =
+    let s = c.args.repo.now in
+    let meta = c.in-Some.begun.now.meta in
+    let w = plain_of c.in-Some-workspace.workspace.now in
+    let begun : s.meta ≡ Some meta = c.in-Some.ensures.meta in
+    let there = sym c.in-Some-workspace.ensures.found in
+    tidy_leads s meta c.args.ws w c.into_vec.result.items begun there (c.into_vec.ensures ∙ c.in_ok-list.ensures.tidied ∙ ap (tidy meta) (c.in_ok-package.ensures.copied ∙ c.operations.ensures))

@@ -1,0 +1,151 @@
+//! What the events Tidy, Update and Merge make of a workspace. Each call changes nothing when out of memory.
+ghost use Rattle.std.specs.Prelude.{◌≡◌, IfOk, IsErrOf, OnErr, OnOk, false, true};
+ghost use Rattle.op_form.specs.declared.event.Event.TheVariants.{Merge, Tidy, Update};
+ghost use Rattle.op_form.specs.Formed.{IsEvent};
+ghost use Rattle.plain_repository.specs.Events.{effect, playable_with};
+ghost use Rattle.plain_repository.specs.State.{with_changed};
+ghost use Rattle.repo_state.specs.Planning.{restarted, taken_up};
+
+use canoniser::{is_tidy, tidy as tidy_package};
+use ecore_meta::Text;
+use merge_plans::{are_choices, copy_operations};
+use repo_state::{Local, Merged, ReplayFault, Repo};
+use std::alloc::Global;
+
+/// What is local in a workspace once it is tidied.
+fn tidied(alloc: Global, repo: &Repo, ws: u32) -> Result<Local, ReplayFault>
+    ensures could { IfOk result (λ _. playable_with repo.now repo.now.meta (Tidy ws) ≡ true) }
+    ensures leads { IfOk result (λ l. with_changed (restarted l.base l.operations.items) ws repo.now ≡ effect repo.now (Tidy ws)) }
+    ensures cannot { IsErrOf result ReplayFault.NotPlayable → playable_with repo.now repo.now.meta (Tidy ws) ≡ false }
+{
+    let Some(begun) = repo.begun() else {
+        return Err(ReplayFault::NotPlayable);
+    };
+    let Some(workspace) = repo.workspace(ws) else {
+        return Err(ReplayFault::NotPlayable);
+    };
+    if workspace.is_open() {
+        return Err(ReplayFault::NotPlayable);
+    }
+    let package = copy_operations(alloc, workspace.operations())?;
+    if is_tidy(alloc, &package, &begun.meta)? {
+        return Err(ReplayFault::NotPlayable);
+    }
+    let list = tidy_package(alloc, &package, &begun.meta)?;
+    Ok(Local {
+        base: workspace.base,
+        operations: list.into_vec(),
+    })
+}
+
+/// What is local in a workspace once it is updated by choices.
+fn updated(alloc: Global, repo: &Repo, ws: u32, letters: &Text) -> Result<Local, ReplayFault>
+    ensures could { IfOk result (λ _. playable_with repo.now repo.now.meta (Update ws letters.now) ≡ true) }
+    ensures leads { IfOk result (λ l. with_changed (restarted l.base l.operations.items) ws repo.now ≡ effect repo.now (Update ws letters.now)) }
+    ensures cannot { IsErrOf result ReplayFault.NotPlayable → playable_with repo.now repo.now.meta (Update ws letters.now) ≡ false }
+{
+    let Some(begun) = repo.begun() else {
+        return Err(ReplayFault::NotPlayable);
+    };
+    let Some(workspace) = repo.workspace(ws) else {
+        return Err(ReplayFault::NotPlayable);
+    };
+    repo.orderly();
+    let head = begun.history.head(workspace.branch);
+    if workspace.is_open() || workspace.base == head {
+        return Err(ReplayFault::NotPlayable);
+    }
+    let plan = begun.update_plan(alloc, workspace)?;
+    if !are_choices(letters.as_str(), plan.buckets.rows.as_slice()) {
+        return Err(ReplayFault::NotPlayable);
+    }
+    let list = plan.update_list(alloc, &begun.meta, letters.as_str())?;
+    Ok(Local {
+        base: head,
+        operations: list.into_vec(),
+    })
+}
+
+/// What a merge of another branch brings into a workspace by choices.
+fn merged(
+    alloc: Global,
+    repo: &Repo,
+    ws: u32,
+    branch: u32,
+    letters: &Text,
+) -> Result<Merged, ReplayFault>
+    ensures could { IfOk result (λ _. playable_with repo.now repo.now.meta (Merge ws branch letters.now) ≡ true) }
+    ensures leads { IfOk result (λ m. with_changed (taken_up m.more m.version) ws repo.now ≡ effect repo.now (Merge ws branch letters.now)) }
+    ensures cannot { IsErrOf result ReplayFault.NotPlayable → playable_with repo.now repo.now.meta (Merge ws branch letters.now) ≡ false }
+{
+    let Some(begun) = repo.begun() else {
+        return Err(ReplayFault::NotPlayable);
+    };
+    let Some(workspace) = repo.workspace(ws) else {
+        return Err(ReplayFault::NotPlayable);
+    };
+    if workspace.is_open() || branch >= begun.history.branch_count() || branch == workspace.branch {
+        return Err(ReplayFault::NotPlayable);
+    }
+    repo.orderly();
+    let version = begun.history.head(branch);
+    let plan = begun.merge_plan(alloc, workspace, version)?;
+    if plan.theirs.len() == 0 || !are_choices(letters.as_str(), plan.buckets.rows.as_slice()) {
+        return Err(ReplayFault::NotPlayable);
+    }
+    let more = plan.merge_list(alloc, &begun.meta, letters.as_str())?;
+    Ok(Merged { more, version })
+}
+
+/// Tidies a workspace.
+pub(crate) fn tidy(alloc: Global, repo: &mut Repo, ws: u32) -> Result<(), ReplayFault>
+    requires spelled { IsEvent (Tidy ws) }
+    ensures could { OnOk result (playable_with repo.old repo.old.meta (Tidy ws) ≡ true) }
+    ensures done { OnOk result (repo.new ≡ effect repo.old (Tidy ws)) }
+    ensures same { OnErr result (repo.new ≡ repo.old) }
+    ensures cannot { IsErrOf result ReplayFault.NotPlayable → playable_with repo.old repo.old.meta (Tidy ws) ≡ false }
+{
+    repo.orderly();
+    let local = tidied(alloc, repo, ws)?;
+    repo.restart(ws, local);
+    Ok(())
+}
+
+/// Updates a workspace by choices.
+pub(crate) fn update(
+    alloc: Global,
+    repo: &mut Repo,
+    ws: u32,
+    letters: &Text,
+) -> Result<(), ReplayFault>
+    requires spelled { IsEvent (Update ws letters.now) }
+    ensures could { OnOk result (playable_with repo.old repo.old.meta (Update ws letters.now) ≡ true) }
+    ensures done { OnOk result (repo.new ≡ effect repo.old (Update ws letters.now)) }
+    ensures same { OnErr result (repo.new ≡ repo.old) }
+    ensures cannot { IsErrOf result ReplayFault.NotPlayable → playable_with repo.old repo.old.meta (Update ws letters.now) ≡ false }
+{
+    repo.orderly();
+    let local = updated(alloc, repo, ws, letters)?;
+    repo.restart(ws, local);
+    Ok(())
+}
+
+/// Merges another branch into a workspace by choices.
+pub(crate) fn merge(
+    alloc: Global,
+    repo: &mut Repo,
+    ws: u32,
+    branch: u32,
+    letters: &Text,
+) -> Result<(), ReplayFault>
+    requires spelled { IsEvent (Merge ws branch letters.now) }
+    ensures could { OnOk result (playable_with repo.old repo.old.meta (Merge ws branch letters.now) ≡ true) }
+    ensures done { OnOk result (repo.new ≡ effect repo.old (Merge ws branch letters.now)) }
+    ensures same { OnErr result (repo.new ≡ repo.old) }
+    ensures cannot { IsErrOf result ReplayFault.NotPlayable → playable_with repo.old repo.old.meta (Merge ws branch letters.now) ≡ false }
+{
+    repo.orderly();
+    let merged = merged(alloc, repo, ws, branch, letters)?;
+    repo.take_up(ws, merged)?;
+    Ok(())
+}
