@@ -1,15 +1,14 @@
 //! Batches of steps of one kind, spread over the elements of a model.
 //!
-//! All elements of the model stand at the root, each at a rank of its own, and have two attributes. A fifth of them cites the
-//! element of number 1. A batch has a step for each of 500 of them, and two insertions for each.
+//! All elements of a model stand at the root, each at a rank of its own, and have two attributes. A fifth of them cites a
+//! target. A batch has a step for each of 500 of them, and two insertions for each. Where there are more models than one,
+//! these are 500 in all: each model has as many as the others, and they take turns.
 
 use crate::fault::TimesFault;
+use crate::spread::{Spread, Turn};
 use ecore_meta::{List, Text, Value};
 use model_state::{Id, OpKind, Place, Step};
 use std::alloc::Global;
-
-/// How many elements a batch has steps for.
-pub const COUNT: u64 = 500;
 
 /// The features of the metamodel, by their numbers.
 pub const LABEL: u32 = 0;
@@ -114,13 +113,13 @@ fn creation(alloc: Global, number: u64) -> Result<Step, TimesFault> {
     })
 }
 
-/// The citation of the element of number 1 by another.
-fn citation(alloc: Global, number: u64) -> Result<Step, TimesFault> {
+/// The citation of a target by the element of a number.
+fn citation(alloc: Global, number: u64, target: u64) -> Result<Step, TimesFault> {
     Ok(Step::Link {
         a: element(alloc, number)?,
         f: CITES,
         ra: APART,
-        b: element(alloc, 1)?,
+        b: element(alloc, target)?,
         rb: None,
     })
 }
@@ -158,12 +157,13 @@ fn put_creations(
 fn put_citations(
     alloc: Global,
     steps: &mut List<Step>,
+    spread: Spread,
     from: u64,
     to: u64,
 ) -> Result<(), TimesFault> {
     for number in from..to {
         if number % 5 == 0 {
-            steps.push(citation(alloc, number)?)?;
+            steps.push(citation(alloc, number, spread.target_of(number))?)?;
         }
     }
     Ok(())
@@ -174,20 +174,14 @@ pub fn pieces(elements: u64) -> u64 {
     elements.div_ceil(PIECE)
 }
 
-/// The steps that make a piece of a model of so many elements.
-pub fn building(alloc: Global, elements: u64, piece: u64) -> Result<List<Step>, TimesFault> {
+/// The steps that make a piece of a model.
+pub fn building(alloc: Global, spread: Spread, piece: u64) -> Result<List<Step>, TimesFault> {
     let from = piece.saturating_mul(PIECE);
-    let to = from.saturating_add(PIECE).min(elements);
+    let to = from.saturating_add(PIECE).min(spread.elements);
     let mut steps = List::new(alloc);
     put_creations(alloc, &mut steps, from, to)?;
-    put_citations(alloc, &mut steps, from, to)?;
+    put_citations(alloc, &mut steps, spread, from, to)?;
     Ok(steps)
-}
-
-/// The number of a step's element, by the step's index in its batch.
-pub fn number_of(elements: u64, at: u64) -> u64 {
-    let apart = elements.saturating_sub(2) / COUNT;
-    at.saturating_mul(apart).saturating_add(2)
 }
 
 fn label(alloc: Global) -> Result<Value, TimesFault> {
@@ -198,10 +192,10 @@ fn text(alloc: Global) -> Result<Value, TimesFault> {
     Ok(Value::Text(Text::new(alloc, "a text")?))
 }
 
-/// The place inside the element of number 1.
-fn inside(alloc: Global) -> Result<Place, TimesFault> {
+/// The place inside a target.
+fn inside(alloc: Global, target: u64) -> Result<Place, TimesFault> {
     Ok(Place::Inside {
-        parent: element(alloc, 1)?,
+        parent: element(alloc, target)?,
         feature: INNER,
     })
 }
@@ -246,21 +240,21 @@ fn deletion(e: Id) -> Step {
     }
 }
 
-/// A reference from an element to the element of number 1, with its mirror.
-fn link(alloc: Global, a: Id, rank: u64) -> Result<Step, TimesFault> {
+/// A reference from an element to its target, with its mirror.
+fn link(alloc: Global, a: Id, rank: u64, target: u64) -> Result<Step, TimesFault> {
     Ok(Step::Link {
         a,
         f: NEXT,
         ra: 1,
-        b: element(alloc, 1)?,
+        b: element(alloc, target)?,
         rb: Some(rank),
     })
 }
 
 /// Another rank for the mirror of that reference.
-fn rerank_row(alloc: Global, a: Id, rank: u64) -> Result<Step, TimesFault> {
+fn rerank_row(alloc: Global, a: Id, rank: u64, target: u64) -> Result<Step, TimesFault> {
     Ok(Step::RerankRow {
-        a: element(alloc, 1)?,
+        a: element(alloc, target)?,
         f: BACK,
         b: a,
         old: rank,
@@ -269,12 +263,12 @@ fn rerank_row(alloc: Global, a: Id, rank: u64) -> Result<Step, TimesFault> {
 }
 
 /// That reference taken out, with its mirror at its other rank.
-fn unlink(alloc: Global, a: Id, rank: u64) -> Result<Step, TimesFault> {
+fn unlink(alloc: Global, a: Id, rank: u64, target: u64) -> Result<Step, TimesFault> {
     Ok(Step::Unlink {
         a,
         f: NEXT,
         ra: 1,
-        b: element(alloc, 1)?,
+        b: element(alloc, target)?,
         rb: Some(rank.saturating_add(1)),
     })
 }
@@ -288,17 +282,17 @@ fn rerank_place(e: Id, rank: u64) -> Step {
     }
 }
 
-/// The containers of what stands inside the element of number 1: that element alone.
-fn containers(alloc: Global) -> Result<List<Id>, TimesFault> {
+/// The containers of what stands inside a target: that element alone.
+fn containers(alloc: Global, target: u64) -> Result<List<Id>, TimesFault> {
     let mut above = List::new(alloc);
-    above.push(element(alloc, 1)?)?;
+    above.push(element(alloc, target)?)?;
     Ok(above)
 }
 
-/// The move of an element, which has another rank by now, from the root into the element of number 1.
-fn move_step(alloc: Global, e: Id, rank: u64) -> Result<Step, TimesFault> {
-    let to = inside(alloc)?;
-    let above_to = containers(alloc)?;
+/// The move of an element, which has another rank by now, from the root into its target.
+fn move_step(alloc: Global, e: Id, rank: u64, target: u64) -> Result<Step, TimesFault> {
+    let to = inside(alloc, target)?;
+    let above_to = containers(alloc, target)?;
     Ok(Step::Move {
         e,
         from: Place::Root,
@@ -310,15 +304,15 @@ fn move_step(alloc: Global, e: Id, rank: u64) -> Result<Step, TimesFault> {
     })
 }
 
-/// The element that a batch makes at an index, and that another deletes.
-fn passing(alloc: Global, at: u64) -> Result<Id, TimesFault> {
-    Ok(Id::read(alloc, format!(in alloc; "m{at}")?.as_str())?)
+/// The element that a batch makes in a turn, and that another deletes.
+fn passing(alloc: Global, turn: u64) -> Result<Id, TimesFault> {
+    Ok(Id::read(alloc, format!(in alloc; "m{turn}")?.as_str())?)
 }
 
 /// One more element at the root.
-fn making(alloc: Global, at: u64, rank: u64) -> Result<Step, TimesFault> {
+fn making(alloc: Global, turn: u64, rank: u64) -> Result<Step, TimesFault> {
     Ok(Step::New {
-        e: passing(alloc, at)?,
+        e: passing(alloc, turn)?,
         class: 0,
         place: Place::Root,
         rank: rank.saturating_add(1),
@@ -326,17 +320,19 @@ fn making(alloc: Global, at: u64, rank: u64) -> Result<Step, TimesFault> {
 }
 
 /// That element deleted.
-fn unmaking(alloc: Global, at: u64, rank: u64) -> Result<Step, TimesFault> {
+fn unmaking(alloc: Global, turn: u64, rank: u64) -> Result<Step, TimesFault> {
     Ok(Step::Gone {
-        e: passing(alloc, at)?,
+        e: passing(alloc, turn)?,
         class: 0,
         place: Place::Root,
         rank: rank.saturating_add(1),
     })
 }
 
-/// The step at an index of a batch, on the element of a number.
-fn step_of(alloc: Global, batch: Batch, number: u64, at: u64) -> Result<Step, TimesFault> {
+/// The step of a turn of a batch.
+fn step_of(alloc: Global, batch: Batch, spread: Spread, turn: u64) -> Result<Step, TimesFault> {
+    let number = spread.number_of(turn);
+    let target = spread.target_of(number);
     let e = element(alloc, number)?;
     let rank = rank_of(number);
     match batch {
@@ -344,46 +340,68 @@ fn step_of(alloc: Global, batch: Batch, number: u64, at: u64) -> Result<Step, Ti
         Batch::Ins => Ok(insertion(e, 0, 1)),
         Batch::Shift => Ok(shift(e)),
         Batch::Del => Ok(deletion(e)),
-        Batch::Link => link(alloc, e, rank),
-        Batch::RerankRow => rerank_row(alloc, e, rank),
-        Batch::Unlink => unlink(alloc, e, rank),
+        Batch::Link => link(alloc, e, rank, target),
+        Batch::RerankRow => rerank_row(alloc, e, rank, target),
+        Batch::Unlink => unlink(alloc, e, rank, target),
         Batch::RerankPlace => Ok(rerank_place(e, rank)),
-        Batch::Move => move_step(alloc, e, rank),
-        Batch::New => making(alloc, at, rank),
-        Batch::Gone => unmaking(alloc, at, rank),
+        Batch::Move => move_step(alloc, e, rank, target),
+        Batch::New => making(alloc, turn, rank),
+        Batch::Gone => unmaking(alloc, turn, rank),
     }
 }
 
-/// Puts the step at an index of a batch after others, and after an insertion a second one.
+/// Puts the step of a turn of a model after others, and after an insertion a second one.
 fn put_step(
     alloc: Global,
-    steps: &mut List<Step>,
+    steps: &mut List<Turn<Step>>,
     batch: Batch,
-    number: u64,
-    at: u64,
+    model: u32,
+    spread: Spread,
+    turn: u64,
 ) -> Result<(), TimesFault> {
-    steps.push(step_of(alloc, batch, number, at)?)?;
+    let what = step_of(alloc, batch, spread, turn)?;
+    steps.push(Turn { model, what })?;
     if matches!(batch, Batch::Ins) {
-        steps.push(insertion(element(alloc, number)?, 1, 2))?;
+        let what = insertion(element(alloc, spread.number_of(turn))?, 1, 2);
+        steps.push(Turn { model, what })?;
     }
     Ok(())
 }
 
-fn put_batch(
+/// Puts the steps of a turn of each model after others.
+fn put_turn(
     alloc: Global,
-    steps: &mut List<Step>,
+    steps: &mut List<Turn<Step>>,
     batch: Batch,
-    elements: u64,
+    spread: Spread,
+    turn: u64,
 ) -> Result<(), TimesFault> {
-    for at in 0..COUNT {
-        put_step(alloc, steps, batch, number_of(elements, at), at)?;
+    for model in 0..spread.models {
+        put_step(alloc, steps, batch, model, spread, turn)?;
     }
     Ok(())
 }
 
-/// The steps of a batch.
-pub fn batch_of(alloc: Global, batch: Batch, elements: u64) -> Result<List<Step>, TimesFault> {
+/// The steps of a batch, in the order in which the models take them.
+pub fn batch_of(
+    alloc: Global,
+    batch: Batch,
+    spread: Spread,
+) -> Result<List<Turn<Step>>, TimesFault> {
     let mut steps = List::new(alloc);
-    put_batch(alloc, &mut steps, batch, elements)?;
+    for turn in 0..spread.turns {
+        put_turn(alloc, &mut steps, batch, spread, turn)?;
+    }
     Ok(steps)
+}
+
+/// The steps that the first model takes, which are those of each model.
+pub fn steps_of_one(alloc: Global, steps: &[Turn<Step>]) -> Result<List<Step>, TimesFault> {
+    let mut copies = List::new(alloc);
+    for step in steps {
+        if step.model == 0 {
+            copies.push(step.what.copy(alloc)?)?;
+        }
+    }
+    Ok(copies)
 }

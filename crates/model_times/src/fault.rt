@@ -7,8 +7,9 @@ use thiserror::Error;
 /// Why nothing was measured.
 #[derive(Debug, Drop, Error)]
 pub enum TimesFault {
-    /// A word is none of the program's, or no number of elements from 1,000 on.
-    #[error("usage: model_times plain|graph ELEMENTS [timed]")]
+    /// A word is none of the program's, no number of elements from 1,000 on, or no number of models from 1 to 500. Or there are
+    /// too few elements for targets beside them.
+    #[error("usage: model_times plain|graph ELEMENTS [timed [MODELS]]")]
     Usage,
     /// The metamodel was not read.
     #[error("no metamodel")]
@@ -16,6 +17,9 @@ pub enum TimesFault {
     /// A step of the measurement can't be taken.
     #[error("a step can't be taken")]
     Step,
+    /// There is no model of a number.
+    #[error("no such model")]
+    Model,
     /// An id that was made has not the form of one.
     #[error("no id: {0}")]
     Id(IdFault),

@@ -1,17 +1,19 @@
 //! Times the steps and the queries of a model, over ordered maps or over elements in slots: three times over the same elements, of
-//! which the first time finds them untouched since the model was built.
+//! which the first time finds them untouched since the model was built. There may be several such models side by side, which take
+//! turns: so many small models have the memory of a large one.
 #![tactic(auto)]
 
 mod batches;
 mod fault;
 mod queries;
+mod spread;
 
 ghost use Rattle.std.specs.Prelude.{IfOk, OnOk};
 ghost use Rattle.ecore_meta.specs.Sound.{Sound};
-ghost use Rattle.model_state.specs.Good.{Good};
+ghost use Rattle.model_times.specs.Models.{AreGood};
 
 use anyhow::Result;
-use batches::{BATCHES, Batch, batch_of, building, pieces};
+use batches::{BATCHES, Batch, batch_of, building, pieces, steps_of_one};
 use ecore_json::read_metamodel;
 use ecore_meta::{List, Metamodel};
 use fault::TimesFault;
@@ -20,9 +22,10 @@ use model_laws::replay;
 use model_state::{Change, Id, Look, Operation, Package, Step};
 use op_form::reverse;
 use queries::{QUERIES, Query, ask, asked};
+use spread::{Spread, Turn};
 use std::alloc::Global;
-use std::env;
 use std::time::{Duration, Instant};
+use std::{env, slice};
 use step_apply::Plain;
 
 /// How many elements a model has at least, so that each step of a batch has one of its own.
@@ -65,32 +68,74 @@ fn print_time(rt: &HostRuntime, is_timed: bool, taken: Duration) -> Result<()> {
     Ok(())
 }
 
-/// Takes all the steps.
-fn take<M: Change>(meta: &Metamodel, model: &mut M, steps: &[Step]) -> Result<(), TimesFault>
+/// The model of a number takes all the steps.
+fn take<M: Change>(
+    meta: &Metamodel,
+    models: &mut Vec<M>,
+    model: u32,
+    steps: &[Step],
+) -> Result<(), TimesFault>
     requires sound { Sound meta.now }
-    requires good { Good meta.now (M.state model.old) }
-    ensures { OnOk result (Good meta.now (M.state model.new)) }
+    requires good { AreGood meta.now M.state models.old.items }
+    ensures { OnOk result (AreGood meta.now M.state models.new.items) }
 {
+    let Some(model) = models.get_mut(model as usize) else {
+        return Err(TimesFault::Model);
+    };
     match replay(model, meta, steps) {
         Ok(()) => Ok(()),
         Err(_) => Err(TimesFault::Step),
     }
 }
 
-/// Builds a model of so many elements, piece by piece.
+/// Each model takes its steps, in the order of the turns.
+fn take_turns<M: Change>(
+    meta: &Metamodel,
+    models: &mut Vec<M>,
+    turns: &[Turn<Step>],
+) -> Result<(), TimesFault>
+    requires sound { Sound meta.now }
+    requires good { AreGood meta.now M.state models.old.items }
+    ensures { OnOk result (AreGood meta.now M.state models.new.items) }
+{
+    for turn in turns {
+        take(meta, models, turn.model, slice::from_ref(&turn.what))?;
+    }
+    Ok(())
+}
+
+/// Builds the model of a number, piece by piece.
 fn build<M: Change>(
     alloc: Global,
     meta: &Metamodel,
-    model: &mut M,
-    elements: u64,
+    models: &mut Vec<M>,
+    model: u32,
+    spread: Spread,
 ) -> Result<(), TimesFault>
     requires sound { Sound meta.now }
-    requires good { Good meta.now (M.state model.old) }
-    ensures { OnOk result (Good meta.now (M.state model.new)) }
+    requires good { AreGood meta.now M.state models.old.items }
+    ensures { OnOk result (AreGood meta.now M.state models.new.items) }
 {
-    for piece in 0..pieces(elements) {
-        let steps = building(alloc, elements, piece)?;
-        take(meta, model, steps.as_slice())?;
+    for piece in 0..pieces(spread.elements) {
+        let steps = building(alloc, spread, piece)?;
+        take(meta, models, model, steps.as_slice())?;
+    }
+    Ok(())
+}
+
+/// Builds each model.
+fn build_all<M: Change>(
+    alloc: Global,
+    meta: &Metamodel,
+    models: &mut Vec<M>,
+    spread: Spread,
+) -> Result<(), TimesFault>
+    requires sound { Sound meta.now }
+    requires good { AreGood meta.now M.state models.old.items }
+    ensures { OnOk result (AreGood meta.now M.state models.new.items) }
+{
+    for model in 0..spread.models {
+        build(alloc, meta, models, model, spread)?;
     }
     Ok(())
 }
@@ -99,58 +144,59 @@ fn measure_building<M: Change>(
     rt: &HostRuntime,
     is_timed: bool,
     meta: &Metamodel,
-    model: &mut M,
-    elements: u64,
+    models: &mut Vec<M>,
+    spread: Spread,
 ) -> Result<()>
     requires sound { Sound meta.now }
-    requires good { Good meta.now (M.state model.old) }
-    ensures { OnOk result (Good meta.now (M.state model.new)) }
+    requires good { AreGood meta.now M.state models.old.items }
+    ensures { OnOk result (AreGood meta.now M.state models.new.items) }
 {
     let start = Instant::now(rt)?;
-    build(rt.alloc(), meta, model, elements)?;
+    build_all(rt.alloc(), meta, models, spread)?;
     let taken = start.elapsed(rt)?;
-    println!(rt; "build: {elements}")?;
+    println!(rt; "build: {}", spread.all_elements())?;
     print_time(rt, is_timed, taken)
 }
 
-/// Takes a batch, and gives the operation that its steps are.
+/// Takes a batch, and gives the operation that the steps of each model are.
 fn measure_batch<M: Change>(
     rt: &HostRuntime,
     is_timed: bool,
     meta: &Metamodel,
-    model: &mut M,
+    models: &mut Vec<M>,
     batch: Batch,
-    elements: u64,
+    spread: Spread,
 ) -> Result<Operation>
     requires sound { Sound meta.now }
-    requires good { Good meta.now (M.state model.old) }
-    ensures { OnOk result (Good meta.now (M.state model.new)) }
+    requires good { AreGood meta.now M.state models.old.items }
+    ensures { OnOk result (AreGood meta.now M.state models.new.items) }
 {
-    let steps = batch_of(rt.alloc(), batch, elements)?;
+    let turns = batch_of(rt.alloc(), batch, spread)?;
     let start = Instant::now(rt)?;
-    take(meta, model, steps.as_slice())?;
+    take_turns(meta, models, turns.as_slice())?;
     let taken = start.elapsed(rt)?;
-    println!(rt; "{}: {}", batch.word(), steps.len())?;
+    println!(rt; "{}: {}", batch.word(), turns.len())?;
     print_time(rt, is_timed, taken)?;
     let kind = batch.kind();
+    let steps = steps_of_one(rt.alloc(), turns.as_slice())?;
     Ok(Operation::Simple { kind, steps })
 }
 
-/// Takes each batch, and gives the operations that they are.
+/// Takes each batch, and gives the operations that they are for each model.
 fn measure_batches<M: Change>(
     rt: &HostRuntime,
     is_timed: bool,
     meta: &Metamodel,
-    model: &mut M,
-    elements: u64,
+    models: &mut Vec<M>,
+    spread: Spread,
 ) -> Result<Package>
     requires sound { Sound meta.now }
-    requires good { Good meta.now (M.state model.old) }
-    ensures { OnOk result (Good meta.now (M.state model.new)) }
+    requires good { AreGood meta.now M.state models.old.items }
+    ensures { OnOk result (AreGood meta.now M.state models.new.items) }
 {
     let mut done = List::new(rt.alloc());
     for batch in BATCHES {
-        done.push(measure_batch(rt, is_timed, meta, model, batch, elements)?)?;
+        done.push(measure_batch(rt, is_timed, meta, models, batch, spread)?)?;
     }
     Ok(done)
 }
@@ -162,14 +208,38 @@ fn steps_of(operation: &Operation) -> &[Step] {
     }
 }
 
-/// Takes the steps of operations one by one.
-fn take_all<M: Change>(meta: &Metamodel, model: &mut M, package: &Package) -> Result<(), TimesFault>
+/// The model of a number takes the steps of operations one by one.
+fn take_all<M: Change>(
+    meta: &Metamodel,
+    models: &mut Vec<M>,
+    model: u32,
+    package: &Package,
+) -> Result<(), TimesFault>
     requires sound { Sound meta.now }
-    requires good { Good meta.now (M.state model.old) }
-    ensures { OnOk result (Good meta.now (M.state model.new)) }
+    requires good { AreGood meta.now M.state models.old.items }
+    ensures { OnOk result (AreGood meta.now M.state models.new.items) }
 {
     for operation in package.as_slice() {
-        take(meta, model, steps_of(operation))?;
+        take(meta, models, model, steps_of(operation))?;
+    }
+    Ok(())
+}
+
+/// Undoes in each model what was done in each.
+fn undo<M: Change>(
+    alloc: Global,
+    meta: &Metamodel,
+    models: &mut Vec<M>,
+    spread: Spread,
+    done: &Package,
+) -> Result<(), TimesFault>
+    requires sound { Sound meta.now }
+    requires good { AreGood meta.now M.state models.old.items }
+    ensures { OnOk result (AreGood meta.now M.state models.new.items) }
+{
+    let reversals = reverse(alloc, done)?;
+    for model in 0..spread.models {
+        take_all(meta, models, model, &reversals)?;
     }
     Ok(())
 }
@@ -177,12 +247,12 @@ fn take_all<M: Change>(meta: &Metamodel, model: &mut M, package: &Package) -> Re
 fn measure_query<L: Look>(
     rt: &HostRuntime,
     is_timed: bool,
-    model: &L,
+    models: &[L],
     query: Query,
-    asked: &[Id],
+    asked: &[Turn<Id>],
 ) -> Result<()> {
     let start = Instant::now(rt)?;
-    let found = ask(rt.alloc(), model, query, asked)?;
+    let found = ask(rt.alloc(), models, query, asked)?;
     let taken = start.elapsed(rt)?;
     println!(rt; "{query:?}: {}, {found} found", asked.len())?;
     print_time(rt, is_timed, taken)
@@ -191,11 +261,11 @@ fn measure_query<L: Look>(
 fn measure_queries<L: Look>(
     rt: &HostRuntime,
     is_timed: bool,
-    model: &L,
-    asked: &[Id],
+    models: &[L],
+    asked: &[Turn<Id>],
 ) -> Result<()> {
     for query in QUERIES {
-        measure_query(rt, is_timed, model, query, asked)?;
+        measure_query(rt, is_timed, models, query, asked)?;
     }
     Ok(())
 }
@@ -205,52 +275,82 @@ fn measure_round<M: Change>(
     rt: &HostRuntime,
     is_timed: bool,
     meta: &Metamodel,
-    model: &mut M,
-    elements: u64,
-    asked: &[Id],
+    models: &mut Vec<M>,
+    spread: Spread,
+    asked: &[Turn<Id>],
 ) -> Result<()>
     requires sound { Sound meta.now }
-    requires good { Good meta.now (M.state model.old) }
-    ensures { OnOk result (Good meta.now (M.state model.new)) }
+    requires good { AreGood meta.now M.state models.old.items }
+    ensures { OnOk result (AreGood meta.now M.state models.new.items) }
 {
-    let done = measure_batches(rt, is_timed, meta, model, elements)?;
-    measure_queries(rt, is_timed, model, asked)?;
-    let reversals = reverse(rt.alloc(), &done)?;
-    take_all(meta, model, &reversals)?;
+    let done = measure_batches(rt, is_timed, meta, models, spread)?;
+    measure_queries(rt, is_timed, models.as_slice(), asked)?;
+    undo(rt.alloc(), meta, models, spread, &done)?;
     Ok(())
 }
 
-/// Builds the model, and measures each round.
+/// Builds the models, and measures each round.
 fn measure<M: Change>(
     rt: &HostRuntime,
     is_timed: bool,
     meta: &Metamodel,
-    model: &mut M,
-    elements: u64,
+    models: &mut Vec<M>,
+    spread: Spread,
 ) -> Result<()>
     requires sound { Sound meta.now }
-    requires good { Good meta.now (M.state model.old) }
+    requires good { AreGood meta.now M.state models.old.items }
 {
-    measure_building(rt, is_timed, meta, model, elements)?;
-    let asked = asked(rt.alloc(), elements)?;
+    measure_building(rt, is_timed, meta, models, spread)?;
+    let asked = asked(rt.alloc(), spread)?;
     for _ in 0..ROUNDS {
-        measure_round(rt, is_timed, meta, model, elements, asked.as_slice())?;
+        measure_round(rt, is_timed, meta, models, spread, asked.as_slice())?;
     }
     Ok(())
 }
 
-fn measure_plain(rt: &HostRuntime, is_timed: bool, meta: &Metamodel, elements: u64) -> Result<()>
+fn measure_plain(rt: &HostRuntime, is_timed: bool, meta: &Metamodel, spread: Spread) -> Result<()>
     requires { Sound meta.now }
 {
-    let mut model = Plain::new(rt.alloc());
-    measure(rt, is_timed, meta, &mut model, elements)
+    let mut models = List::new(rt.alloc());
+    for _ in 0..spread.models {
+        models.push(Plain::new(rt.alloc()))?;
+    }
+    measure(rt, is_timed, meta, &mut models.into_vec(), spread)
 }
 
-fn measure_graph(rt: &HostRuntime, is_timed: bool, meta: &Metamodel, elements: u64) -> Result<()>
+fn measure_graph(rt: &HostRuntime, is_timed: bool, meta: &Metamodel, spread: Spread) -> Result<()>
     requires { Sound meta.now }
 {
-    let mut model = Graph::new(rt.alloc());
-    measure(rt, is_timed, meta, &mut model, elements)
+    let mut models = List::new(rt.alloc());
+    for _ in 0..spread.models {
+        models.push(Graph::new(rt.alloc()))?;
+    }
+    measure(rt, is_timed, meta, &mut models.into_vec(), spread)
+}
+
+/// How many models the words after the number of elements ask for, where they say it.
+fn models_of(rest: &[String]) -> Result<Option<u32>, TimesFault> {
+    let [_, models, ..] = rest else {
+        return Ok(None);
+    };
+    match models.as_str().parse::<u32>() {
+        Ok(models) => Ok(Some(models)),
+        Err(_) => Err(TimesFault::Usage),
+    }
+}
+
+/// How the words say that steps and queries are spread.
+fn spread_of(elements: &String, rest: &[String]) -> Result<Spread, TimesFault> {
+    let Ok(elements) = elements.as_str().parse::<u32>() else {
+        return Err(TimesFault::Usage);
+    };
+    if elements < LEAST {
+        return Err(TimesFault::Usage);
+    }
+    match Spread::new(elements, models_of(rest)?) {
+        Some(spread) => Ok(spread),
+        None => Err(TimesFault::Usage),
+    }
 }
 
 /// Measures what the words after the program's name say.
@@ -258,17 +358,12 @@ fn run(rt: &HostRuntime, words: &[String]) -> Result<()> {
     let [kind, elements, rest @ ..] = words else {
         return Err(TimesFault::Usage.into());
     };
-    let Ok(elements) = elements.as_str().parse::<u32>() else {
-        return Err(TimesFault::Usage.into());
-    };
-    if elements < LEAST {
-        return Err(TimesFault::Usage.into());
-    }
+    let spread = spread_of(elements, rest)?;
     let meta = metamodel(rt.alloc())?;
     let is_timed = !rest.is_empty();
     match kind.as_str() {
-        "plain" => measure_plain(rt, is_timed, &meta, elements as u64),
-        "graph" => measure_graph(rt, is_timed, &meta, elements as u64),
+        "plain" => measure_plain(rt, is_timed, &meta, spread),
+        "graph" => measure_graph(rt, is_timed, &meta, spread),
         _ => Err(TimesFault::Usage.into()),
     }
 }

@@ -1,7 +1,8 @@
-//! Queries of a model, each asked of the elements over which the batches are spread.
+//! Queries of models, each asked of the elements over which the batches are spread.
 
-use crate::batches::{CITES, COUNT, INNER, LABEL, element, number_of};
+use crate::batches::{CITES, INNER, LABEL, element};
 use crate::fault::TimesFault;
+use crate::spread::{Spread, Turn};
 use ecore_meta::List;
 use model_state::{Id, Look, Place};
 use std::alloc::Global;
@@ -35,13 +36,27 @@ pub const QUERIES: [Query; 10] = [
     Query::Incoming,
 ];
 
-/// The elements that are asked of.
-pub fn asked(alloc: Global, elements: u64) -> Result<List<Id>, TimesFault> {
-    let mut found = List::new(alloc);
-    for at in 0..COUNT {
-        found.push(element(alloc, number_of(elements, at))?)?;
+/// Puts the element of a turn of each model after others.
+fn put_turn(
+    alloc: Global,
+    asked: &mut List<Turn<Id>>,
+    spread: Spread,
+    turn: u64,
+) -> Result<(), TimesFault> {
+    for model in 0..spread.models {
+        let what = element(alloc, spread.number_of(turn))?;
+        asked.push(Turn { model, what })?;
     }
-    Ok(found)
+    Ok(())
+}
+
+/// The elements that are asked of, in the order in which the models are asked.
+pub fn asked(alloc: Global, spread: Spread) -> Result<List<Turn<Id>>, TimesFault> {
+    let mut asked = List::new(alloc);
+    for turn in 0..spread.turns {
+        put_turn(alloc, &mut asked, spread, turn)?;
+    }
+    Ok(asked)
 }
 
 fn yes(is_so: bool) -> usize {
@@ -74,16 +89,29 @@ fn ask_one<L: Look>(alloc: Global, model: &L, query: Query, e: &Id) -> Result<us
     }
 }
 
+/// A query of an element of one of the models, and how much it found.
+fn ask_turn<L: Look>(
+    alloc: Global,
+    models: &[L],
+    query: Query,
+    asked: &Turn<Id>,
+) -> Result<usize, TimesFault> {
+    match models.get(asked.model as usize) {
+        Some(model) => ask_one(alloc, model, query, &asked.what),
+        None => Err(TimesFault::Model),
+    }
+}
+
 /// A query of each of the elements, and how much they found.
 pub fn ask<L: Look>(
     alloc: Global,
-    model: &L,
+    models: &[L],
     query: Query,
-    asked: &[Id],
+    asked: &[Turn<Id>],
 ) -> Result<usize, TimesFault> {
     let mut found: usize = 0;
-    for e in asked {
-        found = found.saturating_add(ask_one(alloc, model, query, e)?);
+    for turn in asked {
+        found = found.saturating_add(ask_turn(alloc, models, query, turn)?);
     }
     Ok(found)
 }

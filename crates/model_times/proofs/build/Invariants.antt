@@ -1,5 +1,5 @@
-use Rattle.model_state.specs.Good.{Good}
+use Rattle.model_times.specs.Models.{AreGood}
 use Rattle.model_times.proofs.build.Given as goal
 
 abbrev pub invariant-loop-piece : goal.invariant-loop-piece
-invariant-loop-piece g l = Good l.meta (g.M.Look.state l.model)
+invariant-loop-piece g l = AreGood l.meta g.M.Look.state l.models.items
