@@ -1,11 +1,8 @@
-//! Tests of the layers that read and write metamodels, values and operations, over their public calls: a crate that holds its own tests is proved twice.
+//! Tests of what no session shows, over public calls: the bytes of events, and calls and replies that no line causes. A crate that holds its own tests
+//! is proved twice.
 #![tactic(auto)]
 
 #[cfg(test)]
-mod ecore_texts;
-#[cfg(test)]
-mod metamodels;
-#[cfg(test)]
 mod package_bytes;
 #[cfg(test)]
-mod value_texts;
+mod unasked;

@@ -1,7 +1,6 @@
 //! Events, byte for byte as the format's tables have them. Bytes are written in hex, a field a word.
-use model_state::Operation;
-use op_form::{Event, encode_event, has_encoding, reverse, reverse_op};
-use op_reading::{FormFault, decode, decode_event};
+use op_form::{encode_event, has_encoding};
+use op_reading::{FormFault, decode_event};
 use std::alloc::Global;
 use std::process::Abort;
 use std::test::Fail;
@@ -106,18 +105,7 @@ const NO_EVENTS: &str = "0f 00000001 = 0
 0d 00000001 000000016d 6d = 9
 0e 00000002 00 = 5
 03 00000001 00 = 5
-03 00000001 ffffffff = 9
-03 00000001 00000000 00 = 9
-03 00000001 00000001 03 = 9
-03 00000001 00000001 01 07 = 10
-03 00000001 00000001 01 01 00000000 = 11
-03 00000001 00000001 02 0000000131 = 10
-03 00000001 00000001 01 01 00000001 0c = 15
-03 00000001 00000001 01 01 00000001 08 0000000123 = 16
-03 00000001 00000001 01 01 00000001 08 0000000161 00000000 02 = 25
-03 00000001 00000001 01 03 00000001 01 0000000162 00000001 02 = 25
-03 00000001 00000001 01 03 00000001 01 0000000162 00000001 01 05 = 26
-03 00000001 00000001 01 03 00000001 01 0000000162 00000001 01 02 02 = 27";
+03 00000001 00000000 00 = 9";
 
 #[test]
 fn bytes_of_no_event_are_no_encoding(rt: HostRuntime) -> Result<(), Fail> {
@@ -128,37 +116,5 @@ fn bytes_of_no_event_are_no_encoding(rt: HostRuntime) -> Result<(), Fail> {
         let fault = decode_event(alloc, read(alloc, text)?.as_slice()).err();
         assert_eq!(&rt; fault, Some(FormFault::NotForm { at }), "{text}");
     }
-    Ok(())
-}
-
-// An element made and an attribute's value set; the same reversed; and the setting, which is reversed twice.
-const TWO: &str = "00000002 01 01 00000001 08 0000000161 00000000 00 0000000100000000 \
-01 03 00000001 01 0000000162 00000001 00 01 01 00000004456d6d61";
-
-const REVERSED: &str =
-    r#"[Simple { kind: Attribute, steps: List { items: [Put { e: Id { text: Text { text: "b" } }, f: 1, old: Some(Text(Text { text: "Emma" })), new: None }] } }, Simple { kind: Delete, steps: List { items: [Gone { e: Id { text: Text { text: "a" } }, class: 0, place: Root, rank: 4294967296 }] } }]"#;
-
-const SETTING: &str =
-    r#"Simple { kind: Attribute, steps: List { items: [Put { e: Id { text: Text { text: "b" } }, f: 1, old: None, new: Some(Text(Text { text: "Emma" })) }] } }"#;
-
-fn are_shown(
-    rt: &impl Abort,
-    alloc: Global,
-    operations: &[Operation],
-    wanted: &str,
-) -> Result<(), Fail> {
-    assert_eq!(rt; format!(in alloc; "{operations:?}")?.as_str(), wanted);
-    Ok(())
-}
-
-#[test]
-fn packages_and_operations_reverse(rt: HostRuntime) -> Result<(), Fail> {
-    let alloc = rt.alloc();
-    let package = decode(alloc, read(alloc, TWO)?.as_slice())?;
-    let reversed = reverse(alloc, &package)?;
-    are_shown(&rt, alloc, reversed.as_slice(), REVERSED)?;
-    let first = reversed.get(0).ok_or("no operation")?;
-    let again = reverse_op(alloc, first)?;
-    assert_eq!(&rt; format!(in alloc; "{again:?}")?.as_str(), SETTING);
     Ok(())
 }

@@ -98,6 +98,17 @@ fn appended<H: Host>(
     }
 }
 
+// The file whose only record is this byte string.
+fn file_of(alloc: Global, form: &[u8]) -> Result<Vec<u8>, Fail>
+    requires { IsShort form.now }
+{
+    let mut file = b"EMFSTORE\0\0\0\x01\0\0\0\0\xa5".to_vec(alloc)?;
+    file.extend_from_slice(&(form.len() as u32).to_be_bytes())?;
+    file.extend_from_slice(form)?;
+    file.push(0)?;
+    Ok(file)
+}
+
 // In how many frames a byte string's record lay, or the fault where the host's call of a number fails. Then no frame is out, and a
 // record that was added is the file's only one.
 fn told(
@@ -114,12 +125,8 @@ fn told(
     let told = appended(alloc, &mut host, &mut pool, form);
     assert_eq!(rt; pool.out(), 0);
     if told.is_ok() {
-        let mut wanted = Vec::new(alloc);
-        wanted.extend_from_slice(b"EMFSTORE\0\0\0\x01\0\0\0\0\xa5")?;
-        wanted.extend_from_slice(&(form.len() as u32).to_be_bytes())?;
-        wanted.extend_from_slice(form)?;
-        wanted.push(0)?;
-        assert_eq!(rt; host.file(), &wanted[..]);
+        let wanted = file_of(alloc, form)?;
+        assert_eq!(rt; host.file(), wanted.as_slice());
     }
     Ok(told)
 }

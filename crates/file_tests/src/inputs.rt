@@ -24,24 +24,34 @@ fn next<H: Host>(lines: &mut Lines, host: &mut H) -> Result<Got, LineFault>
     lines.next_line(host)
 }
 
+// Puts the next line or block, followed by `|`, or what ends the input; tells whether more may follow.
+fn put_next<H: Host>(
+    alloc: Global,
+    told: &mut String,
+    lines: &mut Lines,
+    host: &mut H,
+) -> Result<bool, Fail>
+    requires { lines.old.failed ≡ false }
+{
+    match next(lines, host) {
+        Ok(Got::Line) => {
+            told.push_str(lines.text())?;
+            told.push('|')?;
+            return Ok(true);
+        }
+        Ok(Got::End) => told.push_str("End")?,
+        Err(fault) => write!(told, "{fault:?}")?,
+    }
+    Ok(false)
+}
+
 // The lines and blocks of an input, each followed by `|`, and what ends it.
 fn told(alloc: Global, host: &mut MemoryHost) -> Result<String, Fail> {
     let mut lines = Lines::new(alloc)?;
     let mut told = String::new(alloc);
     for _ in 0..100 {
-        if lines.failed() {
-            return Ok(told);
-        }
-        match next(&mut lines, host) {
-            Ok(Got::Line) => {
-                told.push_str(lines.text())?;
-                told.push('|')?;
-            }
-            Ok(Got::End) => {
-                told.push_str("End")?;
-                return Ok(told);
-            }
-            Err(fault) => told.push_str(format!(in alloc; "{fault:?}")?.as_str())?,
+        if lines.failed() || !put_next(alloc, &mut told, &mut lines, host)? {
+            break;
         }
     }
     Ok(told)
@@ -90,17 +100,28 @@ init\n\xff\na\nb\n => init|UnendedBlock { at: 11 }
 a\ninit\n{}\n\xe2\x82\n.\n => a|init|NotText { at: 10 }
 init\na\n.\n\xff => init|a\n|NotText { at: 9 }";
 
-// An input in pieces of each size is reported as its case says.
+// An input in pieces of each size is reported so.
+fn is_told_in_pieces(
+    rt: &impl Abort,
+    alloc: Global,
+    input: &[u8],
+    wanted: &str,
+    case: &str,
+) -> Result<(), Fail> {
+    for piece in 1..24 {
+        let mut host = over(alloc, input.to_vec(alloc)?, piece);
+        let told = told(alloc, &mut host)?;
+        assert_eq!(rt; told.as_str(), wanted, "{case} {piece}");
+    }
+    Ok(())
+}
+
+// An input is reported as its case says.
 fn is_told(rt: &impl Abort, alloc: Global, case: &str) -> Result<(), Fail> {
     let (input, wanted) = case.split_once(" => ").ok_or("a case without an answer")?;
     let input = bytes_of(alloc, input)?;
     let wanted = text_of(alloc, wanted)?;
-    for piece in 1..24 {
-        let mut host = over(alloc, input.to_vec(alloc)?, piece);
-        let told = told(alloc, &mut host)?;
-        assert_eq!(rt; told.as_str(), wanted.as_str(), "{case} {piece}");
-    }
-    Ok(())
+    is_told_in_pieces(rt, alloc, input.as_slice(), wanted.as_str(), case)
 }
 
 #[test]

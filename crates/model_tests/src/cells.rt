@@ -1,5 +1,4 @@
-//! The cells of operations, which of them interfere, and two operations in the other order. Cells stand in the order of the steps, those written and then, after
-//! `reads`, those read. Two operations have ` & ` between them; before those that are exchanged stand the steps that a model takes beforehand.
+//! Two operations in the other order, which no command asks for. Each line has the steps that a model takes beforehand, and then the two, with ` & ` between them.
 ghost use Rattle.std.specs.Prelude.{◌≡◌, [], ◌∷◌, false, Some, IfOk};
 ghost use Rattle.model_state.specs.State.{State, nothing};
 ghost use Rattle.model_state.specs.Steps.{fold};
@@ -8,87 +7,21 @@ ghost use Rattle.model_state.specs.Good.{Good, Sound};
 ghost use Rattle.step_apply.specs.View.{plain_state};
 ghost use Rattle.footprint.specs.Interference.{interferes};
 
-use crate::answers::{Calls, check};
-use crate::lines::add;
+use crate::metamodels::metamodel;
 use crate::reading::{cut, operation, steps};
-use ecore_meta::{List, Metamodel};
+use ecore_meta::Metamodel;
 use emfjson_text::write_model;
-use footprint::{Cell, Print, exchange, interferes, print_of};
+use footprint::{exchange, interferes, print_of};
 use model_laws::replay;
 use model_state::{Operation, Step};
 use std::alloc::Global;
+use std::process::Abort;
 use std::test::Fail;
 use step_apply::Plain;
 
-const TABLE: &str = r#"library
-# a reference with an opposite, one with an upper bound, a creation, and moves between elements
-cells Reference: Link b 4 5 w 5 -> Row(b,4,w) Row(w,9,b) reads Kind(b) Kind(w)
-cells Reference: Link p 10 5 q - -> Whole(p,10) reads Kind(p) Kind(q)
-cells Create: New k 1 l.0 5 -> Kind(k) Place(k) Rank(k) reads Kind(l)
-cells Move: Move A / 5 B.12 5 - B -> Place(A) Rank(A) reads Kind(A) Kind(B) Place(B)
-cells Move: Move C / 5 A.12 5 - A -> Place(C) Rank(C) reads Kind(C) Kind(A) Place(A)
-# the other steps
-cells Attribute: Put b 1 - "Emma" -> Attr(b,1) reads Kind(b)
-cells ManyAttribute: Ins b 3 0 "x"; Shift b 3 0 1; Del b 3 0 "x" -> Attr(b,3) Attr(b,3) Attr(b,3) reads Kind(b) Kind(b) Kind(b)
-cells Reference: Unlink b 5 5 c 5 -> Whole(b,5) Whole(c,6) reads Kind(b) Kind(c)
-cells Reference: RerankRow b 4 w 5 6 -> Row(b,4,w) reads Kind(b) Kind(w)
-cells Delete: Gone A 3 B.13 5 -> Kind(A) Place(A) Rank(A) Whole(B,13) reads Kind(B)
-cells Move: Move A B.13 5 C.12 5 B C,D -> Place(A) Rank(A) Whole(B,13) reads Kind(A) Kind(B) Kind(C) Place(B) Place(C) Place(D)
-cells Move: RerankPlace A 5 6 -> Rank(A) reads Place(A)
-cells Composite both: Put b 1 - "Emma"; RerankPlace b 5 6 -> Attr(b,1) Rank(b) reads Kind(b) Place(b)
-# two books of one library, two moves into each other, a link and the deletion of its target
-meet Create: New k 1 l.0 5 & Create: New m 1 l.0 5 -> no
-meet Move: Move A / 5 B.12 5 - B & Move: Move C / 5 A.12 5 - A -> yes
-meet Reference: Link p 10 5 q - & Delete: Gone q 2 / 5 -> yes
-meet Delete: Gone q 2 / 5 & Reference: Link p 10 5 q - -> yes
-# two shelves that go into each other, two attributes of one book, one attribute
-meet Move: Move A / 5 B.12 5 - B & Move: Move B / 5 A.12 5 - A -> yes
-meet Attribute: Put b 1 - "Emma" & Attribute: Put b 2 - 5 -> no
-meet Attribute: Put b 1 - "Emma" & Attribute: Put b 1 - "Persuasion" -> yes
-# an element and its place among others, a list with a bound
-meet Create: New A 3 B.13 5 & Create: New C 3 B.13 5 -> yes
-meet Move: RerankPlace A 5 6 & Move: Move A / 5 B.12 5 - B -> yes
-# exchanged
-exchange New l 0 / 5 & Create: New k 1 l.0 5 & Create: New m 1 l.0 5 -> the same model
-exchange New b 1 / 5; New w 2 / 6 & Reference: Link b 4 5 w 5 & Composite both: Put b 1 - "Emma"; Put w 8 - "Jane" -> the same model
-exchange New l 0 / 5 & Create: New k 1 l.0 5 & Attribute: Put k 1 - "Emma" -> they interfere"#;
-
-fn cell_text(alloc: Global, cell: &Cell) -> Result<String, Fail> {
-    let text = match cell {
-        Cell::Kind(e) => format!(in alloc; "Kind({})", e.as_str()),
-        Cell::Place(e) => format!(in alloc; "Place({})", e.as_str()),
-        Cell::Rank(e) => format!(in alloc; "Rank({})", e.as_str()),
-        Cell::Attr(e, f) => format!(in alloc; "Attr({},{f})", e.as_str()),
-        Cell::Row(a, f, b) => format!(in alloc; "Row({},{f},{})", a.as_str(), b.as_str()),
-        Cell::Whole(a, f) => format!(in alloc; "Whole({},{f})", a.as_str()),
-    };
-    Ok(text?)
-}
-
-fn put_cells(alloc: Global, text: &mut String, cells: &List<Cell>) -> Result<(), Fail> {
-    for cell in cells.as_slice() {
-        add(text, " ", cell_text(alloc, cell)?.as_str())?;
-    }
-    Ok(())
-}
-
-fn put_print(alloc: Global, text: &mut String, print: &Print) -> Result<(), Fail> {
-    put_cells(alloc, text, &print.writes)?;
-    add(text, " ", "reads")?;
-    put_cells(alloc, text, &print.reads)
-}
-
-fn told(alloc: Global, print: &Print) -> Result<String, Fail> {
-    let mut text = String::new(alloc);
-    put_print(alloc, &mut text, print)?;
-    Ok(text)
-}
-
-fn cells(alloc: Global, meta: &Metamodel, text: &str) -> Result<String, Fail> {
-    let operation = operation(alloc, text)?;
-    let print = print_of(alloc, &operation, meta)?;
-    told(alloc, &print)
-}
+const TABLE: &str = r#"New l 0 / 5 & New k 1 l.0 5 & New m 1 l.0 5 -> the same model
+New b 1 / 5; New w 2 / 6 & Link b 4 5 w 5 & both: Put b 1 - "Emma"; Put w 8 - "Jane" -> the same model
+New l 0 / 5 & New k 1 l.0 5 & Put k 1 - "Emma" -> they interfere"#;
 
 // Whether the two interfere.
 fn clash(
@@ -102,26 +35,6 @@ fn clash(
     let a = print_of(alloc, first, meta)?;
     let b = print_of(alloc, second, meta)?;
     Ok(interferes(&a, &b))
-}
-
-fn met(
-    alloc: Global,
-    meta: &Metamodel,
-    first: &Operation,
-    second: &Operation,
-) -> Result<&'static str, Fail> {
-    Ok(if clash(alloc, meta, first, second)? {
-        "yes"
-    } else {
-        "no"
-    })
-}
-
-fn meet(alloc: Global, meta: &Metamodel, text: &str) -> Result<&'static str, Fail> {
-    let (first, second) = cut(text, " & ");
-    let first = operation(alloc, first)?;
-    let second = operation(alloc, second)?;
-    met(alloc, meta, &first, &second)
 }
 
 fn steps_of(op: &Operation) -> &[Step]
@@ -232,19 +145,18 @@ fn exchanged(alloc: Global, meta: &Metamodel, text: &str) -> Result<&'static str
     exchanged_after(alloc, meta, start.as_slice(), rest)
 }
 
-pub(crate) fn answer(alloc: Global, meta: &Metamodel, call: &str) -> Result<String, Fail>
+fn check_all(rt: &impl Abort, alloc: Global, meta: &Metamodel) -> Result<(), Fail>
     requires { Sound meta.now }
 {
-    let (word, text) = cut(call, " ");
-    match word {
-        "cells" => cells(alloc, meta, text),
-        "meet" => Ok(String::from_str(alloc, meet(alloc, meta, text)?)?),
-        "exchange" => Ok(String::from_str(alloc, exchanged(alloc, meta, text)?)?),
-        _ => Err("no such call")?,
+    for line in TABLE.lines() {
+        let (case, wanted) = cut(line, " -> ");
+        assert_eq!(rt; exchanged(alloc, meta, case)?, wanted, "{line}");
     }
+    Ok(())
 }
 
 #[test]
-fn operations_meet_in_their_cells(rt: HostRuntime) -> Result<(), Fail> {
-    check(&rt, rt.alloc(), Calls::Cells, TABLE)
+fn operations_apart_are_exchanged(rt: HostRuntime) -> Result<(), Fail> {
+    let meta = metamodel(rt.alloc(), "library")?;
+    check_all(&rt, rt.alloc(), &meta)
 }

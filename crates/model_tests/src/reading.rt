@@ -1,7 +1,7 @@
 //! Steps as words: the kind of a step and its fields in their order, each after one blank. A class and a feature are their numbers; a place is `/`, or `a.4` inside
 //! the element a, in its feature 4; a value is `"Emma"`, with `\n` and `\"` in it as in JSON, `-5`, `true`, or `#1`, the literal of that number; containers have commas between them. `-` is no
-//! value, no rank, or no containers. Only a value at the end may have blanks. Steps have `; ` between them; an operation is its kind, `: ` and its steps, and the kind
-//! of a composite is `Composite` and its name.
+//! value, no rank, or no containers. Only a value at the end may have blanks. Steps have `; ` between them. An operation is its steps, and before those of a composite
+//! stand its name and `: `.
 use ecore_meta::{List, Text, Value};
 use model_state::{Id, OpKind, Operation, Place, Step};
 use std::alloc::Global;
@@ -51,14 +51,6 @@ impl<'a> Words<'a> {
 
     pub(crate) fn rank(&mut self) -> Result<u64, Fail> {
         Ok(self.word().parse::<u64>()?)
-    }
-
-    // An index, None for the end.
-    pub(crate) fn index(&mut self) -> Result<Option<u32>, Fail> {
-        if self.rest.is_empty() {
-            return Ok(None);
-        }
-        Ok(Some(self.number()?))
     }
 
     pub(crate) fn optional_rank(&mut self) -> Result<Option<u64>, Fail> {
@@ -236,20 +228,36 @@ fn gone(alloc: Global, words: &mut Words) -> Result<Step, Fail> {
     })
 }
 
+// A place that is left, and one that is entered.
+fn two_places(alloc: Global, from: &str, to: &str) -> Result<(Place, Place), Fail> {
+    let from = place(alloc, from)?;
+    let to = place(alloc, to)?;
+    Ok((from, to))
+}
+
+// The containers of both places of a move.
+fn both_containers(alloc: Global, words: &mut Words) -> Result<(List<Id>, List<Id>), Fail> {
+    let above_from = containers(alloc, words.word())?;
+    let above_to = containers(alloc, words.word())?;
+    Ok((above_from, above_to))
+}
+
 fn move_element(alloc: Global, words: &mut Words) -> Result<Step, Fail> {
     let e = words.word();
     let from = words.word();
     let from_rank = words.rank()?;
     let to = words.word();
     let to_rank = words.rank()?;
+    let (from, to) = two_places(alloc, from, to)?;
+    let (above_from, above_to) = both_containers(alloc, words)?;
     Ok(Step::Move {
         e: id(alloc, e)?,
-        from: place(alloc, from)?,
+        from,
         from_rank,
-        to: place(alloc, to)?,
+        to,
         to_rank,
-        above_from: containers(alloc, words.word())?,
-        above_to: containers(alloc, words.word())?,
+        above_from,
+        above_to,
     })
 }
 
@@ -294,31 +302,19 @@ pub(crate) fn steps(alloc: Global, text: &str) -> Result<List<Step>, Fail> {
     Ok(steps)
 }
 
-fn kind_named(name: &str) -> Result<OpKind, Fail> {
-    match name {
-        "Create" => Ok(OpKind::Create),
-        "Delete" => Ok(OpKind::Delete),
-        "Attribute" => Ok(OpKind::Attribute),
-        "ManyAttribute" => Ok(OpKind::ManyAttribute),
-        "Reference" => Ok(OpKind::Reference),
-        "Move" => Ok(OpKind::Move),
-        _ => Err("no kind of operation")?,
-    }
-}
-
 fn composite(alloc: Global, name: &str, lines: &str) -> Result<Operation, Fail> {
     let name = Text::new(alloc, name)?;
     let steps = steps(alloc, lines)?;
     Ok(Operation::Composite { name, steps })
 }
 
+// A composite, or a simple operation, whose kind nothing here goes by.
 pub(crate) fn operation(alloc: Global, text: &str) -> Result<Operation, Fail> {
-    let (word, lines) = prefixed(text, ": ");
-    match word.strip_prefix("Composite ") {
-        Some(name) => composite(alloc, name, lines),
+    match text.split_once(": ") {
+        Some((name, lines)) => composite(alloc, name, lines),
         None => {
-            let kind = kind_named(word)?;
-            let steps = steps(alloc, lines)?;
+            let kind = OpKind::Create;
+            let steps = steps(alloc, text)?;
             Ok(Operation::Simple { kind, steps })
         }
     }

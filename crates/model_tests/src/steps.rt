@@ -1,14 +1,8 @@
-//! Each test of each kind of step, where it is the first to fail and where a later one fails beside it. Three boxes and a lid stand at the root.
-ghost use Rattle.model_state.specs.Good.{Good};
-ghost use Rattle.step_apply.specs.View.{plain_state};
-
-use crate::answers::{Calls, check};
-use crate::reading::step;
-use ecore_meta::Metamodel;
-use model_state::{Change, StepFault};
+//! Each test of each kind of step, where it is the first to fail and where a later one fails beside it. Three boxes and a lid stand at the root. The first line has
+//! the metamodel and the steps beforehand, each other one a step and its answer; where it has more steps before it, these and ` | ` stand before it.
+use model_state::StepFault;
 use std::alloc::Global;
 use std::test::Fail;
-use step_apply::Plain;
 
 pub(crate) const TABLE: &str = r#"boxes; New a 0 / 5; New b 0 / 3; New c 0 / 3; New l 1 / 9
 # Put
@@ -146,23 +140,4 @@ pub(crate) fn told(alloc: Global, answer: Result<(), StepFault>) -> Result<Strin
         Ok(()) => Ok(String::from_str(alloc, "Ok")?),
         Err(fault) => Ok(format!(in alloc; "{fault:?}")?),
     }
-}
-
-// What a model answers to a step.
-pub(crate) fn answer(
-    alloc: Global,
-    meta: &Metamodel,
-    plain: &mut Plain,
-    call: &str,
-) -> Result<String, Fail>
-    requires { Good meta.now (plain_state plain.old) }
-{
-    let step = step(alloc, call)?;
-    let answer = plain.apply(meta, &step);
-    told(alloc, answer)
-}
-
-#[test]
-fn steps_answer_their_first_fault(rt: HostRuntime) -> Result<(), Fail> {
-    check(&rt, rt.alloc(), Calls::Steps, TABLE)
 }

@@ -1,5 +1,12 @@
-//! Tests of the whole program over its public call: a crate that holds its own tests is proved twice.
+//! Tests of the whole program over its public call, with hosts in memory whose calls fail: a crate that holds its own tests is proved twice. What the
+//! program answers is told by the sessions of sessions/, which run on the built program.
 #![tactic(auto)]
 
 #[cfg(test)]
-mod sessions;
+mod faults;
+#[cfg(test)]
+mod frames;
+#[cfg(test)]
+mod hosts;
+#[cfg(test)]
+mod replies;
