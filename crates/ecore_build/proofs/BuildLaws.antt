@@ -9,9 +9,9 @@ use Rattle.ecore_meta.specs.declared.meta.Class.{Class as Made}
 use Rattle.ecore_drafts.specs.Document.{ClassifierRows, class_number, classes_of, feature_total, has_none, is_empty_at, supers_in}
 use Rattle.ecore_drafts.specs.Drafts.{draft, drafts}
 use Rattle.ecore_build.specs.Faults.{own_of, inherited, all_inherited, enum_from, literal, enums_in}
-use Rattle.ecore_build.specs.Faults.{first_true}
+use Rattle.ecore_build.specs.Faults.{IsFault, first_true}
 use Rattle.ecore_build.specs.declared.fault.MetaFault.{MetaFault}
-use Rattle.ecore_build.specs.declared.fault.MetaFault.TheVariants.{SelfOpposite, BadOpposite, BadBound, BadDefault}
+use Rattle.ecore_build.specs.declared.fault.MetaFault.TheVariants.{DupName, Unsupported, NoType, SuperCycle, Clash, SelfOpposite, BadOpposite, BadBound, BadDefault, Memory}
 use Rattle.ecore_build.specs.Build.{class_from}
 use Rattle.ecore_drafts.specs.Counts.{AreFew}
 use Rattle.ecore_drafts.specs.Supers.{Inside, is_above, supers_of, all_above}
@@ -172,3 +172,16 @@ past false e r s h k = k
 pub neither : (a b : Bool) → false ≡ a → false ≡ b → false ≡ (a || b)
 neither true b h k = cc
 neither false b h k = k
+
+-- the first fault is the one that is named
+pub is_fault : (first : Option MetaFault) (e : MetaFault) → first ≡ Some e → IsFault first e
+is_fault first Memory h = tt
+is_fault first DupName h = h
+is_fault first Unsupported h = h
+is_fault first NoType h = h
+is_fault first SuperCycle h = h
+is_fault first Clash h = h
+is_fault first SelfOpposite h = h
+is_fault first BadOpposite h = h
+is_fault first BadBound h = h
+is_fault first BadDefault h = h

@@ -9,3 +9,4 @@ mod RangeLaws
 mod ChainLaws
 mod AboveLaws
 pub mod PromiseLaws
+mod OwnLaws

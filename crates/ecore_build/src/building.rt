@@ -1,12 +1,13 @@
 //! The building of a metamodel: names are resolved, faults looked for in their order, and then the tables assembled.
-ghost use Rattle.std.specs.Prelude.{◌≡◌, ◌<◌, IfOk, IfErr, None, map};
+ghost use Rattle.std.specs.Prelude.{◌≡◌, ◌<◌, IfOk, IfErr, None, false, length, map};
 ghost use Rattle.ecore_build.specs.Build.{Chains, meta_of};
 ghost use Rattle.ecore_drafts.specs.Counts.{Numbered};
 ghost use Rattle.ecore_drafts.specs.Document.{feature_total, supers_in};
-ghost use Rattle.ecore_drafts.specs.Drafts.{drafts};
 ghost use Rattle.ecore_drafts.specs.Supers.{all_above};
 ghost use Rattle.ecore_drafts.specs.Fit.{NamesFit};
-ghost use Rattle.ecore_build.specs.Faults.{IsFault, fault, features_of, first_true, last_tests, enums_in};
+ghost use Rattle.ecore_build.specs.Faults.{IsFault, dup_name, fault, features_of, first_true, last_tests};
+ghost use Rattle.ecore_build.specs.Resolves.{Resolves};
+ghost use Rattle.ecore_meta.specs.Parts.{meta_in};
 
 use crate::enums::enums_of;
 use crate::fault::MetaFault;
@@ -21,10 +22,11 @@ use ecore_meta::{Enums, Metamodel, Parts};
 use std::alloc::{AllocError, Global};
 use std::collections::BTreeSet;
 
-/// What is known of a document once its names and supertypes show no fault.
+/// What is known of a document once no two of its names are the same.
 #[derive(Drop)]
 pub(crate) struct Resolved {
     pub drafts: Vec<Draft>,
+    pub supers: Vec<Vec<u32>>,
     pub above: Vec<BTreeSet<u32>>,
     pub features: Vec<Vec<u32>>,
     pub enums: Enums,
@@ -47,15 +49,88 @@ fn listed(
     Ok(features)
 }
 
-/// What is known of a document, or its first fault of those that the names and the supertypes show.
+/// What the rows of a document say, with the names in them resolved.
+fn resolve<'a>(
+    alloc: Global,
+    rows: &[ClassifierRow],
+    classifiers: &Classifiers<'a>,
+) -> Result<Resolved, AllocError>
+    requires numbered { Numbered rows.now }
+    requires same { classifiers.now ≡ rows.now }
+    ensures { IfOk result (Resolves rows.now) }
+{
+    let drafts = classifiers.drafts(alloc, rows)?;
+    let supers = classifiers.supers(alloc, rows)?;
+    let above = all_above(alloc, supers.as_slice())?;
+    let features = listed(alloc, rows, supers.as_slice(), above.as_slice())?;
+    let enums = enums_of(alloc, rows)?;
+    Ok(Resolved {
+        drafts,
+        supers,
+        above,
+        features,
+        enums,
+    })
+}
+
+/// The first fault of those that the resolved features alone show.
+fn last_fault(alloc: Global, resolved: &Resolved) -> Result<Option<MetaFault>, AllocError>
+    requires { length resolved.now.drafts.items < 4294967296 }
+    ensures { IfOk result (λ o. o ≡ first_true (last_tests resolved.now.drafts.items resolved.now.enums)) }
+{
+    if any_self(resolved.drafts.as_slice()) {
+        return Ok(Some(MetaFault::SelfOpposite));
+    }
+    if any_unanswered(resolved.drafts.as_slice()) {
+        return Ok(Some(MetaFault::BadOpposite));
+    }
+    if any_bad_bound(resolved.drafts.as_slice()) {
+        return Ok(Some(MetaFault::BadBound));
+    }
+    if any_bad_default(alloc, &resolved.enums, resolved.drafts.as_slice())? {
+        return Ok(Some(MetaFault::BadDefault));
+    }
+    Ok(None)
+}
+
+/// The first fault of a document in which no two names are the same.
+fn resolved_fault<'a>(
+    alloc: Global,
+    rows: &[ClassifierRow],
+    classifiers: &Classifiers<'a>,
+    resolved: &Resolved,
+) -> Result<Option<MetaFault>, AllocError>
+    requires numbered { Numbered rows.now }
+    requires same { classifiers.now ≡ rows.now }
+    requires apart { dup_name rows.now ≡ false }
+    requires resolved { Resolves rows.now resolved.now }
+    ensures { IfOk result (λ o. o ≡ fault rows.now) }
+{
+    if any_unsupported(resolved.drafts.as_slice()) {
+        return Ok(Some(MetaFault::Unsupported));
+    }
+    if classifiers.any_lacks_super(rows) || any_missing(resolved.drafts.as_slice()) {
+        return Ok(Some(MetaFault::NoType));
+    }
+    if any_cycle(resolved.supers.as_slice(), resolved.above.as_slice()) {
+        return Ok(Some(MetaFault::SuperCycle));
+    }
+    if any_clash(
+        alloc,
+        resolved.drafts.as_slice(),
+        resolved.features.as_slice(),
+    )? {
+        return Ok(Some(MetaFault::Clash));
+    }
+    last_fault(alloc, resolved)
+}
+
+/// What is known of a document without a fault, or its first fault.
 fn checked(alloc: Global, rows: &[ClassifierRow]) -> Result<Resolved, MetaFault>
     requires { Numbered rows.now }
     ensures fault { IfErr result (IsFault (fault rows.now)) }
-    ensures rest { IfOk result (λ p. fault rows.now ≡ first_true (last_tests p.drafts.items p.enums)) }
-    ensures drafts { IfOk result (λ p. p.drafts.items ≡ drafts rows.now) }
-    ensures above { IfOk result (λ p. map (λ s. s.keys) p.above.items ≡ all_above (supers_in rows.now rows.now)) }
-    ensures features { IfOk result (λ p. map (λ fs. fs.items) p.features.items ≡ features_of rows.now) }
-    ensures enums { IfOk result (λ p. p.enums ≡ enums_in rows.now) }
+    ensures none { IfOk result (λ _. fault rows.now ≡ None) }
+    ensures resolved { IfOk result (Resolves rows.now) }
 {
     let Some(classifiers) = Classifiers::new(alloc, rows)? else {
         return Err(MetaFault::DupName);
@@ -63,29 +138,12 @@ fn checked(alloc: Global, rows: &[ClassifierRow]) -> Result<Resolved, MetaFault>
     if any_repeats_within(alloc, rows)? {
         return Err(MetaFault::DupName);
     }
-    let drafts = classifiers.drafts(alloc, rows)?;
-    if any_unsupported(drafts.as_slice()) {
-        return Err(MetaFault::Unsupported);
+    let resolved = resolve(alloc, rows, &classifiers)?;
+    let first = resolved_fault(alloc, rows, &classifiers, &resolved)?;
+    match first {
+        Some(fault) => Err(fault),
+        None => Ok(resolved),
     }
-    if classifiers.any_lacks_super(rows) || any_missing(drafts.as_slice()) {
-        return Err(MetaFault::NoType);
-    }
-    let supers = classifiers.supers(alloc, rows)?;
-    let above = all_above(alloc, supers.as_slice())?;
-    if any_cycle(supers.as_slice(), above.as_slice()) {
-        return Err(MetaFault::SuperCycle);
-    }
-    let features = listed(alloc, rows, supers.as_slice(), above.as_slice())?;
-    if any_clash(alloc, drafts.as_slice(), features.as_slice())? {
-        return Err(MetaFault::Clash);
-    }
-    let enums = enums_of(alloc, rows)?;
-    Ok(Resolved {
-        drafts,
-        above,
-        features,
-        enums,
-    })
 }
 
 /// The metamodel that a document's rows stand for, or the first fault of the document. `MetaRows::is_numbered` and
@@ -98,23 +156,10 @@ pub fn build(alloc: Global, rows: &MetaRows) -> Result<Metamodel, MetaFault>
     ensures built { IfOk result (λ m. m ≡ meta_of rows.now) }
     ensures chain { IfOk result (λ m. Chains (supers_in rows.now.classifiers rows.now.classifiers) m) }
 {
-    let resolved = match checked(alloc, rows.classifiers.as_slice()) {
-        Ok(resolved) => resolved,
-        Err(fault) => return Err(fault),
-    };
-    if any_self(resolved.drafts.as_slice()) {
-        return Err(MetaFault::SelfOpposite);
+    match checked(alloc, rows.classifiers.as_slice()) {
+        Ok(resolved) => Ok(assemble(alloc, rows, resolved)?),
+        Err(fault) => Err(fault),
     }
-    if any_unanswered(resolved.drafts.as_slice()) {
-        return Err(MetaFault::BadOpposite);
-    }
-    if any_bad_bound(resolved.drafts.as_slice()) {
-        return Err(MetaFault::BadBound);
-    }
-    if any_bad_default(alloc, &resolved.enums, resolved.drafts.as_slice())? {
-        return Err(MetaFault::BadDefault);
-    }
-    Ok(assemble(alloc, rows, resolved)?)
 }
 
 /// The metamodel of a document without a fault.
@@ -122,11 +167,17 @@ fn assemble(alloc: Global, rows: &MetaRows, resolved: Resolved) -> Result<Metamo
     requires few { Numbered rows.now.classifiers }
     requires fit { NamesFit rows.now.classifiers }
     requires none { fault rows.now.classifiers ≡ None }
-    requires drafts { resolved.drafts.items ≡ drafts rows.now.classifiers }
-    requires above { map (λ s. s.keys) resolved.above.items ≡ all_above (supers_in rows.now.classifiers rows.now.classifiers) }
-    requires features { map (λ fs. fs.items) resolved.features.items ≡ features_of rows.now.classifiers }
-    requires enums { resolved.enums ≡ enums_in rows.now.classifiers }
+    requires resolved { Resolves rows.now.classifiers resolved }
     ensures { IfOk result (λ m. m ≡ meta_of rows.now) }
+{
+    let parts = parts_of(alloc, rows, resolved)?;
+    Metamodel::of_parts(alloc, parts)
+}
+
+/// The parts of the metamodel that a document's rows stand for.
+fn parts_of(alloc: Global, rows: &MetaRows, resolved: Resolved) -> Result<Parts, AllocError>
+    requires { Resolves rows.now.classifiers resolved }
+    ensures { IfOk result (λ p. meta_in p ≡ meta_of rows.now) }
 {
     let uri = rows.uri.copy(alloc)?;
     let classes = classes_of(
@@ -135,14 +186,11 @@ fn assemble(alloc: Global, rows: &MetaRows, resolved: Resolved) -> Result<Metamo
         rows.classifiers.as_slice(),
     )?;
     let features = features_of(alloc, &resolved.enums, resolved.drafts.as_slice())?;
-    Metamodel::of_parts(
-        alloc,
-        Parts {
-            uri,
-            classes,
-            above: resolved.above,
-            features,
-            enums: resolved.enums,
-        },
-    )
+    Ok(Parts {
+        uri,
+        classes,
+        above: resolved.above,
+        features,
+        enums: resolved.enums,
+    })
 }

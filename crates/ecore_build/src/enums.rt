@@ -11,10 +11,9 @@ use std::alloc::{AllocError, Global};
 fn literal(alloc: Global, row: &LiteralRow) -> Result<EnumLiteral, AllocError>
     ensures { IfOk result (λ l. l ≡ literal row.now) }
 {
-    Ok(EnumLiteral {
-        name: row.name.copy(alloc)?,
-        text: row.literal.copy(alloc)?,
-    })
+    let name = row.name.copy(alloc)?;
+    let text = row.literal.copy(alloc)?;
+    Ok(EnumLiteral { name, text })
 }
 
 /// The literals of an enum, in their order.

@@ -1,6 +1,6 @@
 //! The features of each class with inherited ones, their clashes and bad defaults, and their final entries in a
 //! metamodel.
-ghost use Rattle.std.specs.Prelude.{◌≡◌, ◌<◌, ◌++◌, IfOk, OnOk, Some, map};
+ghost use Rattle.std.specs.Prelude.{◌≡◌, ◌<◌, ◌++◌, IfOk, Some, map};
 ghost use Rattle.std.specs.List.{flat_map, list_any};
 ghost use Rattle.ecore_build.specs.Build.{attribute, classes_from, container, end_number, feature_from, kind_in, lower_from, natural, reference, upper_from};
 ghost use Rattle.ecore_drafts.specs.Supers.{all_above};
@@ -12,13 +12,13 @@ use ecore_meta::{Class, Enums, Feature, Kind, List, Scalar, Text, default_of, va
 use std::alloc::{AllocError, Global};
 use std::collections::BTreeSet;
 
-/// Adds the features that the class of that number declares.
-fn push_own(own: &[Vec<u32>], class: u32, out: &mut Vec<u32>) -> Result<(), AllocError>
-    ensures { OnOk result (out.new.items ≡ out.old.items ++ own_of (map (λ fs. fs.items) own.now) class) }
+/// The features of the class of that number; none for a number that is none.
+fn own_at(own: &[Vec<u32>], class: usize) -> &[u32]
+    ensures { result.now ≡ own_of (map (λ fs. fs.items) own.now) class }
 {
-    match own.get(class as usize) {
-        None => Ok(()),
-        Some(numbers) => out.extend_from_slice(numbers.as_slice()),
+    match own.get(class) {
+        None => &[],
+        Some(numbers) => numbers.as_slice(),
     }
 }
 
@@ -28,9 +28,17 @@ fn gathered(alloc: Global, classes: &[u32], own: &[Vec<u32>]) -> Result<Vec<u32>
 {
     let mut features = Vec::new(alloc);
     for class in classes {
-        push_own(own, *class, &mut features)?;
+        features.extend_from_slice(own_at(own, *class as usize))?;
     }
     Ok(features)
+}
+
+/// The features that the classes of a set declare, class by class.
+fn declared(alloc: Global, set: &BTreeSet<u32>, own: &[Vec<u32>]) -> Result<Vec<u32>, AllocError>
+    ensures { IfOk result (λ v. v.items ≡ flat_map (own_of (map (λ fs. fs.items) own.now)) set.now.keys) }
+{
+    let classes: Vec<u32> = set.iter().copied().collect(alloc)?;
+    gathered(alloc, classes.as_slice(), own)
 }
 
 /// The features of each class, inherited ones too, rising.
@@ -45,8 +53,7 @@ pub(crate) fn all_features(
 {
     let mut all = Vec::new(alloc);
     for set in above {
-        let classes: Vec<u32> = set.iter().copied().collect(alloc)?;
-        all.push(gathered(alloc, classes.as_slice(), own)?)?;
+        all.push(declared(alloc, set, own)?)?;
     }
     Ok(all)
 }
@@ -290,18 +297,13 @@ pub(crate) fn features_of(
     Ok(features)
 }
 
-/// The features of the class of that number; none for a number that is none.
+/// The same in memory of their own.
 fn numbers_of(alloc: Global, features: &[Vec<u32>], class: usize) -> Result<Vec<u32>, AllocError>
     ensures { IfOk result (λ v. v.items ≡ own_of (map (λ fs. fs.items) features.now) class) }
 {
     let mut numbers = Vec::new(alloc);
-    match features.get(class) {
-        None => Ok(numbers),
-        Some(all) => {
-            numbers.extend_from_slice(all.as_slice())?;
-            Ok(numbers)
-        }
-    }
+    numbers.extend_from_slice(own_at(features, class))?;
+    Ok(numbers)
 }
 
 /// The classes with the features of each.

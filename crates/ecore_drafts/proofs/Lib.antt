@@ -5,3 +5,4 @@ pub mod SuperLaws
 pub mod TableLaws
 mod NumberedLaws
 mod FitLaws
+pub mod Items

@@ -1,5 +1,5 @@
 //! The symbol table of a package: its classes, enums and data types by name, each kind numbered by itself.
-ghost use Rattle.std.specs.Prelude.{◌≡◌, ◌<◌, ◌+◌, false, IfOk, None, OnOk, Some, cond, length, map, slice_get};
+ghost use Rattle.std.specs.Prelude.{◌≡◌, ◌<◌, ◌+◌, ◌∷◌, [], false, IfOk, None, OnOk, Some, cond, length, map, slice_get};
 ghost use Rattle.std.specs.Option.{option_copied};
 ghost use Rattle.std.specs.Str.{bytes_eq};
 ghost use Rattle.ecore_meta.specs.Names.{Name, has_repeat, number_of, place_in};
@@ -187,6 +187,23 @@ fn number_of_kind(
     }
 }
 
+/// What a row stands for, after so many classes, features and enums.
+fn kind_of(row: &ClassifierRow, classes: u32, features: u32, enums: u32) -> Classifier
+    ensures { numbered classes features enums (row.now ∷ []) ≡ result ∷ [] }
+{
+    match row {
+        ClassifierRow::Class(_) => Classifier::Class {
+            number: classes,
+            first: features,
+        },
+        ClassifierRow::Enum(row) => Classifier::Enum {
+            number: enums,
+            is_empty: row.literals.len() == 0,
+        },
+        ClassifierRow::Plain(_) => Classifier::Plain,
+    }
+}
+
 /// The classifiers in their order, each kind numbered by itself.
 fn number(alloc: Global, rows: &[ClassifierRow]) -> Result<Vec<Classifier>, AllocError>
     requires classifiers { length rows.now < 4294967295 }
@@ -198,23 +215,14 @@ fn number(alloc: Global, rows: &[ClassifierRow]) -> Result<Vec<Classifier>, Allo
     let mut features: u32 = 0;
     let mut enums: u32 = 0;
     for row in rows {
+        numbered.push(kind_of(row, classes, features, enums))?;
         match row {
             ClassifierRow::Class(row) => {
-                numbered.push(Classifier::Class {
-                    number: classes,
-                    first: features,
-                })?;
                 classes += 1;
                 features += row.features.len() as u32;
             }
-            ClassifierRow::Enum(row) => {
-                numbered.push(Classifier::Enum {
-                    number: enums,
-                    is_empty: row.literals.len() == 0,
-                })?;
-                enums += 1;
-            }
-            ClassifierRow::Plain(_) => numbered.push(Classifier::Plain)?,
+            ClassifierRow::Enum(_) => enums += 1,
+            ClassifierRow::Plain(_) => {}
         }
     }
     Ok(numbered)

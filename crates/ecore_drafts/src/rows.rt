@@ -9,7 +9,7 @@ ghost use Rattle.ecore_drafts.specs.Fit.{NamesFit, is_misnamed};
 use ecore_meta::{List, Text};
 
 /// What a document says of a package, in its order: the classifiers by name, and names still to be resolved.
-#[derive(Debug, Drop)]
+#[derive(Drop)]
 pub struct MetaRows {
     pub name: Text,
     /// The namespace URI, by which a model text names the package's classes.
@@ -18,7 +18,7 @@ pub struct MetaRows {
 }
 
 /// A classifier as a document describes it.
-#[derive(Debug, Drop)]
+#[derive(Drop)]
 pub enum ClassifierRow {
     Class(ClassRow),
     Enum(EnumRow),
@@ -27,7 +27,7 @@ pub enum ClassifierRow {
 }
 
 /// A class as a document describes it: its supertypes and the types of its features are names, which may be none of the document's.
-#[derive(Debug, Drop)]
+#[derive(Drop)]
 pub struct ClassRow {
     pub name: Text,
     pub is_abstract: bool,
@@ -38,14 +38,14 @@ pub struct ClassRow {
 }
 
 /// An enum as a document describes it, with its literals in their order.
-#[derive(Debug, Drop)]
+#[derive(Drop)]
 pub struct EnumRow {
     pub name: Text,
     pub literals: List<LiteralRow>,
 }
 
 /// A literal of an enum as a document describes it.
-#[derive(Debug, Drop)]
+#[derive(Drop)]
 pub struct LiteralRow {
     pub name: Text,
     /// Ecore's number of the literal; the metamodel doesn't keep it.
@@ -55,7 +55,7 @@ pub struct LiteralRow {
 }
 
 /// The name of a feature's type.
-#[derive(Debug, Drop)]
+#[derive(Drop)]
 pub enum TypeName {
     /// A classifier of the package itself.
     Own(Text),
@@ -64,14 +64,14 @@ pub enum TypeName {
 }
 
 /// The name of an opposite: a class of the package, and a feature that it declares.
-#[derive(Debug, Drop)]
+#[derive(Drop)]
 pub struct OppositeRow {
     pub class: Text,
     pub feature: Text,
 }
 
 /// An attribute or a reference as a document describes it; the names in it may be none of the document's.
-#[derive(Debug, Drop)]
+#[derive(Drop)]
 pub struct FeatureRow {
     pub name: Text,
     pub is_reference: bool,

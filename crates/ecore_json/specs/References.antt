@@ -59,6 +59,10 @@ is_type_reference own t = is_some (ecore_name t) || is_some (own_name own t)
 abbrev pub is_slash : ℕ → Bool
 is_slash b = b == 47
 
+-- the two texts, where each is a name
+abbrev pub if_names : Name → Name → Option (Name × Name)
+if_names class feature = cond (is_name class && is_name feature) (Some (class, feature)) None
+
 -- the names before and after the first slash
 abbrev pub two_names : Name → Option (Name × Name)
 two_names t = cond (is_name (before_first is_slash t) && is_name (after_first is_slash t)) (Some (before_first is_slash t, after_first is_slash t)) None

@@ -1,7 +1,7 @@
 //! The names of a document, and its references to classifiers, to types of Ecore and to features.
 ghost use Rattle.std.specs.Prelude.{◌≡◌, option_copied, option_map};
 ghost use Rattle.std.specs.List.{list_all};
-ghost use Rattle.ecore_json.specs.References.{is_name, is_name_byte, is_feature_name, is_type_reference, after_prefix, name_after, own_name, ecore_name, pair_after, own_feature, two_names};
+ghost use Rattle.ecore_json.specs.References.{is_name, is_name_byte, is_feature_name, is_type_reference, after_prefix, name_after, own_name, ecore_name, pair_after, own_feature, if_names, two_names};
 
 use crate::ecore;
 
@@ -78,18 +78,23 @@ pub(crate) fn is_type_reference(own: &str, text: &str) -> bool
     ecore_name(text).is_some() || own_name(own, text).is_some()
 }
 
+/// The two texts, where each is a name.
+fn if_names<'a>(class: &'a str, feature: &'a str) -> Option<(&'a str, &'a str)>
+    ensures { option_map (λ p. (p.0.now, p.1.now)) result ≡ if_names class.now feature.now }
+{
+    if is_name(class) && is_name(feature) {
+        Some((class, feature))
+    } else {
+        None
+    }
+}
+
 fn two_names(text: &str) -> Option<(&str, &str)>
     ensures { option_map (λ p. (p.0.now, p.1.now)) result ≡ two_names text.now }
 {
     match text.split_once('/') {
         None => None,
-        Some((class, feature)) => {
-            if is_name(class) && is_name(feature) {
-                Some((class, feature))
-            } else {
-                None
-            }
-        }
+        Some((class, feature)) => if_names(class, feature),
     }
 }
 

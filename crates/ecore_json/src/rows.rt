@@ -83,12 +83,12 @@ fn type_name(alloc: Global, own: &str, text: &str) -> Result<TypeName, AllocErro
 fn super_name<'a>(own: &str, text: &'a str) -> &'a str
     ensures { result.now ≡ super_name own.now text.now }
 {
-    if ecore_name(text).is_some() {
-        return text;
-    }
-    match own_name(own, text) {
-        None => "",
-        Some(name) => name,
+    match ecore_name(text) {
+        Some(_) => text,
+        None => match own_name(own, text) {
+            None => "",
+            Some(name) => name,
+        },
     }
 }
 
