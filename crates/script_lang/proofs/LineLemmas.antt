@@ -12,10 +12,10 @@ use Rattle.edits.specs.declared.edit.Edit.{Edit}
 use Rattle.edits.specs.declared.edit.Edit.TheVariants.{Create, Delete, Set, Unset, Add, Remove, Shift, Link, Unlink, Reorder, Move}
 use Rattle.script_lang.specs.Left.{Left}
 use Rattle.script_lang.specs.Words.{is_space, is_word, word_at}
-use Rattle.script_lang.specs.Command.{init_at, import_at, checkout_at, create_at, delete_at, move_at, set_at, unset_at, add_at, remove_at, shift_at, link_at, unlink_at, reorder_at, begin_at, end_line_at, undo_at, discard_at, tidy_at, apply_at, changes_at, show_at, cat_at, validate_at, commit_at, branch_at, tag_at, log_at, package_at, update_at, merge_at, revert_at, drop_at, chosen, command_of}
-use Rattle.script_lang.specs.Spelling.{IsWord, IsCommand, IsLineOf, CommandsHaveLines, LinesAreSpelled, edit_word, edit_fields, spec_word, optional_word, words_of, spaced, Spells}
+use Rattle.script_lang.specs.Command.{init_at, import_at, checkout_at, create_at, delete_at, move_at, set_at, unset_at, add_at, remove_at, shift_at, link_at, unlink_at, reorder_at, begin_at, end_line_at, undo_at, discard_at, tidy_at, apply_at, changes_at, show_at, cat_at, validate_at, commit_at, branch_at, tag_at, log_at, package_at, update_at, merge_at, revert_at, drop_at, chosen, feature_commands, work_commands, version_commands, command_of}
+use Rattle.script_lang.specs.Spelling.{IsWord, IsCommand, IsLineOf, CommandsHaveLines, LinesAreSpelled, edit_word, edit_fields, spec_word, optional_word, spaced, Spells}
 use Rattle.script_lang.proofs.WordLemmas.{word_back}
-use Rattle.script_lang.proofs.Readings.{reads, reached, word_kind, joined, spaced_joined, some_is, Tells}
+use Rattle.script_lang.proofs.Readings.{reads, reached, word_kind, joined, spaced_joined, Tells}
 use Rattle.script_lang.proofs.FieldLemmas.{same_word}
 use Rattle.script_lang.proofs.ElementLines.{create_read, create_spelled, delete_read, delete_spelled, move_read, move_spelled}
 use Rattle.script_lang.proofs.EditLines.{set_read, set_spelled, unset_read, unset_spelled, add_read, add_spelled, remove_read, remove_spelled, shift_read, shift_spelled}
@@ -30,7 +30,7 @@ line_joined line first words is = ap Some is ∙ spaced_joined first words
 
 edit_read : (line : List ℕ) (ws : ℕ) (edit : Edit) → IsCommand (commands.Edit ws edit) → Some line ≡ joined (edit_word edit ∷ decimal ws ∷ edit_fields edit)
     → command_of line ≡ Ok (commands.Edit ws edit)
-unfolding command_of
+unfolding command_of feature_commands work_commands version_commands
 edit_read line ws (Create class destination id) is words =
     rw words (reads word_kind (codes "create") (omega arith, refl) (decimal ws ∷ edit_fields (Create class destination id)) 1 _ _ (create_read ws class destination id is))
 edit_read line ws (Delete id) is words =
@@ -56,7 +56,7 @@ edit_read line ws (Reorder id feature target index) is words =
 
 -- a line that spells a command is read as that one
 pub line_read : (line : List ℕ) (command : Command) → Spells line command → command_of line ≡ Ok command
-unfolding command_of
+unfolding command_of feature_commands work_commands version_commands
 line_read line commands.Init spells = rw (line_joined line (codes "init") [] spells.words) (reads word_kind (codes "init") (omega arith, refl) [] 1 _ _ init_read)
 line_read line (commands.Import ws) spells =
     rw (line_joined line (codes "import") (decimal ws ∷ []) spells.words) (reads word_kind (codes "import") (omega arith, refl) (decimal ws ∷ []) 1 _ _ (import_read ws spells.form))
@@ -175,7 +175,7 @@ all_rows =
 
 -- a line that is read as a command has its words
 pub line_tells : (line : List ℕ) (command : Command) → command_of line ≡ Ok command → IsCommand command × IsLineOf line command
-unfolding command_of
+unfolding command_of feature_commands work_commands version_commands
 line_tells line command e =
     let k = reached (word_at (record { rest = Some line; column = 1 })) _ command e in
     let w = word_back (record { rest = Some line; column = 1 }) k.0.0 k.0.1 k.1 in

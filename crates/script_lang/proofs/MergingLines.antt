@@ -1,14 +1,13 @@
 -- The lines of commands that bring packages into a workspace or take them out: what stands after the first word is read as the command, and is the command's words where it is read.
-use Rattle.std.proofs.Common.{ap, ◌≡◌, ◌∙◌, ℕ, ◌+◌, List, [], ◌∷◌, length, refl, Option, Some, None, Result, Ok, Err, codes, true, arith}
+use Rattle.std.proofs.Common.{ap, ◌≡◌, ◌∙◌, ℕ, List, [], ◌∷◌, refl, Option, Some, Result, Ok, Err, codes, arith}
 use Rattle.std.specs.Fmt.{decimal}
 use Rattle.hex.specs.Hex.{decode_of}
 use Rattle.hex.specs.declared.error.FromHexError.{FromHexError}
 use Rattle.hex.proofs.HexLemmas.{decode_of-ok}
-use Rattle.model_state.specs.Names.{is_name}
 use Rattle.script_lang.specs.declared.command.Command.{Command}
 use Rattle.script_lang.specs.declared.command.Command.TheVariants as commands
 use Rattle.script_lang.specs.Left.{Left}
-use Rattle.script_lang.specs.Words.{◌>>=◌, word_at, found_at, optional_at}
+use Rattle.script_lang.specs.Words.{◌>>=◌, optional_at}
 use Rattle.script_lang.specs.Command.{tidy_at, if_decoded, bytes_at, apply_at, update_at, merge_at, revert_at}
 use Rattle.script_lang.specs.Spelling.{IsWord, IsCommand, IsWorkspace, IsSomeBytes, optional_word}
 use Rattle.script_lang.proofs.Readings.{reads, tells, reached, found, word_kind, joined, Front, Tells, told_as}

@@ -328,33 +328,9 @@ drop_at left = do
   end ← end_at ws.1
   Ok (commands.Drop ws.0)
 
--- each command: its word, and how what stands after it is read
-abbrev pub commands_by_word : List (List ℕ × (Left → Result Command ℕ))
-commands_by_word =
-    (codes "init", init_at) ∷
-    (codes "import", import_at) ∷
-    (codes "checkout", checkout_at) ∷
-    (codes "create", create_at) ∷
-    (codes "delete", delete_at) ∷
-    (codes "move", move_at) ∷
-    (codes "set", set_at) ∷
-    (codes "unset", unset_at) ∷
-    (codes "add", add_at) ∷
-    (codes "remove", remove_at) ∷
-    (codes "shift", shift_at) ∷
-    (codes "link", link_at) ∷
-    (codes "unlink", unlink_at) ∷
-    (codes "reorder", reorder_at) ∷
-    (codes "begin", begin_at) ∷
-    (codes "end", end_line_at) ∷
-    (codes "undo", undo_at) ∷
-    (codes "discard", discard_at) ∷
-    (codes "tidy", tidy_at) ∷
-    (codes "apply", apply_at) ∷
-    (codes "changes", changes_at) ∷
-    (codes "show", show_at) ∷
-    (codes "cat", cat_at) ∷
-    (codes "validate", validate_at) ∷
+-- the commands by which versions are shared: each its word, and how what stands after it is read
+unfoldable pub version_commands : List (List ℕ × (Left → Result Command ℕ))
+version_commands =
     (codes "commit", commit_at) ∷
     (codes "branch", branch_at) ∷
     (codes "tag", tag_at) ∷
@@ -364,6 +340,42 @@ commands_by_word =
     (codes "merge", merge_at) ∷
     (codes "revert", revert_at) ∷
     (codes "drop", drop_at) ∷ []
+
+-- those of a workspace's local work and of what is shown, and those after them
+unfoldable pub work_commands : List (List ℕ × (Left → Result Command ℕ))
+work_commands =
+    (codes "begin", begin_at) ∷
+    (codes "end", end_line_at) ∷
+    (codes "undo", undo_at) ∷
+    (codes "discard", discard_at) ∷
+    (codes "tidy", tidy_at) ∷
+    (codes "apply", apply_at) ∷
+    (codes "changes", changes_at) ∷
+    (codes "show", show_at) ∷
+    (codes "cat", cat_at) ∷
+    (codes "validate", validate_at) ∷ version_commands
+
+-- those that edit a feature, and those after them
+unfoldable pub feature_commands : List (List ℕ × (Left → Result Command ℕ))
+feature_commands =
+    (codes "set", set_at) ∷
+    (codes "unset", unset_at) ∷
+    (codes "add", add_at) ∷
+    (codes "remove", remove_at) ∷
+    (codes "shift", shift_at) ∷
+    (codes "link", link_at) ∷
+    (codes "unlink", unlink_at) ∷
+    (codes "reorder", reorder_at) ∷ work_commands
+
+-- each command: its word, and how what stands after it is read
+abbrev pub commands_by_word : List (List ℕ × (Left → Result Command ℕ))
+commands_by_word =
+    (codes "init", init_at) ∷
+    (codes "import", import_at) ∷
+    (codes "checkout", checkout_at) ∷
+    (codes "create", create_at) ∷
+    (codes "delete", delete_at) ∷
+    (codes "move", move_at) ∷ feature_commands
 
 -- what the word chooses of these
 abbrev pub chosen : List (List ℕ × (Left → Result Command ℕ)) → List ℕ → Left → Result Command ℕ

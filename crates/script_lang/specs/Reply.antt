@@ -1,5 +1,5 @@
 -- What a command is answered.
-use Rattle.std.specs.Prelude.{ℕ, List, [], ◌∷◌, ◌++◌, codes, Some, None}
+use Rattle.std.specs.Prelude.{ℕ, List, [], ◌∷◌, ◌++◌, codes, Option, Some, None}
 use Rattle.std.specs.Fmt.{decimal}
 use Rattle.script_lang.specs.declared.reply.Refusal.{Refusal}
 use Rattle.script_lang.specs.declared.reply.Refusal.TheVariants.{BadLine, NotInit, AlreadyInit, BadMetamodel, NoWorkspace, NoVersion, NoBranch, BranchExists, TagExists, NoElement, IdInUse, BadId, NoClass, Abstract, NoFeature, WrongKind, BadValue, WrongType, Bound, AlreadyThere, NoEntry, WouldCycle, NothingLocal, Stale, Conflicts, BadChoice, CompositeOpen, NoComposite, BadModel, Interferes, SameBranch, NotOnPath, HistoryFull, TooLarge, JournalFull, NotApplicable, NotForm}
@@ -47,6 +47,12 @@ refusal_text TooLarge = codes "34 TooLarge"
 refusal_text JournalFull = codes "35 JournalFull"
 refusal_text (NotApplicable step) = codes "36 NotApplicable " ++ decimal step
 refusal_text (NotForm place) = codes "37 NotForm " ++ decimal place
+
+-- a title, and the numbers that stand after it, with single spaces
+abbrev pub with_numbers : List ℕ → Option ℕ → Option ℕ → List ℕ
+with_numbers title None second = title
+with_numbers title (Some a) None = title ++ (codes " " ++ decimal a)
+with_numbers title (Some a) (Some b) = title ++ (codes " " ++ (decimal a ++ (codes " " ++ decimal b)))
 
 -- `ok`, with its words where there are any
 abbrev pub ok_line : List ℕ → List ℕ

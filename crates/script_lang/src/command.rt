@@ -4,7 +4,7 @@ use ecore_meta::Text;
 use edits::Edit;
 
 /// How a line names a version.
-#[derive(Debug, PartialEq, Drop)]
+#[derive(Drop)]
 pub enum Spec {
     /// A version's number.
     Number(u32),
@@ -15,7 +15,7 @@ pub enum Spec {
 }
 
 /// A command, with a field for each word after the first, in the order in which they stand.
-#[derive(Debug, PartialEq, Drop)]
+#[derive(Drop)]
 pub enum Command {
     /// `init`: the block after the line is the metamodel.
     Init,

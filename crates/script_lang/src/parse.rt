@@ -1,7 +1,7 @@
 //! A line as a command: one private function a command.
 ghost use Rattle.std.specs.Prelude.{◌≡◌, ◌-◌, ◌<◌, ◌^◌, length, IfOk, IfNone, IfSome, None, Some};
 ghost use Rattle.script_lang.specs.Words.{Gives};
-ghost use Rattle.script_lang.specs.Command.{GivesCommand, GivesSpec, command_of, init_at, import_at, checkout_at, create_at, delete_at, move_at, destination_at, set_at, unset_at, add_at, remove_at, shift_at, link_at, unlink_at, reorder_at, begin_at, end_line_at, undo_at, discard_at, tidy_at, apply_at, bytes_at, changes_at, show_at, cat_at, validate_at, commit_at, branch_at, tag_at, log_at, package_at, update_at, merge_at, revert_at, drop_at, spec_of, spec_at, tag_of};
+ghost use Rattle.script_lang.specs.Command.{GivesCommand, GivesSpec, command_of, chosen, feature_commands, work_commands, version_commands, init_at, import_at, checkout_at, create_at, delete_at, move_at, destination_at, set_at, unset_at, add_at, remove_at, shift_at, link_at, unlink_at, reorder_at, begin_at, end_line_at, undo_at, discard_at, tidy_at, apply_at, bytes_at, changes_at, show_at, cat_at, validate_at, commit_at, branch_at, tag_at, log_at, package_at, update_at, merge_at, revert_at, drop_at, spec_of, spec_at, tag_of};
 ghost use Rattle.script_lang.specs.declared.command.Spec.TheVariants.{Tag};
 
 use crate::words::{Words, bad_line, number_of};
@@ -31,33 +31,63 @@ pub fn parse_line(alloc: Global, line: &str) -> Result<Command, ParseFault>
         "create" => create(alloc, &mut words),
         "delete" => delete(alloc, &mut words),
         "move" => move_element(alloc, &mut words),
-        "set" => set(alloc, &mut words),
-        "unset" => unset(alloc, &mut words),
-        "add" => add(alloc, &mut words),
-        "remove" => remove(alloc, &mut words),
-        "shift" => shift(alloc, &mut words),
-        "link" => link(alloc, &mut words),
-        "unlink" => unlink(alloc, &mut words),
-        "reorder" => reorder(alloc, &mut words),
-        "begin" => begin(alloc, &mut words),
-        "end" => end(&mut words),
-        "undo" => undo(&mut words),
-        "discard" => discard(&mut words),
-        "tidy" => tidy(&mut words),
-        "apply" => apply(alloc, &mut words),
-        "changes" => changes(&mut words),
-        "show" => show(&mut words),
-        "cat" => cat(alloc, &mut words),
-        "validate" => validate(&mut words),
-        "commit" => commit(alloc, &mut words),
-        "branch" => branch(alloc, &mut words),
-        "tag" => tag(alloc, &mut words),
-        "log" => log(&words),
-        "package" => package_of(alloc, &mut words),
-        "update" => update(alloc, &mut words),
-        "merge" => merge(alloc, &mut words),
-        "revert" => revert(&mut words),
-        "drop" => drop_workspace(&mut words),
+        _ => feature_line(alloc, first, &mut words),
+    }
+}
+
+/// The command that a line spells whose first word names an edit of a feature, or stands after those in the table.
+#[tactic(auto, unfolding(crate::specs::Command::feature_commands))]
+fn feature_line(alloc: Global, word: &str, words: &mut Words<'_>) -> Result<Command, ParseFault>
+    ensures { GivesCommand result (chosen feature_commands word.now words.old) }
+{
+    match word {
+        "set" => set(alloc, words),
+        "unset" => unset(alloc, words),
+        "add" => add(alloc, words),
+        "remove" => remove(alloc, words),
+        "shift" => shift(alloc, words),
+        "link" => link(alloc, words),
+        "unlink" => unlink(alloc, words),
+        "reorder" => reorder(alloc, words),
+        _ => work_line(alloc, word, words),
+    }
+}
+
+/// The same of the commands of a workspace's local work and of what is shown, and of those after them.
+#[tactic(auto, unfolding(crate::specs::Command::work_commands))]
+fn work_line(alloc: Global, word: &str, words: &mut Words<'_>) -> Result<Command, ParseFault>
+    ensures { GivesCommand result (chosen work_commands word.now words.old) }
+{
+    match word {
+        "begin" => begin(alloc, words),
+        "end" => end(words),
+        "undo" => undo(words),
+        "discard" => discard(words),
+        "tidy" => tidy(words),
+        "apply" => apply(alloc, words),
+        "changes" => changes(words),
+        "show" => show(words),
+        "cat" => cat(alloc, words),
+        "validate" => validate(words),
+        _ => version_line(alloc, word, words),
+    }
+}
+
+/// The same of the commands by which versions are shared: the last of the table.
+#[tactic(auto, unfolding(crate::specs::Command::version_commands))]
+fn version_line(alloc: Global, word: &str, words: &mut Words<'_>) -> Result<Command, ParseFault>
+    ensures { GivesCommand result (chosen version_commands word.now words.old) }
+{
+    match word {
+        "commit" => commit(alloc, words),
+        "branch" => branch(alloc, words),
+        "tag" => tag(alloc, words),
+        "log" => log(words),
+        "package" => package_of(alloc, words),
+        "update" => update(alloc, words),
+        "merge" => merge(alloc, words),
+        "revert" => revert(words),
+        "drop" => drop_workspace(words),
         _ => Err(ParseFault::BadLine { column: 1 }),
     }
 }
@@ -168,13 +198,10 @@ fn set(alloc: Global, words: &mut Words<'_>) -> Result<Command, ParseFault>
     let id = words.word()?;
     let feature = words.word()?;
     let value = words.rest()?;
+    let (id, feature, value) = three_texts(alloc, id, feature, value)?;
     Ok(Command::Edit {
         ws,
-        edit: Edit::Set {
-            id: Text::new(alloc, id)?,
-            feature: Text::new(alloc, feature)?,
-            value: Text::new(alloc, value)?,
-        },
+        edit: Edit::Set { id, feature, value },
     })
 }
 
@@ -186,12 +213,10 @@ fn unset(alloc: Global, words: &mut Words<'_>) -> Result<Command, ParseFault>
     let id = words.word()?;
     let feature = words.word()?;
     words.end()?;
+    let (id, feature) = two_texts(alloc, id, feature)?;
     Ok(Command::Edit {
         ws,
-        edit: Edit::Unset {
-            id: Text::new(alloc, id)?,
-            feature: Text::new(alloc, feature)?,
-        },
+        edit: Edit::Unset { id, feature },
     })
 }
 
@@ -204,13 +229,14 @@ fn add(alloc: Global, words: &mut Words<'_>) -> Result<Command, ParseFault>
     let feature = words.word()?;
     let at = words.index_or_end()?;
     let value = words.rest()?;
+    let (id, feature, value) = three_texts(alloc, id, feature, value)?;
     Ok(Command::Edit {
         ws,
         edit: Edit::Add {
-            id: Text::new(alloc, id)?,
-            feature: Text::new(alloc, feature)?,
+            id,
+            feature,
             at,
-            value: Text::new(alloc, value)?,
+            value,
         },
     })
 }
@@ -224,13 +250,10 @@ fn remove(alloc: Global, words: &mut Words<'_>) -> Result<Command, ParseFault>
     let feature = words.word()?;
     let index = words.number(0)?;
     words.end()?;
+    let (id, feature) = two_texts(alloc, id, feature)?;
     Ok(Command::Edit {
         ws,
-        edit: Edit::Remove {
-            id: Text::new(alloc, id)?,
-            feature: Text::new(alloc, feature)?,
-            index,
-        },
+        edit: Edit::Remove { id, feature, index },
     })
 }
 
@@ -244,11 +267,12 @@ fn shift(alloc: Global, words: &mut Words<'_>) -> Result<Command, ParseFault>
     let from = words.number(0)?;
     let to = words.number(0)?;
     words.end()?;
+    let (id, feature) = two_texts(alloc, id, feature)?;
     Ok(Command::Edit {
         ws,
         edit: Edit::Shift {
-            id: Text::new(alloc, id)?,
-            feature: Text::new(alloc, feature)?,
+            id,
+            feature,
             from,
             to,
         },
@@ -265,12 +289,13 @@ fn link(alloc: Global, words: &mut Words<'_>) -> Result<Command, ParseFault>
     let target = words.word()?;
     let index = words.optional_number()?;
     words.end()?;
+    let (id, feature, target) = three_texts(alloc, id, feature, target)?;
     Ok(Command::Edit {
         ws,
         edit: Edit::Link {
-            id: Text::new(alloc, id)?,
-            feature: Text::new(alloc, feature)?,
-            target: Text::new(alloc, target)?,
+            id,
+            feature,
+            target,
             index,
         },
     })
@@ -285,12 +310,13 @@ fn unlink(alloc: Global, words: &mut Words<'_>) -> Result<Command, ParseFault>
     let feature = words.word()?;
     let target = words.word()?;
     words.end()?;
+    let (id, feature, target) = three_texts(alloc, id, feature, target)?;
     Ok(Command::Edit {
         ws,
         edit: Edit::Unlink {
-            id: Text::new(alloc, id)?,
-            feature: Text::new(alloc, feature)?,
-            target: Text::new(alloc, target)?,
+            id,
+            feature,
+            target,
         },
     })
 }
@@ -305,12 +331,13 @@ fn reorder(alloc: Global, words: &mut Words<'_>) -> Result<Command, ParseFault>
     let target = words.word()?;
     let index = words.number(0)?;
     words.end()?;
+    let (id, feature, target) = three_texts(alloc, id, feature, target)?;
     Ok(Command::Edit {
         ws,
         edit: Edit::Reorder {
-            id: Text::new(alloc, id)?,
-            feature: Text::new(alloc, feature)?,
-            target: Text::new(alloc, target)?,
+            id,
+            feature,
+            target,
             index,
         },
     })
@@ -538,6 +565,29 @@ fn drop_workspace(words: &mut Words<'_>) -> Result<Command, ParseFault>
     let ws = words.workspace()?;
     words.end()?;
     Ok(Command::Drop { ws })
+}
+
+/// Two words as texts.
+fn two_texts(alloc: Global, first: &str, second: &str) -> Result<(Text, Text), AllocError>
+    ensures { IfOk result (λ texts. (texts.0 ≡ first.now) × (texts.1 ≡ second.now)) }
+{
+    let first = Text::new(alloc, first)?;
+    let second = Text::new(alloc, second)?;
+    Ok((first, second))
+}
+
+/// Three words as texts.
+fn three_texts(
+    alloc: Global,
+    first: &str,
+    second: &str,
+    third: &str,
+) -> Result<(Text, Text, Text), AllocError>
+    ensures { IfOk result (λ texts. (texts.0 ≡ first.now) × (texts.1 ≡ second.now) × (texts.2 ≡ third.now)) }
+{
+    let (first, second) = two_texts(alloc, first, second)?;
+    let third = Text::new(alloc, third)?;
+    Ok((first, second, third))
 }
 
 /// The next word, which names a version.

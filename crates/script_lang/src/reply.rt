@@ -1,13 +1,13 @@
 //! A reply, and the bytes that are printed of it.
 ghost use Rattle.std.specs.Prelude.{◌≡◌, ◌++◌, ◌∷◌, [], IfOk, OnOk, string_bytes};
-ghost use Rattle.script_lang.specs.Reply.{printed, printed_lines, last_line, ok_line};
+ghost use Rattle.script_lang.specs.Reply.{refusal_text, with_numbers, printed, printed_lines, last_line, ok_line};
 
 use ecore_meta::{List, Text};
 use std::alloc::{AllocError, Global};
 use std::fmt;
 
 /// Why a command is refused, with the number and the name that its reply has. After each of them the repository and the file are as before.
-#[derive(Clone, Copy, Debug, PartialEq, Eq)]
+#[derive(Clone, Copy)]
 pub enum Refusal {
     /// 1: the line spells no command. The column is a byte's, from 1.
     BadLine { column: u32 },
@@ -91,55 +91,75 @@ impl fmt::Display for Refusal {
 
     ghost output = { λ refusal. Some (refusal_text refusal) };
 
-    #[tactic(auto, unfolding(crate::specs::Reply::refusal_text))]
     fn fmt<W: fmt::Write>(&self, f: &mut fmt::Formatter<W>) -> fmt::Result {
+        let (title, first, second) = self.parts();
+        match first {
+            None => f.write_str(title),
+            Some(first) => match second {
+                None => write!(f, "{title} {first}"),
+                Some(second) => write!(f, "{title} {first} {second}"),
+            },
+        }
+    }
+}
+
+impl Refusal {
+    /// The number and the name that the reply has, and the numbers that stand after them.
+    #[tactic(auto, unfolding(crate::specs::Reply::refusal_text))]
+    fn parts(&self) -> (&'static str, Option<u64>, Option<u64>)
+        ensures { with_numbers result.0.now result.1 result.2 ≡ refusal_text self.now }
+    {
         match self {
-            Refusal::BadLine { column } => write!(f, "1 BadLine {column}"),
-            Refusal::NotInit => f.write_str("2 NotInit"),
-            Refusal::AlreadyInit => f.write_str("3 AlreadyInit"),
-            Refusal::BadMetamodel { n } => write!(f, "4 BadMetamodel {n}"),
-            Refusal::NoWorkspace => f.write_str("5 NoWorkspace"),
-            Refusal::NoVersion => f.write_str("6 NoVersion"),
-            Refusal::NoBranch => f.write_str("7 NoBranch"),
-            Refusal::BranchExists => f.write_str("8 BranchExists"),
-            Refusal::TagExists => f.write_str("9 TagExists"),
-            Refusal::NoElement => f.write_str("10 NoElement"),
-            Refusal::IdInUse => f.write_str("11 IdInUse"),
-            Refusal::BadId => f.write_str("12 BadId"),
-            Refusal::NoClass => f.write_str("13 NoClass"),
-            Refusal::Abstract => f.write_str("14 Abstract"),
-            Refusal::NoFeature => f.write_str("15 NoFeature"),
-            Refusal::WrongKind => f.write_str("16 WrongKind"),
-            Refusal::BadValue => f.write_str("17 BadValue"),
-            Refusal::WrongType => f.write_str("18 WrongType"),
-            Refusal::Bound => f.write_str("19 Bound"),
-            Refusal::AlreadyThere => f.write_str("20 AlreadyThere"),
-            Refusal::NoEntry => f.write_str("21 NoEntry"),
-            Refusal::WouldCycle => f.write_str("22 WouldCycle"),
-            Refusal::NothingLocal => f.write_str("23 NothingLocal"),
-            Refusal::Stale { base, head } => write!(f, "24 Stale {base} {head}"),
-            Refusal::Conflicts { buckets } => write!(f, "25 Conflicts {buckets}"),
-            Refusal::BadChoice { want, got } => write!(f, "26 BadChoice {want} {got}"),
-            Refusal::CompositeOpen => f.write_str("27 CompositeOpen"),
-            Refusal::NoComposite => f.write_str("28 NoComposite"),
-            Refusal::BadModel { n } => write!(f, "29 BadModel {n}"),
-            Refusal::Interferes { version: None } => f.write_str("30 Interferes local"),
+            Refusal::BadLine { column } => ("1 BadLine", Some(u64::from(*column)), None),
+            Refusal::NotInit => ("2 NotInit", None, None),
+            Refusal::AlreadyInit => ("3 AlreadyInit", None, None),
+            Refusal::BadMetamodel { n } => ("4 BadMetamodel", Some(u64::from(*n)), None),
+            Refusal::NoWorkspace => ("5 NoWorkspace", None, None),
+            Refusal::NoVersion => ("6 NoVersion", None, None),
+            Refusal::NoBranch => ("7 NoBranch", None, None),
+            Refusal::BranchExists => ("8 BranchExists", None, None),
+            Refusal::TagExists => ("9 TagExists", None, None),
+            Refusal::NoElement => ("10 NoElement", None, None),
+            Refusal::IdInUse => ("11 IdInUse", None, None),
+            Refusal::BadId => ("12 BadId", None, None),
+            Refusal::NoClass => ("13 NoClass", None, None),
+            Refusal::Abstract => ("14 Abstract", None, None),
+            Refusal::NoFeature => ("15 NoFeature", None, None),
+            Refusal::WrongKind => ("16 WrongKind", None, None),
+            Refusal::BadValue => ("17 BadValue", None, None),
+            Refusal::WrongType => ("18 WrongType", None, None),
+            Refusal::Bound => ("19 Bound", None, None),
+            Refusal::AlreadyThere => ("20 AlreadyThere", None, None),
+            Refusal::NoEntry => ("21 NoEntry", None, None),
+            Refusal::WouldCycle => ("22 WouldCycle", None, None),
+            Refusal::NothingLocal => ("23 NothingLocal", None, None),
+            Refusal::Stale { base, head } => (
+                "24 Stale",
+                Some(u64::from(*base)),
+                Some(u64::from(*head)),
+            ),
+            Refusal::Conflicts { buckets } => ("25 Conflicts", Some(*buckets), None),
+            Refusal::BadChoice { want, got } => ("26 BadChoice", Some(*want), Some(*got)),
+            Refusal::CompositeOpen => ("27 CompositeOpen", None, None),
+            Refusal::NoComposite => ("28 NoComposite", None, None),
+            Refusal::BadModel { n } => ("29 BadModel", Some(u64::from(*n)), None),
+            Refusal::Interferes { version: None } => ("30 Interferes local", None, None),
             Refusal::Interferes {
                 version: Some(version),
-            } => write!(f, "30 Interferes {version}"),
-            Refusal::SameBranch => f.write_str("31 SameBranch"),
-            Refusal::NotOnPath => f.write_str("32 NotOnPath"),
-            Refusal::HistoryFull => f.write_str("33 HistoryFull"),
-            Refusal::TooLarge => f.write_str("34 TooLarge"),
-            Refusal::JournalFull => f.write_str("35 JournalFull"),
-            Refusal::NotApplicable { step } => write!(f, "36 NotApplicable {step}"),
-            Refusal::NotForm { at } => write!(f, "37 NotForm {at}"),
+            } => ("30 Interferes", Some(u64::from(*version)), None),
+            Refusal::SameBranch => ("31 SameBranch", None, None),
+            Refusal::NotOnPath => ("32 NotOnPath", None, None),
+            Refusal::HistoryFull => ("33 HistoryFull", None, None),
+            Refusal::TooLarge => ("34 TooLarge", None, None),
+            Refusal::JournalFull => ("35 JournalFull", None, None),
+            Refusal::NotApplicable { step } => ("36 NotApplicable", Some(*step), None),
+            Refusal::NotForm { at } => ("37 NotForm", Some(*at), None),
         }
     }
 }
 
 /// The last line of a reply.
-#[derive(Debug, PartialEq, Drop)]
+#[derive(Drop)]
 pub enum Last {
     /// The command is accepted: the words after `ok`, or none.
     Ok(Text),
@@ -148,7 +168,7 @@ pub enum Last {
 }
 
 /// What one command is answered: data lines, and a last line.
-#[derive(Debug, Drop)]
+#[derive(Drop)]
 pub struct Reply {
     pub lines: List<Text>,
     pub last: Last,
