@@ -3,7 +3,7 @@ use ecore_meta::Text;
 use model_state::{Id, Operation};
 
 /// Where an element is to stand, as it is given. It comes last there, or at an index.
-#[derive(Debug, PartialEq, Drop)]
+#[derive(Drop)]
 pub enum Destination {
     /// The root.
     Root,
@@ -13,7 +13,7 @@ pub enum Destination {
 
 /// An edit of a model as it is given: elements by their ids, classes and features by their names, and values as texts.
 /// A feature's name is looked up in the element's class, inherited features too.
-#[derive(Debug, PartialEq, Drop)]
+#[derive(Drop)]
 pub enum Edit {
     /// A new element of the class, last in its place, with that id or a fresh one.
     Create {
@@ -85,7 +85,7 @@ pub enum Edit {
 }
 
 /// What is recorded of an edit.
-#[derive(Debug, Drop)]
+#[derive(Drop)]
 pub struct Recorded {
     /// The operation, None where the edit changes nothing.
     pub operation: Option<Operation>,

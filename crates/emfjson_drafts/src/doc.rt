@@ -2,7 +2,7 @@
 use ecore_meta::{List, Value};
 
 /// A containment of an element.
-#[derive(Clone, Copy, Debug, PartialEq, Eq)]
+#[derive(Clone, Copy, PartialEq, Eq)]
 pub struct DocParent {
     /// The number of the row that contains it.
     pub row: usize,
@@ -10,7 +10,7 @@ pub struct DocParent {
 }
 
 /// The values of an attribute, one or more, and fewer than 2^32.
-#[derive(Debug, Drop)]
+#[derive(Drop)]
 pub struct DocAttr {
     pub feature: u32,
     pub values: List<Value>,

@@ -4,13 +4,13 @@ use emfjson_drafts::{DocAttr, DocParent};
 use model_state::Id;
 
 /// The elements that a model text describes, each after the one that contains it.
-#[derive(Debug, Drop)]
+#[derive(Drop)]
 pub struct Doc {
     pub rows: List<DocRow>,
 }
 
 /// An element. Its rows' numbers count from 0.
-#[derive(Debug, Drop)]
+#[derive(Drop)]
 pub struct DocRow {
     /// The `_id` of its object, where it has one.
     pub id: Option<Id>,
@@ -24,7 +24,7 @@ pub struct DocRow {
 }
 
 /// The targets of a plain reference, by the numbers of their rows.
-#[derive(Debug, Drop)]
+#[derive(Drop)]
 pub struct DocRefs {
     pub feature: u32,
     pub targets: List<usize>,

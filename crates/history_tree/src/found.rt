@@ -3,7 +3,7 @@
 use thiserror::Error;
 
 /// A version, and the branch by which it was found.
-#[derive(Clone, Copy, Debug, PartialEq, Eq)]
+#[derive(Clone, Copy)]
 pub struct Found {
     /// The version's number.
     pub version: u32,

@@ -4,7 +4,7 @@ use ecore_meta::{List, Text};
 use model_state::Package;
 
 /// What one commit recorded after its parent. Versions and branches are numbered in the order in which they are made, from 0.
-#[derive(Debug, Drop)]
+#[derive(Drop)]
 pub struct Version {
     /// The number of its branch.
     pub branch: u32,
@@ -19,14 +19,14 @@ pub struct Version {
 }
 
 /// A line of versions under a name, and the version where it starts.
-#[derive(Debug, Drop)]
+#[derive(Drop)]
 pub struct Branch {
     pub name: Text,
     pub start: u32,
 }
 
 /// A further name of a version.
-#[derive(Debug, Drop)]
+#[derive(Drop)]
 pub struct Tag {
     pub name: Text,
     pub version: u32,

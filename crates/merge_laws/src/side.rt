@@ -1,7 +1,7 @@
 //! A choice.
 
 /// The side whose operations a bucket keeps.
-#[derive(Clone, Copy, Debug, PartialEq, Eq, Drop)]
+#[derive(Clone, Copy, PartialEq, Eq, Drop)]
 pub enum Side {
     Mine,
     Theirs,
