@@ -10,7 +10,7 @@ use model_state::Operation;
 use std::alloc::{AllocError, Global};
 
 /// A place before an operation at which a rule applies to it, and what the rule leaves.
-#[derive(Debug, Drop)]
+#[derive(Drop)]
 pub(crate) struct Found {
     pub at: usize,
     pub left: Option<Operation>,

@@ -9,7 +9,7 @@ use footprint::{Cell, Print};
 use std::alloc::{AllocError, Global};
 
 /// The places of operations, listed by the slots of the cells that they write, and of those that they read.
-#[derive(Debug, Drop)]
+#[derive(Drop)]
 pub struct CellIndex {
     pub(crate) writers: Vec<Vec<u64>>,
     pub(crate) readers: Vec<Vec<u64>>,

@@ -12,7 +12,7 @@ use std::alloc::{AllocError, Global};
 
 /// Which of the operations that were added still stand, each by its place. Those that stand are listed by the slots of their cells, the
 /// later ones after the earlier ones.
-#[derive(Debug, Drop)]
+#[derive(Drop)]
 pub struct Standing {
     pub(crate) stands: Vec<bool>,
     pub(crate) index: CellIndex,

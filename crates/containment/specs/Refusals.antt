@@ -35,11 +35,6 @@ abbrev pub IsPlace : Meta → State → Place → Type 0
 IsPlace meta m p = is_place meta m p ≡ true
 
 -- ---- the elements among which another is put
--- the elements of a place, but for the one given
-abbrev pub others_in : State → Place → Option IdBytes → List Entry
-others_in m p None = children m.place m.prank p
-others_in m p (Some e) = without_entry e (children m.place m.prank p)
-
 -- a spot: the index is one of the others or their end, and there is a rank
 abbrev pub spot_tests : List Entry → ℕ → List (Bool × MoveFault)
 spot_tests others k = (nat_le k (length others), NoEntry) ∷ (is_some (spot others k).rank, Bound) ∷ []

@@ -59,22 +59,3 @@ pub fn create_at<L: Look>(
     })?;
     Ok(steps)
 }
-
-/// The steps that create an element of a class, last in a place.
-///
-/// The elements of the place are renumbered where there is no room after the last. Refused with WrongType before Bound.
-pub fn create_steps<L: Look>(
-    alloc: Global,
-    look: &L,
-    meta: &Metamodel,
-    e: &Id,
-    class: u32,
-    place: &Place,
-) -> Result<List<Step>, MoveFault>
-    ensures made { IfOk result (λ s. s ≡ create_made (L.state look.now) e.now class place.now) }
-    ensures taken { OnOk result (create_refusal meta.now (L.state look.now) class place.now ≡ None) }
-    ensures refused { IfErr result (λ x. IsRefusal (create_refusal meta.now (L.state look.now) class place.now) x) }
-{
-    let spot = creation_spot(alloc, look, meta, class, place)?;
-    Ok(create_at(alloc, look, e, class, place.copy(alloc)?, spot)?)
-}

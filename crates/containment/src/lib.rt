@@ -14,7 +14,7 @@ mod spots;
 mod values;
 mod walk;
 
-pub use create::{create_at, create_steps, creation_spot};
+pub use create::{create_at, creation_spot};
 pub use delete::delete_steps;
 pub use fault::MoveFault;
 pub use features::{Slot, Sort, slots_of};
@@ -23,5 +23,5 @@ pub use laws::{
 };
 pub use moves::move_steps;
 pub use place::{is_containment, is_place};
-pub use spots::{Spot, spot_steps};
+pub use spots::Spot;
 pub use walk::subtree;

@@ -1,19 +1,18 @@
 //! The rank of an element at an index of a place, with the reranks of the others where no rank is free.
 ghost use Rattle.std.specs.Prelude.{◌≡◌, ◌<◌, true, not, IfOk, IfErr, OnOk, None, Some, is_some, length, unwrap_or};
-ghost use Rattle.std.specs.Option.{option_copied};
 ghost use Rattle.edit_laws.specs.Spot.{end_spot, evened, rank_for, ranks_of, spot};
 ghost use Rattle.edit_laws.specs.Places.{rerank_places};
 ghost use Rattle.model_state.specs.Listing.{children};
-ghost use Rattle.containment.specs.Refusals.{IsRefusal, others_in, spot_refusal};
+ghost use Rattle.containment.specs.Refusals.{IsRefusal, spot_refusal};
 
 use crate::MoveFault;
 use ecore_meta::List;
-use model_state::{Entry, Id, Look, Place, Step, rank_between};
-use opposites::{Opening, index_or_end, without_entry};
+use model_state::{Entry, Look, Place, Step, rank_between};
+use opposites::{Opening, index_or_end};
 use std::alloc::{AllocError, Global};
 
 /// The spot of an element among others.
-#[derive(Debug, Drop)]
+#[derive(Drop)]
 pub struct Spot {
     /// The reranks of the others, where there is no room between its neighbours.
     pub steps: List<Step>,
@@ -118,40 +117,4 @@ pub fn arrival_spot<L: Look>(
             find_spot(alloc, there, at)
         }
     }
-}
-
-/// The elements of the place, but for the one that is skipped.
-fn others_in<L: Look>(
-    alloc: Global,
-    look: &L,
-    place: &Place,
-    skip: Option<&Id>,
-) -> Result<List<Entry>, AllocError>
-    ensures { IfOk result (λ l. l ≡ others_in (L.state look.now) place.now (option_copied skip.entry)) }
-{
-    let there = look.children(alloc, place)?;
-    match skip {
-        None => Ok(there),
-        Some(e) => without_entry(alloc, there.as_slice(), e),
-    }
-}
-
-/// The spot of an element at an index of a place, None for its end, where the element that is skipped doesn't count.
-///
-/// Refused with NoEntry where the index is past the end, and then with Bound where there is no rank and the place is too
-/// long to be renumbered. The upper bound of the place isn't looked at.
-pub fn spot_steps<L: Look>(
-    alloc: Global,
-    look: &L,
-    place: &Place,
-    skip: Option<&Id>,
-    at: Option<u32>,
-) -> Result<Spot, MoveFault>
-    ensures steps { IfOk result (λ s. let others = others_in (L.state look.now) place.now (option_copied skip.entry) in s.steps ≡ rerank_places others (spot others (unwrap_or at (length others))).ranks) }
-    ensures rank { IfOk result (λ s. let others = others_in (L.state look.now) place.now (option_copied skip.entry) in (spot others (unwrap_or at (length others))).rank ≡ Some s.rank) }
-    ensures taken { OnOk result (spot_refusal (others_in (L.state look.now) place.now (option_copied skip.entry)) at ≡ None) }
-    ensures refused { IfErr result (λ e. IsRefusal (spot_refusal (others_in (L.state look.now) place.now (option_copied skip.entry)) at) e) }
-{
-    let others = others_in(alloc, look, place, skip)?;
-    find_spot(alloc, others, at)
 }

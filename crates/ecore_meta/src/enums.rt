@@ -13,7 +13,7 @@ use std::marker::Model;
 
 /// The enums of a metamodel, which contracts see as their list. The list gives each its number. A literal is found by its text or
 /// name without a search.
-#[derive(Debug, Drop)]
+#[derive(Drop)]
 pub struct Enums {
     items: Vec<Enum>,
     /// For each enum, the number of each literal by its text, and by its name where that is no literal's text.

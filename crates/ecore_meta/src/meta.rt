@@ -28,7 +28,7 @@ pub enum Scalar {
 }
 
 /// What a feature holds. Classes are named by their numbers, opposites by the numbers of features.
-#[derive(Debug, PartialEq, Drop)]
+#[derive(PartialEq, Drop)]
 pub enum Kind {
     /// At most one value; a text has no default of its own.
     Attr {
@@ -65,7 +65,7 @@ pub enum Kind {
 }
 
 /// A feature as its class declares it.
-#[derive(Debug, Drop)]
+#[derive(Drop)]
 pub struct Feature {
     /// The class that declares it.
     pub owner: u32,
@@ -77,7 +77,7 @@ pub struct Feature {
 }
 
 /// A class of a metamodel. The list that it stands in gives it its number.
-#[derive(Debug, Drop)]
+#[derive(Drop)]
 pub struct Class {
     pub name: Text,
     pub is_abstract: bool,
@@ -86,14 +86,14 @@ pub struct Class {
 }
 
 /// A literal of an enum: its name, and the text that stands for it in a model.
-#[derive(Debug, Drop)]
+#[derive(Drop)]
 pub struct EnumLiteral {
     pub name: Text,
     pub text: Text,
 }
 
 /// An enum of a metamodel: its name, and its literals in their order.
-#[derive(Debug, Drop)]
+#[derive(Drop)]
 pub struct Enum {
     pub name: Text,
     pub literals: List<EnumLiteral>,

@@ -22,7 +22,7 @@ use std::collections::{BTreeMap, BTreeSet};
 use std::marker::Model;
 
 /// A metamodel, which contracts see as its classes, the classes above each, its features and its enums.
-#[derive(Debug, Drop)]
+#[derive(Drop)]
 pub struct Metamodel {
     uri: Text,
     classes: Vec<Class>,

@@ -2,14 +2,14 @@
 use ecore_meta::List;
 
 /// The places of the operations of one bucket, counted from 0 on each side, rising.
-#[derive(Debug, Drop)]
+#[derive(Drop)]
 pub struct Bucket {
     pub theirs: List<u64>,
     pub mine: List<u64>,
 }
 
 /// The buckets of two packages, in the order of their first operations.
-#[derive(Debug, Drop)]
+#[derive(Drop)]
 pub struct Buckets {
     pub rows: List<Bucket>,
 }

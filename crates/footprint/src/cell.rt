@@ -5,7 +5,7 @@ use ecore_meta::List;
 use model_state::Id;
 
 /// A part of a model that steps write or read as one. Cells stand in an order: by their sorts, and in one sort by what they are of.
-#[derive(Debug, PartialEq, Eq, PartialOrd, Ord, Drop)]
+#[derive(PartialEq, Eq, PartialOrd, Ord, Drop)]
 pub enum Cell {
     /// Whether an element is there, and its class.
     Kind(Id),
@@ -23,7 +23,7 @@ pub enum Cell {
 
 /// The cells that an operation writes, and those that it reads, in the order of its steps. Where there are many, it keeps their places by
 /// the order of cells too, so that one of them is found without a walk over all.
-#[derive(Debug, Drop)]
+#[derive(Drop)]
 pub struct Print {
     pub writes: List<Cell>,
     pub reads: List<Cell>,

@@ -3,7 +3,7 @@ use Rattle.std.proofs.Common.{◌≡◌, ℕ, ◌+◌, ◌-◌, ◌^◌, ◌<◌
 use borrow.Author.Count.{below_more}
 use Rattle.std.proofs.lemmas.Bool.{false_from_ne_true, le-ltb, ne_eqb}
 use Rattle.std.proofs.lemmas.List.{take-append-drop, get_or-take, get_or-drop}
-use Rattle.std.proofs.lemmas.List.Elements.{All-push, All-head, All-tail, All-nil, All-from_get_or}
+use Rattle.std.proofs.lemmas.List.Elements.{All-push, All-head, All-tail, All-from_get_or}
 use Rattle.std.proofs.lemmas.List.Splits.{slice_split_at}
 use Rattle.std.proofs.lemmas.Grind.{common_steps}
 use Rattle.std.proofs.lemmas.Str.{IsUtf8-take, IsUtf8-drop, IsCharBoundary-before_ascii, IsCharBoundary-after_ascii, utf8_valid_len-IsUtf8}
@@ -21,9 +21,6 @@ use Rattle.host_port.proofs.ScriptItems.{cut_block_ended, split_cons}
 with_feeds-more : (raws : List (List ℕ)) (raw : List ℕ) → with_feeds (raws ++ raw ∷ []) ≡ with_feeds raws ++ (raw ++ 10 ∷ [])
 with_feeds-more [] raw = refl
 with_feeds-more (r ∷ raws) raw = rw (with_feeds-more raws raw) (sym (append_assoc r (10 ∷ with_feeds raws) (raw ++ 10 ∷ [])))
-
-pub plain_none : ArePlain []
-plain_none = record { raws = []; are = refl; plain = All-nil IsPlain }
 
 plain_one_more : (front raw : List ℕ) → ArePlain front → IsPlain raw → ArePlain (front ++ (raw ++ 10 ∷ []))
 plain_one_more front raw are is = record {

@@ -10,7 +10,7 @@ use model_state::{Entry, Id, Step, rank_between};
 use std::alloc::{AllocError, Global};
 
 /// A list into which an entry is inserted.
-#[derive(Debug, Drop)]
+#[derive(Drop)]
 pub struct Opening {
     /// The other entries.
     pub others: List<Entry>,

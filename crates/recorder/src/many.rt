@@ -10,6 +10,7 @@ ghost use Rattle.model_state.specs.Typing.{is_many, kind_of, value_eq};
 ghost use Rattle.emfjson_io.specs.Values.{value_of};
 ghost use Rattle.edit_laws.specs.ManyValues.{dels, values_in};
 ghost use Rattle.model_state.specs.declared.operation.OpKind.TheVariants.{ManyAttribute};
+ghost use Rattle.model_state.specs.declared.step.Step.TheVariants.{Del};
 ghost use Rattle.edits.specs.Edits.{Clears, operation_of, add_effect, insert_effect, recording, recording_of, remove_effect, shift_effect};
 ghost use Rattle.edits.specs.Answers.{Answers};
 
@@ -57,6 +58,15 @@ fn one(alloc: Global, step: Step) -> Result<Recorded, AllocError>
     })
 }
 
+/// The step that removes the value at an index.
+fn del(alloc: Global, e: &Id, f: u32, at: u32, v: &Value) -> Result<Step, AllocError>
+    ensures { IfOk result (λ step. step ≡ Del e.now f at v.now) }
+{
+    let e = e.copy(alloc)?;
+    let v = v.copy(alloc)?;
+    Ok(Step::Del { e, f, at, v })
+}
+
 /// A step for each of the values, the last first.
 fn dels(alloc: Global, e: &Id, f: u32, values: &[Value]) -> Result<List<Step>, AllocError>
     requires { length values.now ≤ 4294967295 }
@@ -64,12 +74,7 @@ fn dels(alloc: Global, e: &Id, f: u32, values: &[Value]) -> Result<List<Step>, A
 {
     let mut steps = List::new(alloc);
     for at in (0..values.len()).rev() {
-        steps.push(Step::Del {
-            e: e.copy(alloc)?,
-            f,
-            at: at as u32,
-            v: values[at].copy(alloc)?,
-        })?;
+        steps.push(del(alloc, e, f, at as u32, &values[at])?)?;
     }
     Ok(steps)
 }
@@ -174,12 +179,7 @@ pub fn remove<L: Look>(
     let Some(v) = look.attr(&named.id, named.feature).get(index as usize) else {
         return Err(EditFault::NoEntry);
     };
-    let step = Step::Del {
-        e: named.id.copy(alloc)?,
-        f: named.feature,
-        at: index,
-        v: v.copy(alloc)?,
-    };
+    let step = del(alloc, &named.id, named.feature, index, v)?;
     Ok(one(alloc, step)?)
 }
 
