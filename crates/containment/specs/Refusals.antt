@@ -34,7 +34,7 @@ is_place meta m (Inside a f) = class_has meta (get m.kind a) f && contains_kind 
 abbrev pub IsPlace : Meta → State → Place → Type 0
 IsPlace meta m p = is_place meta m p ≡ true
 
--- ---- the elements among which another is put
+-- ---- a spot among others
 -- a spot: the index is one of the others or their end, and there is a rank
 abbrev pub spot_tests : List Entry → ℕ → List (Bool × MoveFault)
 spot_tests others k = (nat_le k (length others), NoEntry) ∷ (is_some (spot others k).rank, Bound) ∷ []
