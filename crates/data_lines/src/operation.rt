@@ -11,7 +11,7 @@ use model_state::{OpKind, Operation, Step};
 use std::alloc::{AllocError, Global};
 
 /// The lines of a package: for each operation `op N KIND`, with N from 1, and then one line a step. That its steps are of
-/// the metamodel is tested by `is_typed_package`, and known by `law_of_taken_steps` where they were taken.
+/// the metamodel is known by `law_of_taken_steps` where they were taken.
 #[tactic(auto, unfolding(crate::specs::Lines::operation_lines))]
 pub fn operation_lines(
     alloc: Global,
@@ -30,7 +30,7 @@ pub fn operation_lines(
 }
 
 /// The lines of an open composite: `open NAME`, and then one line a step, as in the lines of a package. That the steps
-/// are of the metamodel is tested by `are_typed`, and known by `law_of_taken_steps` where they were taken.
+/// are of the metamodel is known by `law_of_taken_steps` where they were taken.
 #[tactic(auto, unfolding(crate::specs::Lines::open_lines))]
 pub fn open_lines(
     alloc: Global,

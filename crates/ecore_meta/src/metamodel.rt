@@ -1,5 +1,5 @@
 //! A metamodel, and its questions: classes and features by number and by name, subtyping, literals, defaults.
-ghost use Rattle.std.specs.Prelude.{◌≡◌, ◌<◌, IfErr, IfOk, length, slice_get, Some};
+ghost use Rattle.std.specs.Prelude.{◌≡◌, ◌<◌, IfOk, length, slice_get, Some};
 ghost use Rattle.std.specs.Option.{option_copied};
 ghost use Rattle.ecore_meta.specs.Meta.{class_named, feature_named, features_of, has_feature, is_a};
 ghost use Rattle.ecore_meta.specs.Promised.{IsMetamodel};
@@ -7,16 +7,14 @@ ghost use Rattle.ecore_meta.specs.Sound.{Sound};
 ghost use Rattle.ecore_meta.specs.Typing.{literal_count, literal_text, literals_of};
 ghost use Rattle.ecore_meta.specs.Holds.{Holds};
 ghost use Rattle.ecore_meta.specs.Parts.{meta_in};
-ghost use Rattle.ecore_meta.specs.Values.{IsBad, literal_in, value_of};
+ghost use Rattle.ecore_meta.specs.Values.{literal_in};
 
 use crate::Text;
 use crate::above::is_in;
 use crate::enums::Enums;
-use crate::fault::ValueFault;
 use crate::feature_index::{feature_indexes, feature_of, name_index};
 use crate::indexes::{class_index, number_in};
-use crate::meta::{Class, Feature, Scalar, Value};
-use crate::values::value_of;
+use crate::meta::{Class, Feature};
 use std::alloc::{AllocError, Global};
 use std::collections::{BTreeMap, BTreeSet};
 use std::marker::Model;
@@ -224,22 +222,6 @@ impl Metamodel {
         ensures { result ≡ literal_in (literals_of self.now e) text.now }
     {
         self.enums.literal_named(e, text)
-    }
-
-    /// The value of the type that a default text stands for.
-    pub fn parse_value(
-        &self,
-        alloc: Global,
-        scalar: &Scalar,
-        text: &str,
-    ) -> Result<Value, ValueFault>
-        ensures value { IfOk result (λ v. value_of self.now.enums scalar.now text.now ≡ Some v) }
-        ensures bad { IfErr result (IsBad (value_of self.now.enums scalar.now text.now)) }
-    {
-        match value_of(alloc, &self.enums, scalar, text)? {
-            None => Err(ValueFault::Bad),
-            Some(value) => Ok(value),
-        }
     }
 }
 
