@@ -34,7 +34,3 @@ pub(crate) fn bytes_of(alloc: Global, spelled: &str) -> Result<Vec<u8>, Fail> {
     }
     Ok(bytes)
 }
-
-pub(crate) fn text_of(alloc: Global, spelled: &str) -> Result<String, Fail> {
-    Ok(String::from_utf8(bytes_of(alloc, spelled)?)?)
-}

@@ -1,4 +1,5 @@
-//! Two operations in the other order, which no command asks for. Each line has the steps that a model takes beforehand, and then the two, with ` & ` between them.
+//! Two operations in the other order, which no command asks for. Each line has the steps that a model takes beforehand, and then the two, with ` & `
+//! between them.
 ghost use Rattle.std.specs.Prelude.{◌≡◌, [], ◌∷◌, false, Some, IfOk};
 ghost use Rattle.model_state.specs.State.{State, nothing};
 ghost use Rattle.model_state.specs.Steps.{fold};
@@ -82,8 +83,26 @@ fn is_left_exchanged(
     requires possible { (m : State) → fold meta.now nothing start.now ≡ Some m → (n : State) × (fold_package meta.now m (first.now ∷ second.now ∷ []) ≡ Some n) }
 {
     let mut exchanged = model_of(alloc, meta, start)?;
-    exchange(&mut exchanged, meta, first, second)?;
-    has_same_text(alloc, meta, &exchanged, in_order)
+    is_left_after(alloc, meta, in_order, &mut exchanged, first, second)
+}
+
+// Whether the second operation before the first leaves that model.
+fn is_left_after(
+    alloc: Global,
+    meta: &Metamodel,
+    in_order: &Plain,
+    exchanged: &mut Plain,
+    first: &Operation,
+    second: &Operation,
+) -> Result<bool, Fail>
+    requires sound { Sound meta.now }
+    requires good { Good meta.now (plain_state in_order.now) }
+    requires as_good { Good meta.now (plain_state exchanged.old) }
+    requires apart { interferes meta.now first.now second.now ≡ false }
+    requires possible { (n : State) × (fold_package meta.now (plain_state exchanged.old) (first.now ∷ second.now ∷ []) ≡ Some n) }
+{
+    exchange(exchanged, meta, first, second)?;
+    has_same_text(alloc, meta, exchanged, in_order)
 }
 
 // Whether two operations that can be applied after the steps leave the same model in either order.
@@ -98,9 +117,26 @@ fn is_same(
     requires apart { interferes meta.now first.now second.now ≡ false }
 {
     let mut in_order = model_of(alloc, meta, start)?;
-    replay(&mut in_order, meta, steps_of(first))?;
-    replay(&mut in_order, meta, steps_of(second))?;
-    is_left_exchanged(alloc, meta, &in_order, start, first, second)
+    is_same_after(alloc, meta, &mut in_order, start, first, second)
+}
+
+// The same, where the steps lead to that model.
+fn is_same_after(
+    alloc: Global,
+    meta: &Metamodel,
+    in_order: &mut Plain,
+    start: &[Step],
+    first: &Operation,
+    second: &Operation,
+) -> Result<bool, Fail>
+    requires sound { Sound meta.now }
+    requires good { Good meta.now (plain_state in_order.old) }
+    requires run { fold meta.now nothing start.now ≡ Some (plain_state in_order.old) }
+    requires apart { interferes meta.now first.now second.now ≡ false }
+{
+    replay(in_order, meta, steps_of(first))?;
+    replay(in_order, meta, steps_of(second))?;
+    is_left_exchanged(alloc, meta, in_order, start, first, second)
 }
 
 // What becomes of the exchange of two operations after the steps.
@@ -133,8 +169,20 @@ fn exchanged_after(
 {
     let (first, second) = cut(text, " & ");
     let first = operation(alloc, first)?;
-    let second = operation(alloc, second)?;
-    outcome(alloc, meta, start, &first, &second)
+    exchanged_with(alloc, meta, start, &first, second)
+}
+
+fn exchanged_with(
+    alloc: Global,
+    meta: &Metamodel,
+    start: &[Step],
+    first: &Operation,
+    text: &str,
+) -> Result<&'static str, Fail>
+    requires { Sound meta.now }
+{
+    let second = operation(alloc, text)?;
+    outcome(alloc, meta, start, first, &second)
 }
 
 fn exchanged(alloc: Global, meta: &Metamodel, text: &str) -> Result<&'static str, Fail>
@@ -145,12 +193,20 @@ fn exchanged(alloc: Global, meta: &Metamodel, text: &str) -> Result<&'static str
     exchanged_after(alloc, meta, start.as_slice(), rest)
 }
 
+fn check_line(rt: &impl Abort, alloc: Global, meta: &Metamodel, line: &str) -> Result<(), Fail>
+    requires { Sound meta.now }
+{
+    let (case, wanted) = cut(line, " -> ");
+    let found = exchanged(alloc, meta, case)?;
+    assert_eq!(rt; found, wanted, "{line}");
+    Ok(())
+}
+
 fn check_all(rt: &impl Abort, alloc: Global, meta: &Metamodel) -> Result<(), Fail>
     requires { Sound meta.now }
 {
     for line in TABLE.lines() {
-        let (case, wanted) = cut(line, " -> ");
-        assert_eq!(rt; exchanged(alloc, meta, case)?, wanted, "{line}");
+        check_line(rt, alloc, meta, line)?;
     }
     Ok(())
 }

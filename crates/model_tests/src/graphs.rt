@@ -287,9 +287,24 @@ fn check_steps(
 ) -> Result<(), Fail>
     requires { Sound meta.now }
 {
-    let mut built = Plain::new(alloc);
-    replay(&mut built, meta, steps)?;
-    check_same(rt, alloc, meta, graph, &built, line)
+    check_steps_from(rt, alloc, meta, graph, &mut Plain::new(alloc), steps, line)
+}
+
+// The same, where they are taken from the empty model.
+fn check_steps_from(
+    rt: &impl Abort,
+    alloc: Global,
+    meta: &Metamodel,
+    graph: &Graph,
+    built: &mut Plain,
+    steps: &[Step],
+    line: &str,
+) -> Result<(), Fail>
+    requires sound { Sound meta.now }
+    requires good { Good meta.now (plain_state built.old) }
+{
+    replay(built, meta, steps)?;
+    check_same(rt, alloc, meta, graph, built, line)
 }
 
 fn check_built(
@@ -411,8 +426,24 @@ fn check_step(
     requires as_good { Good meta.now graph.old }
 {
     let step = step(alloc, call)?;
-    check_plain_step(rt, alloc, meta, plain, &step, call, wanted)?;
-    check_graph_step(rt, alloc, meta, graph, &step, call, wanted)
+    check_step_of(rt, alloc, meta, plain, graph, &step, call, wanted)
+}
+
+fn check_step_of(
+    rt: &impl Abort,
+    alloc: Global,
+    meta: &Metamodel,
+    plain: &mut Plain,
+    graph: &mut Graph,
+    step: &Step,
+    call: &str,
+    wanted: &str,
+) -> Result<(), Fail>
+    requires good { Good meta.now (plain_state plain.old) }
+    requires as_good { Good meta.now graph.old }
+{
+    check_plain_step(rt, alloc, meta, plain, step, call, wanted)?;
+    check_graph_step(rt, alloc, meta, graph, step, call, wanted)
 }
 
 // Both models, after the steps before the call.
@@ -436,22 +467,38 @@ fn check_both(
     check_same(rt, alloc, meta, plain, graph, case)
 }
 
-fn check_graph(
+fn check_case(
     rt: &impl Abort,
     alloc: Global,
     meta: &Metamodel,
     plain: &mut Plain,
+    graph: &mut Graph,
     start: &str,
     line: &str,
 ) -> Result<(), Fail>
     requires sound { Sound meta.now }
     requires good { Good meta.now (plain_state plain.old) }
+    requires as_good { Good meta.now graph.old }
 {
     let (beside, case) = prefixed(line, " | ");
     begin(alloc, meta, plain, start, beside)?;
+    begin(alloc, meta, graph, start, beside)?;
+    check_both(rt, alloc, meta, plain, graph, case)
+}
+
+// A case over two empty models.
+fn check_line(
+    rt: &impl Abort,
+    alloc: Global,
+    meta: &Metamodel,
+    start: &str,
+    line: &str,
+) -> Result<(), Fail>
+    requires { Sound meta.now }
+{
+    let mut plain = Plain::new(alloc);
     let mut graph = Graph::new(alloc);
-    begin(alloc, meta, &mut graph, start, beside)?;
-    check_both(rt, alloc, meta, plain, &mut graph, case)
+    check_case(rt, alloc, meta, &mut plain, &mut graph, start, line)
 }
 
 fn check_lines(
@@ -465,7 +512,7 @@ fn check_lines(
 {
     for line in lines.lines() {
         if !line.starts_with('#') {
-            check_graph(rt, alloc, meta, &mut Plain::new(alloc), start, line)?;
+            check_line(rt, alloc, meta, start, line)?;
         }
     }
     Ok(())
@@ -525,18 +572,33 @@ fn check_found(rt: &impl Abort, alloc: Global, graph: &Graph, shelf: &Id) -> Res
     Ok(())
 }
 
-fn check_library(rt: &impl Abort, alloc: Global, meta: &Metamodel) -> Result<(), Fail>
+fn check_shelf(rt: &impl Abort, alloc: Global, graph: &Graph) -> Result<(), Fail> {
+    let shelf = id(alloc, "s")?;
+    check_found(rt, alloc, graph, &shelf)
+}
+
+fn check_library(
+    rt: &impl Abort,
+    alloc: Global,
+    meta: &Metamodel,
+    graph: &mut Graph,
+) -> Result<(), Fail>
+    requires sound { Sound meta.now }
+    requires good { Good meta.now graph.old }
+{
+    take_library(alloc, meta, graph)?;
+    check_shelf(rt, alloc, graph)
+}
+
+fn check_empty_graph(rt: &impl Abort, alloc: Global, meta: &Metamodel) -> Result<(), Fail>
     requires { Sound meta.now }
 {
-    let mut graph = Graph::new(alloc);
-    take_library(alloc, meta, &mut graph)?;
-    let shelf = id(alloc, "s")?;
-    check_found(rt, alloc, &graph, &shelf)
+    check_library(rt, alloc, meta, &mut Graph::new(alloc))
 }
 
 #[test]
 fn no_reference_to_a_shelf_is_found_at_once(rt: HostRuntime) -> Result<(), Fail> {
     let alloc = rt.alloc();
     let meta = metamodel(alloc, "library")?;
-    check_library(&rt, alloc, &meta)
+    check_empty_graph(&rt, alloc, &meta)
 }

@@ -1,7 +1,8 @@
-//! Steps as words: the kind of a step and its fields in their order, each after one blank. A class and a feature are their numbers; a place is `/`, or `a.4` inside
-//! the element a, in its feature 4; a value is `"Emma"`, with `\n` and `\"` in it as in JSON, `-5`, `true`, or `#1`, the literal of that number; containers have commas between them. `-` is no
-//! value, no rank, or no containers. Only a value at the end may have blanks. Steps have `; ` between them. An operation is its steps, and before those of a composite
-//! stand its name and `: `.
+//! Steps as words: the kind of a step and its fields in their order, each after one blank. A class and a feature are their numbers.
+//!
+//! A place is `/`, or `a.4` inside the element a, in its feature 4. A value is `"Emma"`, with `\n` and `\"` in it as in JSON, `-5`, `true`, or `#1`,
+//! the literal of that number. Containers have commas between them. `-` is no value, no rank, or no containers. Only a value at the end may have
+//! blanks. Steps have `; ` between them. An operation is its steps, and before those of a composite stand its name and `: `.
 use ecore_meta::{List, Text, Value};
 use model_state::{Id, OpKind, Operation, Place, Step};
 use std::alloc::Global;

@@ -1,5 +1,6 @@
 //! Events, byte for byte as the format's tables have them. Bytes are written in hex, a field a word.
-use op_form::{encode_event, has_encoding};
+use crate::reading::cut;
+use op_form::{Event, encode_event, has_encoding};
 use op_reading::{FormFault, decode_event};
 use std::alloc::Global;
 use std::process::Abort;
@@ -74,16 +75,49 @@ fn add_fields(
     Ok(())
 }
 
+fn check_shown(rt: &impl Abort, alloc: Global, event: &Event, wanted: &str) -> Result<(), Fail> {
+    let shown = format!(in alloc; "{event:?}")?;
+    assert_eq!(rt; shown.as_str(), wanted);
+    Ok(())
+}
+
+fn check_spelled(
+    rt: &impl Abort,
+    alloc: Global,
+    event: &Event,
+    bytes: &[u8],
+    text: &str,
+) -> Result<(), Fail> {
+    if !has_encoding(event) {
+        return Err("no encoding")?;
+    }
+    let spelled = encode_event(alloc, event)?;
+    assert_eq!(rt; spelled.as_slice(), bytes, "{text}");
+    Ok(())
+}
+
+fn check_both(
+    rt: &impl Abort,
+    alloc: Global,
+    event: &Event,
+    bytes: &[u8],
+    line: &str,
+) -> Result<(), Fail> {
+    let (text, wanted) = cut(line, " = ");
+    check_shown(rt, alloc, event, wanted)?;
+    check_spelled(rt, alloc, event, bytes, text)
+}
+
+fn check_bytes(rt: &impl Abort, alloc: Global, bytes: &[u8], line: &str) -> Result<(), Fail> {
+    let event = decode_event(alloc, bytes)?;
+    check_both(rt, alloc, &event, bytes, line)
+}
+
 fn check_event(rt: &impl Abort, alloc: Global, line: &str) -> Result<(), Fail> {
-    let (text, wanted) = line.split_once(" = ").unwrap_or((line, ""));
+    let (text, _) = cut(line, " = ");
     let mut bytes = Vec::new(alloc);
     add_fields(rt, alloc, &mut bytes, text)?;
-    let event = decode_event(alloc, bytes.as_slice())?;
-    assert_eq!(rt; format!(in alloc; "{event:?}")?.as_str(), wanted, "{text}");
-    assert!(rt; has_encoding(&event), "{text}");
-    let spelled = encode_event(alloc, &event)?;
-    assert_eq!(rt; spelled.as_slice(), bytes.as_slice(), "{text}");
-    Ok(())
+    check_bytes(rt, alloc, bytes.as_slice(), line)
 }
 
 #[test]
@@ -107,14 +141,19 @@ const NO_EVENTS: &str = "0f 00000001 = 0
 03 00000001 00 = 5
 03 00000001 00000000 00 = 9";
 
+fn check_no_event(rt: &impl Abort, alloc: Global, line: &str) -> Result<(), Fail> {
+    let (text, wanted) = cut(line, " = ");
+    let at = wanted.parse::<u64>()?;
+    let bytes = read(alloc, text)?;
+    let fault = decode_event(alloc, bytes.as_slice()).err();
+    assert_eq!(rt; fault, Some(FormFault::NotForm { at }), "{text}");
+    Ok(())
+}
+
 #[test]
 fn bytes_of_no_event_are_no_encoding(rt: HostRuntime) -> Result<(), Fail> {
-    let alloc = rt.alloc();
     for line in NO_EVENTS.lines() {
-        let (text, wanted) = line.split_once(" = ").unwrap_or((line, ""));
-        let at = wanted.parse::<u64>()?;
-        let fault = decode_event(alloc, read(alloc, text)?.as_slice()).err();
-        assert_eq!(&rt; fault, Some(FormFault::NotForm { at }), "{text}");
+        check_no_event(&rt, rt.alloc(), line)?;
     }
     Ok(())
 }

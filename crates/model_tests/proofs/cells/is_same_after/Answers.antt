@@ -9,7 +9,7 @@ use Rattle.model_state.specs.Steps.{fold}
 use Rattle.model_state.specs.Packages.{steps_of, fold_package}
 use Rattle.step_apply.specs.View.{plain_state}
 use Rattle.model_laws.proofs.Runs.{fold_append}
-use Rattle.model_tests.proofs.cells.is_same.Goals as goal
+use Rattle.model_tests.proofs.cells.is_same_after.Goals as goal
 
 both_lead : (meta : Meta) (start m x n k : State) (ss : List Step) (o p : Operation) → fold meta start ss ≡ Some m → fold meta start ss ≡ Some x
     → fold meta m (steps_of o) ≡ Some n → fold meta n (steps_of p) ≡ Some k → (y : State) × (fold_package meta x (o ∷ p ∷ []) ≡ Some y)
@@ -21,6 +21,6 @@ both_lead meta start m x n k ss o p h g one two = (k, subst (λ y. fold_package 
 pub is_left_exchanged-requires-clause-possible : goal.is_left_exchanged-requires-clause-possible
 is_left_exchanged-requires-clause-possible c = λ x led.
     let meta = c.args.meta.now in
-    both_lead meta nothing _ x _ _ _ c.args.first.now c.args.second.now c.in_ok-in_order.ensures.run led
+    both_lead meta nothing _ x _ _ _ c.args.first.now c.args.second.now c.requires.run led
     (ap (fold meta _) (sym c.steps_of.ensures) ∙ c.in_ok-replay.ensures.done)
     (ap (fold meta _) (sym c.steps_of-2.ensures) ∙ c.in_ok-replay-2.ensures.done)
