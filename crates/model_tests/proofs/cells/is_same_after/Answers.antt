@@ -7,7 +7,6 @@ use Rattle.model_state.specs.declared.operation.Operation.{Operation}
 use Rattle.model_state.specs.State.{State, nothing}
 use Rattle.model_state.specs.Steps.{fold}
 use Rattle.model_state.specs.Packages.{steps_of, fold_package}
-use Rattle.step_apply.specs.View.{plain_state}
 use Rattle.model_laws.proofs.Runs.{fold_append}
 use Rattle.model_tests.proofs.cells.is_same_after.Goals as goal
 
