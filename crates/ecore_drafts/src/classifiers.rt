@@ -88,6 +88,7 @@ impl<'a> Classifiers<'a> {
     }
 }
 
+/// The number of a class, `None` for an enum, a data type or no classifier at all.
 fn class_in(kind: Option<Classifier>) -> Option<u32>
     ensures { result ≡ class_in kind }
 {
@@ -122,6 +123,7 @@ impl<'a> Classifiers<'a> {
     }
 }
 
+/// The number, among the features of all classes, of the feature of that name that the class at a place declares.
 fn feature_at(
     rows: &[ClassifierRow],
     kinds: &[Classifier],
@@ -143,6 +145,7 @@ fn feature_at(
     }
 }
 
+/// The number of the feature of that name that one row declares: those of an enum or a data type are none.
 fn number_in(
     row: &ClassifierRow,
     kind: Option<Classifier>,
@@ -228,24 +231,28 @@ fn number(alloc: Global, rows: &[ClassifierRow]) -> Result<Vec<Classifier>, Allo
     Ok(numbered)
 }
 
+/// The row at a place, `None` past the end.
 fn row_at(rows: &[ClassifierRow], place: usize) -> Option<&ClassifierRow>
     ensures { option_copied result ≡ slice_get rows.now place }
 {
     rows.get(place)
 }
 
+/// The classifier at a place of the table of kinds, `None` past the end.
 fn at(numbered: &[Classifier], place: usize) -> Option<Classifier>
     ensures { result ≡ slice_get numbered.now place }
 {
     numbered.get(place).copied()
 }
 
+/// The place that an index has for a name, `None` where it has none.
 fn place_of(places: &BTreeMap<&str, usize>, name: &str) -> Option<usize>
     ensures { result ≡ place_in places.now name.now }
 {
     places.get(name).copied()
 }
 
+/// The index of features of the row at a place, `None` past the end.
 fn places_at<'a, 'b>(
     own: &'b [BTreeMap<&'a str, usize>],
     place: usize,
@@ -284,6 +291,7 @@ fn feature_places<'a>(
     Ok(index)
 }
 
+/// The place of each feature that one row declares, by its name: no entry for an enum or a data type.
 fn row_places<'a>(
     alloc: Global,
     row: &'a ClassifierRow,

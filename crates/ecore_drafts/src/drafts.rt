@@ -92,6 +92,7 @@ fn scalar_in(kind: Option<Classifier>) -> Target
 }
 
 impl<'a> Classifiers<'a> {
+    /// The type of a reference: a class of the package, so a name of Ecore's fits none.
     fn class_target(&self, name: &TypeName) -> Target
         ensures { result ≡ class_target self.now name.now }
     {
@@ -104,6 +105,7 @@ impl<'a> Classifiers<'a> {
         }
     }
 
+    /// The type of an attribute: one of the six types of Ecore that are known here, an enum or a data type.
     fn value_target(&self, name: &TypeName) -> Target
         ensures { result ≡ value_target self.now name.now }
     {
@@ -113,6 +115,7 @@ impl<'a> Classifiers<'a> {
         }
     }
 
+    /// The type of a feature: that of a reference is looked for among the classes, that of an attribute among all else.
     fn target_of(&self, row: &FeatureRow) -> Target
         ensures { result ≡ target_of self.now row.now }
     {
@@ -125,6 +128,7 @@ impl<'a> Classifiers<'a> {
         }
     }
 
+    /// The opposite that a row names: that of an attribute, or of a feature that is skipped, is not looked at.
     fn end_of(&self, row: &FeatureRow) -> End
         ensures { result ≡ end_of self.now row.now }
     {
@@ -159,6 +163,7 @@ impl<'a> Classifiers<'a> {
         })
     }
 
+    /// Appends the drafts of the features that one class declares, in their order; `owner` is the number of the class.
     fn draft_all(
         &self,
         alloc: Global,

@@ -99,6 +99,7 @@ impl ClassifierRow {
         }
     }
 
+    /// How many features the row declares: those of an enum or a data type are none.
     fn feature_count(&self) -> usize
         ensures { result ≡ length (features_in self.now) }
     {
@@ -109,6 +110,7 @@ impl ClassifierRow {
         }
     }
 
+    /// Whether the row has 2^32 - 1 features or literals or more, and so too many to be numbered.
     fn is_many(&self) -> bool
         ensures { result ≡ is_many self.now }
     {
@@ -119,6 +121,7 @@ impl ClassifierRow {
         }
     }
 
+    /// Whether the name of a class has a slash, or one of its features has the name of a key of model texts.
     fn is_misnamed(&self) -> bool
         ensures { result ≡ is_misnamed self.now }
     {
@@ -132,18 +135,21 @@ impl ClassifierRow {
     }
 }
 
+/// Whether a name has a slash, at which a model text would cut the name of a class.
 fn has_slash(name: &str) -> bool
     ensures { result ≡ has_slash name.now }
 {
     name.as_bytes().iter().any(|b| *b == b'/')
 }
 
+/// Whether a name is that of a key with a meaning of its own in a model's text.
 fn is_taken(name: &str) -> bool
     ensures { result ≡ is_taken name.now }
 {
     name == "eClass" || name == "_id" || name == "$ref"
 }
 
+/// Whether some feature has the name of such a key.
 fn any_is_taken(features: &[FeatureRow]) -> bool
     ensures { result ≡ list_any (λ f. is_taken f.name) features.now }
 {
@@ -152,12 +158,15 @@ fn any_is_taken(features: &[FeatureRow]) -> bool
         .any(|feature| is_taken(feature.name.as_str()))
 }
 
+/// Whether some row has a name that `build` does not take.
 fn any_is_misnamed(rows: &[ClassifierRow]) -> bool
     ensures { result ≡ list_any is_misnamed rows.now }
 {
     rows.iter().any(|row| row.is_misnamed())
 }
 
+/// Whether the features of all classes are fewer than 2^32 - 1: what is left is counted down, so no sum grows too
+/// large.
 fn features_are_few(rows: &[ClassifierRow]) -> bool
     ensures { result ≡ nat_lt (feature_total rows.now) 4294967295 }
 {
@@ -172,12 +181,14 @@ fn features_are_few(rows: &[ClassifierRow]) -> bool
     true
 }
 
+/// Whether some row has too many features or literals to be numbered.
 fn any_is_many(rows: &[ClassifierRow]) -> bool
     ensures { result ≡ list_any is_many rows.now }
 {
     rows.iter().any(|row| row.is_many())
 }
 
+/// Whether all classifiers, features and literals can be numbered with 32 bits.
 fn is_numbered(rows: &[ClassifierRow]) -> bool
     ensures { result ≡ is_numbered rows.now }
 {

@@ -45,6 +45,7 @@ impl<'a> Classifiers<'a> {
         Ok(supers)
     }
 
+    /// Whether one of the names is no class of the document.
     fn lacks_one(&self, names: &[Text]) -> bool
         ensures { result ≡ list_any (λ t. not (is_some (class_number self.now t))) names.now }
     {
@@ -56,6 +57,7 @@ impl<'a> Classifiers<'a> {
         false
     }
 
+    /// Whether the row is a class that names a supertype which is no class of the document.
     fn lacks_super(&self, row: &ClassifierRow) -> bool
         ensures { result ≡ lacks_super self.now row.now }
     {

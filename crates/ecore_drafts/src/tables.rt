@@ -25,6 +25,7 @@ pub fn all_above(alloc: Global, supers: &[Vec<u32>]) -> Result<Vec<BTreeSet<u32>
     Ok(table)
 }
 
+/// Whether some of the classes `ups` is that class or one below it; `above` has for each class itself and those above.
 fn any_below(above: &[BTreeSet<u32>], ups: &[u32], class: u32) -> bool
     ensures { result ≡ list_any (λ b. is_in (map (λ s. s.keys) above.now) b class) ups.now }
 {
@@ -51,6 +52,7 @@ pub fn any_cycle(supers: &[Vec<u32>], above: &[BTreeSet<u32>]) -> bool
     false
 }
 
+/// The numbers from `first` on, as many as `count`: those of the features that one class declares.
 fn numbers(alloc: Global, first: u32, count: usize) -> Result<Vec<u32>, AllocError>
     requires { first + count < 4294967296 }
     ensures { IfOk result (λ v. v.items ≡ range_with_len first count) }
