@@ -11,9 +11,9 @@ use footprint::prints_of;
 use model_state::Package;
 use std::alloc::{AllocError, Global};
 
-/// The package with its simple operations cut into their steps, with what was taken back dropped and what was changed twice changed once. It
-/// does what the package does. Each operation is compared with those before it whose cells share a slot of an index with its own,
-/// from the last of them to one that touches it.
+/// The package with its simple operations cut into their steps, with what was taken back dropped and what was changed
+/// twice changed once. It does what the package does. Each operation is compared with those before it whose cells share
+/// a slot of an index with its own. The comparisons go from the last of them to one that touches it.
 pub fn tidy(alloc: Global, package: &Package, meta: &Metamodel) -> Result<Package, AllocError>
     ensures tidied { IfOk result (λ p. p ≡ tidy meta.now «package».now) }
     ensures normal { IfOk result (λ p. Normal meta.now p) }

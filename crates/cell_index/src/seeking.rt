@@ -32,8 +32,8 @@ impl Standing {
             && touches(print, &prints[place])
     }
 
-    /// One more than the last place of the list at which an operation stands that touches the one of the print, or `floor` where that
-    /// is more.
+    /// One more than the last place of the list whose operation touches the one of the print, or `floor` where that is
+    /// more.
     fn later(
         &self,
         prints: &[Print],

@@ -1,5 +1,5 @@
-//! The numbers of a journal: where records stand in it, the limits of a record and of a journal, and the test of both
-//! before an append.
+//! The numbers of a journal: where records stand in it, the limits of a record and of a journal. Before an append both
+//! limits are tested.
 ghost use Rattle.std.specs.Prelude.{◌≡◌, ◌+◌, ◌^◌, ◌<◌, ◌↔◌};
 ghost use Rattle.commit_journal.specs.Journal.{RecordFits, fit_of, next_gate};
 

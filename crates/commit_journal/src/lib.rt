@@ -1,4 +1,4 @@
-//! The journal of a store: an append-only file of records, each after a gate that is opened only once all of its
+//! The journal of a store: an append-only file of records, each after a gate. A gate is opened only once all of its
 //! record is on the disk. Whatever moment a machine crashes at, the file reads as the records before an append or as
 //! these with the new one.
 #![tactic(auto)]

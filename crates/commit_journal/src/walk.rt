@@ -111,7 +111,7 @@ fn read_gate<H: Host>(host: &mut H, gate: u64) -> Result<Gate, Failed>
 }
 
 impl Walk {
-    /// Syncs, and then writes the header and a closed gate where the file is too short to hold a record, and else looks
+    /// Syncs. Then it writes the header and a closed gate where the file is too short to hold a record, and else looks
     /// at the header. It never answers `Memory`.
     pub fn mount<H: Host>(host: &mut H) -> Result<Walk, JournalFault>
         ensures ok { IfOk result (λ walk. walk ≡ record { place = 16; next = 16; ended = false }) }

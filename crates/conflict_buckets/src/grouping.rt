@@ -28,8 +28,8 @@ fn rows_of(alloc: Global, theirs: &[u64], mine: &[u64]) -> Result<List<Bucket>, 
     Ok(found)
 }
 
-/// The buckets of two packages: the components of operations that interfere, one with the next, which have operations of both packages,
-/// in the order of their first operations.
+/// The buckets of two packages: the components of operations that interfere, one with the next. Those count that have
+/// operations of both packages, in the order of their first operations.
 pub fn buckets(
     alloc: Global,
     theirs: &Package,

@@ -34,8 +34,8 @@ pub fn creation_spot<L: Look>(
     last_spot(alloc, look, place)
 }
 
-/// The steps that create an element of a class at its spot, last in a place: the reranks of the others where there is no
-/// room after the last, and then the new element.
+/// The steps that create an element of a class at its spot, last in a place. Where there is no room after the last, the
+/// others are reranked first, and then the new element is created.
 pub fn create_at<L: Look>(
     alloc: Global,
     look: &L,

@@ -70,8 +70,8 @@ fn removal<L: Look>(
 
 /// The steps that delete an element with all that it contains.
 ///
-/// First each reference out of the subtree is unlinked with its mirror, then each that is left to an element of it; then
-/// the attributes lose their values, the last first; then the elements are deleted, the last first.
+/// First each reference out of the subtree is unlinked with its mirror, then each that is left to an element of it.
+/// Then the attributes lose their values, the last first. Then the elements are deleted, the last first.
 pub fn delete_steps<L: Look>(
     alloc: Global,
     look: &L,

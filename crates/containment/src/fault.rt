@@ -13,8 +13,8 @@ pub enum MoveFault {
     /// The element would stand inside itself: it is the parent or one of the parent's containers.
     #[error("a cycle of containers")]
     WouldCycle,
-    /// The place would get an element more and is at its upper bound, or it has no room at that index and is too long to
-    /// be renumbered.
+    /// The place would get an element more and is at its upper bound. Or it has no room at that index and is too long
+    /// to be renumbered.
     #[error("the place is full")]
     Bound,
     /// The element's class isn't the containment's type or below it.

@@ -14,15 +14,15 @@ pub fn law_of_moves()
     ensures stands { MovedStands }
 {}
 
-/// The steps of a deletion lead to the model without the subtree of the element: an element is there as it was exactly
-/// where it isn't the deleted one and doesn't have it among its containers, and a reference exactly where both its ends
-/// stay.
+/// The steps of a deletion lead to the model without the subtree of the element. An element is there as it was exactly
+/// where it isn't the deleted one and doesn't have it among its containers. A reference is there exactly where both its
+/// ends stay.
 pub fn law_of_deletions()
     ensures leads { DeleteLeads }
     ensures keeps { DeleteKeeps }
 {}
 
-/// The subtree of an element is the element and then the subtrees of its children in order, and these are the element and
+/// The subtree of an element is the element and then the subtrees of its children in order. These are the element and
 /// all that have it among their containers.
 pub fn law_of_subtrees()
     ensures in_order { SubtreeIsInOrder }

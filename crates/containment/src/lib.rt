@@ -1,5 +1,6 @@
-//! Containment: an element is created in a place, moved, or deleted with all that it contains. The calls make the steps of
-//! each, by definitions of the steps and of the model after them; a law is the contract of a function that does nothing.
+//! Containment: an element is created in a place, moved, or deleted with all that it contains. The calls make the steps
+//! of each, by definitions of the steps and of the model after them. A law is the contract of a function that does
+//! nothing.
 #![tactic(auto)]
 
 mod create;

@@ -13,10 +13,10 @@ use ecore_meta::{Feature, Kind, List, Metamodel, Text};
 use model_state::{Id, Look, Place, Placed};
 use std::alloc::{AllocError, Global};
 
-/// The lines of the features that are below their lower bounds, `ID FEATURE COUNT LOWER`: the elements in the order of their
-/// ids, and the features of each by number. A single attribute counts 1 where it is set or has a default, the reference to
-/// the container 1 where the element stands in its opposite; the others count their entries. Skipped features
-/// aren't tested.
+/// The lines of the features that are below their lower bounds, `ID FEATURE COUNT LOWER`. The elements come in the
+/// order of their ids, and the features of each by number. A single attribute counts 1 where it is set or has a
+/// default. The reference to the container counts 1 where the element stands in its opposite. The others count their
+/// entries. Skipped features aren't tested.
 #[tactic(auto, unfolding(crate::specs::Validation::validate_lines))]
 pub fn validate_lines<L: Look>(
     alloc: Global,

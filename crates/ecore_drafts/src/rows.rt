@@ -196,8 +196,8 @@ fn is_numbered(rows: &[ClassifierRow]) -> bool
 }
 
 impl MetaRows {
-    /// Whether the classifiers, all their features and the literals of each enum can be numbered, which `build` asks
-    /// for: fewer than 2^32 - 1 of each.
+    /// Whether there are fewer than 2^32 - 1 classifiers, features in all, and literals of each enum. `build` asks for
+    /// it, as these are numbered.
     pub fn is_numbered(&self) -> bool
         ensures { IsTrue result ↔ Numbered self.now.classifiers }
     {

@@ -131,8 +131,8 @@ impl Metamodel {
         self.enums.literal_text(e, n)
     }
 
-    /// The law of opposites of links: each names the other back, none is its own, and what one side may link the other may
-    /// link back. A holder of any metamodel has it by this call, which does nothing.
+    /// The law of opposites of links. Each names the other back, none is its own, and what one side may link the other
+    /// may link back. A holder of any metamodel has it by this call, which does nothing.
     pub fn sound(&self)
         ensures { Sound self.now }
     {
@@ -140,8 +140,9 @@ impl Metamodel {
         let _uri = &self.uri;
     }
 
-    /// What holds of every metamodel: of classes above classes, of lists of features, of opposites of both sorts, of names, of
-    /// bounds, and of what features name. A holder of any metamodel has it by this call, which does nothing.
+    /// What holds of every metamodel. It tells of classes above classes, of lists of features, of opposites of both
+    /// sorts, of names, of bounds, and of what features name. A holder of any metamodel has it by this call, which does
+    /// nothing.
     pub fn promised(&self)
         ensures { IsMetamodel self.now }
     {

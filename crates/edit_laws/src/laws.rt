@@ -2,8 +2,8 @@
 ghost use Rattle.edit_laws.specs.Standing.{SpotStands};
 ghost use Rattle.edit_laws.specs.Laws.{LinkStands, SetRefStands, ReorderStands, CreateStands, MoveWithinStands, MoveToStands, ClearMeets, InsertMeets, RemoveMeets, ShiftMeets, SetRefIdle, CreateMeets, MoveWithinMeets, MoveToMeets, SetAttrMeets, UnsetAttrMeets, SetRefMeets, LinkMeets, UnlinkMeets, UnsetMeets, ReorderMeets};
 
-/// The steps of an edit of a plain reference lead to the rows that the edit is to leave, with the mirrors of
-/// opposites and what they displace. Setting a reference takes no step exactly where it changes nothing.
+/// The steps of an edit of a plain reference lead to the rows that the edit is to leave. The mirrors of opposites are
+/// among them, and what they displace is not. Setting a reference takes no step exactly where it changes nothing.
 pub fn law_of_reference_edits()
     ensures set_ref { SetRefMeets }
     ensures link { LinkMeets }
@@ -39,9 +39,9 @@ pub fn law_of_many_value_edits()
 {}
 
 /// An entry stands where it was asked for. In a list by rank and then by id, one with the rank of the spot at an index
-/// stands at that index of the others, and these stand as they did, renumbered or not. So a target that is linked or
-/// reordered stands at its index, its source last in the opposite's list, a new element last in its place and one that
-/// moves at its index, and each other list is as it was, without what the edit takes away.
+/// stands at that index. The others stand as they did, renumbered or not. So a target that is linked or reordered
+/// stands at its index, and its source last in the opposite's list. A new element stands last in its place, and one
+/// that moves at its index. Each other list is as it was, without what the edit takes away.
 pub fn law_of_standing()
     ensures spot { SpotStands }
     ensures link { LinkStands }

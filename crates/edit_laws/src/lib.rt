@@ -1,5 +1,5 @@
-//! Single edits of a model: what each leaves, defined without steps, the steps that are made for it, when it is refused, and
-//! the laws that the steps lead there. A law is the contract of a function that does nothing.
+//! Single edits of a model: what each leaves, defined without steps, the steps that are made for it, and when it is
+//! refused. The laws say that the steps lead there. A law is the contract of a function that does nothing.
 #![tactic(auto)]
 
 mod fault;

@@ -1,7 +1,7 @@
 //! The laws of edits by name: their steps lead to the model after the edit, a good one; and which id is fresh.
 ghost use Rattle.edits.specs.Laws.{EditsIdle, EditsKeepGood, EditsMeet, EditsStand, FirstIsFresh, FreshIsFirst, FreshIsId};
 
-/// The steps that are recorded of an edit lead to the model that the edit is to leave, and there are none exactly where it
+/// The steps that are recorded of an edit lead to the model that the edit is to leave. There are none exactly where it
 /// changes nothing. That model is good: a reference and its opposite stand together, and each list is within its bound.
 /// In it an entry stands where the edit asked for it, and what the edit doesn't name is as it was.
 pub fn law_of_edits()

@@ -1,5 +1,5 @@
-//! Edits of a model as they are given: what each leaves, the steps that are recorded of it, when it is refused, and the laws
-//! that the steps lead there. A law is the contract of a function that does nothing.
+//! Edits of a model as they are given: what each leaves, the steps that are recorded of it, and when it is refused. The
+//! laws say that the steps lead there. A law is the contract of a function that does nothing.
 #![tactic(auto)]
 
 mod edit;

@@ -2,8 +2,8 @@
 ghost use Rattle.plain_repository.specs.Store.{StandsForOne, IsDamagedOnce, DamagedStandsForNone};
 ghost use Rattle.emf_top.specs.Counts.{WorkspacesAreFew};
 
-/// The law of stores: a file stands for one list of events at most; it is damaged at one offset at most, and then it stands
-/// for none.
+/// The law of stores: a file stands for one list of events at most. It is damaged at one offset at most, and then it
+/// stands for none.
 pub fn law_of_stores()
     ensures meaning { StandsForOne }
     ensures place { IsDamagedOnce }

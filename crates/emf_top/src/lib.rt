@@ -1,5 +1,5 @@
-//! All that the program does, as one call over a host; and below it a session over one store: it is opened, and answers one command
-//! after another. The event of a command is in the file before any byte of its reply is printed.
+//! All that the program does, as one call over a host. Below it is a session over one store, which is opened and
+//! answers one command after another. The event of a command is in the file before any byte of its reply is printed.
 #![tactic(auto)]
 
 mod answered;

@@ -93,7 +93,7 @@ fn play_ready(
     }
 }
 
-/// Decides a command, with all the memory that it takes; its event is made in memory, and its record is ready in frames
+/// Decides a command, with all the memory that it takes. Its event is made in memory, and its record is ready in frames
 /// of the pool.
 #[tactic(auto, using(crate::proofs::Holding::all_on, crate::proofs::Holding::none_both))]
 pub(crate) fn prepare(

@@ -94,21 +94,23 @@ fn status_of_input(fault: LineFault) -> Status
 /// All that the program does: it opens the store and does what the words ask for. Without words it answers the lines of the
 /// input, one after the other.
 pub fn run<H: Host>(alloc: Global, words: &[String], host: &mut H) -> Status
-    // What is printed and kept, where the file stands for a list of events: with Accepted, Refused and Input all of the
-    // task's replies, and all of its events; with WriteFault the event whose reply failed; with the other statuses the first
-    // replies and their events, and at a disk fault the one event more or not.
+    // What is printed and kept, where the file stands for a list of events. With Accepted, Refused and Input these are
+    // all of the task's replies, and all of its events. With WriteFault these are the replies before the one that
+    // failed and a part of that one, and the events up to its own. With the other statuses these are the first replies
+    // and their events, and at a disk fault the one event more or not.
     ensures ends { IsTrue (H.told host.old).tells → (request : Request) (first : List Event) → StandsForEvents (disk_now (H.told host.old)).now first → AskFor (map string_bytes words.now) request
         → Ends (task_of request (played play empty first) (H.told host.old).left) first (H.told host.old) (H.told host.new) result }
     // At each moment a prefix of the replies is printed.
     ensures part { (request : Request) (first : List Event) → StandsForEvents (disk_now (H.told host.old)).now first → AskFor (map string_bytes words.now) request
         → Throughout (H.told host.old) (H.told host.new) (λ _ said. AddsPart (said_now (H.told host.old)) (replies (task_of request (played play empty first) (H.told host.old).left).answers) said) }
-    // At each moment whatever a crash leaves stands for the first events and some of the new ones, none in part, with all
-    // whose reply is begun; until the first sync has succeeded the disk is that of the entry, and nothing is printed.
+    // At each moment whatever a crash leaves stands for the first events and some of the new ones, none in part. All
+    // whose reply is begun are among them. Until the first sync has succeeded the disk is that of the entry, and
+    // nothing is printed.
     ensures moments { (request : Request) (first : List Event) → StandsForEvents (disk_now (H.told host.old)).now first → AskFor (map string_bytes words.now) request
         → Throughout (H.told host.old) (H.told host.new) (IsOpenedRunning (disk_now (H.told host.old)) StandsForEvents first (events (task_of request (played play empty first) (H.told host.old).left).answers)
         (answered (task_of request (played play empty first) (H.told host.old).left).answers) (said_now (H.told host.old))) }
-    // However it ends, the file stands for the first events and some of the new ones, none in part, with all whose reply is
-    // begun: the command that was being written at a disk fault is kept whole or not at all.
+    // However it ends, the file stands for the first events and some of the new ones, none in part. All whose reply is
+    // begun are among them. The command that was being written at a disk fault is kept whole or not at all.
     ensures stopped { IsTrue (H.told host.old).tells → (request : Request) (first : List Event) → StandsForEvents (disk_now (H.told host.old)).now first → AskFor (map string_bytes words.now) request
         → IsKept (task_of request (played play empty first) (H.told host.old).left) first (H.told host.old) (H.told host.new) }
     // Where no count rises, it ends as the task does, or memory ran out.

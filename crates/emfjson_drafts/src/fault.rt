@@ -6,8 +6,8 @@ ghost use Rattle.emfjson_drafts.specs.declared.fault.ModelFault.TheVariants.{Mem
 use std::alloc::AllocError;
 use thiserror::Error;
 
-/// Why a text is no model of the metamodel. `NotJson` comes first; then the first fault of a walk over the document; then
-/// the faults of references, element by element; then the bounds of lists of references.
+/// Why a text is no model of the metamodel. `NotJson` comes first. Then comes the first fault of a walk over the
+/// document. Then come the faults of references, element by element, and then the bounds of lists of references.
 #[derive(Clone, Copy, Debug, PartialEq, Eq, Drop, Error)]
 pub enum ModelFault {
     /// The text is no JSON: RFC 8259, at most 127 levels deep, with numbers that a double holds.

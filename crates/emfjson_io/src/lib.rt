@@ -1,4 +1,5 @@
-//! Attribute values in the JSON of model texts: a text is read as a value of a type, and a value is written as its text.
+//! Attribute values in the JSON of model texts. A text is read as a value of a type, and a value is written as its
+//! text.
 #![tactic(auto)]
 
 mod laws;

@@ -2,8 +2,8 @@
 ghost use Rattle.emfjson_model.specs.Fits.{DocumentsFit};
 ghost use Rattle.emfjson_model.specs.Laws.{IdsAreApart, ParentsComeFirst};
 
-/// The law of documents that are read: no id comes twice, each element stands after the one that contains it, and
-/// all fit the metamodel and each other.
+/// The law of documents that are read. No id comes twice, each element stands after the one that contains it, and all
+/// fit the metamodel and each other.
 pub fn law_of_documents()
     ensures apart { IdsAreApart }
     ensures parents { ParentsComeFirst }

@@ -196,10 +196,10 @@ impl Writer {
 }
 
 /// The text of a model: JSON without spaces. No element is `[]`, one root is its object, several are the array of their
-/// objects. An object has its keys in the order of their bytes: `_id`, `eClass` as `nsURI#//Name`, and each feature under
-/// which something stands: an attribute that is set, a list of values, a reference as `{"$ref":"id"}` and a containment
-/// as the objects inside. References and containments are arrays, unless their upper bound is 1. A literal is its text.
-/// The container is not written.
+/// objects. An object has its keys in the order of their bytes: `_id`, `eClass` as `nsURI#//Name`, and each feature
+/// under which something stands. That is an attribute that is set, a list of values, a reference as `{"$ref":"id"}` or
+/// a containment as the objects inside. References and containments are arrays, unless their upper bound is 1. A
+/// literal is its text. The container is not written.
 ///
 /// The text is written by a stack of its own, however deep the elements stand in one another.
 pub fn write_model<L: Look>(alloc: Global, look: &L, meta: &Metamodel) -> Result<Text, AllocError>

@@ -82,9 +82,9 @@ impl Store {
     }
 }
 
-/// The file `emfstore.journal` in the working folder, and the standard streams. The first call that needs the file opens it,
-/// makes it where it is missing, and takes its lock for as long as the host lives. A call fails where the file can't be opened,
-/// or another program has the lock. It reports nothing.
+/// The file `emfstore.journal` in the working folder, and the standard streams. The first call that needs the file
+/// opens it, and makes it where it is missing. It takes its lock for as long as the host lives. A call fails where the
+/// file can't be opened, or another program has the lock. It reports nothing.
 #[derive(Drop)]
 pub struct FileHost<'a, R: Files<File = File> + Input + Print> {
     rt: &'a R,

@@ -7,7 +7,8 @@ use std::alloc::Global;
 use std::process::Abort;
 use std::test::Fail;
 
-// How many records a file with at most two of them has, or the fault at which reading ends; where it has none, one is made ready and given up.
+// How many records a file with at most two of them has, or the fault at which reading ends. Where it has none, one is
+// made ready and given up.
 fn count<H: Host>(alloc: Global, host: &mut H) -> Result<usize, JournalFault> {
     let mut walk = Walk::mount(host)?;
     match walk.next_bytes(alloc, host)? {

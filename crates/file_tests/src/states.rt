@@ -53,8 +53,8 @@ fn oldest(cache: &mut Cache, pool: &Pool, versions: u32) -> Result<Option<u32>, 
     Ok(None)
 }
 
-// How many frames are out, and which version is the oldest whose entry stays, once the bytes are stored for so many versions and so many frames are
-// asked for.
+// How many frames are out, and which version is the oldest whose entry stays. Before that the bytes are stored for so
+// many versions, and so many frames are asked for.
 fn left(
     cache: &mut Cache,
     pool: &mut Pool,
@@ -132,7 +132,8 @@ fn holds(cache: &mut Cache, pool: &Pool, version: u32, bytes: &[u8]) -> Result<b
     }
 }
 
-// How many bytes are found for a version before and after a store, and whether that store and one of other bytes say that they are kept.
+// How many bytes are found for a version before and after a store. Told too is whether that store and one of other
+// bytes say that they are kept.
 fn kept(
     cache: &mut Cache,
     pool: &mut Pool,

@@ -21,8 +21,8 @@ pub enum Cell {
     Whole(Id, u32),
 }
 
-/// The cells that an operation writes, and those that it reads, in the order of its steps. Where there are many, it keeps their places by
-/// the order of cells too, so that one of them is found without a walk over all.
+/// The cells that an operation writes, and those that it reads, in the order of its steps. Where there are many, it
+/// keeps their places by the order of cells too. So one of them is found without a walk over all.
 #[derive(Drop)]
 pub struct Print {
     pub writes: List<Cell>,

@@ -8,14 +8,15 @@ pub fn law_of_writes()
     ensures whole { StatesAreTheirCells }
 {}
 
-/// Whether a step of an operation can be taken, and what it does, go by the cells of the operation alone: in two states that are the same
-/// for the operation it meets the same fault or none, writes the same, and leaves states that are the same for it.
+/// Whether a step of an operation can be taken, and what it does, go by the cells of the operation alone. Take two
+/// states that are the same for the operation. In both it meets the same fault or none, writes the same, and leaves
+/// states that are the same for it.
 pub fn law_of_reads()
     ensures { StepGoesByCells }
 {}
 
-/// An operation leaves the cells of another that it doesn't interfere with: the state before it and the one after it are the same for
-/// the other.
+/// An operation leaves the cells of another that it doesn't interfere with. So the state before it and the one after it
+/// are the same for the other.
 pub fn law_of_disjoint_cells()
     ensures { OthersLeaveSame }
 {}
@@ -28,8 +29,8 @@ pub fn law_of_interference()
     ensures cell { InterferenceHasACell }
 {}
 
-/// Two operations that don't interfere commute, and so do packages without an interfering pair; where two such packages can
-/// both be applied to a model, each can be applied after the other, with one result.
+/// Two operations that don't interfere commute, and so do packages without an interfering pair. Where two such packages
+/// can both be applied to a model, each can be applied after the other, with one result.
 pub fn law_of_exchange()
     ensures operations { OperationsExchange }
     ensures packages { PackagesExchange }

@@ -29,8 +29,8 @@ fn meets(list: &List<Cell>, order: &[usize], other: &List<Cell>, other_order: &[
     }
 }
 
-/// Whether a cell that one of the two operations writes is written or read by the other. It goes over the cells of the one that has
-/// fewer, and takes a number of steps for each that grows as the logarithm of how many the other has.
+/// Whether a cell that one of the two operations writes is written or read by the other. It goes over the cells of the
+/// one that has fewer. For each it takes a number of steps that grows as the logarithm of how many the other has.
 pub fn interferes(a: &Print, b: &Print) -> bool
     ensures { result ≡ cells_interfere (cells a.now.writes) (cells a.now.reads) (cells b.now.writes) (cells b.now.reads) }
 {

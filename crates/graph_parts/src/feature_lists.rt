@@ -96,9 +96,10 @@ fn drop_in(items: &mut Vec<(u32, RankedList)>, f: u32, e: &Id)
     }
 }
 
-/// The lists of all features of an element, which contracts see as a finite map from a feature and an element of its
+/// The lists of all features of an element. Contracts see them as a finite map from a feature and an element of its
 /// list to the rank there. No list without elements is kept. Few features of an element have one, so they stand in one
-/// vector, which is searched from its beginning. Then to find, put in or take out an element costs what it does in a list.
+/// vector, which is searched from its beginning. Then to find, put in or take out an element costs what it does in a
+/// list.
 #[derive(Drop)]
 pub struct FeatureLists {
     items: Vec<(u32, RankedList)>,

@@ -1,5 +1,5 @@
-//! What a model in memory is made of: an element with its class, its place and its values, its references and those to it,
-//! and the elements inside it.
+//! What a model in memory is made of. An element has its class, its place and its values, its references and those to
+//! it, and the elements inside it.
 #![tactic(auto)]
 
 mod arrivals;

@@ -14,8 +14,9 @@ pub fn law_of_histories()
     ensures heads_stay { OtherHeadsStay }
 {}
 
-/// The law of merge bases: the last common version of two versions is on both paths, and no later one is. The merge base is the last version on
-/// the other's path that is on the base's path or counts as merged there, so it doesn't come before the last common version.
+/// The law of merge bases: the last common version of two versions is on both paths, and no later one is. The merge
+/// base is the last version on the other's path that is on the base's path or counts as merged there. So it doesn't
+/// come before the last common version.
 pub fn law_of_merge_bases()
     ensures common { LastCommonIsLast }
     ensures base { MergeBaseIsLast }

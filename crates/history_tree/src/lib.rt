@@ -1,5 +1,5 @@
-//! Versions, branches and tags, as numbers and names: what is on a version's path, which version is a branch's head, what a name names, and
-//! which version two paths have last in common.
+//! Versions, branches and tags, as numbers and names: what is on a version's path, which version is a branch's head,
+//! and what a name names. The last version that two paths have in common is found here too.
 #![tactic(auto)]
 
 mod found;

@@ -93,9 +93,9 @@ impl History {
         at
     }
 
-    /// The version after which the packages on another version's path are new to a workspace: the last on that path that is on the base's
-    /// path too, or that counts as merged, since it is pending or is listed as merged by a version on the base's path. Time and memory
-    /// grow with the number of versions and of what they list as merged.
+    /// The version after which the packages on another version's path are new to a workspace. It is the last on that
+    /// path that is on the base's path too, or that counts as merged. Such a one is pending, or is listed as merged by
+    /// a version on the base's path. Time and memory grow with the number of versions and of what they list as merged.
     pub fn merge_base(
         &self,
         alloc: Global,

@@ -9,8 +9,8 @@ use crate::{Failed, Host};
 use std::alloc::{AllocError, Global};
 use std::vec::IntoIter;
 
-/// A host for tests of a dialogue: it hands its input over piece by piece, the next one only once something was printed since
-/// the last `take`. It reports nothing.
+/// A host for tests of a dialogue. It hands its input over piece by piece, the next one only once something was printed
+/// since the last `take`. It reports nothing.
 #[derive(Drop)]
 pub struct TalkHost {
     alloc: Global,

@@ -1,9 +1,9 @@
 //! The laws of updates, merges and reverts. A law is the contract of a function that does nothing.
 ghost use Rattle.merge_laws.specs.Laws.{UpdateGivesMerged, MergeGivesMerged, RevertTakesOut, MineLeads, MergeLeadsToMerged};
 
-/// For all choices, one a bucket, the list of an update leads from the model after theirs to the merged model, and the list of a merge from
-/// the model after mine to the same. What a merge takes for mine leads to the model that it is merged into,
-/// so that the merge's list leads from there to the merged model.
+/// For all choices, one a bucket, the list of an update leads from the model after theirs to the merged model. The list
+/// of a merge leads from the model after mine to the same. What a merge takes for mine leads to the model that it is
+/// merged into. So the merge's list leads from there to the merged model.
 pub fn law_of_merge()
     ensures update { UpdateGivesMerged }
     ensures merge { MergeGivesMerged }

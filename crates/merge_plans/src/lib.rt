@@ -1,4 +1,5 @@
-//! The plans of an update and of a merge: theirs and mine, their buckets, and what choices make of them; and what stands in a revert's way.
+//! The plans of an update and of a merge: theirs and mine, their buckets, and what choices make of them. What stands in
+//! a revert's way is found here too.
 #![tactic(auto)]
 
 mod gathering;

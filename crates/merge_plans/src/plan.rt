@@ -86,8 +86,8 @@ fn mine_from(
     Ok(mine)
 }
 
-/// The plan of a merge of a version: theirs are the operations on its path after the one where the merge begins, mine those that lead from there
-/// to the working model, tidied.
+/// The plan of a merge of a version. Theirs are the operations on its path after the one where the merge begins. Mine
+/// are those that lead from there to the working model, tidied.
 pub fn plan_merge(
     alloc: Global,
     meta: &Metamodel,

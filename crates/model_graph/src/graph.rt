@@ -20,12 +20,12 @@ use std::marker::Model;
 
 /// A model over elements in slots, which contracts see as its state.
 ///
-/// Beside each element stand its values by feature, and the references that begin at it by feature and target. Those that
-/// end at it stand by source and feature, and the elements inside it by feature. The elements at the root are listed beside
-/// all. So to find an element costs a look-up in a hash table. To find, write or take out a value costs a search of the
-/// features that are set. To find, write or take out a reference or an element of a list costs such a look-up, a search of
-/// the features that have a list, and logarithms. So does to find the last of a list. A list's length is stored. To list
-/// costs a copy of what is listed.
+/// Beside each element stand its values by feature, and the references that begin at it by feature and target. Those
+/// that end at it stand by source and feature, and the elements inside it by feature. The elements at the root are
+/// listed beside all. So to find an element costs a look-up in a hash table. To find, write or take out a value costs a
+/// search of the features that are set. To find, write or take out a reference or an element of a list, or to find the
+/// last of one, costs more. It costs such a look-up, a search of the features that have a list, and logarithms. A
+/// list's length is stored. To list costs a copy of what is listed.
 #[derive(Drop)]
 pub struct Graph {
     pub(crate) alloc: Global,

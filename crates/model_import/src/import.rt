@@ -96,9 +96,10 @@ fn imported<L: Look>(
     }
 }
 
-/// Records that a document is brought in, as one composite of the name `import`: its roots stand after the last element at the
-/// root, and elements without an id get fresh ones of the workspace. A document without elements makes no operation. The
-/// document fits the metamodel, as each does that was read with it: both sides of a reference are given, in one order.
+/// Records that a document is brought in, as one composite of the name `import`. Its roots stand after the last element
+/// at the root, and elements without an id get fresh ones of the workspace. A document without elements makes no
+/// operation. The document fits the metamodel, as each does that was read with it: both sides of a reference are given,
+/// in one order.
 ///
 /// # Errors
 ///

@@ -14,8 +14,8 @@ pub fn law_of_exchange()
     ensures side_by_side { SideBySide }
 {}
 
-/// Where steps can't all be taken one by one, there is one place up to which they can, and the step there can't be taken
-/// then: the first stop, with that step's fault.
+/// Where steps can't all be taken one by one, there is one place up to which they can. The step there can't be taken
+/// then: it is the first stop, with that step's fault.
 pub fn law_of_stops()
     ensures first { StopIsFirst }
     ensures only { FirstIsStop }

@@ -13,9 +13,8 @@ use std::cmp::Ordering;
 use std::marker::Model;
 use thiserror::Error;
 
-/// The id of an element: 1 to 128 printable ASCII bytes without `"` and `\`, the first neither `/` nor `#` (this
-/// project's profile, so that an id can stand in a path of emfjson). Contracts see its bytes, and ids stand in
-/// their order.
+/// The id of an element: 1 to 128 printable ASCII bytes without `"` and `\`, the first neither `/` nor `#`. So an id
+/// can stand in a path of emfjson. Contracts see its bytes, and ids stand in their order.
 #[derive(Debug, Drop)]
 pub struct Id {
     text: Text,

@@ -3,7 +3,8 @@ ghost use Rattle.std.specs.Prelude.{◌≡◌};
 ghost use Rattle.std.specs.List.{list_all};
 ghost use Rattle.model_state.specs.Names.{is_name, is_name_byte};
 
-/// Whether a text is a name of a branch, a tag or a composite: a letter, and at most 63 letters, digits, `_`, `.` or `-` after it, all ASCII.
+/// Whether a text is a name of a branch, a tag or a composite. It is a letter, and at most 63 letters, digits, `_`, `.`
+/// or `-` after it, all ASCII.
 pub fn is_name(text: &str) -> bool
     ensures form { result ≡ is_name text.now }
 {

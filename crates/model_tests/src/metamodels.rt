@@ -1,10 +1,12 @@
 //! The metamodels of the tests, and the numbers of their classes and features, by which steps name them.
 //!
-//! boxes: class 0 is Box, with features 0 to 8: 0 label, 1 size, 2 tags, two at most, 3 sizes, which may repeat, 4 inner, two at most, 5 next, 6 back,
-//! 7 pair, two at most, 8 friends. Class 1 is Lid, of another type; 2 is Thing, which is abstract.
+//! boxes: class 0 is Box, with features 0 to 8. They are 0 label, 1 size, 2 tags, two at most, 3 sizes, which may
+//! repeat, and 4 inner, two at most. Then 5 next, 6 back, 7 pair, two at most, and 8 friends. Class 1 is Lid, of
+//! another type; 2 is Thing, which is abstract.
 //!
-//! library: classes 0 Library, 1 Book, 2 Writer, 3 Shelf. Features: 0 Library.books, 1 title, 2 pages, 3 tags, 4 authors, 5 sequel, 6 prequel, 7 library,
-//! 8 Writer.name, 9 Writer.books, 10 pair, 11 Shelf.name, 12 parts, 13 top, which is one.
+//! library: classes 0 Library, 1 Book, 2 Writer, 3 Shelf. Features: 0 Library.books, 1 title, 2 pages, 3 tags, 4
+//! authors, 5 sequel, 6 prequel, 7 library. Then 8 Writer.name, 9 Writer.books, 10 pair, 11 Shelf.name, 12 parts, 13
+//! top, which is one.
 ghost use Rattle.std.specs.Prelude.{IfOk};
 ghost use Rattle.ecore_meta.specs.Sound.{Sound};
 

@@ -1,6 +1,6 @@
-//! Times the steps and the queries of a model, over ordered maps or over elements in slots: three times over the same elements, of
-//! which the first time finds them untouched since the model was built. There may be several such models side by side, which take
-//! turns: so many small models have the memory of a large one.
+//! Times the steps and the queries of a model, over ordered maps or over elements in slots. It does so three times over
+//! the same elements. The first time finds them untouched since the model was built. There may be several such models
+//! side by side, which take turns: so many small models have the memory of a large one.
 #![tactic(auto)]
 
 mod batches;

@@ -18,8 +18,8 @@ pub struct Spread {
 }
 
 impl Spread {
-    /// One model with one target, or so many models. None where there is no model, where there are more than a batch has
-    /// elements for, or where a target would be the element of a turn.
+    /// One model with one target, or so many models. None where there is no model, or where there are more than a batch
+    /// has elements for. None too where a target would be the element of a turn.
     pub fn new(elements: u32, models: Option<u32>) -> Option<Spread> {
         let elements = elements as u64;
         let turns = COUNT.checked_div(models.unwrap_or(1) as u64)?;

@@ -1,5 +1,6 @@
-//! Whether an event has a spelling. Lengths and names are looked at; what a type says of its values, as the range of a number, the form
-//! of an id or that a text is UTF-8, is known without a look, and the tests of it are always true.
+//! Whether an event has a spelling. Lengths and names are looked at. What a type says of its values is known without a
+//! look, and the tests of it are always true. Such are the range of a number, the form of an id, and that a text is
+//! UTF-8.
 ghost use Rattle.std.specs.Prelude.{◌≡◌, ◌&&◌, IsTrue};
 ghost use Rattle.model_state.specs.Ident.{is_id};
 ghost use Rattle.std.specs.List.{list_all};
@@ -10,8 +11,8 @@ use crate::event::is_event;
 use ecore_meta::{List, Text, Value};
 use model_state::{Id, Operation, Package, Place, Step, is_name};
 
-/// Whether an event has an encoding, so that `encode_event` takes it: each operation has a step, each composite a name of its form, and each
-/// text and list fewer than 2^32 bytes or items.
+/// Whether an event has an encoding, so that `encode_event` takes it. Each operation has a step, each composite a name
+/// of its form, and each text and list fewer than 2^32 bytes or items.
 pub fn has_encoding(event: &Event) -> bool
     ensures form { result ≡ is_event event.now }
     ensures spelled { IsTrue result → IsEvent event.now }
@@ -19,8 +20,8 @@ pub fn has_encoding(event: &Event) -> bool
     is_event(event)
 }
 
-/// Whether a package has an encoding, so that `encode` takes it: fewer than 2^32 operations, each with a step, each composite with a
-/// name of its form, and each text and list of fewer than 2^32 bytes or items.
+/// Whether a package has an encoding, so that `encode` takes it. It has fewer than 2^32 operations, each with a step,
+/// and each composite with a name of its form. Each text and list has fewer than 2^32 bytes or items.
 pub fn is_package(package: &Package) -> bool
     ensures form { result ≡ is_package «package».now }
     ensures spelled { IsTrue result → IsPackage «package».now }

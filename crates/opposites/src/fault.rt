@@ -10,7 +10,7 @@ use thiserror::Error;
 /// Why an edit of a plain reference is refused.
 #[derive(Clone, Copy, Debug, PartialEq, Eq, Drop, Error)]
 pub enum LinkFault {
-    /// A list would get an entry more and is at its upper bound, or it has no room at that index and is too long to be
+    /// A list would get an entry more and is at its upper bound. Or it has no room at that index and is too long to be
     /// renumbered. An entry that the edit itself displaces isn't counted.
     #[error("the list is full")]
     Bound,

@@ -1,5 +1,5 @@
-//! Edits of plain references as steps. A reference and its opposite change together, an entry that an opposite of upper
-//! bound 1 displaces is removed first, and a list without room at the index is renumbered.
+//! Edits of plain references as steps. A reference and its opposite change together. An entry that an opposite of upper
+//! bound 1 displaces is removed first. A list without room at the index is renumbered.
 #![tactic(auto)]
 
 mod bounds;

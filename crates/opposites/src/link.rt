@@ -99,8 +99,8 @@ fn link<L: Look>(
 
 /// The steps that link two elements by a reference whose upper bound isn't 1, at an index or last.
 ///
-/// The source that an opposite of upper bound 1 displaces is unlinked; both lists are renumbered where there is no room;
-/// then the two are linked. Refused with WrongType, AlreadyThere, NoEntry and Bound, in this order.
+/// The source that an opposite of upper bound 1 displaces is unlinked. Both lists are renumbered where there is no
+/// room. Then the two are linked. Refused with WrongType, AlreadyThere, NoEntry and Bound, in this order.
 pub fn link_steps<L: Look>(
     alloc: Global,
     look: &L,

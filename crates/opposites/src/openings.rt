@@ -96,7 +96,7 @@ fn find_rank(list: &[Entry], k: usize) -> Option<(bool, u64)>
 }
 
 impl Opening {
-    /// The opening of a list for an entry at an index, None where there is no room and the list is too long to be
+    /// The opening of a list for an entry at an index. None where there is no room and the list is too long to be
     /// renumbered.
     pub fn find(others: List<Entry>, index: usize) -> Option<Opening>
         requires { index ≤ length others }

@@ -68,7 +68,7 @@ fn reorder(
 
 /// The steps that put a reference at another index of its list, none where it stands there.
 ///
-/// The other entries are renumbered where there is no room, and then this one gets its rank; a step that would give an
+/// The other entries are renumbered where there is no room, and then this one gets its rank. A step that would give an
 /// entry the rank that it has is left out. Refused with NoEntry before Bound.
 pub fn reorder_steps<L: Look>(
     alloc: Global,

@@ -54,8 +54,8 @@ pub fn law_of_workspaces_apart()
     ensures dropped { DroppedStayDropped }
 {}
 
-/// The law of events: a line whose reply is a refusal makes none, and each event that could be made changes something beside the
-/// numbers that every event raises.
+/// The law of events: a line whose reply is a refusal makes none. Each event that could be made changes something
+/// beside the numbers that every event raises.
 pub fn law_of_events()
     ensures none { RefusalsMakeNone }
     ensures change { EventsChange }

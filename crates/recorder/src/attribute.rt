@@ -95,8 +95,8 @@ pub fn put<L: Look>(
     })
 }
 
-/// Records that a single attribute gets a value, which is not held where it is the default, or that a plain reference of
-/// upper bound 1 gets the element whose id the value is.
+/// Records that a single attribute gets a value, which is not held where it is the default. Or that a plain reference
+/// of upper bound 1 gets the element whose id the value is.
 ///
 /// Refused with WrongKind and BadValue, and for a reference then with NoElement, WrongType and Bound, in this order.
 pub fn set<L: Look>(

@@ -1,5 +1,5 @@
-//! Edits as they are recorded: names are looked up, values are read, and the steps are made, or the edit is refused with
-//! the first of its refusals.
+//! Edits as they are recorded: names are looked up, values are read, and the steps are made. Or the edit is refused
+//! with the first of its refusals.
 #![tactic(auto)]
 
 mod attribute;

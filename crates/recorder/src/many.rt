@@ -189,8 +189,8 @@ fn are_all(values: &[Value], v: &Value) -> bool
     values.iter().all(|x| is_same_value(v, x))
 }
 
-/// Whether the list stays the same when the value at one place is taken out and put at another: where all that it passes
-/// are the same as it.
+/// Whether the list stays the same when the value at one place is taken out and put at another. It does where all that
+/// it passes are the same as it.
 fn stays(values: &[Value], from: usize, to: usize) -> bool
     requires from { from < length values.now }
     requires to { to < length values.now }

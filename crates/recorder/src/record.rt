@@ -95,11 +95,12 @@ fn record<L: Look>(
     }
 }
 
-/// What is recorded of an edit in the workspace of that number: one operation, or none where the edit changes nothing, and
-/// the id of an element that it creates. Its steps lead to a good model again: each reference stands with its opposite.
+/// What is recorded of an edit in the workspace of that number: one operation, or none where the edit changes nothing.
+/// Recorded too is the id of an element that it creates. Its steps lead to a good model again: each reference stands
+/// with its opposite.
 ///
-/// The edit is refused with the first of its tests that fails. A destination inside an element is refused with NoElement,
-/// NoFeature and WrongKind; the edit of a feature with these three, and then as the table says:
+/// The edit is refused with the first of its tests that fails. A destination inside an element is refused with
+/// NoElement, NoFeature and WrongKind. The edit of a feature is refused with these three, and then as the table says:
 ///
 /// | Edit | Refusals in order |
 /// |---|---|

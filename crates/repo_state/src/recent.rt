@@ -47,8 +47,8 @@ pub(crate) fn to_keep(recent: &Recent, at: usize, model: Working) -> Option<Work
 }
 
 impl Repo {
-    /// The model of the workspace at a place is used now. Where one model more would be kept than may be, the workspace that used its own least recently
-    /// doesn't keep it: it is made anew when it is wanted again.
+    /// The model of the workspace at a place is used now. Where one model more would be kept than may be, the workspace
+    /// that used its own least recently doesn't keep it. It is made anew when it is wanted again.
     pub(crate) fn touch(&mut self, at: usize) -> Result<(), AllocError>
         ensures same { self.new ≡ self.old }
     {

@@ -17,9 +17,10 @@ pub fn law_of_descriptions()
     ensures { DescriptionsAreShown }
 {}
 
-/// The law of round trips: the text of a good model whose elements have ids of the form of ids, brought into the empty project,
-/// leaves a model that is shown as the same text. What it asks of a metamodel holds of each, by `ecore_meta::Metamodel::promised`.
-/// Each working model of the repository is good and has such ids, by the law of working models of `plain_repository`.
+/// The law of round trips, for a good model whose elements have ids of the form of ids. Its text, brought into the
+/// empty project, leaves a model that is shown as the same text. What it asks of a metamodel holds of each, by
+/// `ecore_meta::Metamodel::promised`. Each working model of the repository is good and has such ids, by the law of
+/// working models of `plain_repository`.
 pub fn law_of_round_trips()
     ensures { TextsComeBack }
 {}

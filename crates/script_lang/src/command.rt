@@ -27,9 +27,10 @@ pub enum Command {
     Checkout {
         spec: Spec,
     },
-    /// An edit of a workspace's model: `create WS CLASS DESTINATION [ID]`, `delete WS ID`, `move WS ID DESTINATION [INDEX]`,
-    /// `set WS ID FEATURE VALUE`, `unset WS ID FEATURE`, `add WS ID FEATURE AT VALUE`, `remove WS ID FEATURE INDEX`, `shift WS ID FEATURE FROM TO`,
-    /// `link WS ID FEATURE TARGET [INDEX]`, `unlink WS ID FEATURE TARGET` or `reorder WS ID FEATURE TARGET INDEX`. A destination is `/`, the root, or
+    /// An edit of a workspace's model. It is `create WS CLASS DESTINATION [ID]`, `delete WS ID` or `move WS ID
+    /// DESTINATION [INDEX]`. Or it is `set WS ID FEATURE VALUE`, `unset WS ID FEATURE`, `add WS ID FEATURE AT VALUE` or
+    /// `remove WS ID FEATURE INDEX`. Or it is `shift WS ID FEATURE FROM TO`, `link WS ID FEATURE TARGET [INDEX]` or
+    /// `unlink WS ID FEATURE TARGET`. Or it is `reorder WS ID FEATURE TARGET INDEX`. A destination is `/`, the root, or
     /// `PARENT FEATURE`.
     Edit {
         ws: u32,

@@ -5,8 +5,8 @@ use thiserror::Error;
 /// Why a line was not read.
 #[derive(Clone, Copy, Debug, Error)]
 pub enum ParseFault {
-    /// The line spells no command. The column is the byte, from 1, at which the first word begins that does not fit, or one past the line's end where a
-    /// word is missing.
+    /// The line spells no command. The column is the byte, from 1, at which the first word begins that does not fit.
+    /// Where a word is missing, it is one past the line's end.
     #[error("bad line at column {column}")]
     BadLine { column: u32 },
     /// The allocator had no memory for the command's texts.

@@ -1,7 +1,8 @@
 //! The script: a line as the command that it spells, and a reply as the bytes that are printed.
 //!
-//! A line is words separated by exactly one space. What a line means is one command of this project's profile of EMFStore's client operations; a line that
-//! spells none is refused with the column of the first word that does not fit.
+//! A line is words separated by exactly one space. It spells a command of the program: an edit of a model, a commit, a
+//! merge, a tag, a question and more. [LANGUAGE](../../../docs/LANGUAGE.md) tells each of them. A line that spells none
+//! is refused with the column of the first word that does not fit.
 #![tactic(auto)]
 
 mod bytes;

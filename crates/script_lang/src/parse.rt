@@ -16,7 +16,8 @@ use std::alloc::{AllocError, Global};
 ///
 /// # Errors
 ///
-/// `BadLine` with the column, from 1, of the first word that does not fit, or of one past the end where a word is missing; `Memory`.
+/// `BadLine` with the column, from 1, of the first word that does not fit. Where a word is missing, the column is one
+/// past the end. Else `Memory`.
 #[tactic(auto, unfolding(crate::specs::Command::command_of))]
 pub fn parse_line(alloc: Global, line: &str) -> Result<Command, ParseFault>
     requires short { length line.now < 2 ^ 32 - 1 }

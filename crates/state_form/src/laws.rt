@@ -1,8 +1,8 @@
 //! The law of spelled states, and of the packages that build them.
 ghost use Rattle.state_form.specs.Laws.{NothingIsSpelled, StepsKeepSpelled, PackagesKeepSpelled, WholeStepsAreSpelled, WholeIsSpelled, WholeLeads, StepsTakeBytes};
 
-/// States that spelled steps and packages lead to are spelled; the package that builds such a state is, where it has fewer than 2^32 steps; it
-/// leads to the state; and a package has a byte for each step.
+/// States that spelled steps and packages lead to are spelled. The package that builds such a state is spelled where it
+/// has fewer than 2^32 steps. It leads to the state, and a package has a byte for each step.
 pub fn law_of_spelled_states()
     ensures start { NothingIsSpelled }
     ensures steps { StepsKeepSpelled }

@@ -13,8 +13,8 @@ use ecore_meta::{List, Metamodel};
 use model_state::{Look, Step};
 use std::alloc::{AllocError, Global};
 
-/// The steps that build the model from the empty one: one for each element, parents first, one for each value, and
-/// one for each reference with its mirror.
+/// The steps that build the model from the empty one. There is one for each element, parents first, one for each value,
+/// and one for each reference with its mirror.
 ///
 /// This costs a listing of each element's children, values and references, and a look-up for each reference.
 pub fn as_steps<L: Look>(

@@ -21,7 +21,7 @@ use std::alloc::{AllocError, Global};
 use std::collections::BTreeMap;
 
 /// The elements of each place and their ranks there. To find, put in or take out one, and to find the rank of the last,
-/// costs a logarithm, to list a place as many steps as elements stand in it. A list without elements is dropped.
+/// costs a logarithm. To list a place costs as many steps as elements stand in it. A list without elements is dropped.
 #[derive(Drop)]
 pub struct Groups {
     pub(crate) roots: RankedList,

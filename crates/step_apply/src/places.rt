@@ -52,8 +52,9 @@ fn leave_for(groups: &mut Groups, old: Option<Placed>, e: &Id, to: &Place)
 
 /// The places of the live elements and their ranks, which contracts see as two finite maps.
 ///
-/// Beside the place of each element stand the elements of each place. So to find, put or take out an element, and
-/// to count a place or find the rank of its last, costs a logarithm, and to list a place as many steps as elements stand there.
+/// Beside the place of each element stand the elements of each place. So to find, put or take out an element, and to
+/// count a place or find the rank of its last, costs a logarithm. To list a place costs as many steps as elements stand
+/// there.
 #[derive(Drop)]
 pub struct Places {
     alloc: Global,

@@ -152,9 +152,9 @@ fn listed(alloc: Global, rows: &BTreeMap<(Id, u32, Id), u64>) -> Result<List<Inc
 
 /// The ranks of the references, which contracts see as a finite map.
 ///
-/// Beside each row stand the rows of each feature of an element and the rows to each element. So to find, put or
-/// take out a row, and to count a feature's targets, costs a logarithm, and to list them or the rows to an element
-/// as many steps as are listed.
+/// Beside each row stand the rows of each feature of an element and the rows to each element. So to find, put or take
+/// out a row, and to count a feature's targets, costs a logarithm. To list them, or the rows to an element, costs as
+/// many steps as are listed.
 #[derive(Drop)]
 pub struct Rows {
     alloc: Global,

@@ -23,8 +23,8 @@ fn script(alloc: Global) -> Result<Vec<u8>, Fail> {
     beginning(alloc, LINES)
 }
 
-// The status where a call fails. Six calls open the store, one takes the input, five are for each event (record, sync, gate, sync, reply), one is
-// for the reply of the log, and one finds the input's end.
+// The status where a call fails. Six calls open the store and one takes the input. Five are for each event: record,
+// sync, gate, sync, reply. One is for the reply of the log, and one finds the input's end.
 fn status_at(call: u64) -> Status {
     match call {
         6 | 43 => Status::ReadFault,
@@ -90,8 +90,8 @@ fn crashed(rt: &impl Abort, alloc: Global, calls: u64) -> Result<MemoryHost, Fai
     Ok(fuse.into_inner())
 }
 
-// How many events are there again after a crash: each whose gate was written, where the bytes that a crash leaves are those of an open
-// gate; else each whose gate was synced too.
+// How many events are there again after a crash. Where the bytes that a crash leaves are those of an open gate, it is
+// each whose gate was written. Else it is each whose gate was synced too.
 fn kept_at(calls: u64, fill: u8) -> u64 {
     let calls = if fill == 165 {
         calls

@@ -1,5 +1,6 @@
-//! Tests of the whole program over its public call, with hosts in memory whose calls fail: a crate that holds its own tests is proved twice. What the
-//! program answers is told by the sessions of sessions/, which run on the built program.
+//! Tests of the whole program over its public call, with hosts in memory whose calls fail. A crate that holds its own
+//! tests is proved twice. What the program answers is told by the sessions of sessions/, which run on the built
+//! program.
 #![tactic(auto)]
 
 #[cfg(test)]

@@ -78,8 +78,9 @@ pub(crate) fn cached_state(
     }
 }
 
-/// The versions at the end of a version's path that have no entry, and the state before them: that of the last version before it that has one, else
-/// the empty project. Whether the version itself has an entry is not looked up again.
+/// The versions at the end of a version's path that have no entry, and the state before them. That is the state of the
+/// last version before it that has one, else the empty project. Whether the version itself has an entry is not looked
+/// up again.
 pub(crate) fn nearest(
     alloc: Global,
     cache: &mut Cache,
