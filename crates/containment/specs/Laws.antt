@@ -60,7 +60,8 @@ abbrev pub CreatedStands : Type 0
 CreatedStands = (meta : Meta) → Sound meta → (m : State) → Good meta m → (e : IdBytes) (c : ℕ) (p : Place) → is_live m e ≡ false → is_concrete meta c ≡ true → IsPlace meta m p → create_refusal meta m c p ≡ None
     → Placed m (create_after m e c p) e p (length (children m.place m.prank p))
 
--- an element that moves stands at the index of the others of its new place, None for their end, and each other place is as it was, the old one without it
+-- an element that moves stands at the index of the others of its new place, None for their end, and each other place is as it
+-- was, the old one without it
 abbrev pub MovedStands : Type 0
 MovedStands = (meta : Meta) → Sound meta → (m : State) → Good meta m → (e : IdBytes) (to : Place) (at : Option ℕ) → is_live m e ≡ true → IsPlace meta m to
     → (down : List IdBytes) → IsChain m.place (Some to) down → move_refusal meta m e to down at ≡ None

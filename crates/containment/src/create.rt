@@ -35,7 +35,7 @@ pub fn creation_spot<L: Look>(
 }
 
 /// The steps that create an element of a class at its spot, last in a place. Where there is no room after the last, the
-/// others are reranked first, and then the new element is created.
+/// others are renumbered first, and then the new element is created.
 pub fn create_at<L: Look>(
     alloc: Global,
     look: &L,

@@ -94,12 +94,14 @@ ClearMeets = (meta : Meta) (m : State) → Good meta m → (e : IdBytes) (f : �
     → fold meta m (clear_made m e f) ≡ Some (clear_after m e f)
 
 -- ---- where an entry stands after an edit
--- a link at an index k of the list: b stands at k of a's list, a last in the opposite's, and the other lists are as they were, without the rows displaced
+-- a link at an index k of the list: b stands at k of a's list, a last in the opposite's, and the other lists are as they were,
+-- without the rows displaced
 abbrev pub LinkStands : Type 0
 LinkStands = (meta : Meta) → Sound meta → (m : State) → Good meta m → (a : IdBytes) (f : ℕ) (b : IdBytes) (k : ℕ) → MayLink meta m a f b k → nat_le k (length (targets m.row a f)) ≡ true
     → StandsAt (targets m.row a f) (targets (link_after meta a f b k m.row) a f) b k × Joined meta (is_displaced meta (opposite_of meta f) f b) m.row (link_after meta a f b k m.row) a f b k
 
--- a set: b stands first and alone in a's list, a last in the opposite's, and the other lists are as they were, without the old row and those displaced
+-- a set: b stands first and alone in a's list, a last in the opposite's, and the other lists are as they were, without the old
+-- row and those displaced
 abbrev pub SetRefStands : Type 0
 SetRefStands = (meta : Meta) → Sound meta → (m : State) → Good meta m → (a : IdBytes) (f : ℕ) (b : IdBytes) → MaySet meta m a f b → get m.row (a, f, b) ≡ None
     → Joined meta (λ (k : RowKey). is_row_or_mirror (opposite_of meta f) a f k || is_displaced meta (opposite_of meta f) f b k) m.row (set_ref_after meta a f b m.row) a f b 0

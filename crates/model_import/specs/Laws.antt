@@ -26,7 +26,8 @@ abbrev pub NamesAreNew : Type 0
 NamesAreNew = (m : State) (rows : List DocRow) (ws : ℕ) (names : List IdBytes) → AreNames m rows ws 1 rows names → any_in_use m rows ≡ false → ids_repeat rows ≡ false
     → (length names ≡ length rows) × (list_any (is_live m) names ≡ false) × (ids_differ names ≡ true)
 
--- the steps of what is recorded can be taken one by one, and leave the model with the document's elements, a good one; nothing is recorded exactly where that is the model at hand
+-- the steps of what is recorded can be taken one by one, and leave the model with the document's elements, a good one; nothing is
+-- recorded exactly where that is the model at hand
 pub record LeadsIn (meta : Meta) (m : State) (names : List IdBytes) (rows : List DocRow) (operation : Option Operation) : Type 0 where
   pub run : fold meta m (steps_in operation) ≡ Some (import_after m names rows)
   pub good : Good meta (import_after m names rows)

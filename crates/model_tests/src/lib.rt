@@ -1,5 +1,6 @@
-//! Tests of what no session shows, over public calls: both models over the same steps, the bytes of events, and replies of large stores. What a command
-//! shows is tested by the sessions in `sessions/`, on the program. A crate that holds its own tests is proved twice.
+//! Tests of what no session shows, over public calls: both models over the same steps, the bytes of events, and replies
+//! of large stores. What a command shows is tested by the sessions in `sessions/`, on the program. A crate that holds
+//! its own tests is proved twice.
 #![tactic(auto)]
 
 #[cfg(test)]

@@ -1,7 +1,7 @@
 //! Each test of each kind of step, where it is the first to fail and where a later one fails beside it. Three boxes and a lid stand at the root.
 //!
-//! The first line has the metamodel and the steps beforehand, each other one a step and its answer. Where it has more steps before it, these and ` | `
-//! stand before it.
+//! The first line has the metamodel and the steps beforehand, each other one a step and its answer. Where it has more
+//! steps before it, these and ` | ` stand before it.
 use model_state::StepFault;
 use std::alloc::Global;
 use std::test::Fail;

@@ -34,7 +34,8 @@ abbrev pub TextsDescribe : Type 0
 TextsDescribe = (meta : Meta) → IsMetamodel meta → (m : State) → Good meta m → HasIds m → depth (tree meta m) ≤ max_depth
     → (names : List IdBytes) × (rows : List DocRow) × (doc_of meta (text meta m) ≡ Ok rows) × Describes m names rows × (length rows ≤ length (text meta m))
 
--- a text brought into the empty project: it is read, it is recorded without a refusal, its steps can be taken, and the model that they leave has that text
+-- a text brought into the empty project: it is read, it is recorded without a refusal, its steps can be taken, and the model that
+-- they leave has that text
 pub record ComesBack (meta : Meta) (ws : ℕ) (text_in : List ℕ) : Type 0 where
   pub rows : List DocRow
   pub operation : Option Operation

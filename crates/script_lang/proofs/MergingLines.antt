@@ -1,4 +1,5 @@
--- The lines of commands that bring packages into a workspace or take them out: what stands after the first word is read as the command, and is the command's words where it is read.
+-- The lines of commands that bring packages into a workspace or take them out: what stands after the first word is read as the
+-- command, and is the command's words where it is read.
 use Rattle.std.proofs.Common.{ap, ◌≡◌, ◌∙◌, ℕ, List, [], ◌∷◌, refl, Option, Some, Result, Ok, Err, codes, arith}
 use Rattle.std.specs.Fmt.{decimal}
 use Rattle.hex.specs.Hex.{decode_of}
