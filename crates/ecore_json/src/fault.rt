@@ -12,7 +12,7 @@ use thiserror::Error;
 pub(crate) enum WalkFault {
     /// A key, a value of a key, a name or a reference that is not read here, or a key that is missing.
     BadKey,
-    /// A part of Ecore that this project's profile leaves out.
+    /// A part of Ecore that is left out here.
     LeftOut,
 }
 
@@ -29,8 +29,8 @@ pub enum EcoreFault {
     /// is none, or an object of an unknown class.
     #[error("a key or its value is not read")]
     BadKey,
-    /// A part of Ecore that this project's profile leaves out. Such are packages inside the package, generics, keys of references,
-    /// and references of which one may stand twice.
+    /// A part of Ecore that is left out here. Such are packages inside the package, generics, keys of references, and
+    /// references of which one may stand twice.
     #[error("a part of Ecore is left out")]
     LeftOut,
     /// A fault of what the document describes.
