@@ -49,7 +49,8 @@ pub record Calm (meta : Meta) (stands : List Bool) (ops : List Operation) : Type
   pub many : length stands ≡ length come
   pub settled : Settled meta (onto (kept stands come) [])
 
--- an operation stands at the place; no rule applies to the others that were added and stand, and none of those after the place touches it
+-- An operation stands at the place. No rule applies to the others that were added and stand, and none of those after the place
+-- touches it.
 pub record Ready (meta : Meta) (stands : List Bool) (ops : List Operation) (at : ℕ) : Type 0 where
   pub first : List Bool
   pub second : List Bool

@@ -53,7 +53,8 @@ pub record Without (old new : List (Vec ℕ Global)) (k : ℕ) : Type 0 where
   pub kept : (s j : ℕ) → (j ≡ k → ⊥) → Contains (list_at old s) j → Contains (list_at new s) j
   pub rising : (high : ℕ) → Rising old high → Rising new high
 
--- each operation that stands is in the lists of the cells that it writes, and of those that it reads, or in that of the operations that write nothing
+-- Each operation that stands is in the lists of the cells that it writes, and of those that it reads. Or it is in that of the
+-- operations that write nothing.
 pub record ListsStanding (standing : Standing) (prints : List Print) : Type 0 where
   pub some_writers : 0 < length standing.index.writers.items
   pub some_readers : 0 < length standing.index.readers.items

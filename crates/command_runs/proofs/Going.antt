@@ -8,8 +8,8 @@ use Rattle.command_runs.specs.Runs.{Answer, listed, replies, events, answered}
 use Rattle.command_runs.specs.Crashes.{IsAmong, IsRunning, IsStepping}
 use Rattle.command_runs.proofs.RunLaws.{replies-append, events-append, answered-within, replies-more, events-more}
 
--- Between two commands: these answers are given and the others are left; what they print is printed, what they make stands, and
--- at each moment since the entry a prefix of the whole run's replies was printed and a crash leaves what it may.
+-- Between two commands: these answers are given and the others are left. What they print is printed, and what they make stands.
+-- At each moment since the entry a prefix of the whole run's replies was printed and a crash leaves what it may.
 pub record Going {E : Type 0} (stands : List ℕ → List E → Type 0) (entry now : Told) (first : List E) (whole left : List (Answer E)) (rests : List E → Type 0) : Type 0 where
   pub done : List (Answer E)
   pub whole_is : whole ≡ done ++ left

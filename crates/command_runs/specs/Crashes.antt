@@ -10,8 +10,8 @@ pub record IsAmong {E : Type 0} (stands : List ℕ → List E → Type 0) (first
   pub most_is : count ≤ length made
   pub stands_for : stands x (first ++ take count made)
 
--- At a moment of a run, where before is what was printed before it: whatever a crash leaves stands for the first events and
--- some of those made, with all that are answered by then. How many these are at least is a function of how much was printed.
+-- At a moment of a run, where before is what was printed before it. Whatever a crash leaves stands for the first events and some
+-- of those made, with all that are answered by then. How many these are at least is a function of how much was printed.
 abbrev pub IsRunning : {E : Type 0} → (List ℕ → List E → Type 0) → List E → List E → (ℕ → ℕ) → List ℕ → Disk → List ℕ → Type 0
 IsRunning stands first made least before disk said = CrashLeaves (IsAmong stands first made (least (length said - length before))) disk
 

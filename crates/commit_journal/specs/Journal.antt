@@ -128,7 +128,8 @@ pub record JournalState : Type 0 where
   pub end : ℕ
   pub broken : Bool
 
--- what contracts see of a journal that is read: the offset of the gate that was opened last, that of the next, and whether the closed gate was found
+-- What contracts see of a journal that is read. It is the offset of the gate that was opened last, that of the next, and whether
+-- the closed gate was found.
 pub record WalkState : Type 0 where
   pub place : ℕ
   pub next : ℕ
@@ -143,7 +144,8 @@ pub record RecordFits (end size : ℕ) : Type 0 where
   pub short : size + 5 ≤ 16777216
   pub room : end + size + 6 ≤ 2 ^ 40
 
--- whether such a record may be appended there, or which limit stands in its way; a journal has at most 2 ^ 40 bytes with the gate after the record
+-- Whether such a record may be appended there, or which limit stands in its way. A journal has at most 2 ^ 40 bytes with the gate
+-- after the record.
 abbrev pub fit_of : ℕ → ℕ → Fit
 fit_of end size = if nat_lt most_bytes size then TooLarge else if nat_lt (2 ^ 40) (end + size + 6) then Full else Yes
 

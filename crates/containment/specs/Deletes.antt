@@ -77,7 +77,8 @@ gone_made m [] = []
 gone_made m (x ∷ xs) = gone_made m xs ++ gone_step m x ∷ []
 
 -- ---- all of it
--- the rows out of the elements are unlinked, then what is left of those to them; their values are removed, and then they are deleted themselves
+-- The rows out of the elements are unlinked, then what is left of those to them. Their values are removed, and then they are
+-- deleted themselves.
 abbrev pub removal_made : Meta → State → List IdBytes → List Step
 removal_made meta m xs =
     let references = slots_of meta m is_plain xs in

@@ -1,4 +1,4 @@
--- The steps of a call that is not refused can be taken one by one, and lead to the model that the edit is to leave.
+-- The steps of a call that is not refused can be taken one by one. They lead to the model that the edit is to leave.
 use Rattle.std.specs.Prelude.{◌≡◌, ℕ, List, ◌∷◌, Option, None, Some, true, false, length, unwrap_or}
 use Rattle.std.specs.FinMap.{get}
 use Rattle.ecore_meta.specs.Meta.{Meta}
@@ -60,8 +60,8 @@ abbrev pub CreatedStands : Type 0
 CreatedStands = (meta : Meta) → Sound meta → (m : State) → Good meta m → (e : IdBytes) (c : ℕ) (p : Place) → is_live m e ≡ false → is_concrete meta c ≡ true → IsPlace meta m p → create_refusal meta m c p ≡ None
     → Placed m (create_after m e c p) e p (length (children m.place m.prank p))
 
--- an element that moves stands at the index of the others of its new place, None for their end, and each other place is as it
--- was, the old one without it
+-- An element that moves stands at the index of the others of its new place, None for their end. Each other place is as it was,
+-- the old one without it.
 abbrev pub MovedStands : Type 0
 MovedStands = (meta : Meta) → Sound meta → (m : State) → Good meta m → (e : IdBytes) (to : Place) (at : Option ℕ) → is_live m e ≡ true → IsPlace meta m to
     → (down : List IdBytes) → IsChain m.place (Some to) down → move_refusal meta m e to down at ≡ None

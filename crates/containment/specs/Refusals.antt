@@ -72,7 +72,8 @@ arrival_tests meta m to xs at =
     let k = unwrap_or at (length xs) in
     (nat_le k (length xs), NoEntry) ∷ (has_room meta m to, Bound) ∷ (is_some (spot xs k).rank, Bound) ∷ []
 
--- a move to a place with these containers: the element may stand there, is none of the containers, and then by whether it stands in that place
+-- A move to a place with these containers. The element may stand there and is none of the containers. The rest goes by whether it
+-- stands in that place.
 abbrev pub move_tests : Meta → State → IdBytes → Place → List IdBytes → Option ℕ → List (Bool × MoveFault)
 move_tests meta m e to above at =
     let xs = children m.place m.prank to in

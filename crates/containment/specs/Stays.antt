@@ -11,7 +11,8 @@ use Rattle.containment.specs.Subtree.{is_among}
 abbrev pub stays : State → IdBytes → IdBytes → Bool
 stays m e y = is_live m y && not (is_among (y ∷ containers_of m (place_of m y)) e)
 
--- what stays is there as it was, and nothing else: the class, place and rank of an element and its values, and a reference where both its ends stay
+-- What stays is there as it was, and nothing else. That is the class, place and rank of an element and its values, and a
+-- reference where both its ends stay.
 pub record Keeps (before after : State) (e : IdBytes) : Type 0 where
   pub live : (y : IdBytes) → is_live after y ≡ stays before e y
   pub class : (y : IdBytes) → get after.kind y ≡ cond (stays before e y) (get before.kind y) None

@@ -45,7 +45,8 @@ abbrev pub levels : Meta → State → ℕ → IdBytes → List IdBytes
 levels meta m zero e = []
 levels meta m (suc n) e = e ∷ each (levels meta m n) (children_of meta m e)
 
--- the subtree of an element: the element, and then the subtrees of its children in order; it has one level more at most than there are live elements
+-- The subtree of an element: the element, and then the subtrees of its children in order. It has one level more at most than
+-- there are live elements.
 abbrev pub subtree_of : Meta → State → IdBytes → List IdBytes
 subtree_of meta m e = levels meta m (suc (length (ids m))) e
 

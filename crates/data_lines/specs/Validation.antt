@@ -24,8 +24,8 @@ stands_in f (Some (Inside a g)) = nat_eq f g
 abbrev pub one_if : Bool → ℕ
 one_if b = cond b 1 0
 
--- how much a feature of an element holds: a single attribute one value where it is set or has a default, a container one
--- where the element stands in its opposite, the others their entries
+-- How much a feature of an element holds. A single attribute holds one value where it is set or has a default. A container holds
+-- one where the element stands in its opposite, and the others hold their entries.
 abbrev pub held_count : State → IdBytes → ℕ → Kind → ℕ
 held_count m e f (Attr scalar default) = one_if (is_some default || nat_lt 0 (length (values_at m e f)))
 held_count m e f (AttrMany scalar unique) = length (values_at m e f)

@@ -22,8 +22,8 @@ abbrev pub listed : List (List ℕ) → List ℕ
 listed [] = codes "-"
 listed (word ∷ words) = word ++ after_commas words
 
--- the line of the version of the number n: its number, its branch, its parent, what was merged into it, how many operations it
--- has, its tags, and its message as JSON
+-- The line of the version of the number n: its number, its branch, its parent, and what was merged into it. Then come how many
+-- operations it has, its tags, and its message as JSON.
 abbrev pub version_line : History → ℕ → Version → List ℕ
 version_line h n v =
     decimal n

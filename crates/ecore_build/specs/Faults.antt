@@ -132,7 +132,8 @@ contains_back ds Open = false
 contains_back ds Nowhere = false
 contains_back ds (At g) = option_map_or (λ o. o.containment) (slice_get ds g) false
 
--- the bounds are none: the upper is neither -1 nor at least 1, or the lower is below 0 or above it; a container is one
+-- The bounds are none: the upper is neither -1 nor at least 1, or the lower is below 0 or above it. So are those of a container
+-- whose upper isn't 1.
 abbrev pub bad_bounds : List Draft → Draft → Bool
 bad_bounds ds d =
     int_lt d.lower (pos 0)

@@ -1,5 +1,5 @@
--- The first fault of a package, on a walk over its JSON tree: what an object leaves out is judged as the walk enters it,
--- then its keys in the order of their bytes, a missing one where it would stand, and what is nested at its key.
+-- The first fault of a package, on a walk over its JSON tree. What an object leaves out is judged as the walk enters it. Then
+-- come its keys in the order of their bytes, a missing one where it would stand, and what is nested at its key.
 use Rattle.std.specs.Prelude.{ℤ, pos, negsuc, ◌&&◌, ◌||◌, not, int_le, Bool, true, false, List, [], ◌∷◌, codes, cond, Option, None, Some, is_some, option_and_then}
 use Rattle.std.specs.Option.{option_map_or}
 use Rattle.std.specs.Ordering.{nat_cmp, is_lt, int_eq}

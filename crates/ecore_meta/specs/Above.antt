@@ -9,7 +9,8 @@ use Rattle.ecore_meta.specs.Meta.{Meta, is_a}
 abbrev pub above_of : Meta → ℕ → List ℕ
 above_of meta c = option_map_or (λ ds. ds) (slice_get meta.above c) []
 
--- the classes that a class is go by number and each once, itself among them; what is above one above it is above it; no two are above each other
+-- The classes that a class is go by number and each once, itself among them. What is above one above it is above it, and no two
+-- are above each other.
 pub record StandsAbove (meta : Meta) : Type 0 where
   pub many : length meta.above ≡ length meta.classes
   pub own : (c : ℕ) → c < length meta.classes → is_a meta c c ≡ true

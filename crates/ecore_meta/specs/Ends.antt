@@ -36,8 +36,8 @@ is_container k = false
 abbrev pub owner_of : Meta → ℕ → Option ℕ
 owner_of meta f = option_map (λ feature. feature.owner) (slice_get meta.features f)
 
--- opposites name each other, and none is its own; each goes to the class that declares the other; a containment's is a container, and a container's a
--- containment
+-- Opposites name each other, and none is its own. Each goes to the class that declares the other. A containment's is a container,
+-- and a container's a containment.
 pub record EndsMeet (meta : Meta) : Type 0 where
   pub other : (f g : ℕ) → end_in (kind_of meta f) ≡ Some g → nat_eq f g ≡ false
   pub both : (f g : ℕ) → end_in (kind_of meta f) ≡ Some g → end_in (kind_of meta g) ≡ Some f

@@ -23,8 +23,8 @@ has_slash t = list_any (λ b. b == 47) t
 abbrev pub TextsAreApart : Meta → Type 0
 TextsAreApart meta = (e : ℕ) → has_repeat (map (λ l. l.text) (literals_of meta e)) ≡ false
 
--- names of classes differ and have no slash; those of a class's features differ, and none is that of the class, the id or a
--- reference; enums differ by name, and the literals of each by text and by name
+-- Names of classes differ and have no slash. Those of a class's features differ, and none is that of the class, the id or a
+-- reference. Enums differ by name, and the literals of each by text and by name.
 pub record IsNamed (meta : Meta) : Type 0 where
   pub classes : has_repeat (map (λ c. c.name) meta.classes) ≡ false
   pub slashes : (n : ℕ) (class : ClassOf) → slice_get meta.classes n ≡ Some class → has_slash class.name ≡ false

@@ -18,8 +18,9 @@ declared meta c f = option_map_or (λ feature. is_a meta c feature.owner) (slice
 abbrev pub ListsDeclared : Meta → Type 0
 ListsDeclared meta = (c : ℕ) → features_of meta c ≡ filter (declared meta c) (range_with_len 0 (length meta.features))
 
--- classes stand above each other without a cycle, and list what is declared at or above them; links may go back by their opposites, and opposites of
--- both sorts name each other; names differ where one is looked for; kinds agree with bounds; what a feature names is there
+-- Classes stand above each other without a cycle, and list what is declared at or above them. Links may go back by their
+-- opposites, and opposites of both sorts name each other. Names differ where one is looked for. Kinds agree with bounds, and what
+-- a feature names is there.
 pub record IsMetamodel (meta : Meta) : Type 0 where
   pub above : StandsAbove meta
   pub sound : Sound meta

@@ -1,4 +1,4 @@
--- The steps of an edit that is not refused can be taken one by one, and lead to the model that the edit is to leave.
+-- The steps of an edit that is not refused can be taken one by one. They lead to the model that the edit is to leave.
 use Rattle.std.specs.Prelude.{List, [], ◌≡◌, ℕ, Some, None, is_some, true, false, length, nat_le, nat_lt, ◌||◌}
 use Rattle.std.specs.FinMap.{get}
 use Rattle.ecore_meta.specs.Meta.{Meta}
@@ -94,14 +94,14 @@ ClearMeets = (meta : Meta) (m : State) → Good meta m → (e : IdBytes) (f : �
     → fold meta m (clear_made m e f) ≡ Some (clear_after m e f)
 
 -- ---- where an entry stands after an edit
--- a link at an index k of the list: b stands at k of a's list, a last in the opposite's, and the other lists are as they were,
--- without the rows displaced
+-- A link at an index k of the list: b stands at k of a's list, and a last in the opposite's. The other lists are as they were,
+-- without the rows displaced.
 abbrev pub LinkStands : Type 0
 LinkStands = (meta : Meta) → Sound meta → (m : State) → Good meta m → (a : IdBytes) (f : ℕ) (b : IdBytes) (k : ℕ) → MayLink meta m a f b k → nat_le k (length (targets m.row a f)) ≡ true
     → StandsAt (targets m.row a f) (targets (link_after meta a f b k m.row) a f) b k × Joined meta (is_displaced meta (opposite_of meta f) f b) m.row (link_after meta a f b k m.row) a f b k
 
--- a set: b stands first and alone in a's list, a last in the opposite's, and the other lists are as they were, without the old
--- row and those displaced
+-- A set: b stands first and alone in a's list, and a last in the opposite's. The other lists are as they were, without the old
+-- row and those displaced.
 abbrev pub SetRefStands : Type 0
 SetRefStands = (meta : Meta) → Sound meta → (m : State) → Good meta m → (a : IdBytes) (f : ℕ) (b : IdBytes) → MaySet meta m a f b → get m.row (a, f, b) ≡ None
     → Joined meta (λ (k : RowKey). is_row_or_mirror (opposite_of meta f) a f k || is_displaced meta (opposite_of meta f) f b k) m.row (set_ref_after meta a f b m.row) a f b 0
@@ -116,12 +116,13 @@ abbrev pub CreateStands : Type 0
 CreateStands = (meta : Meta) → Sound meta → (m : State) → Good meta m → (e : IdBytes) (c : ℕ) (p : Place) → MayCreate meta m e c p
     → Placed m (create_after m e c p) e p (length (children m.place m.prank p))
 
--- a move within a place to an index k of the others: the element stands at k of the others, and each other place is as it was
+-- A move within a place to an index k of the others. The element stands at k of the others, and each other place is as it was.
 abbrev pub MoveWithinStands : Type 0
 MoveWithinStands = (meta : Meta) → Sound meta → (m : State) → Good meta m → (e : IdBytes) (p : Place) (k : ℕ) → MayMoveWithin m e p k → nat_le k (length (without_entry e (children m.place m.prank p))) ≡ true
     → Placed m (move_within_after m e p k) e p k
 
--- a move to an index k of another place: the element stands at k there, and each other place is as it was, the old one without it
+-- A move to an index k of another place. The element stands at k there, and each other place is as it was, the old one without
+-- it.
 abbrev pub MoveToStands : Type 0
 MoveToStands = (meta : Meta) → Sound meta → (m : State) → Good meta m → (e : IdBytes) (from to : Place) (k : ℕ) (up down : List IdBytes) → MayMoveTo meta m e from to k up down → nat_le k (length (children m.place m.prank to)) ≡ true
     → Placed m (move_to_after m e to k) e to k

@@ -16,7 +16,7 @@ abbrev pub evened : ℕ → List Entry → List ℕ
 evened n [] = []
 evened n (x ∷ xs) = (n * 4294967296) ∷ evened (n + 1) xs
 
--- the ranks of the other entries, and that of the new one, None where there is no room and the list is too long to be renumbered
+-- The ranks of the other entries, and that of the new one. None where there is no room and the list is too long to be renumbered.
 pub record Spot : Type 0 where
   pub ranks : List ℕ
   pub rank : Option ℕ

@@ -32,13 +32,14 @@ reranked [] rs = []
 reranked (x ∷ xs) [] = x ∷ xs
 reranked (x ∷ xs) (r ∷ rs) = record { rank = r; id = x.id } ∷ reranked xs rs
 
--- an entry with the rank of the spot at index k stands at k of a list by rank and then by id, and the others as they did
+-- An entry with the rank of the spot at index k stands at k of a list by rank and then by id. The others stand as they did.
 abbrev pub SpotStands : Type 0
 SpotStands = (xs : List Entry) (k r : ℕ) (e : IdBytes) → in_order entry_cmp xs ≡ xs → k ≤ length xs → (spot xs k).rank ≡ Some r
     → ids_of (in_order entry_cmp (record { rank = r; id = e } ∷ reranked xs (spot xs k).ranks)) ≡ insert (ids_of xs) k e
 
 -- ---- references
--- the row is removed where b gets another source by the reference f: where its opposite o holds one, the rows to b by f and their mirrors
+-- The row is removed where b gets another source by the reference f. These are the rows to b by f and their mirrors, where its
+-- opposite holds one.
 abbrev pub is_displaced : Meta → Option ℕ → ℕ → IdBytes → RowKey → Bool
 is_displaced meta None f b k = false
 is_displaced meta (Some g) f b k = holds_one meta g && is_row_or_mirror (Some f) b g k
@@ -56,14 +57,15 @@ abbrev pub is_end : Option ℕ → IdBytes → ℕ → IdBytes → IdBytes → �
 is_end None a f b x h = is_list a f x h
 is_end (Some g) a f b x h = is_list a f x h || is_list b g x h
 
--- the lists after a row from a to b was added: b stands at index k, a last in the opposite's list, and the other lists have what stays
+-- The lists after a row from a to b was added. There b stands at index k, a last in the opposite's list, and the other lists have
+-- what stays.
 pub record Joined (meta : Meta) (gone : RowKey → Bool) (before after : Rows) (a : IdBytes) (f : ℕ) (b : IdBytes) (k : ℕ) : Type 0 where
   pub here : StandsAt (staying gone before a f) (targets after a f) b k
   pub mirror : (g : ℕ) → opposite_of meta f ≡ Some g → StandsLast (staying gone before b g) (targets after b g) a
   pub others : (x : IdBytes) (h : ℕ) → is_end (opposite_of meta f) a f b x h ≡ false → targets after x h ≡ staying gone before x h
 
 -- ---- places
--- the lists after an element was put into a place: it stands at index k there, and each other place has what it had, without it
+-- The lists after an element was put into a place. It stands at index k there, and each other place has what it had, without it.
 pub record Placed (before after : State) (e : IdBytes) (p : Place) (k : ℕ) : Type 0 where
   pub here : StandsAt (children before.place before.prank p) (children after.place after.prank p) e k
   pub others : (q : Place) → place_eq p q ≡ false → children after.place after.prank q ≡ without_entry e (children before.place before.prank q)

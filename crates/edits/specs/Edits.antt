@@ -151,7 +151,8 @@ refer_effect meta m a f (Some b) =
     if not (is_some (class_at m b)) then Err NoElement
     else unless_refused (set_ref_refusal meta m a f b) (Refers a f b)
 
--- the feature is a single attribute, and the text a value of its type; or it is a plain reference of upper bound 1, and the text names its target
+-- The feature is a single attribute, and the text a value of its type. Or it is a plain reference of upper bound 1, and the text
+-- names its target.
 abbrev pub set_effect : Reading → Meta → State → IdBytes → ℕ → Kind → List ℕ → Result Effect EditFault
 set_effect reading meta m e f (Attr scalar default) text = put_effect meta e f (reading scalar text)
 set_effect reading meta m e f (Bounded target opposite) text = if not (holds_one meta f) then Err WrongKind else refer_effect meta m e f (target_in (reading types.Text text))
@@ -165,7 +166,8 @@ unset_effect e f (Bounded target opposite) = Ok (Forgets e f)
 unset_effect e f (Free target opposite) = Ok (Forgets e f)
 unset_effect e f kind = Err WrongKind
 
--- there is a value, which is not held yet where each is held once, and room for it under the upper bound and under 2^32 values
+-- There is a value, which is not held yet where each is held once. There is room for it under the upper bound and under 2^32
+-- values.
 abbrev pub insert_effect : IdBytes → ℕ → Bool → Option ℕ → List Value → ℕ → Option Value → Result Effect EditFault
 insert_effect e f unique upper vs k None = Err BadValue
 insert_effect e f unique upper vs k (Some v) =

@@ -1,4 +1,4 @@
--- The steps of an edit that is not refused can be taken one by one, and lead to the model that the edit is to leave.
+-- The steps of an edit that is not refused can be taken one by one. They lead to the model that the edit is to leave.
 use Rattle.std.specs.Prelude.{List, [], ◌≡◌, ◌+◌, ◌^◌, ◌<◌, ℕ, Some, Ok, true, length}
 use Rattle.ecore_meta.specs.Meta.{Meta}
 use Rattle.ecore_meta.specs.declared.meta.Value.{Value}
@@ -28,7 +28,8 @@ abbrev pub EditsIdle : Type 0
 EditsIdle = (meta : Meta) → Sound meta → (m : State) → Good meta m → (reading : Reading) → IsTyped meta reading → (ws : ℕ) (edit : Edit) (effect : Effect) → effect_of reading meta m ws edit ≡ Ok effect
     → (made meta m effect ≡ [] → after meta m effect ≡ m) × (after meta m effect ≡ m → made meta m effect ≡ [])
 
--- the model after it is good: among other things, each row of a reference and its mirror stand together, and no list is over its bound
+-- The model after it is good. Among other things, each row of a reference and its mirror stand together, and no list is over its
+-- bound.
 abbrev pub EditsKeepGood : Type 0
 EditsKeepGood = (meta : Meta) → Sound meta → (m : State) → Good meta m → (reading : Reading) → IsTyped meta reading → (ws : ℕ) (edit : Edit) (effect : Effect) → effect_of reading meta m ws edit ≡ Ok effect
     → Good meta (after meta m effect)

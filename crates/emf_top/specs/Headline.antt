@@ -31,8 +31,8 @@ pub record IsUnopened (first : List Event) (before now : Told) : Type 0 where
   pub input : KeepsInput before now
   pub stands : StandsForEvents (disk_now now).now first
 
--- An answer that makes an event was on its way: nothing of its reply was printed, and its event is kept whole or not at
--- all. Each answer before it is kept, and its reply was printed.
+-- An answer that makes an event was on its way. Nothing of its reply was printed, and its event is kept whole or not at all. Each
+-- answer before it is kept, and its reply was printed.
 pub record IsUnanswered (task : Task) (first : List Event) (before now : Told) : Type 0 where
   pub done : List (Answer Event)
   pub answer : Answer Event
@@ -100,8 +100,8 @@ pub record NothingRose (before now : Told) : Type 0 where
 abbrev pub KeepsFile : Told → Told → Type 0
 KeepsFile before now = Throughout before now (λ disk said. disk.now ≡ (disk_now before).now)
 
--- a host that reports has a file that is damaged at an offset and stands for no list of events; at each moment the file reads as
--- it was; nothing is printed, and no input taken
+-- A host that reports has a file that is damaged at an offset and stands for no list of events. At each moment the file reads as
+-- it was. Nothing is printed, and no input taken.
 pub record IsFoundDamaged (before now : Told) (at : ℕ) : Type 0 where
   pub place : IsTrue before.tells → IsDamaged (disk_now before).now at
   pub no_events : IsTrue before.tells → StandsForNoEvents (disk_now before).now

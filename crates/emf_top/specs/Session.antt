@@ -76,7 +76,8 @@ pub record HoldsBoth (pool : Frames) (cache : Entries) (ready : Option PagedStat
   pub apart : IsRecordApart cache ready
   pub count : out_of pool ≡ length (held cache) + frames_held ready
 
--- those entries of the cache stay that were used last, as many as leave room in the pool for the record of an encoding with so many bytes
+-- Those entries of the cache stay that were used last. As many stay as leave room in the pool for the record of an encoding with
+-- so many bytes.
 abbrev pub LeavesRecord : ℕ → Entries → Entries → Type 0
 LeavesRecord size old new = Keeps (λ entries frames. frames + frames_for (size + 5) ≤ 8192) old new
 
@@ -86,8 +87,8 @@ pub record IsPlan (pool : Frames) (state : State) (decision : plain.Decision) (p
   pub answered : plan.answered ≡ answered_as (is_refusal decision.reply)
   pub ready : IsRecordOf pool state decision.event plan.ready
 
--- a store while it is read: its records up to an offset are those of events, each one that a command could make, and the
--- state is theirs
+-- A store while it is read. Its records up to an offset are those of events, each one that a command could make, and the state is
+-- theirs.
 pub record IsReplayed (disk : Disk) (state : State) (place : ℕ) (made : List Event) : Type 0 where
   pub walked : IsWalked disk (map event_encoding made) place
   pub playable : IsTrue (are_playable empty made)

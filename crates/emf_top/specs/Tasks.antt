@@ -18,8 +18,8 @@ use Rattle.script_items.specs.declared.words.Request.TheVariants.{Serve, Check, 
 use Rattle.emf_top.specs.declared.top.Status.{Status}
 use Rattle.emf_top.specs.declared.top.Status.TheVariants.{Accepted, Refused, ReadFault, Memory, Input}
 
--- What a run has to do: the answers that it gives, one after the other, each printed once its event is kept; how it ends
--- where nothing fails; and whether it reads its input.
+-- What a run has to do: the answers that it gives, one after the other, each printed once its event is kept. Then how it ends
+-- where nothing fails, and whether it reads its input.
 pub record Task : Type 0 where
   pub answers : List (Answer Event)
   pub end : Status

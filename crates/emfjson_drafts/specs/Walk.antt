@@ -1,5 +1,5 @@
--- The elements of a document, on a walk over its JSON tree: in an object its class, then its id, then its keys in the order of their bytes,
--- and what is inside an element at its key.
+-- The elements of a document, on a walk over its JSON tree. In an object comes its class, then its id, then its keys in the order
+-- of their bytes. What is inside an element comes at its key.
 use Rattle.std.specs.Prelude.{ℕ, not, ◌||◌, cond, List, [], ◌∷◌, ◌++◌, codes, Option, None, Some, Ok, Err, length}
 use Rattle.std.specs.Str.{bytes_eq}
 use Rattle.serde_json.specs.Data.{Data, null, boolean, number, string, array, object, Items, no_items, item, Members, no_members, member}

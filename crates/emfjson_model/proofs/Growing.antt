@@ -99,8 +99,9 @@ class_tested meta default o c h =
     number_ok : (m n : ℕ) → ◌≡◌ {A = Read ℕ} (Ok m) (Ok n) → m ≡ n
     number_ok m n h = cc
 
--- ---- what the parts of a walk keep to: rows from a number on, with so many elements on top, that stand at a parent where a class is due;
--- and what the keys of an object of a class give whose row has a number, up to the last key
+-- ---- what the parts of a walk keep to
+-- Rows from a number on, with so many elements on top, that stand at a parent where a class is due. Further what the keys of an
+-- object of a class give whose row has a number, up to the last key.
 pub record Kept (meta : Meta) (Rows : ℕ → Option DocParent → Option ℕ → ℕ → List Draft → Type 0) (Keys : ℕ → ℕ → Option Name → Part → Type 0) : Type 0 where
   pub none : (n : ℕ) (p : Option DocParent) (t : Option ℕ) → Rows n p t 0 []
   pub more : (n : ℕ) (p : Option DocParent) (t : Option ℕ) (k l : ℕ) (xs ys : List Draft) → parent_before n p ≡ true → Rows n p t k xs → Rows (n + length xs) p t l ys → Rows n p t (k + l) (xs ++ ys)

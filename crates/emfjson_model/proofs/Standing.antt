@@ -1,4 +1,5 @@
--- Each row of a walk is of a class with elements, has attributes that fit, and stands in a containment of its parent's class that takes it.
+-- Each row of a walk is of a class with elements and has attributes that fit. It stands in a containment of its parent's class
+-- that takes it.
 use Rattle.std.proofs.Common.{◌≡◌, ℕ, zero, suc, ◌+◌, true, List, [], ◌∷◌, ◌++◌, length, refl, sym, ap, subst, ◌∙◌, append-nil, ◌⊎◌, inl, inr, arith}
 use Rattle.std.specs.Prelude.{Option, Some, slice_get}
 use Rattle.std.specs.List.{AllByRecursion}

@@ -62,8 +62,8 @@ pub record RowFits (meta : Meta) (rows : List DocRow) (r : DocRow) : Type 0 wher
 abbrev pub standing : Option DocParent → List DocRow → ℕ
 standing parent rows = count_by (λ (r : DocRow). option_eq parent_eq r.parent parent) rows
 
--- each row fits, after its parent; no id comes twice; no containment is above its bound; each link to a reference with an
--- opposite is one of both lists
+-- Each row fits, after its parent. No id comes twice, and no containment is above its bound. Each link to a reference with an
+-- opposite is one of both lists.
 pub record DocumentFits (meta : Meta) (rows : List DocRow) : Type 0 where
   pub each : (n : ℕ) (r : DocRow) → slice_get rows n ≡ Some r → RowFits meta rows r
   pub parents : parents_before 0 rows ≡ true

@@ -1,4 +1,4 @@
--- The text of a model, as a function of a state: JSON without spaces, in which ranks do not show but by the order of lists.
+-- The text of a model, as a function of a state. It is JSON without spaces, in which ranks do not show but by the order of lists.
 use Rattle.std.specs.Prelude.{ℕ, zero, suc, Bool, true, false, List, [], ◌∷◌, ◌++◌, codes, Option, None, Some, map, slice_get}
 use Rattle.std.specs.Option.{option_map_or}
 use Rattle.std.specs.FinMap.{get, len}

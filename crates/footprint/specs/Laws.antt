@@ -23,8 +23,8 @@ OperationLeavesOthers = (meta : Meta) → Sound meta → (m n : State) → Good 
 abbrev pub StatesAreTheirCells : Type 0
 StatesAreTheirCells = (meta : Meta) (m n : State) → ((c : Cell) → IsCell c → Agree meta m n c) → m ≡ n
 
--- in states that are the same for an operation, a step of it meets the same fault or none, writes the same, and leaves states
--- that are the same for it
+-- In states that are the same for an operation, a step of it meets the same fault or none and writes the same. It leaves states
+-- that are the same for it.
 abbrev pub StepGoesByCells : Type 0
 StepGoesByCells = (meta : Meta) (m n : State) → Good meta m → Good meta n → (o : Operation) → Same meta m n o → (earlier later : List Step) (s : Step) → steps_of o ≡ earlier ++ (s ∷ later)
     → (fault meta m s ≡ fault meta n s) × (writes meta m s ≡ writes meta n s) × (Can meta m s → Same meta (apply meta m s) (apply meta n s) o)

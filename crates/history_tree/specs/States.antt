@@ -21,7 +21,8 @@ operations_of versions (v ∷ vs) = package_at versions v ++ operations_of versi
 abbrev pub operations_to : History → ℕ → List Operation
 operations_to h v = operations_of h.versions (path h v)
 
--- what they lead to from the empty project, one by one; None where one of them can't be taken, which comes of no event that could be made
+-- What they lead to from the empty project, one by one. None where one of them can't be taken, which comes of no event that could
+-- be made.
 abbrev pub state_folded : Meta → History → ℕ → Option State
 state_folded meta h v = fold_package meta nothing (operations_to h v)
 

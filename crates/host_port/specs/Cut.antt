@@ -31,8 +31,8 @@ line_text (Err e) = Err e
 abbrev pub line_or_end : ℕ → List ℕ → Bool → Result (Option (List ℕ)) LineFault
 line_or_end place raw ended = if not ended && (length raw == 0) then Ok None else line_text (text_at place (line_bytes ended raw))
 
--- What stands at place, where the bytes up to the next line feed are raw, and ended says whether there is one:
--- a line, nothing at the end of the input, or a fault. The length is judged first.
+-- What stands at place, where the bytes up to the next line feed are raw, and ended says whether there is one. It is a line,
+-- nothing at the end of the input, or a fault. The length is judged first.
 unfoldable pub line_of : ℕ → List ℕ → Bool → Result (Option (List ℕ)) LineFault
 line_of place raw ended =
     if nat_lt LINE_LIMIT (length raw) && nat_lt (place + LINE_LIMIT) INPUT_LIMIT then Err (LineTooLong (place + LINE_LIMIT))

@@ -99,7 +99,7 @@ abbrev pub with_feeds : List (List ℕ) → List ℕ
 with_feeds [] = []
 with_feeds (raw ∷ raws) = raw ++ 10 ∷ with_feeds raws
 
--- a line that stands in a block's text as it is: no carriage return is cut off, and it isn't the one that ends the block
+-- A line that stands in a block's text as it is. No carriage return is cut off, and it isn't the one that ends the block.
 pub record IsPlain (raw : List ℕ) : Type 0 where
   pub no_feed : All (λ b. is_lf b ≡ false) raw
   pub whole : without_cr raw ≡ raw

@@ -29,14 +29,15 @@ RevertTakesOut = (meta : Meta) → Sound meta → (start m : State) → Good met
     → fold_package meta start (before ++ (taken ++ later)) ≡ Some m
     → (n : State) × (fold_package meta m (rev_package taken) ≡ Some n) × (fold_package meta start (before ++ later) ≡ Some n)
 
--- from the version that both have, over what is merged already: the tidied list of its reversal, what the base has since and the
--- local list leads from the merged version to the working model
+-- From the version that both have, over what is merged already. The tidied list of its reversal, what the base has since and the
+-- local list leads from the merged version to the working model.
 abbrev pub MineLeads : Type 0
 MineLeads = (meta : Meta) → Sound meta → (common met base work : State) → Good meta common → (taken since local : List Operation)
     → fold_package meta common taken ≡ Some met → fold_package meta common since ≡ Some base → fold_package meta base local ≡ Some work
     → fold_package meta met (tidy meta (rev_package taken ++ (since ++ local))) ≡ Some work
 
--- where the met version's packages to the head are merged into the working model, the merge's list leads from the working model to the merged one
+-- The met version's packages to the head are merged into the working model. Then the merge's list leads from the working model to
+-- the merged one.
 abbrev pub MergeLeadsToMerged : Type 0
 MergeLeadsToMerged = (meta : Meta) → Sound meta → (common met base head work : State) → Good meta common → (taken since local theirs : List Operation)
     → fold_package meta common taken ≡ Some met → fold_package meta common since ≡ Some base → fold_package meta base local ≡ Some work → fold_package meta met theirs ≡ Some head

@@ -14,8 +14,8 @@ incoming h branch base = operations_after h base (head h branch)
 abbrev pub theirs_of : History → ℕ → List ℕ → ℕ → List Operation
 theirs_of h base pending other = operations_after h (merge_base h base pending other) other
 
--- the operations that lead from where a merge begins to a working model: back to the last version that both paths have, from
--- there to the base, and then the local ones
+-- The operations that lead from where a merge begins to a working model. They go back to the last version that both paths have,
+-- and from there to the base. Then come the local ones.
 abbrev pub mine_of : History → ℕ → List ℕ → List Operation → ℕ → List Operation
 mine_of h base pending local other =
     let common = last_common h base other in

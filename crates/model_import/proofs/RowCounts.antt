@@ -1,4 +1,5 @@
--- How many rows a feature of an element has: where one map has all rows of another and one more, and after the turns of a document.
+-- How many rows a feature of an element has. They are counted where one map has all rows of another and one more, and after the
+-- turns of a document.
 use Rattle.std.proofs.lemmas.Bool.Decides.{nat_tests}
 use Rattle.std.proofs.Common.{◌≡◌, ℕ, ◌+◌, ◌<◌, ◌≤◌, Bool, true, false, cond, ◌&&◌, List, [], ◌∷◌, length, refl, sym, ap, ◌∙◌, arith, nat_eq}
 use Rattle.std.specs.Prelude.{Option, None, Some, is_some}

@@ -1,4 +1,4 @@
--- The ids that the elements of a document get are new; the steps of an import lead to a good model, which is given map by map.
+-- The ids that the elements of a document get are new. The steps of an import lead to a good model, which is given map by map.
 use Rattle.std.specs.Prelude.{◌≡◌, ℕ, Bool, true, false, ◌&&◌, not, List, [], ◌∷◌, Option, None, Some, Ok, length}
 use Rattle.std.specs.List.{list_any}
 use Rattle.finite_maps.specs.Equal.{text_eq}
@@ -26,8 +26,8 @@ abbrev pub NamesAreNew : Type 0
 NamesAreNew = (m : State) (rows : List DocRow) (ws : ℕ) (names : List IdBytes) → AreNames m rows ws 1 rows names → any_in_use m rows ≡ false → ids_repeat rows ≡ false
     → (length names ≡ length rows) × (list_any (is_live m) names ≡ false) × (ids_differ names ≡ true)
 
--- the steps of what is recorded can be taken one by one, and leave the model with the document's elements, a good one; nothing is
--- recorded exactly where that is the model at hand
+-- The steps of what is recorded can be taken one by one, and leave the model with the document's elements, a good one. Nothing is
+-- recorded exactly where that is the model at hand.
 pub record LeadsIn (meta : Meta) (m : State) (names : List IdBytes) (rows : List DocRow) (operation : Option Operation) : Type 0 where
   pub run : fold meta m (steps_in operation) ≡ Some (import_after m names rows)
   pub good : Good meta (import_after m names rows)

@@ -18,7 +18,7 @@ pub record IsNext (m : State) (rows : List DocRow) (ws from k : ℕ) : Type 0 wh
   pub before : (j : ℕ) → from ≤ j → j < k → is_taken m rows (numbered ws j) ≡ true
   pub small : k < 18446744073709551615
 
--- the id of a row is the one that the document gives, or else the fresh one of the next number; the numbers go on from next
+-- The id of a row is the one that the document gives, or else the fresh one of the next number. The numbers go on from next.
 abbrev pub IsName : State → List DocRow → ℕ → ℕ → Option IdBytes → IdBytes → ℕ → Type 0
 IsName m rows ws from (Some id) x next = (x ≡ id) × (next ≡ from)
 IsName m rows ws from None x next = (k : ℕ) × (x ≡ numbered ws k) × IsNext m rows ws from k × (next ≡ k + 1)

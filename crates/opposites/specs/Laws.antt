@@ -1,4 +1,4 @@
--- The steps of a call that is not refused can be taken one by one, and lead to the model that the edit is to leave.
+-- The steps of a call that is not refused can be taken one by one. They lead to the model that the edit is to leave.
 use Rattle.std.specs.Prelude.{◌≡◌, ℕ, Option, None, Some, true, unwrap_or, length}
 use Rattle.ecore_meta.specs.Meta.{Meta}
 use Rattle.model_state.specs.Keys.{IdBytes}

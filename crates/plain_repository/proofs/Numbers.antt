@@ -16,7 +16,7 @@ use Rattle.plain_repository.specs.Merging.{updated, merged_with}
 use Rattle.plain_repository.specs.Events.{by_meta, effect, play}
 use Rattle.plain_repository.specs.Laws.{NumbersOnlyGrow, DroppedStayDropped}
 
--- the places of the second list are those of the first or more, and where the first has none at a place, so has the second
+-- The places of the second list are those of the first or more. Where the first has none at a place, so has the second.
 record Keeps (before after : List (Option Workspace)) : Type 0 where
   count : length before ≤ length after
   dropped : (n : ℕ) → slice_get before n ≡ Some None → slice_get after n ≡ Some None

@@ -131,7 +131,8 @@ pub record LookAlike (meta : Meta) (h g : History) (w v : Workspace) : Type 0 wh
   pub composite : w.composite ≡ v.composite
   pub state : state_of meta h w.base ≡ state_of meta g v.base
 
--- such are shown alike, whatever else there is: what is shown of a workspace goes by the metamodel, the state of its base and what is recorded in it
+-- Such are shown alike, whatever else there is. What is shown of a workspace goes by the metamodel, the state of its base and
+-- what is recorded in it.
 abbrev pub ShownByOwn : Type 0
 ShownByOwn = (s t : State) (meta : Meta) → s.meta ≡ Some meta → t.meta ≡ Some meta → (ws k : ℕ) (w v : Workspace) → workspace_of s ws ≡ Some w → workspace_of t k ≡ Some v → LookAlike meta s.history t.history w v
     → (block more : Option (List ℕ)) → shown_as s block ws ≡ shown_as t more k

@@ -31,13 +31,15 @@ abbrev pub TidyingKeepsModels : Type 0
 TidyingKeepsModels = (s : State) (meta : Meta) (ws : ℕ) (before after : Workspace) → Changes s meta ws (Tidy ws) before after
     → model_of meta (play s (Tidy ws)).history after ≡ model_of meta s.history before
 
--- an update leads to the merged model: from the state of the old base, what the choices keep of theirs, and then what they keep of mine
+-- An update leads to the merged model. That is, from the state of the old base, what the choices keep of theirs, and then what
+-- they keep of mine.
 abbrev pub UpdatesMerge : Type 0
 UpdatesMerge = (s : State) (meta : Meta) (ws : ℕ) (letters : List ℕ) (before after : Workspace) → Changes s meta ws (Update ws letters) before after
     → merged meta (state_of meta s.history before.base) (incoming s.history before.branch before.base) before.operations (update_buckets meta s.history before) (map side_of letters)
     ≡ Some (model_of meta (play s (Update ws letters)).history after)
 
--- a merge leads to the merged model: from the state of the version where it begins, what the choices keep of theirs, and then what they keep of mine
+-- A merge leads to the merged model. That is, from the state of the version where it begins, what the choices keep of theirs, and
+-- then of mine.
 abbrev pub MergesMerge : Type 0
 MergesMerge = (s : State) (meta : Meta) (ws branch : ℕ) (letters : List ℕ) (before after : Workspace) → Changes s meta ws (Merge ws branch letters) before after
     → let other = head s.history branch in

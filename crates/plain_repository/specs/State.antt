@@ -16,8 +16,8 @@ pub record Composite : Type 0 where
   pub name : List ℕ
   pub steps : List Step
 
--- A workspace: its branch; the version that it stands at, its base; the operations recorded in it, in their order; the composite
--- that is open, where one is; and the versions that were merged into it since the base.
+-- A workspace: its branch, and the version that it stands at, its base. Then the operations recorded in it, in their order, and
+-- the composite that is open, where one is. Last the versions that were merged into it since the base.
 pub record Workspace : Type 0 where
   pub branch : ℕ
   pub base : ℕ
@@ -25,8 +25,8 @@ pub record Workspace : Type 0 where
   pub composite : Option Composite
   pub pending : List ℕ
 
--- The metamodel, once there is one; the history, which has no version before; the workspaces, the one of the number n at the
--- place n - 1, None where it was dropped; how many events were played; and the offset of the journal's end after them.
+-- The metamodel, once there is one, and the history, which has no version before. The workspaces, the one of the number n at the
+-- place n - 1, None where it was dropped. How many events were played, and the offset of the journal's end after them.
 pub record State : Type 0 where
   pub meta : Option Meta
   pub history : History
@@ -61,8 +61,8 @@ open_steps (Some composite) = composite.steps
 abbrev pub recorded_steps : Workspace → List Step
 recorded_steps w = steps_all w.operations ++ open_steps w.composite
 
--- what the recorded steps lead to from the state of the base, one by one; None where one of them can't be taken, which comes of
--- no event that could be made
+-- What the recorded steps lead to from the state of the base, one by one. None where one of them can't be taken, which comes of
+-- no event that could be made.
 abbrev pub folded : Meta → History → Workspace → Option models.State
 folded meta h workspace = fold meta (state_of meta h workspace.base) (recorded_steps workspace)
 

@@ -30,7 +30,7 @@ pub record IsBroken (file : List ℕ) (at : ℕ) : Type 0 where
   pub low : at < 2 ^ 40
   pub stuck : IsStuck file at ⊎ IsUnplayable file events at
 
--- Where a file is damaged that is long enough to hold a record: at the first byte that is not the header's, or where the
+-- Where a file is damaged that is long enough to hold a record. It is at the first byte that is not the header's, or where the
 -- reading of its records stops.
 pub record IsDamaged (file : List ℕ) (at : ℕ) : Type 0 where
   pub long : 17 < length file

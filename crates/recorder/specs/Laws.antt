@@ -14,8 +14,8 @@ use Rattle.edits.specs.Edits.{Effect, effect_of, after}
 use Rattle.recorder.specs.Recording.{recorded}
 use Rattle.edits.specs.Answers.{steps_in}
 
--- the steps lead from the model to the one after the effect of the edit, there is no operation exactly where that changes
--- nothing, and the model after it is good
+-- The steps lead from the model to the one after the effect of the edit. There is no operation exactly where that changes
+-- nothing, and the model after it is good.
 pub record LeadsOn (meta : Meta) (m : State) (ws : ℕ) (edit : Edit) (r : Recorded) : Type 0 where
   pub effect : Effect
   pub is : effect_of (value_of meta) meta m ws edit ≡ Ok effect

@@ -1,4 +1,4 @@
--- The names of rows that describe a model: no two are the same, each element has one, and they stand in the order of the lists.
+-- The names of rows that describe a model. No two are the same, each element has one, and they stand in the order of the lists.
 use Rattle.std.proofs.Common.{◌≡◌, ◌∙◌, ℕ, zero, suc, ◌+◌, ◌<◌, ◌≤◌, Bool, true, false, cond, ◌&&◌, not, List, [], ◌∷◌, ◌++◌, drop, length, take, nat_eq, refl, sym, ap, subst, arith, rules}
 use Rattle.std.specs.Prelude.{Option, None, Some, is_some, slice_get}
 use Rattle.std.specs.List.{count_by, list_any}

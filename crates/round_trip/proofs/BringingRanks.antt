@@ -1,4 +1,5 @@
--- The ranks of elements that are brought into the empty project: each is that of a new list, by how many rows stand before it in its place.
+-- The ranks of elements that are brought into the empty project. Each is that of a new list, by how many rows stand before it in
+-- its place.
 use Rattle.std.proofs.Common.{◌≡◌, ◌∙◌, ℕ, zero, suc, ◌+◌, ◌*◌, ◌<◌, ◌≤◌, true, false, List, [], ◌∷◌, ◌++◌, drop, length, map, take, refl, sym, ap, subst, arith}
 use Rattle.std.specs.Prelude.{Bool, Option, Some, Ok, Err, is_some, slice_get, option_map, if◌then◌else◌}
 use Rattle.std.specs.List.{AllByRecursion, filter}

@@ -29,13 +29,14 @@ DescriptionsAreShown = (meta : Meta) → Sound meta → (m : State) → Good met
 abbrev pub TextsReadBack : Type 0
 TextsReadBack = (meta : Meta) → IsNamed meta → (m : State) → Good meta m → depth (tree meta m) ≤ max_depth → read (text meta m) ≡ Some (tree meta m)
 
--- a good model of elements with ids has a text that stands for rows, which describe the model, and are no more than the text has bytes
+-- A good model of elements with ids has a text that stands for rows. They describe the model, and are no more than the text has
+-- bytes.
 abbrev pub TextsDescribe : Type 0
 TextsDescribe = (meta : Meta) → IsMetamodel meta → (m : State) → Good meta m → HasIds m → depth (tree meta m) ≤ max_depth
     → (names : List IdBytes) × (rows : List DocRow) × (doc_of meta (text meta m) ≡ Ok rows) × Describes m names rows × (length rows ≤ length (text meta m))
 
--- a text brought into the empty project: it is read, it is recorded without a refusal, its steps can be taken, and the model that
--- they leave has that text
+-- A text brought into the empty project. It is read, it is recorded without a refusal, its steps can be taken, and the model that
+-- they leave has that text.
 pub record ComesBack (meta : Meta) (ws : ℕ) (text_in : List ℕ) : Type 0 where
   pub rows : List DocRow
   pub operation : Option Operation
@@ -45,7 +46,8 @@ pub record ComesBack (meta : Meta) (ws : ℕ) (text_in : List ℕ) : Type 0 wher
   pub run : fold meta nothing (steps_in operation) ≡ Some left
   pub shown : text meta left ≡ text_in
 
--- so it is with the text of a good model of elements with ids that nests no deeper than JSON is read, and is shorter than the texts that are read
+-- So it is with the text of a good model of elements with ids. The text nests no deeper than JSON is read, and is shorter than
+-- the texts that are read.
 abbrev pub TextsComeBack : Type 0
 TextsComeBack = (meta : Meta) → IsMetamodel meta → (m : State) → Good meta m → HasIds m → depth (tree meta m) ≤ max_depth → length (text meta m) < 2 ^ 32 - 1
     → (ws : ℕ) → ComesBack meta ws (text meta m)

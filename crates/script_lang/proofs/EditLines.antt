@@ -1,4 +1,5 @@
--- The lines of edits of attributes: what stands after the first word is read as the edit, and is the edit's words where it is read.
+-- The lines of edits of attributes. What stands after the first word is read as the edit, and is the edit's words where it is
+-- read.
 use Rattle.std.proofs.Common.{◌≡◌, ℕ, List, [], ◌∷◌, refl, Option, Ok, codes}
 use Rattle.std.specs.Fmt.{decimal}
 use Rattle.script_lang.specs.declared.command.Command.{Command}

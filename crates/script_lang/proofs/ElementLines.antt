@@ -1,4 +1,4 @@
--- The lines of edits of elements: what stands after the first word is read as the edit, and is the edit's words where it is read.
+-- The lines of edits of elements. What stands after the first word is read as the edit, and is the edit's words where it is read.
 use Rattle.std.proofs.Common.{◌≡◌, ℕ, List, [], ◌∷◌, ◌++◌, refl, Option, Ok, codes}
 use Rattle.std.specs.Fmt.{decimal}
 use Rattle.script_lang.specs.declared.command.Command.{Command}

@@ -1,4 +1,4 @@
--- The lines of commands that bring packages into a workspace or take them out: what stands after the first word is read as the
+-- The lines of commands that bring packages into a workspace or take them out. What stands after the first word is read as the
 -- command, and is the command's words where it is read.
 use Rattle.std.proofs.Common.{ap, ◌≡◌, ◌∙◌, ℕ, List, [], ◌∷◌, refl, Option, Some, Result, Ok, Err, codes, arith}
 use Rattle.std.specs.Fmt.{decimal}

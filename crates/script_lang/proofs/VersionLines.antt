@@ -1,4 +1,5 @@
--- The lines of versions, branches and tags: what stands after the first word is read as the command, and is the command's words where it is read.
+-- The lines of versions, branches and tags. What stands after the first word is read as the command, and is the command's words
+-- where it is read.
 use Rattle.std.proofs.Common.{◌≡◌, ℕ, List, [], ◌∷◌, refl, Option, Ok, codes}
 use Rattle.std.specs.Fmt.{decimal}
 use Rattle.script_lang.specs.declared.command.Spec.{Spec}

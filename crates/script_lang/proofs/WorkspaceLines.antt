@@ -1,4 +1,5 @@
--- The lines of the other commands: what stands after the first word is read as the command, and is the command's words where it is read.
+-- The lines of the other commands. What stands after the first word is read as the command, and is the command's words where it
+-- is read.
 use Rattle.std.proofs.Common.{◌≡◌, ℕ, List, [], ◌∷◌, refl, Ok, codes}
 use Rattle.std.specs.Fmt.{decimal}
 use Rattle.script_lang.specs.declared.command.Spec.{Spec}

@@ -25,8 +25,8 @@ step_eq s t = false
 abbrev pub steps_eq : List Step → List Step → Bool
 steps_eq = list_eq step_eq
 
--- one step in place of two that set one attribute, or give one reference or one element a new rank: the old value or rank of the
--- first, the new one of the second
+-- One step in place of two that set one attribute, or give one reference or one element a new rank. It has the old value or rank
+-- of the first, and the new one of the second.
 abbrev pub joined : Step → Step → Option Step
 joined (Put e f old mid) (Put e' f' mid' new) = cond (text_eq e e' && nat_eq f f') (Some (Put e f old new)) None
 joined (RerankRow a f b old mid) (RerankRow a' f' b' mid' new) = cond (text_eq a a' && (nat_eq f f' && text_eq b b')) (Some (RerankRow a f b old new)) None

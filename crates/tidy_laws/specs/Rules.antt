@@ -18,7 +18,7 @@ abbrev pub joined_op : Operation → Operation → Option Operation
 joined_op (Simple kind (s ∷ [])) (Simple other (t ∷ [])) = option_map (λ u. Simple kind (u ∷ [])) (joined s t)
 joined_op a b = None
 
--- what a rule leaves of a and a later b: nothing where b takes a back, else a joined with b; None where no rule applies
+-- What a rule leaves of a and a later b: nothing where b takes a back, else a joined with b. None where no rule applies.
 abbrev pub met : Operation → Operation → Option (List Operation)
 met a b = cond (takes_back b a) (Some []) (option_map (λ c. c ∷ []) (joined_op a b))
 

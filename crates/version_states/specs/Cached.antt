@@ -23,8 +23,8 @@ pub record MayUse (pool : Frames) (cache : Entries) : Type 0 where
   pub out : IsCached pool cache
   pub room : out_of pool ≤ 6144 + length (held cache)
 
--- What a call leaves of a pool and a cache: the frames that the cache holds are out, each once; each frame that is out elsewhere stays so, with
--- its bytes; and their number stays.
+-- What a call leaves of a pool and a cache. The frames that the cache holds are out, each once. Each frame that is out elsewhere
+-- stays so, with its bytes, and their number stays.
 pub record Uses (before after : Frames) (old new : Entries) : Type 0 where
   pub out : IsCached after new
   pub apart : KeepsApart before after old new

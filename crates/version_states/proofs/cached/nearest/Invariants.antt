@@ -1,5 +1,5 @@
--- the path of the version is that of the parent of the last one found, and then what was found; but for the version itself none of
--- these has an entry
+-- The path of the version is that of the parent of the last one found, and then what was found. But for the version itself none
+-- of these has an entry.
 use Rattle.std.proofs.Common.{◌≡◌, ◌≢◌, ◌<◌, ◌++◌, length, reverse, Some, None}
 use Rattle.std.specs.Prelude.{All, nat_eq, slice_get}
 use Rattle.std.specs.Map.{lookup}
