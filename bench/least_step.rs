@@ -1,4 +1,5 @@
-//! The least that a step of any model costs that finds elements by their ids: over Rust's own `HashMap`, an element is looked up and a text of it replaced.
+//! The least that a step of any model costs that finds elements by their ids. Over Rust's own `HashMap`, an element is looked up and a text of it is
+//! replaced.
 //!
 //! `least_step ELEMENTS` builds a map of so many elements with two texts each. It then replaces a text of 500 of them, spread over all, in three
 //! rounds, and prints the time of each round in microseconds. `bench/graph` builds and runs it where `rustc` is installed.
