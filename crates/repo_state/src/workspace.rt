@@ -137,9 +137,9 @@ impl Workspace {
         }
     }
 
-    /// Operations are added after the others, or the steps of one join the composite that is open. When out of memory
-    /// the workspace stays as it is, but for its model. If the model is kept, it is the given one, after the
-    /// operations.
+    /// Operations are added after the others, or the steps of one join the composite that is open. The model that is
+    /// given, if one is to be kept, is that after the operations. When out of memory the workspace stays as it is, but
+    /// keeps no model.
     pub(crate) fn install(
         &mut self,
         package: Package,
