@@ -135,7 +135,7 @@ impl ClassifierRow {
     }
 }
 
-/// Whether a name has a slash, at which a model text would cut the name of a class.
+/// Whether a name has a slash: in a reference of a document it stands between a class and its feature.
 fn has_slash(name: &str) -> bool
     ensures { result ≡ has_slash name.now }
 {

@@ -10,9 +10,9 @@ use ecore_meta::{Metamodel, Scalar, Text, Value, ValueFault};
 use serde_json::Value as Json;
 use std::alloc::{AllocError, Global};
 
-/// The value of the type that a text is. A text type takes a JSON string, and EBoolean `true` or `false`. A whole
-/// number takes a number that is written as a whole one and that its bits hold, so neither `1.0` nor `-0`. An enum
-/// takes a string that is a literal's text, or else a literal's name. White space may stand around the value.
+/// The value of the type that a text is. A text type takes a JSON string, and EBoolean `true` or `false`. A type of
+/// whole numbers takes a number that is written as a whole one and that its bits hold, so neither `1.0` nor `-0`. An
+/// enum takes a string that is a literal's text, or else a literal's name. White space may stand around the value.
 ///
 /// # Errors
 ///
