@@ -44,9 +44,9 @@ flags_first h on pending n unset some more count none first second =
     record {
       size = second.size ∙ first.size ∙ size;
       known = λ v within.
-        second.flags v (omega (arith, within, size, first.size))
-        ∙ ap (λ b. b || is_among pending v) (first.flags v (omega (arith, within, size)) ∙ ap (λ l. is_flagged l v || is_among on v) none ∙ ap (λ b. b || is_among on v) (get_or-replicate n v false false (omega (arith, within, count))))
-        ∙ sym (or-false (is_among on v || is_among pending v));
+          second.flags v (omega (arith, within, size, first.size))
+          ∙ ap (λ b. b || is_among pending v) (first.flags v (omega (arith, within, size)) ∙ ap (λ l. is_flagged l v || is_among on v) none ∙ ap (λ b. b || is_among on v) (get_or-replicate n v false false (omega (arith, within, count))))
+          ∙ sym (or-false (is_among on v || is_among pending v));
     }
 
 -- and then those that one version more lists as merged
@@ -56,10 +56,10 @@ flags_more h on pending versions i version flags more within is so_far set =
     record {
       size = set.size ∙ so_far.size;
       known = λ v there.
-        set.flags v (omega (arith, there, so_far.size))
-        ∙ ap (λ b. b || is_among version.merged v) (so_far.known v there)
-        ∙ or_assoc (is_among on v || is_among pending v) (is_merged_by h (take i versions) v) (is_among version.merged v)
-        ∙ ap (λ b. (is_among on v || is_among pending v) || b)
+          set.flags v (omega (arith, there, so_far.size))
+          ∙ ap (λ b. b || is_among version.merged v) (so_far.known v there)
+          ∙ or_assoc (is_among on v || is_among pending v) (is_merged_by h (take i versions) v) (is_among version.merged v)
+          ∙ ap (λ b. (is_among on v || is_among pending v) || b)
           (ap (λ (o : Option Version). is_merged_by h (take i versions) v || is_among (option_map_or (λ (w : Version). w.merged) o []) v) (sym is)
           ∙ sym (list_any_more (merges v) versions i 0 within));
     }
@@ -70,8 +70,8 @@ flags_all h base pending on i flags is past so_far =
     record {
       size = so_far.size;
       known = λ v there.
-        so_far.known v there
-        ∙ ap (λ l. (is_among on v || is_among pending v) || is_merged_by h l v) (take_all i on past)
-        ∙ or_assoc (is_among on v) (is_among pending v) (is_merged_by h on v)
-        ∙ ap (λ l. is_among l v || (is_among pending v || is_merged_by h l v)) is;
+          so_far.known v there
+          ∙ ap (λ l. (is_among on v || is_among pending v) || is_merged_by h l v) (take_all i on past)
+          ∙ or_assoc (is_among on v) (is_among pending v) (is_merged_by h on v)
+          ∙ ap (λ l. is_among l v || (is_among pending v || is_merged_by h l v)) is;
     }

@@ -1,8 +1,8 @@
 //! The history in memory.
-ghost use Rattle.std.specs.Prelude.{◌≡◌, ◌+◌, ◌≤◌, ◌<◌, ◌∷◌, [], length, None, IfOk, IfSome, OnOk, OnErr, slice_get, Some, is_some, ◌||◌, true, false, All};
+ghost use Rattle.std.specs.Prelude.{◌≡◌, ◌+◌, ◌≤◌, ◌<◌, ◌∷◌, ◌++◌, [], length, None, IfOk, IfSome, OnOk, OnErr, slice_get, Some, is_some, ◌||◌, true, false, All};
 ghost use Rattle.std.specs.Option.{option_copied, option_map};
 ghost use Rattle.history_tree.specs.Found.{branch_named, branch_name, tag_named, has_tag, tags_of, found_by_number, found_by_branch, found_by_tag, found_by};
-ghost use Rattle.history_tree.specs.History.{first_history, with_version, with_branch, with_tag, path, head};
+ghost use Rattle.history_tree.specs.History.{first_version, first_history, with_version, with_branch, with_tag, path, head};
 ghost use Rattle.history_tree.specs.Whole.{ComesBefore, IsWhole};
 
 use crate::found::{FindFault, Found};
@@ -34,26 +34,54 @@ impl Model for History {
     ghost invariant = { λ h. IsWhole (record { versions = h.versions.items; branches = h.branches.items; tags = h.tags.items }) × (vec_len h.versions ≤ 4294967295) × (vec_len h.branches ≤ 4294967295) × (vec_len h.tags ≤ 4294967295) × AreHeads (record { versions = h.versions.items; branches = h.branches.items; tags = h.tags.items }) h.heads.items };
 }
 
+/// Version 0, the empty project.
+fn first_version(alloc: Global) -> Result<Version, AllocError>
+    ensures { IfOk result (λ v. v ≡ first_version) }
+{
+    let message = Text::new(alloc, "")?;
+    Ok(Version {
+        branch: 0,
+        parent: None,
+        merged: List::new(alloc),
+        message,
+        package: List::new(alloc),
+    })
+}
+
+/// The branch of version 0.
+fn first_branch(alloc: Global) -> Result<Branch, AllocError>
+    ensures { IfOk result (λ b. b ∷ [] ≡ first_history.branches) }
+{
+    let name = Text::new(alloc, "trunk")?;
+    Ok(Branch { name, start: 0 })
+}
+
+/// Adds version 0, its branch and that branch's head to the lists.
+fn begin(
+    alloc: Global,
+    versions: &mut Vec<Version>,
+    branches: &mut Vec<Branch>,
+    heads: &mut Vec<u32>,
+) -> Result<(), AllocError>
+    ensures versions { OnOk result (versions.new.items ≡ versions.old.items ++ first_version ∷ []) }
+    ensures branches { OnOk result (branches.new.items ≡ branches.old.items ++ first_history.branches) }
+    ensures heads { OnOk result (heads.new.items ≡ heads.old.items ++ 0 ∷ []) }
+{
+    versions.push(first_version(alloc)?)?;
+    branches.push(first_branch(alloc)?)?;
+    heads.push(0)?;
+    Ok(())
+}
+
 impl History {
     /// A history with version 0 alone, the empty project, on the branch `trunk`.
     pub fn new(alloc: Global) -> Result<History, AllocError>
         ensures { IfOk result (λ h. h.history ≡ first_history) }
     {
         let mut versions = Vec::new(alloc);
-        versions.push(Version {
-            branch: 0,
-            parent: None,
-            merged: List::new(alloc),
-            message: Text::new(alloc, "")?,
-            package: List::new(alloc),
-        })?;
         let mut branches = Vec::new(alloc);
-        branches.push(Branch {
-            name: Text::new(alloc, "trunk")?,
-            start: 0,
-        })?;
         let mut heads = Vec::new(alloc);
-        heads.push(0)?;
+        begin(alloc, &mut versions, &mut branches, &mut heads)?;
         Ok(History {
             versions,
             branches,
