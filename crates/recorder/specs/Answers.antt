@@ -1,9 +1,10 @@
 -- What calls that look up, read and record answer.
-use Rattle.std.specs.Prelude.{◌≡◌, ◌⊎◌, ℕ, true, false, List, Option, Some, None, Result, Ok, Err}
+use Rattle.std.specs.Prelude.{◌≡◌, ◌⊎◌, ℕ, true, false, not, List, Option, Some, None, Result, Ok, Err, if◌then◌else◌}
 use Rattle.ecore_meta.specs.declared.meta.Value.{Value}
 use Rattle.model_state.specs.Ident.{is_id}
+use Rattle.model_state.specs.State.{State, is_live}
 use Rattle.edit_laws.specs.declared.fault.EditFault.{EditFault}
-use Rattle.edit_laws.specs.declared.fault.EditFault.TheVariants.{BadId, BadValue, Memory}
+use Rattle.edit_laws.specs.declared.fault.EditFault.TheVariants.{BadId, BadValue, IdInUse, Memory}
 use Rattle.recorder.specs.declared.feature.Named.{Named}
 
 -- the feature that is due, or out of memory, or why there is none
@@ -20,3 +21,10 @@ AnswersValue (Err fault) due = (fault ≡ Memory) ⊎ ((fault ≡ BadValue) × (
 abbrev pub AnswersId : Result (List ℕ) EditFault → List ℕ → Type 0
 AnswersId (Ok id) due = (id ≡ due) × (is_id due ≡ true)
 AnswersId (Err fault) due = (fault ≡ Memory) ⊎ ((fault ≡ BadId) × (is_id due ≡ false))
+
+-- the id, where it is of the form and not live
+abbrev pub unused : State → List ℕ → Result (List ℕ) EditFault
+unused m id =
+    if not (is_id id) then Err BadId
+    else if is_live m id then Err IdInUse
+    else Ok id

@@ -1,3 +1,4 @@
 pub mod Answers
+pub mod Features
 pub mod Recording
 pub mod Laws

@@ -1,18 +1,19 @@
 //! The recording of `set` and `unset`, by the kind of the feature; a default is held as no value.
-ghost use Rattle.std.specs.Prelude.{◌≡◌, IfOk, None, true};
+ghost use Rattle.std.specs.Prelude.{◌≡◌, ◌∷◌, [], IfOk, None, true};
 ghost use Rattle.std.specs.FinMap.{get};
 ghost use Rattle.finite_maps.specs.Equal.{option_eq};
 ghost use Rattle.model_state.specs.Good.{Good};
 ghost use Rattle.model_state.specs.Steps.{class_has};
 ghost use Rattle.model_state.specs.Typing.{kind_of, value_eq};
 ghost use Rattle.model_state.specs.declared.operation.OpKind.TheVariants.{Attribute};
+ghost use Rattle.model_state.specs.declared.step.Step.TheVariants.{Put};
 ghost use Rattle.emfjson_io.specs.Values.{value_of};
 ghost use Rattle.edit_laws.specs.Attributes.{single_value, put_made, taken};
 ghost use Rattle.edits.specs.Edits.{operation_of, recording_of, set_effect, unset_effect};
 ghost use Rattle.edits.specs.Answers.{Answers};
 
 use crate::feature::{Named, read};
-use crate::operation::operation;
+use crate::operation::{one_step, operation};
 use crate::{many, reference};
 use ecore_meta::{Kind, List, Metamodel, Text, Value};
 use edit_laws::EditFault;
@@ -60,6 +61,20 @@ fn taken(meta: &Metamodel, f: u32, v: Value) -> Option<Value>
     }
 }
 
+/// The one step that gives a single attribute a value for its old one.
+fn put_step(
+    alloc: Global,
+    e: &Id,
+    f: u32,
+    old: Option<Value>,
+    new: Option<Value>,
+) -> Result<List<Step>, AllocError>
+    ensures { IfOk result (λ steps. steps ≡ Put e.now f old new ∷ []) }
+{
+    let e = e.copy(alloc)?;
+    one_step(alloc, Step::Put { e, f, old, new })
+}
+
 /// The step that gives a single attribute the value, or none; no step where it has it.
 fn put_steps<L: Look>(
     alloc: Global,
@@ -71,12 +86,11 @@ fn put_steps<L: Look>(
     ensures { IfOk result (λ steps. steps ≡ put_made (L.state look.now) e.now f new) }
 {
     let old = single_value(alloc, look, e, f)?;
-    let mut steps = List::new(alloc);
-    if !is_same(&old, &new) {
-        let e = e.copy(alloc)?;
-        steps.push(Step::Put { e, f, old, new })?;
+    if is_same(&old, &new) {
+        Ok(List::new(alloc))
+    } else {
+        put_step(alloc, e, f, old, new)
     }
-    Ok(steps)
 }
 
 /// Records that a single attribute has the value, or none.

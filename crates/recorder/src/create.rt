@@ -7,7 +7,7 @@ ghost use Rattle.edit_laws.specs.Spot.{end_spot};
 ghost use Rattle.edit_laws.specs.Places.{rerank_places};
 ghost use Rattle.edits.specs.FreshIds.{id_or_fresh};
 ghost use Rattle.edits.specs.Edits.{create_effect, new_effect, recording_of};
-ghost use Rattle.recorder.specs.Answers.{AnswersId};
+ghost use Rattle.recorder.specs.Answers.{AnswersId, unused};
 ghost use Rattle.edits.specs.Answers.{Answers};
 
 use crate::fresh::fresh_id;
@@ -39,6 +39,17 @@ fn id_or_fresh<L: Look>(
     }
 }
 
+/// The id of a new element: the one that is given, or else a fresh one. Refused with BadId before IdInUse.
+fn new_id<L: Look>(alloc: Global, look: &L, ws: u32, id: &Option<Text>) -> Result<Id, EditFault>
+    ensures { Answers result (unused (L.state look.now) (id_or_fresh (L.state look.now) ws id.now)) }
+{
+    let e = id_or_fresh(alloc, look, ws, id)?;
+    if look.class(&e).is_some() {
+        return Err(EditFault::IdInUse);
+    }
+    Ok(e)
+}
+
 /// What is recorded of a new element of a class at its spot, last in a place. Refused with BadId before IdInUse.
 fn new_element<L: Look>(
     alloc: Global,
@@ -56,10 +67,7 @@ fn new_element<L: Look>(
 {
     // Only the contract needs it.
     let _meta = meta;
-    let e = id_or_fresh(alloc, look, ws, id)?;
-    if look.class(&e).is_some() {
-        return Err(EditFault::IdInUse);
-    }
+    let e = new_id(alloc, look, ws, id)?;
     let steps = create_at(alloc, look, &e, class, place, spot)?;
     Ok(Recorded {
         operation: operation(OpKind::Create, steps),

@@ -1,5 +1,5 @@
 //! The recording of `add`, `remove`, `shift` and `unset` of many-valued attributes.
-ghost use Rattle.std.specs.Prelude.{◌≡◌, ◌≤◌, ◌<◌, ◌∷◌, IfOk, [], None, Some, length, true, unwrap_or};
+ghost use Rattle.std.specs.Prelude.{◌≡◌, ◌≤◌, ◌<◌, ◌∷◌, ◌++◌, IfOk, OnOk, [], None, Some, length, true, unwrap_or};
 ghost use Rattle.std.specs.List.{list_all, list_any};
 ghost use Rattle.finite_maps.specs.Equal.{list_eq};
 ghost use Rattle.finite_maps.specs.Maps.{is_below};
@@ -10,12 +10,13 @@ ghost use Rattle.model_state.specs.Typing.{is_many, kind_of, value_eq};
 ghost use Rattle.emfjson_io.specs.Values.{value_of};
 ghost use Rattle.edit_laws.specs.ManyValues.{dels, values_in};
 ghost use Rattle.model_state.specs.declared.operation.OpKind.TheVariants.{ManyAttribute};
-ghost use Rattle.model_state.specs.declared.step.Step.TheVariants.{Del};
+ghost use Rattle.model_state.specs.declared.step.Step.TheVariants.{Del, Ins};
 ghost use Rattle.edits.specs.Edits.{Clears, operation_of, add_effect, insert_effect, recording, recording_of, remove_effect, shift_effect};
+ghost use Rattle.recorder.specs.Features.{accepts};
 ghost use Rattle.edits.specs.Answers.{Answers};
 
 use crate::feature::{Named, read};
-use crate::operation::operation;
+use crate::operation::{one_step, operation};
 use ecore_meta::{Kind, List, Metamodel, Text, Value};
 use edit_laws::EditFault;
 use edits::Recorded;
@@ -50,8 +51,7 @@ fn count<L: Look>(look: &L, meta: &Metamodel, e: &Id, f: u32) -> u32
 fn one(alloc: Global, step: Step) -> Result<Recorded, AllocError>
     ensures { IfOk result (λ r. r ≡ record { operation = operation_of ManyAttribute (step ∷ []); id = None }) }
 {
-    let mut steps = List::new(alloc);
-    steps.push(step)?;
+    let steps = one_step(alloc, step)?;
     Ok(Recorded {
         operation: operation(OpKind::ManyAttribute, steps),
         id: None,
@@ -68,15 +68,20 @@ fn del(alloc: Global, e: &Id, f: u32, at: u32, v: &Value) -> Result<Step, AllocE
 }
 
 /// A step for each of the values, the last first.
-fn dels(alloc: Global, e: &Id, f: u32, values: &[Value]) -> Result<List<Step>, AllocError>
+fn dels(
+    alloc: Global,
+    e: &Id,
+    f: u32,
+    values: &[Value],
+    steps: &mut List<Step>,
+) -> Result<(), AllocError>
     requires { length values.now ≤ 4294967295 }
-    ensures { IfOk result (λ steps. steps ≡ dels e.now f 0 values.now) }
+    ensures { OnOk result (steps.new ≡ steps.old ++ dels e.now f 0 values.now) }
 {
-    let mut steps = List::new(alloc);
     for at in (0..values.len()).rev() {
         steps.push(del(alloc, e, f, at as u32, &values[at])?)?;
     }
-    Ok(steps)
+    Ok(())
 }
 
 /// Records that all values of a many-valued attribute are removed.
@@ -93,11 +98,40 @@ pub fn clear<L: Look>(
     // Only the contract needs it.
     let _meta = meta;
     let values = look.attr(&named.id, named.feature);
-    let steps = dels(alloc, &named.id, named.feature, values)?;
+    let mut steps = List::new(alloc);
+    dels(alloc, &named.id, named.feature, values, &mut steps)?;
     Ok(Recorded {
         operation: operation(OpKind::ManyAttribute, steps),
         id: None,
     })
+}
+
+/// Whether a many-valued attribute takes a value. Refused with AlreadyThere before Bound.
+fn takes<L: Look>(
+    look: &L,
+    meta: &Metamodel,
+    named: &Named,
+    unique: bool,
+    value: &Value,
+) -> Result<(), EditFault>
+    ensures { result ≡ accepts unique (upper_of meta.now named.now.feature) (values_in (L.state look.now) named.now.id named.now.feature) value.now }
+{
+    let values = look.attr(&named.id, named.feature);
+    if unique && contains(values, value) {
+        return Err(EditFault::AlreadyThere);
+    }
+    if !has_room(meta, named.feature, values.len()) || values.len() >= 4294967295 {
+        return Err(EditFault::Bound);
+    }
+    Ok(())
+}
+
+/// The step that inserts a value at an index.
+fn ins(alloc: Global, e: &Id, f: u32, at: u32, v: Value) -> Result<Step, AllocError>
+    ensures { IfOk result (λ step. step ≡ Ins e.now f at v) }
+{
+    let e = e.copy(alloc)?;
+    Ok(Step::Ins { e, f, at, v })
 }
 
 /// Records that a value is inserted into a many-valued attribute, at an index of its values or at their end. Refused with
@@ -113,22 +147,8 @@ fn add_value<L: Look>(
 ) -> Result<Recorded, EditFault>
     ensures { Answers result (recording_of meta.now (L.state look.now) (insert_effect named.now.id named.now.feature unique (upper_of meta.now named.now.feature) (values_in (L.state look.now) named.now.id named.now.feature) at (Some value))) }
 {
-    let values = look.attr(&named.id, named.feature);
-    if unique && contains(values, &value) {
-        return Err(EditFault::AlreadyThere);
-    }
-    if !has_room(meta, named.feature, values.len()) {
-        return Err(EditFault::Bound);
-    }
-    if values.len() >= 4294967295 {
-        return Err(EditFault::Bound);
-    }
-    let step = Step::Ins {
-        e: named.id.copy(alloc)?,
-        f: named.feature,
-        at,
-        v: value,
-    };
+    takes(look, meta, named, unique, &value)?;
+    let step = ins(alloc, &named.id, named.feature, at, value)?;
     Ok(one(alloc, step)?)
 }
 

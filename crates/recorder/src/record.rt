@@ -1,17 +1,69 @@
 //! The recording of any edit: the call of the crate, which finds the recording of its kind.
-ghost use Rattle.std.specs.Prelude.{IfOk};
+ghost use Rattle.std.specs.Prelude.{◌≡◌, IfOk, true};
+ghost use Rattle.std.specs.FinMap.{get};
 ghost use Rattle.model_state.specs.Good.{Good};
+ghost use Rattle.model_state.specs.Steps.{class_has};
+ghost use Rattle.model_state.specs.Typing.{kind_of};
+ghost use Rattle.emfjson_io.specs.Values.{value_of};
+ghost use Rattle.recorder.specs.Features.{effect_on};
 ghost use Rattle.recorder.specs.Laws.{KeepsGood};
 ghost use Rattle.recorder.specs.Recording.{recorded};
+ghost use Rattle.edits.specs.Edits.{class_at, feature_at, of_feature, recording_of};
 ghost use Rattle.edits.specs.Answers.{Answers};
 
 use crate::feature::Named;
 use crate::{attribute, create, many, place, reference};
-use ecore_meta::Metamodel;
+use ecore_meta::{Metamodel, Text};
 use edit_laws::EditFault;
 use edits::{Edit, Recorded};
 use model_state::Look;
 use std::alloc::Global;
+
+/// What is recorded of an edit of a feature that is found, by the edit's kind. Another edit is refused.
+#[tactic(auto, unfolding(crate::specs::Features::effect_on))]
+fn record_on<L: Look>(
+    alloc: Global,
+    look: &L,
+    meta: &Metamodel,
+    named: &Named,
+    edit: &Edit,
+) -> Result<Recorded, EditFault>
+    requires good { Good meta.now (L.state look.now) }
+    requires held { class_has meta.now (get (L.state look.now).kind named.now.id) named.now.feature ≡ true }
+    ensures { Answers result (recording_of meta.now (L.state look.now) (effect_on (value_of meta.now) meta.now (L.state look.now) named.now.id edit.now named.now.feature (kind_of meta.now named.now.feature))) }
+{
+    match edit {
+        Edit::Set { value, .. } => attribute::set(alloc, look, meta, named, value),
+        Edit::Unset { .. } => attribute::unset(alloc, look, meta, named),
+        Edit::Add { at, value, .. } => many::add(alloc, look, meta, named, *at, value),
+        Edit::Remove { index, .. } => many::remove(alloc, look, meta, named, *index),
+        Edit::Shift { from, to, .. } => many::shift(alloc, look, meta, named, *from, *to),
+        Edit::Link { target, index, .. } => {
+            reference::link(alloc, look, meta, named, target, *index)
+        }
+        Edit::Unlink { target, .. } => reference::unlink(alloc, look, meta, named, target),
+        Edit::Reorder { target, index, .. } => {
+            reference::reorder(alloc, look, meta, named, target, *index)
+        }
+        _ => Err(EditFault::WrongKind),
+    }
+}
+
+/// What is recorded of an edit of the feature of that name. Refused with NoElement and NoFeature, and then by the edit's kind.
+fn record_in<L: Look>(
+    alloc: Global,
+    look: &L,
+    meta: &Metamodel,
+    id: &Text,
+    feature: &Text,
+    edit: &Edit,
+) -> Result<Recorded, EditFault>
+    requires good { Good meta.now (L.state look.now) }
+    ensures { Answers result (recording_of meta.now (L.state look.now) (of_feature meta.now (feature_at meta.now (class_at (L.state look.now) id.now) feature.now) (effect_on (value_of meta.now) meta.now (L.state look.now) id.now edit.now))) }
+{
+    let named = Named::find(alloc, look, meta, id, feature)?;
+    record_on(alloc, look, meta, &named, edit)
+}
 
 #[tactic(auto, unfolding(edits::specs::Edits::recorded_of, edits::specs::Edits::effect_of))]
 fn record<L: Look>(
@@ -31,62 +83,14 @@ fn record<L: Look>(
             id,
         } => create::create(alloc, look, meta, ws, class, destination, id),
         Edit::Delete { id } => place::delete_element(alloc, look, meta, id),
-        Edit::Set { id, feature, value } => {
-            let named = Named::find(alloc, look, meta, id, feature)?;
-            attribute::set(alloc, look, meta, &named, value)
-        }
-        Edit::Unset { id, feature } => {
-            let named = Named::find(alloc, look, meta, id, feature)?;
-            attribute::unset(alloc, look, meta, &named)
-        }
-        Edit::Add {
-            id,
-            feature,
-            at,
-            value,
-        } => {
-            let named = Named::find(alloc, look, meta, id, feature)?;
-            many::add(alloc, look, meta, &named, *at, value)
-        }
-        Edit::Remove { id, feature, index } => {
-            let named = Named::find(alloc, look, meta, id, feature)?;
-            many::remove(alloc, look, meta, &named, *index)
-        }
-        Edit::Shift {
-            id,
-            feature,
-            from,
-            to,
-        } => {
-            let named = Named::find(alloc, look, meta, id, feature)?;
-            many::shift(alloc, look, meta, &named, *from, *to)
-        }
-        Edit::Link {
-            id,
-            feature,
-            target,
-            index,
-        } => {
-            let named = Named::find(alloc, look, meta, id, feature)?;
-            reference::link(alloc, look, meta, &named, target, *index)
-        }
-        Edit::Unlink {
-            id,
-            feature,
-            target,
-        } => {
-            let named = Named::find(alloc, look, meta, id, feature)?;
-            reference::unlink(alloc, look, meta, &named, target)
-        }
-        Edit::Reorder {
-            id,
-            feature,
-            target,
-            index,
-        } => {
-            let named = Named::find(alloc, look, meta, id, feature)?;
-            reference::reorder(alloc, look, meta, &named, target, *index)
-        }
+        Edit::Set { id, feature, .. } => record_in(alloc, look, meta, id, feature, edit),
+        Edit::Unset { id, feature } => record_in(alloc, look, meta, id, feature, edit),
+        Edit::Add { id, feature, .. } => record_in(alloc, look, meta, id, feature, edit),
+        Edit::Remove { id, feature, .. } => record_in(alloc, look, meta, id, feature, edit),
+        Edit::Shift { id, feature, .. } => record_in(alloc, look, meta, id, feature, edit),
+        Edit::Link { id, feature, .. } => record_in(alloc, look, meta, id, feature, edit),
+        Edit::Unlink { id, feature, .. } => record_in(alloc, look, meta, id, feature, edit),
+        Edit::Reorder { id, feature, .. } => record_in(alloc, look, meta, id, feature, edit),
         Edit::Move {
             id,
             destination,

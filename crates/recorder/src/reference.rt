@@ -1,5 +1,5 @@
 //! The recording of `set`, `unset`, `link`, `unlink` and `reorder` of plain references.
-ghost use Rattle.std.specs.Prelude.{◌≡◌, ◌⊎◌, IfOk, IfErr, OnOk, None, true, false};
+ghost use Rattle.std.specs.Prelude.{◌≡◌, ◌⊎◌, IfOk, IfErr, OnOk, None, Some, true, false};
 ghost use Rattle.std.specs.FinMap.{get};
 ghost use Rattle.ecore_meta.specs.declared.meta.Scalar.TheVariants as types;
 ghost use Rattle.model_state.specs.Good.{Good};
@@ -54,6 +54,26 @@ fn entry(alloc: Global, word: &Text) -> Result<Id, EditFault>
     }
 }
 
+/// Records that a plain reference of upper bound 1 has the element of that id. Refused with NoElement, WrongType and Bound.
+fn refer<L: Look>(
+    alloc: Global,
+    look: &L,
+    meta: &Metamodel,
+    named: &Named,
+    word: &Text,
+) -> Result<Recorded, EditFault>
+    requires good { Good meta.now (L.state look.now) }
+    requires held { class_has meta.now (get (L.state look.now).kind named.now.id) named.now.feature ≡ true }
+    requires plain { is_plain (kind_of meta.now named.now.feature) ≡ true }
+    requires one { holds_one meta.now named.now.feature ≡ true }
+    ensures { Answers result (recording_of meta.now (L.state look.now) (refer_effect meta.now (L.state look.now) named.now.id named.now.feature (Some word.now))) }
+{
+    meta.sound();
+    let target = live(alloc, look, word)?;
+    let steps = set_ref_steps(alloc, look, meta, &named.id, named.feature, &target)?;
+    Ok(recorded(steps))
+}
+
 /// Records that a plain reference of upper bound 1 has the element whose id the JSON text is.
 ///
 /// Refused with BadValue, NoElement, WrongType and Bound, in this order.
@@ -70,13 +90,10 @@ pub fn set<L: Look>(
     requires one { holds_one meta.now named.now.feature ≡ true }
     ensures { Answers result (recording_of meta.now (L.state look.now) (refer_effect meta.now (L.state look.now) named.now.id named.now.feature (target_in (value_of meta.now types.Text text.now)))) }
 {
-    meta.sound();
     let Value::Text(word) = read(alloc, meta, &Scalar::Text, text)? else {
         return Err(EditFault::BadValue);
     };
-    let target = live(alloc, look, &word)?;
-    let steps = set_ref_steps(alloc, look, meta, &named.id, named.feature, &target)?;
-    Ok(recorded(steps))
+    refer(alloc, look, meta, named, &word)
 }
 
 /// Records that all targets of a plain reference are removed, the last first, and their opposites with them.

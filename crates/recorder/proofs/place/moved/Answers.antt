@@ -1,5 +1,5 @@
 -- The containers of the steps and of the refusals are those of the places.
-use Rattle.std.proofs.Common.{◌≡◌, IfOk, Ok, Err}
+use Rattle.std.proofs.Common.{IfOk, Ok, Err}
 use Rattle.std.specs.Prelude.{Result, None, OnOk, IfErr}
 use Rattle.edits.proofs.Chains.{move_is, refusal_is, fault_is}
 use Rattle.recorder.proofs.place.moved.Goals as goal
