@@ -1,6 +1,7 @@
 //! The elements of a model, and the steps that create them.
 ghost use Rattle.std.specs.Prelude.{◌≡◌, ◌++◌, IfOk, OnOk};
 ghost use Rattle.model_state.specs.Good.{Good};
+ghost use Rattle.model_state.specs.declared.step.Step.TheVariants.{New};
 ghost use Rattle.containment.specs.Subtree.{each, ids_of, subtree_of};
 ghost use Rattle.state_steps.specs.Whole.{birth, births, elements_of};
 
@@ -19,6 +20,21 @@ fn push_all(alloc: Global, ids: &[Id], found: &mut List<Id>) -> Result<(), Alloc
     Ok(())
 }
 
+/// The subtree of an element, after the ids that are there.
+fn push_subtree<L: Look>(
+    alloc: Global,
+    look: &L,
+    meta: &Metamodel,
+    root: &Id,
+    found: &mut List<Id>,
+) -> Result<(), AllocError>
+    requires { Good meta.now (L.state look.now) }
+    ensures { OnOk result (found.new ≡ found.old ++ subtree_of meta.now (L.state look.now) root.now) }
+{
+    let below = subtree(alloc, look, meta, root)?;
+    push_all(alloc, below.as_slice(), found)
+}
+
 /// The subtrees of entries, one after another.
 fn subtrees<L: Look>(
     alloc: Global,
@@ -31,8 +47,7 @@ fn subtrees<L: Look>(
 {
     let mut found = List::new(alloc);
     for root in roots {
-        let below = subtree(alloc, look, meta, &root.id)?;
-        push_all(alloc, below.as_slice(), &mut found)?;
+        push_subtree(alloc, look, meta, &root.id, &mut found)?;
     }
     Ok(found)
 }
@@ -46,25 +61,28 @@ pub fn elements<L: Look>(alloc: Global, look: &L, meta: &Metamodel) -> Result<Li
     subtrees(alloc, look, meta, roots.as_slice())
 }
 
+/// The step that creates an element of a class in a place.
+fn new_step(alloc: Global, e: &Id, class: u32, place: &Place, rank: u64) -> Result<Step, AllocError>
+    ensures { IfOk result (λ s. s ≡ New e.now class place.now rank) }
+{
+    let e = e.copy(alloc)?;
+    let place = place.copy(alloc)?;
+    Ok(Step::New {
+        e,
+        class,
+        place,
+        rank,
+    })
+}
+
 /// The step that creates an element where it stands.
 fn birth<L: Look>(alloc: Global, look: &L, e: &Id) -> Result<Step, AllocError>
     ensures { IfOk result (λ s. s ≡ birth (L.state look.now) e.now) }
 {
     let class = look.class(e).unwrap_or(0);
-    let e = e.copy(alloc)?;
-    match look.placed(&e) {
-        None => Ok(Step::New {
-            e,
-            class,
-            place: Place::Root,
-            rank: 0,
-        }),
-        Some(placed) => Ok(Step::New {
-            e,
-            class,
-            place: placed.place.copy(alloc)?,
-            rank: placed.rank,
-        }),
+    match look.placed(e) {
+        None => new_step(alloc, e, class, &Place::Root, 0),
+        Some(placed) => new_step(alloc, e, class, &placed.place, placed.rank),
     }
 }
 

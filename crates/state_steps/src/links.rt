@@ -1,6 +1,7 @@
 //! The links of the references that lead their pairs.
 ghost use Rattle.std.specs.Prelude.{◌≡◌, ◌++◌, ◌∷◌, [], IfOk, OnOk};
 ghost use Rattle.model_state.specs.Typing.{opposite_of};
+ghost use Rattle.model_state.specs.declared.step.Step.TheVariants.{Link};
 ghost use Rattle.edit_laws.specs.Rows.{link_step, mirror_rank};
 ghost use Rattle.state_steps.specs.Whole.{leads, linked, all_linked};
 
@@ -29,6 +30,15 @@ fn rank_back<L: Look>(look: &L, opposite: Option<u32>, a: &Id, b: &Id) -> u64
     }
 }
 
+/// The link of a row and its mirror, as they are given.
+fn link(alloc: Global, a: &Id, f: u32, ra: u64, b: &Id, rb: Option<u64>) -> Result<Step, AllocError>
+    ensures { IfOk result (λ s. s ≡ Link a.now f ra b.now rb) }
+{
+    let a = a.copy(alloc)?;
+    let b = b.copy(alloc)?;
+    Ok(Step::Link { a, f, ra, b, rb })
+}
+
 /// The link of a row and its mirror, written from the side whose feature has the lesser number.
 fn link_step(
     alloc: Global,
@@ -41,33 +51,13 @@ fn link_step(
 ) -> Result<Step, AllocError>
     ensures { IfOk result (λ s. s ≡ link_step opposite a.now f ra b.now rb) }
 {
-    let a = a.copy(alloc)?;
-    let b = b.copy(alloc)?;
     match opposite {
-        None => Ok(Step::Link {
-            a,
-            f,
-            ra,
-            b,
-            rb: None,
-        }),
+        None => link(alloc, a, f, ra, b, None),
         Some(g) => {
             if g < f {
-                Ok(Step::Link {
-                    a: b,
-                    f: g,
-                    ra: rb,
-                    b: a,
-                    rb: Some(ra),
-                })
+                link(alloc, b, g, rb, a, Some(ra))
             } else {
-                Ok(Step::Link {
-                    a,
-                    f,
-                    ra,
-                    b,
-                    rb: Some(rb),
-                })
+                link(alloc, a, f, ra, b, Some(rb))
             }
         }
     }

@@ -1,7 +1,8 @@
 //! The steps after which attributes have their values.
-ghost use Rattle.std.specs.Prelude.{◌≡◌, ◌≤◌, ◌++◌, OnOk, length};
+ghost use Rattle.std.specs.Prelude.{◌≡◌, ◌≤◌, ◌++◌, IfOk, None, OnOk, Some, length};
 ghost use Rattle.std.specs.FinMap.{get};
 ghost use Rattle.model_state.specs.Good.{Good};
+ghost use Rattle.model_state.specs.declared.step.Step.TheVariants.{Ins, Put};
 ghost use Rattle.edit_laws.specs.Attributes.{single_value};
 ghost use Rattle.state_steps.specs.Whole.{put_first, inserts, filled, all_filled};
 
@@ -9,6 +10,20 @@ use containment::Slot;
 use ecore_meta::{List, Metamodel, Value};
 use model_state::{Id, Look, Step, is_attr};
 use std::alloc::{AllocError, Global};
+
+/// The step that sets a single attribute that isn't set.
+fn put(alloc: Global, e: &Id, f: u32, v: &Value) -> Result<Step, AllocError>
+    ensures { IfOk result (λ s. s ≡ Put e.now f None (Some v.now)) }
+{
+    let e = e.copy(alloc)?;
+    let v = v.copy(alloc)?;
+    Ok(Step::Put {
+        e,
+        f,
+        old: None,
+        new: Some(v),
+    })
+}
 
 /// The step that sets a single attribute; none where it isn't set.
 fn put_first<L: Look>(
@@ -21,13 +36,17 @@ fn put_first<L: Look>(
 {
     match look.attr(&slot.0, slot.1).first() {
         None => Ok(()),
-        Some(v) => steps.push(Step::Put {
-            e: slot.0.copy(alloc)?,
-            f: slot.1,
-            old: None,
-            new: Some(v.copy(alloc)?),
-        }),
+        Some(v) => steps.push(put(alloc, &slot.0, slot.1, v)?),
     }
+}
+
+/// The step that inserts a value at an index.
+fn insert(alloc: Global, e: &Id, f: u32, at: u32, v: &Value) -> Result<Step, AllocError>
+    ensures { IfOk result (λ s. s ≡ Ins e.now f at v.now) }
+{
+    let e = e.copy(alloc)?;
+    let v = v.copy(alloc)?;
+    Ok(Step::Ins { e, f, at, v })
 }
 
 /// A step for each of the values, the first first.
@@ -42,12 +61,7 @@ fn inserts(
     ensures { OnOk result (steps.new ≡ steps.old ++ inserts e.now f 0 values.now) }
 {
     for at in 0..values.len() {
-        steps.push(Step::Ins {
-            e: e.copy(alloc)?,
-            f,
-            at: at as u32,
-            v: values[at].copy(alloc)?,
-        })?;
+        steps.push(insert(alloc, e, f, at as u32, &values[at])?)?;
     }
     Ok(())
 }
