@@ -1,5 +1,5 @@
 -- References that lead their pairs have no row in common, and every row is one of theirs or the mirror of one.
-use Rattle.std.proofs.Common.{◌≡◌, ℕ, ◌<◌, Bool, true, false, cond, not, List, [], ◌∷◌, ◌++◌, refl, sym, ap, subst, ◌∙◌, ◌||◌, ◌&&◌, nat_eq, nat_lt, inl, inr, append_assoc, arith}
+use Rattle.std.proofs.Common.{◌≡◌, ℕ, Bool, true, false, cond, not, List, [], ◌∷◌, ◌++◌, refl, sym, ap, subst, ◌∙◌, ◌||◌, ◌&&◌, nat_eq, nat_lt, inl, inr, arith}
 use Rattle.std.proofs.lemmas.Bool.Decides.{nat_tests}
 use Rattle.std.specs.Prelude.{Option, None, Some, is_some}
 use Rattle.std.specs.List.{filter}
@@ -19,8 +19,8 @@ use Rattle.model_state.specs.Typing.{opposite_of, is_plain, kind_of, plain_to}
 use Rattle.model_state.specs.Good.{Good, Sound, RowOk}
 use Rattle.edit_laws.specs.Rows.{Rows, is_row_or_mirror, is_mirror, unlinks}
 use Rattle.containment.specs.Deletes.{is_touched, targets_left, outgoing_made, slots_of}
-use Rattle.containment.proofs.Members.{In, Distinct, in_left, in_right, in_either, in_filter, kept_in}
-use Rattle.containment.proofs.Slots.{slot_in, touched_by, touched_near}
+use Rattle.containment.proofs.Members.{In, Distinct, in_either, kept_in}
+use Rattle.containment.proofs.Slots.{slot_in, touched_by}
 use Rattle.containment.proofs.Children.{feature_listed}
 use Rattle.state_steps.specs.Whole.{is_less, leads, links_of, unlinked}
 

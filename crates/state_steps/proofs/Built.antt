@@ -1,5 +1,5 @@
 -- The steps that take a state apart lead to the empty one, and so their reversals build it.
-use Rattle.std.proofs.Common.{◌≡◌, ℕ, Bool, true, false, cond, List, [], ◌∷◌, ◌++◌, refl, sym, ap, subst, ◌∙◌, ◌||◌, inl, inr}
+use Rattle.std.proofs.Common.{◌≡◌, ℕ, Bool, true, false, cond, List, [], ◌++◌, refl, sym, ap, subst, ◌∙◌}
 use Rattle.std.specs.Prelude.{Option, None, Some, is_some}
 use Rattle.std.specs.FinMap.{FinMap, get, empty, get-empty}
 use Rattle.ecore_meta.specs.Meta.{Meta}
@@ -9,10 +9,10 @@ use Rattle.finite_maps.proofs.MapLaws.{IsKeyOrder, same}
 use Rattle.finite_maps.proofs.NestedLaws.{get-without}
 use Rattle.std.specs.declared.cmp.Ordering.{Ordering}
 use Rattle.model_state.specs.declared.step.Place.{Place}
-use Rattle.model_state.specs.Keys.{IdBytes, AttrKey, RowKey, id_cmp, attr_cmp, row_cmp}
+use Rattle.model_state.specs.Keys.{IdBytes, AttrKey, id_cmp, attr_cmp, row_cmp}
 use Rattle.model_state.specs.Good.{Good, Sound, AttrOk, PlaceOk}
-use Rattle.model_state.specs.State.{State, nothing, is_live}
-use Rattle.model_state.specs.Steps.{fold, rev_all}
+use Rattle.model_state.specs.State.{State, nothing}
+use Rattle.model_state.specs.Steps.{fold}
 use Rattle.model_state.specs.Typing.{is_plain}
 use Rattle.model_state.proofs.Orders.{id_order, attr_order, row_order}
 use Rattle.model_laws.proofs.Runs.{fold_append, reversal_undoes}
@@ -26,7 +26,7 @@ use Rattle.containment.proofs.Members.{Distinct, distinct_filter}
 use Rattle.containment.proofs.Outgoing.{outgoing_leads}
 use Rattle.containment.proofs.Slots.{slots_distinct}
 use Rattle.containment.proofs.ValuesGone.{attributes, kept_all, values_lead, values_left}
-use Rattle.state_steps.specs.Whole.{elements_of, leads, links_of, unlinked, unmade, as_steps, StepsBuild}
+use Rattle.state_steps.specs.Whole.{elements_of, leads, links_of, unlinked, unmade, StepsBuild}
 use Rattle.state_steps.proofs.Apart.{all_out, lead_filtered, touched_all}
 use Rattle.state_steps.proofs.Turned.{all_turned}
 use Rattle.state_steps.proofs.Everyone.{all_ordered, all_live, among_all, distinct_from, everyone}
