@@ -1,6 +1,10 @@
 //! A state as a package, and as bytes.
-ghost use Rattle.std.specs.Prelude.{◌≡◌, ◌≤◌, ◌^◌, IfOk, IfSome, IfNone, Some};
+ghost use Rattle.std.specs.Prelude.{◌≡◌, ◌≤◌, ◌^◌, ◌∷◌, [], IfOk, IfSome, IfNone, Some};
 ghost use Rattle.model_state.specs.Good.{Good, Sound};
+ghost use Rattle.model_state.specs.declared.operation.OpKind.TheVariants.{Create};
+ghost use Rattle.model_state.specs.declared.operation.Operation.TheVariants.{Simple};
+ghost use Rattle.op_form.specs.Formed.{IsPackage};
+ghost use Rattle.op_form.specs.Packages.{package_encoding};
 ghost use Rattle.state_form.specs.Form.{as_package, state_encoding, state_size, IsStateForm};
 ghost use Rattle.state_form.specs.Spelled.{IsSpelled};
 
@@ -10,18 +14,36 @@ use op_form::encode;
 use state_steps::as_steps;
 use std::alloc::{AllocError, Global};
 
+/// One operation with all steps.
+fn one_operation(alloc: Global, steps: List<Step>) -> Result<Package, AllocError>
+    ensures { IfOk result (λ p. p ≡ Simple Create steps ∷ []) }
+{
+    let mut made = List::new(alloc);
+    made.push(Operation::Simple {
+        kind: OpKind::Create,
+        steps,
+    })?;
+    Ok(made)
+}
+
 /// One operation with all steps; none where there is no step.
 fn as_package(alloc: Global, steps: List<Step>) -> Result<Package, AllocError>
     ensures { IfOk result (λ p. p ≡ as_package steps) }
 {
-    let mut made = List::new(alloc);
     if steps.len() > 0 {
-        made.push(Operation::Simple {
-            kind: OpKind::Create,
-            steps,
-        })?;
+        one_operation(alloc, steps)
+    } else {
+        Ok(List::new(alloc))
     }
-    Ok(made)
+}
+
+/// The bytes of the package of steps.
+fn encode_steps(alloc: Global, steps: List<Step>) -> Result<Vec<u8>, AllocError>
+    requires { IsPackage (as_package steps) }
+    ensures { IfOk result (λ bytes. bytes.items ≡ package_encoding (as_package steps)) }
+{
+    let made = as_package(alloc, steps)?;
+    encode(alloc, &made)
 }
 
 /// The bytes of the package that builds the model from the empty project: one operation, or none where the model is
@@ -42,6 +64,5 @@ pub fn encode_state<L: Look>(
     if steps.len() > u32::MAX as usize {
         return Ok(None);
     }
-    let made = as_package(alloc, steps)?;
-    Ok(Some(encode(alloc, &made)?))
+    Ok(Some(encode_steps(alloc, steps)?))
 }

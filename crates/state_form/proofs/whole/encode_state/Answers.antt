@@ -13,12 +13,15 @@ returns-then-len-clause-none g c =
     let is : length c.in_ok-steps.steps ≡ length (as_steps c.args.meta.now m) = ap length c.in_ok-steps.ensures.steps in
     long_size c.args.meta.now m (2 ^ 32) (omega (arith, is))
 
-pub encode-requires : goal.encode-requires
-encode-requires g c =
+pub encode_steps-requires : goal.encode_steps-requires
+encode_steps-requires g c =
     let m = g.L.Look.state c.args.look.now in
     let is : length c.in_ok-steps.steps ≡ length (as_steps c.args.meta.now m) = ap length c.in_ok-steps.ensures.steps in
     let few : length (as_steps c.args.meta.now m) < 2 ^ 32 = omega (arith, is) in
-    record { spelled = subst IsPackage (sym (c.in_ok-made.ensures ∙ ap as_package c.in_ok-steps.ensures.steps)) (whole_is_spelled c.args.meta.now m c.requires.good c.requires.spelled few) }
+    subst IsPackage (sym (ap as_package c.in_ok-steps.ensures.steps)) (whole_is_spelled c.args.meta.now m c.requires.good c.requires.spelled few)
+
+pub returns-clause-bytes : goal.returns-clause-bytes
+returns-clause-bytes g c = c.in_ok-encode_steps.ensures ∙ ap package_encoding (ap as_package c.in_ok-steps.ensures.steps)
 
 pub returns-clause-form : goal.returns-clause-form
 returns-clause-form g c =
@@ -28,6 +31,6 @@ returns-clause-form g c =
     record {
       operations = whole_package c.args.meta.now m;
       spelled = whole_is_spelled c.args.meta.now m c.requires.good c.requires.spelled few;
-      is = c.in_ok-encode.ensures.form ∙ ap package_encoding (c.in_ok-made.ensures ∙ ap as_package c.in_ok-steps.ensures.steps);
+      is = c.in_ok-encode_steps.ensures ∙ ap package_encoding (ap as_package c.in_ok-steps.ensures.steps);
       leads = whole_leads c.args.meta.now c.requires.sound m c.requires.good;
     }
