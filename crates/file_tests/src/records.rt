@@ -37,12 +37,16 @@ EMFSTORE\0\0\0\x01\0\0\0\0\xa5\0\0\0\x01a => Err(Damaged { at: 22 })
 EMFSTORE\0\0\0\x01\0\0\0\0\xa5\0\0\0\x01a\xa5\0 => Err(Damaged { at: 22 })
 EMFSTORE\0\0\0\x01\0\0\0\0\xa5\0\0\0\x01a\0behind => Ok(1)";
 
-fn is_counted(rt: &impl Abort, alloc: Global, case: &str) -> Result<(), Fail> {
-    let (file, wanted) = case.split_once(" => ").ok_or("a case without an answer")?;
-    let file = bytes_of(alloc, file)?;
+// How many records these bytes have as a file, as it is told.
+fn told(alloc: Global, file: Vec<u8>) -> Result<String, Fail> {
     let mut host = MemoryHost::new(alloc, Vec::new(alloc), 1, file, Vec::new(alloc));
     let counted = count(alloc, &mut host);
-    let told = format!(in alloc; "{counted:?}")?;
+    Ok(format!(in alloc; "{counted:?}")?)
+}
+
+fn is_counted(rt: &impl Abort, alloc: Global, case: &str) -> Result<(), Fail> {
+    let (file, wanted) = case.split_once(" => ").ok_or("a case without an answer")?;
+    let told = told(alloc, bytes_of(alloc, file)?)?;
     assert_eq!(rt; told.as_str(), wanted, "{case}");
     Ok(())
 }
