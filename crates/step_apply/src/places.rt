@@ -3,7 +3,8 @@ ghost use Rattle.std.specs.Prelude.{◌≡◌, Some, None, OnOk, OnErr, IfOk, is
 ghost use Rattle.model_state.specs.Listing.{children, last_rank};
 ghost use Rattle.model_state.specs.declared.step.Place.{Place as PlaceValue};
 ghost use Rattle.ranked_lists.specs.Ranks.{stood};
-ghost use Rattle.step_apply.specs.Groups.{standing};
+ghost use Rattle.finite_maps.specs.Tables.{table_of};
+ghost use Rattle.step_apply.specs.Groups.{standing, IsGrouped};
 ghost use Rattle.std.specs.Option.{option_copied, option_map};
 ghost use Rattle.std.specs.FinMap.{get, empty};
 ghost use Rattle.finite_maps.specs.Maps.{set, count};
@@ -46,6 +47,57 @@ fn leave_for(groups: &mut Groups, old: Option<Placed>, e: &Id, to: &Place)
     if let Some(old) = old {
         if !old.place.is_same(to) {
             groups.drop_at(&old.place, e);
+        }
+    }
+}
+
+/// The copies of an element's id and of its place.
+fn spot_of(alloc: Global, e: &Id, place: &Place) -> Result<(Id, Place), AllocError>
+    ensures { IfOk result (λ spot. spot ≡ (e.now, place.now)) }
+{
+    Ok((e.copy(alloc)?, place.copy(alloc)?))
+}
+
+/// Puts an element into the list of a place.
+fn list_at(
+    groups: &mut Groups,
+    alloc: Global,
+    to: &Place,
+    e: &Id,
+    rank: u64,
+) -> Result<(), AllocError>
+    ensures here { OnOk result (standing groups.new to.now ≡ set (standing groups.old to.now) e.now (Some rank)) }
+    ensures there { (p : PlaceValue) → place_eq to.now p ≡ false → standing groups.new p ≡ standing groups.old p }
+    ensures err { OnErr result (standing groups.new to.now ≡ standing groups.old to.now) }
+{
+    groups.put(alloc, to, e.copy(alloc)?, rank)
+}
+
+/// Puts an element into the tree and into the list of its place; where it stood elsewhere, it leaves that list. Given with
+/// them are copies of its id and of its place.
+fn put_at(
+    alloc: Global,
+    tree: &mut BTreeMap<Id, Placed>,
+    groups: &mut Groups,
+    e: Id,
+    placed: Placed,
+    spot: &(Id, Place),
+) -> Result<(), AllocError>
+    requires { spot.now ≡ (e, placed.place) }
+    ensures grouped { IsGrouped tree.old groups.old → IsGrouped tree.new groups.new }
+    ensures place { OnOk result (table_of id_cmp (λ p. p.place) tree.new ≡ set (table_of id_cmp (λ p. p.place) tree.old) e (Some placed.place)) }
+    ensures rank { OnOk result (table_of id_cmp (λ p. p.rank) tree.new ≡ set (table_of id_cmp (λ p. p.rank) tree.old) e (Some placed.rank)) }
+    ensures err { OnErr result (tree.new.entries ≡ tree.old.entries) }
+{
+    list_at(groups, alloc, &spot.1, &spot.0, placed.rank)?;
+    match tree.insert(e, placed) {
+        Err(_) => {
+            groups.drop_at(&spot.1, &spot.0);
+            Err(AllocError)
+        }
+        Ok(old) => {
+            leave_for(groups, old, &spot.0, &spot.1);
+            Ok(())
         }
     }
 }
@@ -122,20 +174,15 @@ impl Places {
         ensures rank { OnOk result (self.new.rank ≡ set self.old.rank e (Some placed.rank)) }
         ensures err { OnErr result (self.new ≡ self.old) }
     {
-        let own = e.copy(self.alloc)?;
-        let to = placed.place.copy(self.alloc)?;
-        self.groups
-            .put(self.alloc, &to, own.copy(self.alloc)?, placed.rank)?;
-        match self.tree.insert(e, placed) {
-            Err(_) => {
-                self.groups.drop_at(&to, &own);
-                Err(AllocError)
-            }
-            Ok(old) => {
-                leave_for(&mut self.groups, old, &own, &to);
-                Ok(())
-            }
-        }
+        let spot = spot_of(self.alloc, &e, &placed.place)?;
+        put_at(
+            self.alloc,
+            &mut self.tree,
+            &mut self.groups,
+            e,
+            placed,
+            &spot,
+        )
     }
 
     /// Gives an element another rank where it stands. The error is out of memory.

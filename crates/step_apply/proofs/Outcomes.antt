@@ -1,0 +1,6 @@
+-- What a call gives, by its result.
+use Rattle.std.specs.Prelude.{Result, Ok, Err, OnOk, OnErr}
+
+pub on_err : {T E : Type 0} {P Q : Type 0} (r : Result T E) → (P → Q) → OnErr r P → OnErr r Q
+on_err (Ok x) f p = p
+on_err (Err e) f p = f p
