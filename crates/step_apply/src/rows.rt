@@ -1,12 +1,12 @@
 //! The references of a model with their ranks, indexed by source, by feature and by target.
-ghost use Rattle.std.specs.Prelude.{is_some, true, false, ◌≡◌, Some, None, OnOk, OnErr, IfOk, map, count_by, ◌||◌, ◌&&◌, nat_eq};
+ghost use Rattle.std.specs.Prelude.{ℕ, is_some, true, false, ◌≡◌, Some, None, OnOk, OnErr, IfOk, map, count_by, ◌||◌, ◌&&◌, nat_eq};
 ghost use Rattle.std.specs.BTreeMap as ordered_map;
 ghost use Rattle.std.specs.List.{filter};
 ghost use Rattle.std.specs.BTreeMap.{IsOrdered};
 ghost use Rattle.std.specs.FinMap.{get, empty};
 ghost use Rattle.finite_maps.specs.Maps.{set, count};
 ghost use Rattle.finite_maps.specs.Tables.{table};
-ghost use Rattle.step_apply.specs.Groups.{arriving};
+ghost use Rattle.step_apply.specs.Groups.{arriving, members_of, IsOut, IsInto};
 ghost use Rattle.finite_maps.specs.Equal.{text_eq};
 ghost use Rattle.model_state.specs.Keys.{IdBytes, RowKey, row_cmp};
 ghost use Rattle.model_state.specs.Listing.{row_incoming, last_rank, targets, incoming};
@@ -134,6 +134,70 @@ fn put_to(
     }
 }
 
+/// Puts a row among those to its target.
+fn arrive(
+    into: &mut BTreeMap<Id, BTreeMap<(Id, u32, Id), u64>>,
+    alloc: Global,
+    key: &(Id, u32, Id),
+    rank: u64,
+) -> Result<(), AllocError>
+    ensures here { OnOk result (arriving into.new key.now.2 ≡ set (arriving into.old key.now.2) key.now (Some rank)) }
+    ensures there { (x : IdBytes) → text_eq key.now.2 x ≡ false → arriving into.new x ≡ arriving into.old x }
+    ensures err { OnErr result (arriving into.new key.now.2 ≡ arriving into.old key.now.2) }
+{
+    let own = row_key(alloc, &key.0, key.1, &key.2)?;
+    put_to(alloc, into, &key.2, own, rank)
+}
+
+/// Puts a row's target into the list of its feature.
+fn depart(
+    out: &mut BTreeMap<Id, BTreeMap<u32, RankedList>>,
+    alloc: Global,
+    key: &(Id, u32, Id),
+    rank: u64,
+) -> Result<(), AllocError>
+    ensures here { OnOk result (members_of out.new key.now.0 key.now.1 ≡ set (members_of out.old key.now.0 key.now.1) key.now.2 (Some rank)) }
+    ensures same_element { (g : ℕ) → nat_eq key.now.1 g ≡ false → members_of out.new key.now.0 g ≡ members_of out.old key.now.0 g }
+    ensures there { (b : IdBytes) (g : ℕ) → text_eq key.now.0 b ≡ false → members_of out.new b g ≡ members_of out.old b g }
+    ensures err { OnErr result (members_of out.new key.now.0 key.now.1 ≡ members_of out.old key.now.0 key.now.1) }
+{
+    let target = key.2.copy(alloc)?;
+    put_in(alloc, out, &key.0, key.1, target, rank)
+}
+
+/// Puts a row into the tree and into both indexes.
+fn put_row(
+    alloc: Global,
+    tree: &mut BTreeMap<(Id, u32, Id), u64>,
+    out: &mut BTreeMap<Id, BTreeMap<u32, RankedList>>,
+    into: &mut BTreeMap<Id, BTreeMap<(Id, u32, Id), u64>>,
+    key: (Id, u32, Id),
+    rank: u64,
+) -> Result<(), AllocError>
+    ensures out { IsOut tree.old out.old → IsOut tree.new out.new }
+    ensures into { IsInto tree.old into.old → IsInto tree.new into.new }
+    ensures ok { OnOk result (table row_cmp tree.new ≡ set (table row_cmp tree.old) key (Some rank)) }
+    ensures err { OnErr result (tree.new.entries ≡ tree.old.entries) }
+{
+    let old = tree.get(&key).copied();
+    arrive(into, alloc, &key, rank)?;
+    match depart(out, alloc, &key, rank) {
+        Err(error) => {
+            rewrite_to(into, &key.2, &key, old);
+            Err(error)
+        }
+        Ok(()) => match tree.insert(key, rank) {
+            Ok(_) => Ok(()),
+            Err(back) => {
+                let key = &back.value.0;
+                drop_in(out, &key.0, key.1, &key.2);
+                rewrite_to(into, &key.2, key, None);
+                Err(AllocError)
+            }
+        },
+    }
+}
+
 /// The rows as they are listed at their target.
 fn listed(alloc: Global, rows: &BTreeMap<(Id, u32, Id), u64>) -> Result<List<Incoming>, AllocError>
     ensures rows { IfOk result (λ l. l ≡ map row_incoming rows.now.entries) }
@@ -206,25 +270,14 @@ impl Rows {
         ensures ok { OnOk result (self.new ≡ set self.old key (Some rank)) }
         ensures err { OnErr result (self.new ≡ self.old) }
     {
-        let own = row_key(self.alloc, &key.0, key.1, &key.2)?;
-        let target = key.2.copy(self.alloc)?;
-        let old = self.tree.get(&key).copied();
-        put_to(self.alloc, &mut self.into, &key.2, own, rank)?;
-        match put_in(self.alloc, &mut self.out, &key.0, key.1, target, rank) {
-            Err(error) => {
-                rewrite_to(&mut self.into, &key.2, &key, old);
-                Err(error)
-            }
-            Ok(()) => match self.tree.insert(key, rank) {
-                Ok(_) => Ok(()),
-                Err(back) => {
-                    let key = &back.value.0;
-                    drop_in(&mut self.out, &key.0, key.1, &key.2);
-                    rewrite_to(&mut self.into, &key.2, key, None);
-                    Err(AllocError)
-                }
-            },
-        }
+        put_row(
+            self.alloc,
+            &mut self.tree,
+            &mut self.out,
+            &mut self.into,
+            key,
+            rank,
+        )
     }
 
     /// Takes a row away, where there is one.
