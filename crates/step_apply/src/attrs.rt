@@ -1,5 +1,8 @@
 //! The attribute values of a model: the map of those that are set.
-ghost use Rattle.std.specs.Prelude.{◌≡◌, Some, None, OnOk, OnErr, [], unwrap_or, nat_eq};
+ghost use Rattle.std.specs.Prelude.{ℕ, cond, ◌≡◌, Some, None, OnOk, OnErr, [], unwrap_or, nat_eq};
+ghost use Rattle.std.specs.Ordering.{nat_cmp};
+ghost use Rattle.std.specs.BTreeMap as ordered_map;
+ghost use Rattle.std.specs.BTreeMap.{is_at};
 ghost use Rattle.finite_maps.specs.Equal.{text_eq};
 ghost use Rattle.std.specs.FinMap.{get, empty};
 ghost use Rattle.finite_maps.specs.Maps.{set, count};
@@ -9,6 +12,19 @@ use model_state::Id;
 use std::alloc::{AllocError, Global};
 use std::collections::BTreeMap;
 use std::marker::Model;
+
+/// Puts the values of an attribute among those of its element.
+fn write_in(
+    inner: &mut BTreeMap<u32, List<Value>>,
+    f: u32,
+    values: List<Value>,
+) -> Result<(), AllocError>
+    ensures ok { OnOk result ((j : ℕ) → ordered_map.get nat_cmp inner.new j ≡ cond (is_at (nat_cmp f) j) (Some values) (ordered_map.get nat_cmp inner.old j)) }
+    ensures err { OnErr result (inner.new.entries ≡ inner.old.entries) }
+{
+    inner.insert(f, values)?;
+    Ok(())
+}
 
 /// The values of the attributes that are set, which contracts see as a finite map.
 #[derive(Drop)]
@@ -74,13 +90,10 @@ impl Attrs {
         ensures err { OnErr result (self.new ≡ self.old) }
     {
         match self.tree.get_mut(&e) {
-            Some(inner) => match inner.insert(f, values) {
-                Ok(_) => Ok(()),
-                Err(_) => Err(AllocError),
-            },
+            Some(inner) => write_in(inner, f, values),
             None => {
                 let mut inner = BTreeMap::new(alloc);
-                inner.insert(f, values)?;
+                write_in(&mut inner, f, values)?;
                 self.tree.insert(e, inner)?;
                 Ok(())
             }
