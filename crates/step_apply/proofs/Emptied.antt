@@ -1,19 +1,17 @@
 -- Elements that nothing stands in and that no row names.
-use Rattle.std.proofs.Common.{◌≡◌, ℕ, Bool, true, false, cond, List, [], ◌∷◌, refl, sym, ap, ◌∙◌, nat_eq, ◌||◌, map}
+use Rattle.std.proofs.Common.{◌≡◌, ℕ, Bool, false, cond, refl, sym, ap, ◌∙◌, ◌||◌}
 use Rattle.std.specs.Prelude.{Option, None, Some}
 use Rattle.std.specs.Option.{option_map}
-use Rattle.std.specs.List.{list_all}
-use Rattle.std.specs.Ordering.{nat_cmp}
 use Rattle.std.specs.Map.{lookup}
-use Rattle.std.specs.FinMap.{get, get-empty}
+use Rattle.std.specs.FinMap.{get}
 use Rattle.std.specs.BTreeMap as tree
-use Rattle.std.specs.BTreeMap.{BTreeMap, is_at, btree_map_len, values}
+use Rattle.std.specs.BTreeMap.{BTreeMap, is_at, btree_map_len}
 use Rattle.finite_maps.specs.Equal.{text_eq}
 use Rattle.finite_maps.specs.Maps.{count}
 use Rattle.finite_maps.specs.Tables.{table, table_of}
 use Rattle.finite_maps.proofs.Cases.{not_so, some_none}
 use Rattle.finite_maps.proofs.CountLaws.{count_none}
-use Rattle.finite_maps.proofs.EqualLaws.{text_equality, nat_equality, and_first, and_second}
+use Rattle.finite_maps.proofs.EqualLaws.{text_equality}
 use Rattle.finite_maps.proofs.TableLaws.{get-table, get-table_of}
 use Rattle.model_state.specs.declared.step.Place.{Place}
 use Rattle.model_state.specs.declared.step.Place.TheVariants.{Root, Inside}

@@ -1,6 +1,6 @@
 -- Changes of the places of elements, and of the lists of the places with them.
 use Rattle.std.proofs.Common.{◌≡◌, ℕ, Bool, true, false, cond, List, [], ◌∷◌, refl, sym, ap, subst, ◌∙◌, map, length, ◌+◌, suc, arith}
-use Rattle.std.specs.Prelude.{Option, None, Some, is_some, unwrap_or}
+use Rattle.std.specs.Prelude.{Option, None, Some, unwrap_or}
 use Rattle.std.specs.Option.{option_map}
 use Rattle.std.specs.List.{filter}
 use Rattle.std.specs.Ordering.{eq_by_cmp}
@@ -12,7 +12,7 @@ use Rattle.std.specs.BTreeMap.{BTreeMap, is_at}
 use Rattle.finite_maps.specs.Maps.{set, tally, count}
 use Rattle.finite_maps.specs.Tables.{table_of}
 use Rattle.finite_maps.proofs.EqualLaws.{apart}
-use Rattle.finite_maps.proofs.MapLaws.{get-set, get-set_same, set_back, set_here}
+use Rattle.finite_maps.proofs.MapLaws.{get-set, set_back, set_here}
 use Rattle.finite_maps.proofs.TableLaws.{get-table_of}
 use Rattle.model_state.specs.declared.step.Place.{Place}
 use Rattle.model_state.specs.declared.step.Placed.{Placed}

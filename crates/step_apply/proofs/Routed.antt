@@ -1,6 +1,6 @@
 -- Changes of the rows, and of the maps that hold them by source and feature.
 use Rattle.std.proofs.Common.{◌≡◌, ℕ, true, false, cond, refl, sym, ap, subst, ◌∙◌, map, length, nat_eq, ◌&&◌}
-use Rattle.std.specs.Prelude.{Option, None, Some, is_some}
+use Rattle.std.specs.Prelude.{Option, None, Some}
 use Rattle.std.specs.declared.cmp.Ordering.{Ordering}
 use Rattle.std.specs.declared.cmp.Ordering.TheVariants.{Equal}
 use Rattle.std.specs.List.{filter}
@@ -15,7 +15,7 @@ use Rattle.finite_maps.specs.Maps.{set, count}
 use Rattle.finite_maps.specs.Tables.{table}
 use Rattle.finite_maps.proofs.Cases.{not_so, true_false}
 use Rattle.finite_maps.proofs.EqualLaws.{text_equality, nat_equality, and_first, and_second}
-use Rattle.finite_maps.proofs.MapLaws.{get-set, get-set_same, set_back, same_key}
+use Rattle.finite_maps.proofs.MapLaws.{get-set, set_back, same_key}
 use Rattle.finite_maps.proofs.TableLaws.{get-table}
 use Rattle.model_state.specs.Keys.{IdBytes, RowKey, id_cmp, row_cmp}
 use Rattle.model_state.specs.Listing.{is_of, row_entry}

@@ -10,7 +10,6 @@ use Rattle.model_state.specs.declared.step.Place.{Place}
 use Rattle.model_state.specs.declared.step.Place.TheVariants.{Root, Inside}
 use Rattle.model_state.specs.declared.step.Placed.{Placed}
 use Rattle.model_state.specs.Keys.{IdBytes, RowKey, id_cmp, row_cmp}
-use Rattle.model_state.specs.State.{place_eq}
 use Rattle.ranked_lists.specs.Ranks.{stood}
 use Rattle.step_apply.specs.Spots.{Members}
 use Rattle.step_apply.specs.declared.groups.Groups.{Groups}

@@ -1,4 +1,4 @@
-use Rattle.std.proofs.Common.{◌≡◌, subst, ap, ◌∙◌}
+use Rattle.std.proofs.Common.{◌≡◌, subst, ◌∙◌}
 use Rattle.std.specs.Prelude.{OnOk, Some}
 use Rattle.std.specs.FinMap.{from_entries}
 use Rattle.finite_maps.specs.Maps.{set}
