@@ -18,19 +18,23 @@ rows_are meta ts ms found view left right n v is l r size long =
     let all = v ∙ is in
     λ i. rows ((l ∙ (λ t. take (long t) (all t))) i) ((r ∙ (λ t. drop (long t) (all t))) i) ((size ∙ long) i)
 
-pub pairs_open : (meta : Meta) (ts ms : List Operation) (i : ℕ) (found whole : List (ℕ × ℕ)) (a : Operation) → i < length ts → a ≡ get_or ts i a → found ++ pairs_from meta i (drop i ts) ms ≡ whole
+pairs_open : (meta : Meta) (ts ms : List Operation) (i : ℕ) (found whole : List (ℕ × ℕ)) (a : Operation) → i < length ts → a ≡ get_or ts i a → found ++ pairs_from meta i (drop i ts) ms ≡ whole
     → found ++ (pairs_with meta i a 0 ms ++ pairs_from meta (suc i) (drop (suc i) ts) ms) ≡ whole
 pairs_open meta ts ms i found whole a low is h = ap (λ os. found ++ pairs_from meta i os ms) (sym (drop-cons ts i a low ∙ ap (λ x. x ∷ drop (suc i) ts) (sym is))) ∙ h
 
-pub pairs_shut : (meta : Meta) (ts ms : List Operation) (i k : ℕ) (found whole : List (ℕ × ℕ)) → i < length ts → length ms ≤ k
-    → ((a : Operation) → a ≡ get_or ts i a → found ++ (pairs_with meta i a k (drop k ms) ++ pairs_from meta (suc i) (drop (suc i) ts) ms) ≡ whole)
-    → found ++ pairs_from meta (i + 1) (drop (i + 1) ts) ms ≡ whole
-pairs_shut meta ts ms i k found whole low high h =
+-- those of one operation more come after the others
+pub pairs_further : (meta : Meta) (ts ms : List Operation) (i : ℕ) (found new whole : List (ℕ × ℕ)) → i < length ts
+    → ((a : Operation) (rest : List (ℕ × ℕ)) → a ≡ get_or ts i a → new ++ rest ≡ found ++ (pairs_with meta i a 0 ms ++ rest))
+    → found ++ pairs_from meta i (drop i ts) ms ≡ whole → new ++ pairs_from meta (i + 1) (drop (i + 1) ts) ms ≡ whole
+pairs_further meta ts ms i found new whole low more h =
     let p = at_place ts i low in
+    let is : p.0 ≡ get_or ts i p.0 = sym (get_or_from_slice_get ts i p.0 p.0 p.1) in
     let e : i + 1 ≡ suc i = omega arith in
-    ap (λ n. found ++ pairs_from meta n (drop n ts) ms) e
-    ∙ sym (ap (λ os. found ++ (pairs_with meta i p.0 k os ++ pairs_from meta (suc i) (drop (suc i) ts) ms)) (drop_past ms k high))
-    ∙ h p.0 (sym (get_or_from_slice_get ts i p.0 p.0 p.1))
+    ap (λ n. new ++ pairs_from meta n (drop n ts) ms) e ∙ more p.0 (pairs_from meta (suc i) (drop (suc i) ts) ms) is ∙ pairs_open meta ts ms i found whole p.0 low is h
+
+-- no pair is left where no operation of mine is
+pub with_end : (meta : Meta) (i k : ℕ) (a : Operation) (ms : List Operation) (found rest whole : List (ℕ × ℕ)) → length ms ≤ k → found ++ (pairs_with meta i a k (drop k ms) ++ rest) ≡ whole → found ++ rest ≡ whole
+with_end meta i k a ms found rest whole high h = sym (ap (λ os. found ++ (pairs_with meta i a k os ++ rest)) (drop_past ms k high)) ∙ h
 
 pairs_next : (meta : Meta) (ms : List Operation) (i k : ℕ) (found rest whole : List (ℕ × ℕ)) (a b : Operation) (t : Bool) → k < length ms → b ≡ get_or ms k b → interferes meta a b ≡ t → found ++ (pairs_with meta i a k (drop k ms) ++ rest) ≡ whole
     → cond t (found ++ (i, k) ∷ []) found ++ (pairs_with meta i a (k + 1) (drop (k + 1) ms) ++ rest) ≡ whole

@@ -1,5 +1,5 @@
 //! The buckets, by the labels of the operations.
-ghost use Rattle.std.specs.Prelude.{◌≡◌, ◌++◌, IfOk, length};
+ghost use Rattle.std.specs.Prelude.{◌≡◌, ◌+◌, ◌++◌, IfOk, OnOk, length};
 ghost use Rattle.footprint.specs.Buckets.{rows, buckets};
 ghost use Rattle.bucket_laws.specs.Classes.{AreClasses};
 ghost use Rattle.bucket_laws.specs.Order.{InOrder};
@@ -10,20 +10,35 @@ use footprint::{Bucket, Buckets, prints_of, put_prints};
 use model_state::Package;
 use std::alloc::{AllocError, Global};
 
+/// The component of a label comes after others, where it has operations of both sides.
+fn put_row(
+    alloc: Global,
+    n: usize,
+    theirs: &[u64],
+    mine: &[u64],
+    found: &mut List<Bucket>,
+) -> Result<(), AllocError>
+    requires { found.old ≡ rows theirs.now mine.now n }
+    ensures { OnOk result (found.new ≡ rows theirs.now mine.now (n + 1)) }
+{
+    let left = places_of(alloc, n as u64, theirs)?;
+    let right = places_of(alloc, n as u64, mine)?;
+    if left.len() > 0 && right.len() > 0 {
+        found.push(Bucket {
+            theirs: left,
+            mine: right,
+        })?;
+    }
+    Ok(())
+}
+
 /// The components with operations of both sides, by the labels of the two sides.
 fn rows_of(alloc: Global, theirs: &[u64], mine: &[u64]) -> Result<List<Bucket>, AllocError>
     ensures { IfOk result (λ bs. bs ≡ rows theirs.now mine.now (length theirs.now)) }
 {
     let mut found = List::new(alloc);
     for n in 0..theirs.len() {
-        let left = places_of(alloc, n as u64, theirs)?;
-        let right = places_of(alloc, n as u64, mine)?;
-        if left.len() > 0 && right.len() > 0 {
-            found.push(Bucket {
-                theirs: left,
-                mine: right,
-            })?;
-        }
+        put_row(alloc, n, theirs, mine, &mut found)?;
     }
     Ok(found)
 }
