@@ -1,17 +1,19 @@
 -- What was answered to the choices of an update and of a merge.
-use Rattle.std.proofs.Common.{◌≡◌, ◌≢◌, ℕ, true, false, List, [], Option, None, Some, refl, sym, ◌∙◌, subst}
+use Rattle.std.proofs.Common.{◌≡◌, ◌≢◌, ℕ, true, false, List, [], Option, None, Some, refl, sym, subst}
 use Rattle.std.specs.Prelude.{IfNone, IfSome, unwrap_or}
 use Rattle.std.specs.Fmt.{decimal}
 use Rattle.std.proofs.lemmas.Bool.{ne_eqb}
 use Rattle.ecore_meta.specs.Meta.{Meta}
 use Rattle.footprint.specs.declared.bucket.Bucket.{Bucket}
 use Rattle.history_tree.specs.History.{head}
+use Rattle.history_tree.proofs.Heads.{same_number}
 use Rattle.merge_plans.specs.Choices.{are_choices}
 use Rattle.op_form.specs.declared.event.Event.TheVariants.{Merge, Update}
 use Rattle.plain_repository.specs.Answers as plain
 use Rattle.plain_repository.specs.Answers.{told, with_room}
 use Rattle.plain_repository.specs.Choices.{chosen}
-use Rattle.plain_repository.specs.Merging.{decide_update, has_theirs, merge_of, update_buckets}
+use Rattle.plain_repository.specs.Events.{playable_with}
+use Rattle.plain_repository.specs.Merging.{decide_update, has_theirs, merge_of, update_buckets, update_to}
 use Rattle.plain_repository.specs.State.{State, Workspace, is_open, workspace_of}
 use Rattle.repo_core.specs.Decisions.{CanMakeIt, seen}
 use Rattle.repo_core.specs.declared.deciding.answers.Decision.{Decision}
@@ -35,8 +37,18 @@ passed_on o rows choices x is passed = subst (λ (y : Option Decision). IfNone y
 pub passed_fit : (o : Option Decision) (rows : List Bucket) (choices : Option (List ℕ)) → o ≡ None → IfNone o (are_choices (unwrap_or choices []) rows ≡ true) → are_choices (unwrap_or choices []) rows ≡ true
 passed_fit o rows choices is fit = subst (λ (y : Option Decision). IfNone y (are_choices (unwrap_or choices []) rows ≡ true)) is fit
 
--- ---- what an update is answered, whose choices fit and whose base isn't the head
-pub update_goes : (s : State) (meta : Meta) (ws : ℕ) (w : Workspace) (choices : Option (List ℕ)) → workspace_of s ws ≡ Some w → is_open (Some w) ≡ false → w.base ≢ head s.history w.branch
-    → ((otherwise : plain.Decision) → chosen (update_buckets meta s.history w) choices otherwise ≡ otherwise) → with_room s [] (decimal (head s.history w.branch)) (Update ws (unwrap_or choices [])) ≡ decide_update s meta ws choices
+-- ---- what an update is answered, where no composite is open
+pub update_goes : (s : State) (meta : Meta) (ws : ℕ) (w : Workspace) (choices : Option (List ℕ)) → workspace_of s ws ≡ Some w → is_open (Some w) ≡ false
+    → chosen (update_buckets meta s.history w) choices (update_to s ws w (unwrap_or choices []) (head s.history w.branch)) ≡ decide_update s meta ws choices
 unfolding decide_update
-update_goes s meta ws w choices there closed other passed = sym (rw there (rw closed (passed _ ∙ rw (ne_eqb w.base (head s.history w.branch) other) refl)))
+update_goes s meta ws w choices there closed = sym (rw (there, closed) refl)
+
+pub update_none : (s : State) (ws : ℕ) (w : Workspace) (letters : List ℕ) (version : ℕ) → w.base ≡ version → update_to s ws w letters version ≡ told [] (decimal version)
+update_none s ws w letters version same = rw (same, same_number version) refl
+
+pub update_some : (s : State) (ws : ℕ) (w : Workspace) (letters : List ℕ) (version : ℕ) → w.base ≢ version → update_to s ws w letters version ≡ with_room s [] (decimal version) (Update ws letters)
+update_some s ws w letters version other = rw (ne_eqb w.base version other) refl
+
+pub update_could : (s : State) (meta : Meta) (ws : ℕ) (letters : List ℕ) (w : Workspace) → s.meta ≡ Some meta → workspace_of s ws ≡ Some w → is_open (Some w) ≡ false → w.base ≢ head s.history w.branch
+    → are_choices letters (update_buckets meta s.history w) ≡ true → playable_with s s.meta (Update ws letters) ≡ true
+update_could s meta ws letters w begun there shut other fit = rw (begun, there, shut, ne_eqb w.base (head s.history w.branch) other, fit) refl

@@ -1,6 +1,6 @@
 -- Which events could be made, by what was found about them.
 use Rattle.std.proofs.Common.{◌≡◌, ℕ, ◌<◌, ◌∷◌, List, [], Bool, true, false, length, Option, Some, None, is_some, Ok, refl}
-use Rattle.std.specs.Prelude.{IfSome, slice_get, nat_eq, ◌&&◌, ◌||◌}
+use Rattle.std.specs.Prelude.{IfSome, is_ok, slice_get, nat_eq, ◌&&◌, ◌||◌}
 use Rattle.std.specs.Option.{option_map_or}
 use Rattle.std.proofs.lemmas.Bool.{lt-ltb}
 use Rattle.ecore_meta.specs.Meta.{Meta}
@@ -21,8 +21,8 @@ use Rattle.plain_repository.specs.Edits.{takes}
 use Rattle.plain_repository.specs.Events.{playable_with}
 use Rattle.plain_repository.specs.Specs.{named}
 
-pub init_could : (s : State) (meta : Option Meta) (text : List ℕ) (read : Meta) → meta ≡ None → metamodel_of text ≡ Ok read → playable_with s meta (Init text) ≡ true
-init_could s meta text read none is = rw (none, is) refl
+pub init_could : (s : State) (meta : Option Meta) (text : List ℕ) → meta ≡ None → is_ok (metamodel_of text) ≡ true → playable_with s meta (Init text) ≡ true
+init_could s meta text none is = rw none is
 
 pub edit_could : (s : State) (m : Option Meta) (meta : Meta) (ws : ℕ) (w : Workspace) (o : Operation) → m ≡ Some meta → workspace_of s ws ≡ Some w → is_some (fold_package meta (model_of meta s.history w) (o ∷ [])) ≡ true
     → playable_with s m (Edit ws (o ∷ [])) ≡ true

@@ -11,6 +11,9 @@ use Rattle.history_tree.specs.States.{package_at}
 use Rattle.history_tree.proofs.Greatest.{of_among}
 use Rattle.merge_plans.specs.Pairs.{first_interfering, have_pair}
 use Rattle.op_form.specs.declared.event.Event.TheVariants.{Edit}
+use Rattle.op_reading.specs.Events.{whole_of}
+use Rattle.op_reading.specs.Packages.{package_at as package_form_at}
+use Rattle.plain_repository.specs.Applying.{apply_read, decide_apply}
 use Rattle.plain_repository.specs.State.{State, Workspace, model_of, workspace_of, is_open}
 use Rattle.plain_repository.specs.Edits.{can_follow}
 use Rattle.plain_repository.specs.Events.{playable_with}
@@ -39,3 +42,8 @@ pub applied_could : (s : State) (meta : Meta) (ws : ℕ) (w : Workspace) → s.m
 applied_could s meta ws w begun there shut [] taken some = absurd (some refl)
 applied_could s meta ws w begun there shut (o ∷ os) taken some =
     edit_by s meta ws w (o ∷ os) begun there (λ i. takes_closed w.composite shut (o ∷ os) i && taken i)
+
+-- what is answered to the bytes of a package, where no composite is open
+pub apply_goes : (s : State) (meta : Meta) (ws : ℕ) (w : Workspace) (bytes : List ℕ) → workspace_of s ws ≡ Some w → is_open (Some w) ≡ false → apply_read s meta ws w (whole_of package_form_at bytes) ≡ decide_apply s meta ws bytes
+unfolding decide_apply
+apply_goes s meta ws w bytes there closed = sym (rw (there, closed) refl)

@@ -1,10 +1,12 @@
 //! What a repository holds, for those who look at it and send it no command.
-ghost use Rattle.std.specs.Prelude.{◌≡◌, IfOk};
+ghost use Rattle.std.specs.Prelude.{◌≡◌, IfOk, length};
+ghost use Rattle.model_state.specs.Listing.{ids};
 ghost use Rattle.version_states.specs.Cached.{MayUse, Uses};
 ghost use Rattle.repo_state.specs.Cached.{HasForms};
 ghost use Rattle.repo_core.specs.Counting.{AreCounts, element_count};
 
 use crate::versions::version_state;
+use model_graph::Graph;
 use model_state::Look;
 use page_pool::Pool;
 use repo_state::Repo;
@@ -47,6 +49,14 @@ pub fn counts_of(repo: &Repo) -> Counts
     }
 }
 
+/// How many elements a model has.
+fn id_count(alloc: Global, model: &Graph) -> Result<u64, AllocError>
+    ensures { IfOk result (λ n. n ≡ length (ids model.now)) }
+{
+    let ids = model.ids(alloc)?;
+    Ok(ids.len() as u64)
+}
+
 /// How many elements the state at trunk's head has; none before there is a metamodel.
 #[tactic(auto, using(version_states::proofs::Caching::uses_none))]
 pub fn elements_at_head(
@@ -68,6 +78,5 @@ pub fn elements_at_head(
     begun.history.whole();
     let head = begun.history.head(TRUNK);
     let model = version_state(alloc, cache, pool, repo, begun, head)?;
-    let ids = model.graph().ids(alloc)?;
-    Ok(ids.len() as u64)
+    id_count(alloc, model.graph())
 }

@@ -36,7 +36,7 @@ use local::{decide_discard, decide_undo};
 use merging::{decide_merge, decide_update};
 use metamodels::decide_init;
 use model_graph::Graph;
-use models::{model_for, name_creation, reads_version};
+use models::{name_creation, reads_version, wanted};
 use page_pool::Pool;
 use recording::{decide_edit, decide_import};
 use repo_state::Repo;
@@ -111,12 +111,9 @@ fn decide_command(
     if reads_version(command) {
         return decide_reading(alloc, cache, pool, repo, command, block);
     }
-    let Some(ws) = model_for(command) else {
+    let Some(ws) = wanted(repo, command) else {
         return decide_on(alloc, repo, command, block, None);
     };
-    if repo.workspace(ws).is_none() {
-        return decide_on(alloc, repo, command, block, None);
-    }
     let mut model = repo.take_model(alloc, cache, pool, ws)?;
     let decision = decide_over(alloc, repo, ws, command, block, &mut model);
     repo.keep_model(ws, model);

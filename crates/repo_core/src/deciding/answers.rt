@@ -1,10 +1,11 @@
 //! A decision: the reply to a command, and the event that it makes.
-ghost use Rattle.std.specs.Prelude.{◌≡◌, IfOk, Some, true};
+ghost use Rattle.std.specs.Prelude.{◌≡◌, ℕ, [], IfErr, IfOk, IfSome, List, Some, true};
 ghost use Rattle.std.specs.Fmt.{decimal};
 ghost use Rattle.plain_repository.specs.State.{State};
+ghost use Rattle.plain_repository.specs.Answers as plain;
 ghost use Rattle.plain_repository.specs.Answers.{accepted, refused, refused_with, told, with_room};
 ghost use Rattle.plain_repository.specs.Events.{playable_with};
-ghost use Rattle.repo_core.specs.Decisions.{seen, CanMakeIt};
+ghost use Rattle.repo_core.specs.Decisions.{seen, CanMake, CanMakeIt};
 
 use commit_journal::{Fit, fits};
 use ecore_meta::{List, Text};
@@ -77,6 +78,37 @@ fn accept(lines: List<Text>, words: Text, made: Made) -> Decision
     }
 }
 
+/// The refusal as an answer, or out of memory where there is none.
+pub(crate) fn refuse_or_fail(alloc: Global, fault: Option<Refusal>) -> Result<Decision, AllocError>
+    ensures decision { (x : plain.Decision) → IfSome fault (λ refusal. refused refusal ≡ x) → IfOk result (λ d. seen d ≡ x) }
+    ensures made { (s : State) → IfOk result (λ d. CanMakeIt s d.made) }
+{
+    match fault {
+        Some(refusal) => Ok(refuse(alloc, refusal)),
+        None => Err(AllocError),
+    }
+}
+
+/// An answer of data lines alone, which changes nothing.
+pub(crate) fn tell_lines(alloc: Global, lines: List<Text>) -> Result<Decision, AllocError>
+    ensures decision { IfOk result (λ d. seen d ≡ told lines []) }
+    ensures made { (s : State) → IfOk result (λ d. CanMakeIt s d.made) }
+{
+    match Text::new(alloc, "") {
+        Ok(words) => Ok(tell(lines, words)),
+        Err(fault) => Err(fault),
+    }
+}
+
+/// A number as an answer, which changes nothing.
+pub(crate) fn tell_number(alloc: Global, n: u64) -> Result<Decision, AllocError>
+    ensures decision { IfOk result (λ d. seen d ≡ told [] (decimal n)) }
+    ensures made { (s : State) → IfOk result (λ d. CanMakeIt s d.made) }
+{
+    let words = number_words(alloc, n)?;
+    Ok(tell(List::new(alloc), words))
+}
+
 /// A number in decimal digits.
 pub(crate) fn number_words(alloc: Global, n: u64) -> Result<Text, AllocError>
     ensures { IfOk result (λ words. words ≡ decimal n) }
@@ -85,8 +117,33 @@ pub(crate) fn number_words(alloc: Global, n: u64) -> Result<Text, AllocError>
     Text::new(alloc, text.as_str())
 }
 
-/// Makes an event, where the history and the journal have room. Of one that has no encoding it answers out of memory.
+/// The bytes of an event, where the history and the journal have room for it; else the refusal. Of one without an encoding it is none.
 #[tactic(auto, unfolding(plain_repository::specs::Answers::with_room, plain_repository::specs::Events::playable))]
+fn form_of(alloc: Global, repo: &Repo, event: &Event) -> Result<Vec<u8>, Option<Refusal>>
+    requires could { playable_with repo.now repo.now.meta event.now ≡ true }
+    ensures accepted { IfOk result (λ form. (lines : List (List ℕ)) (words : List ℕ) → accepted lines words event.now ≡ with_room repo.now lines words event.now) }
+    ensures made { IfOk result (λ form. CanMake repo.now (record { event = event.now; form = form })) }
+    ensures refused { IfErr result (λ fault. (lines : List (List ℕ)) (words : List ℕ) → IfSome fault (λ refusal. refused refusal ≡ with_room repo.now lines words event.now)) }
+{
+    if repo.is_full() {
+        return Err(Some(Refusal::HistoryFull));
+    }
+    // Such an event has a text or a list of 2^32 items, for which no memory is large enough.
+    if !has_encoding(event) {
+        return Err(None);
+    }
+    let form = match encode_event(alloc, event) {
+        Ok(form) => form,
+        Err(_) => return Err(None),
+    };
+    match fits(repo.end(), form.len() as u64) {
+        Fit::Yes => Ok(form),
+        Fit::TooLarge => Err(Some(Refusal::TooLarge)),
+        Fit::Full => Err(Some(Refusal::JournalFull)),
+    }
+}
+
+/// Makes an event, where the history and the journal have room. Of one that has no encoding it answers out of memory.
 pub(crate) fn with_room(
     alloc: Global,
     repo: &Repo,
@@ -98,17 +155,51 @@ pub(crate) fn with_room(
     ensures decision { IfOk result (λ d. seen d ≡ with_room repo.now lines words event) }
     ensures made { IfOk result (λ d. CanMakeIt repo.now d.made) }
 {
-    if repo.is_full() {
-        return Ok(refuse(alloc, Refusal::HistoryFull));
+    match form_of(alloc, repo, &event) {
+        Ok(form) => Ok(accept(lines, words, Made { event, form })),
+        Err(fault) => refuse_or_fail(alloc, fault),
     }
-    // Such an event has a text or a list of 2^32 items, for which no memory is large enough.
-    if !has_encoding(&event) {
-        return Err(AllocError);
+}
+
+/// The same, where there was memory for the words.
+pub(crate) fn with_words(
+    alloc: Global,
+    repo: &Repo,
+    lines: List<Text>,
+    words: Result<Text, AllocError>,
+    event: Event,
+) -> Result<Decision, AllocError>
+    requires could { playable_with repo.now repo.now.meta event ≡ true }
+    ensures decision { (x : List ℕ) → IfOk words (λ w. w ≡ x) → IfOk result (λ d. seen d ≡ with_room repo.now lines x event) }
+    ensures made { IfOk result (λ d. CanMakeIt repo.now d.made) }
+{
+    match words {
+        Ok(text) => with_room(alloc, repo, lines, text, event),
+        Err(fault) => Err(fault),
     }
-    let form = encode_event(alloc, &event)?;
-    match fits(repo.end(), form.len() as u64) {
-        Fit::Yes => Ok(accept(lines, words, Made { event, form })),
-        Fit::TooLarge => Ok(refuse(alloc, Refusal::TooLarge)),
-        Fit::Full => Ok(refuse(alloc, Refusal::JournalFull)),
-    }
+}
+
+/// Makes an event that is answered without data lines and words.
+pub(crate) fn with_event(alloc: Global, repo: &Repo, event: Event) -> Result<Decision, AllocError>
+    requires could { playable_with repo.now repo.now.meta event ≡ true }
+    ensures decision { IfOk result (λ d. seen d ≡ with_room repo.now [] [] event) }
+    ensures made { IfOk result (λ d. CanMakeIt repo.now d.made) }
+{
+    let words = Text::new(alloc, "");
+    with_words(alloc, repo, List::new(alloc), words, event)
+}
+
+/// Makes an event that is answered a number.
+pub(crate) fn with_number(
+    alloc: Global,
+    repo: &Repo,
+    n: u64,
+    event: Event,
+) -> Result<Decision, AllocError>
+    requires could { playable_with repo.now repo.now.meta event ≡ true }
+    ensures decision { IfOk result (λ d. seen d ≡ with_room repo.now [] (decimal n) event) }
+    ensures made { IfOk result (λ d. CanMakeIt repo.now d.made) }
+{
+    let words = number_words(alloc, n);
+    with_words(alloc, repo, List::new(alloc), words, event)
 }

@@ -1,23 +1,31 @@
 //! The commands `apply` and `revert`.
-ghost use Rattle.std.specs.Prelude.{◌≡◌, ◌≢◌, ◌<◌, IfOk, Some, false, length, true};
+ghost use Rattle.std.specs.Prelude.{◌≡◌, ◌≢◌, ◌<◌, ◌^◌, ℕ, IfOk, IfSome, List, Result, Some, false, length, true};
+ghost use Rattle.std.specs.Option.{option_map};
 ghost use Rattle.history_tree.specs.History.{path};
 ghost use Rattle.history_tree.specs.MergeBase.{is_among};
 ghost use Rattle.history_tree.specs.Since.{path_after};
 ghost use Rattle.history_tree.specs.States.{package_at};
 ghost use Rattle.merge_plans.specs.Pairs.{first_interfering};
+ghost use Rattle.model_state.specs.Packages.{steps_all};
+ghost use Rattle.model_state.specs.declared.operation.Operation.{Operation};
+ghost use Rattle.model_state.specs.Steps.{first_stop};
 ghost use Rattle.op_form.specs.declared.event.Event.TheVariants.{Edit};
-ghost use Rattle.plain_repository.specs.Applying.{decide_apply, decide_revert, taken_out, with_operations};
+ghost use Rattle.plain_repository.specs.Applying.{applied, apply_read, decide_apply, decide_revert, taken_out, with_operations};
 ghost use Rattle.plain_repository.specs.Events.{playable_with};
-ghost use Rattle.plain_repository.specs.State.{is_open, workspace_of};
+ghost use Rattle.plain_repository.specs.State.{State, is_open, model_of, workspace_of};
+ghost use Rattle.plain_repository.specs.State as plain;
+ghost use Rattle.plain_repository.specs.Answers.{refused};
+ghost use Rattle.ecore_meta.specs.Meta.{Meta};
+ghost use Rattle.op_reading.specs.Given.{IsFault};
 ghost use Rattle.version_states.specs.Cached.{MayUse, Uses};
 ghost use Rattle.repo_state.specs.Cached.{HasForms};
 ghost use Rattle.repo_core.specs.Decisions.{seen, CanMakeIt};
 ghost use Rattle.repo_state.specs.Keeping.{plain_of};
 
-use crate::deciding::answers::{Decision, refuse, tell, with_room};
+use crate::deciding::answers::{Decision, refuse, refuse_or_fail, tell_lines, with_event};
 use crate::deciding::naming::unknown;
 use crate::versions::model_anew;
-use ecore_meta::{List, Text};
+use ecore_meta::List;
 use merge_plans::{copy_operations, first_interfering, have_pair, path_after};
 use model_state::Package;
 use op_form::{Event, reverse};
@@ -61,17 +69,76 @@ pub(crate) fn decide_apply(
     if workspace.is_open() {
         return Ok(refuse(alloc, Refusal::CompositeOpen));
     }
-    let package = match decode(alloc, bytes) {
-        Ok(package) => package,
-        Err(FormFault::NotForm { at }) => return Ok(refuse(alloc, Refusal::NotForm { at })),
-        Err(FormFault::Memory) => return Err(AllocError),
-    };
+    match decode(alloc, bytes) {
+        Ok(package) => apply_package(alloc, cache, pool, repo, begun, ws, workspace, package),
+        Err(fault) => refuse_or_fail(alloc, unread(fault)),
+    }
+}
+
+/// The refusal of bytes that are no package; out of memory is none.
+fn unread(fault: FormFault) -> Option<Refusal>
+    ensures { (read : Result (List Operation) FormFault) (s : State) (meta : Meta) (ws : ℕ) (w : plain.Workspace) → IsFault fault read → IfSome result (λ refusal. refused refusal ≡ apply_read s meta ws w read) }
+{
+    match fault {
+        FormFault::NotForm { at } => Some(Refusal::NotForm { at }),
+        FormFault::Memory => None,
+    }
+}
+
+/// The operations of a package are recorded, where all their steps can be taken.
+fn apply_package(
+    alloc: Global,
+    cache: &mut Cache,
+    pool: &mut Pool,
+    repo: &Repo,
+    begun: &Begun,
+    ws: u32,
+    workspace: &Workspace,
+    package: Package,
+) -> Result<Decision, AllocError>
+    requires meta { repo.now.meta ≡ Some begun.now.meta }
+    requires history { repo.now.history ≡ begun.now.history.history }
+    requires there { workspace_of repo.now ws ≡ Some (plain_of workspace.now) }
+    requires closed { is_open (Some (plain_of workspace.now)) ≡ false }
+    requires few { length (steps_all «package») < 2 ^ 64 }
+    requires usable { MayUse pool.old cache.old }
+    requires forms { HasForms repo.now pool.old cache.old }
+    ensures decision { IfOk result (λ d. seen d ≡ applied repo.now ws «package» (first_stop begun.now.meta (model_of begun.now.meta repo.now.history (plain_of workspace.now)) (steps_all «package»))) }
+    ensures made { IfOk result (λ d. CanMakeIt repo.now d.made) }
+    ensures uses { Uses pool.old pool.new cache.old cache.new }
+    ensures forms { HasForms repo.now pool.new cache.new }
+{
+    match stop_of(alloc, cache, pool, repo, begun, ws, workspace, &package) {
+        Ok(None) => with_operations(alloc, repo, ws, package),
+        Ok(Some(step)) => Ok(refuse(alloc, Refusal::NotApplicable { step })),
+        Err(fault) => Err(fault),
+    }
+}
+
+/// The number of the first step of a package that can't be taken on a workspace.
+fn stop_of(
+    alloc: Global,
+    cache: &mut Cache,
+    pool: &mut Pool,
+    repo: &Repo,
+    begun: &Begun,
+    ws: u32,
+    workspace: &Workspace,
+    package: &Package,
+) -> Result<Option<u64>, AllocError>
+    requires meta { repo.now.meta ≡ Some begun.now.meta }
+    requires history { repo.now.history ≡ begun.now.history.history }
+    requires there { workspace_of repo.now ws ≡ Some (plain_of workspace.now) }
+    requires few { length (steps_all «package».now) < 2 ^ 64 }
+    requires usable { MayUse pool.old cache.old }
+    requires forms { HasForms repo.now pool.old cache.old }
+    ensures stop { IfOk result (λ found. found ≡ option_map (λ x. x.at) (first_stop begun.now.meta (model_of begun.now.meta repo.now.history (plain_of workspace.now)) (steps_all «package».now))) }
+    ensures uses { Uses pool.old pool.new cache.old cache.new }
+    ensures forms { HasForms repo.now pool.new cache.new }
+{
     begun.meta.sound();
     let mut model = model_anew(alloc, cache, pool, repo, begun, ws, workspace)?;
-    match stop_in(&mut model, &begun.meta, package.as_slice())? {
-        Some(step) => Ok(refuse(alloc, Refusal::NotApplicable { step })),
-        None => with_operations(alloc, repo, ws, package),
-    }
+    stop_in(&mut model, &begun.meta, package.as_slice())
 }
 
 /// Makes an event of operations that are recorded; where there is none, nothing changes.
@@ -85,17 +152,10 @@ fn with_operations(
     ensures decision { IfOk result (λ d. seen d ≡ with_operations repo.now ws «package») }
     ensures made { IfOk result (λ d. CanMakeIt repo.now d.made) }
 {
-    let words = Text::new(alloc, "")?;
     if package.len() == 0 {
-        return Ok(tell(List::new(alloc), words));
+        return tell_lines(alloc, List::new(alloc));
     }
-    with_room(
-        alloc,
-        repo,
-        List::new(alloc),
-        words,
-        Event::Edit { ws, package },
-    )
+    with_event(alloc, repo, Event::Edit { ws, package })
 }
 
 /// `revert WS VERSION`: the reversal of what the version did is recorded, where nothing later interferes with it.

@@ -1,15 +1,19 @@
 //! The commands `checkout` and `drop`, and the text of a version.
-ghost use Rattle.std.specs.Prelude.{◌≡◌, ◌≢◌, IfOk, None, OnOk, Some};
-ghost use Rattle.plain_repository.specs.Checkouts.{decide_checkout, decide_drop};
+ghost use Rattle.std.specs.Prelude.{◌≡◌, ◌≢◌, ◌<◌, IfOk, None, OnOk, Some, length, true};
+ghost use Rattle.op_form.specs.declared.event.Event.TheVariants.{Checkout};
+ghost use Rattle.plain_repository.specs.Answers.{with_room};
+ghost use Rattle.plain_repository.specs.Checkouts.{checkout_words, decide_checkout, decide_drop};
+ghost use Rattle.plain_repository.specs.Events.{playable_with};
 ghost use Rattle.plain_repository.specs.Specs.{named};
 ghost use Rattle.version_states.specs.Cached.{MayUse, Uses};
 ghost use Rattle.repo_core.specs.Shown.{FoundFirst};
 ghost use Rattle.repo_state.specs.Cached.{HasForms};
 ghost use Rattle.repo_core.specs.Decisions.{seen, CanMakeIt};
 
-use crate::deciding::answers::{Decision, refuse, with_room};
+use crate::deciding::answers::{Decision, refuse, with_event, with_words};
 use crate::deciding::naming::{find, text_of, unknown};
 use ecore_meta::{List, Text};
+use history_tree::Found;
 use op_form::Event;
 use page_pool::Pool;
 use repo_state::{Begun, Repo};
@@ -43,15 +47,45 @@ pub(crate) fn decide_checkout(
         Err(fault) => return Ok(refuse(alloc, unknown(fault))),
     };
     let lines = text_of(alloc, cache, pool, repo, begun, found.version)?;
+    check_out(alloc, repo, begun, found, lines)
+}
+
+/// The words of a checkout: the number of the workspace, the version, and the branch's name.
+fn checkout_words(
+    alloc: Global,
+    repo: &Repo,
+    begun: &Begun,
+    found: Found,
+) -> Result<Text, AllocError>
+    requires history { repo.now.history ≡ begun.now.history.history }
+    requires branch { found.branch < length begun.now.history.history.branches }
+    ensures { IfOk result (λ words. words ≡ checkout_words repo.now found) }
+{
     let number = repo.made_workspaces() as u128 + 1;
     let branch = begun.history.branch_name(found.branch);
     let mut words = String::new(alloc);
     write!(words, "{} {} {}", number, found.version, branch)?;
-    let event = Event::Checkout {
-        version: found.version,
-        branch: found.branch,
-    };
-    with_room(alloc, repo, lines, Text::new(alloc, words.as_str())?, event)
+    Text::new(alloc, words.as_str())
+}
+
+/// The answer to a checkout of a version that was found, with its text.
+fn check_out(
+    alloc: Global,
+    repo: &Repo,
+    begun: &Begun,
+    found: Found,
+    lines: List<Text>,
+) -> Result<Decision, AllocError>
+    requires history { repo.now.history ≡ begun.now.history.history }
+    requires branch { found.branch < length begun.now.history.history.branches }
+    requires could { playable_with repo.now repo.now.meta (Checkout found.version found.branch) ≡ true }
+    ensures decision { IfOk result (λ d. seen d ≡ with_room repo.now lines (checkout_words repo.now found) (Checkout found.version found.branch)) }
+    ensures made { IfOk result (λ d. CanMakeIt repo.now d.made) }
+{
+    let (version, branch) = (found.version, found.branch);
+    let words = checkout_words(alloc, repo, begun, found);
+    let event = Event::Checkout { version, branch };
+    with_words(alloc, repo, lines, words, event)
 }
 
 /// `drop WS`.
@@ -64,11 +98,5 @@ pub(crate) fn decide_drop(alloc: Global, repo: &Repo, ws: u32) -> Result<Decisio
     if repo.workspace(ws).is_none() {
         return Ok(refuse(alloc, Refusal::NoWorkspace));
     }
-    with_room(
-        alloc,
-        repo,
-        List::new(alloc),
-        Text::new(alloc, "")?,
-        Event::Drop { ws },
-    )
+    with_event(alloc, repo, Event::Drop { ws })
 }

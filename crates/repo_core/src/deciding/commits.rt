@@ -4,9 +4,10 @@ ghost use Rattle.plain_repository.specs.Commits.{decide_commit, decide_branch, d
 ghost use Rattle.model_state.specs.Names.{is_name};
 ghost use Rattle.repo_core.specs.Decisions.{seen, CanMakeIt};
 
-use crate::deciding::answers::{Decision, number_words, refuse, with_room};
+use crate::deciding::answers::{Decision, refuse, with_event, with_number};
+use crate::deciding::choosing::text_or_empty;
 use crate::deciding::naming::{find, unknown};
-use ecore_meta::{List, Text};
+use ecore_meta::Text;
 use op_form::Event;
 use repo_state::{Begun, Repo};
 use script_lang::{Refusal, Spec};
@@ -46,13 +47,9 @@ pub(crate) fn decide_commit(
     if !workspace.has_local() {
         return Ok(refuse(alloc, Refusal::NothingLocal));
     }
-    let words = number_words(alloc, begun.history.version_count() as u64)?;
-    let message = match message {
-        None => Text::new(alloc, "")?,
-        Some(message) => message.copy(alloc)?,
-    };
-    let event = Event::Commit { ws, message };
-    with_room(alloc, repo, List::new(alloc), words, event)
+    let message = text_or_empty(alloc, message)?;
+    let number = begun.history.version_count() as u64;
+    with_number(alloc, repo, number, Event::Commit { ws, message })
 }
 
 /// `branch WS NAME`: a branch that starts at the base.
@@ -79,11 +76,8 @@ pub(crate) fn decide_branch(
     if begun.history.branch_named(name.as_str()).is_some() {
         return Ok(refuse(alloc, Refusal::BranchExists));
     }
-    let event = Event::Branch {
-        ws,
-        name: name.copy(alloc)?,
-    };
-    with_room(alloc, repo, List::new(alloc), Text::new(alloc, "")?, event)
+    let name = name.copy(alloc)?;
+    with_event(alloc, repo, Event::Branch { ws, name })
 }
 
 /// `tag NAME SPEC`.
@@ -108,9 +102,7 @@ pub(crate) fn decide_tag(
         Ok(found) => found,
         Err(fault) => return Ok(refuse(alloc, unknown(fault))),
     };
-    let event = Event::Tag {
-        name: name.copy(alloc)?,
-        version: found.version,
-    };
-    with_room(alloc, repo, List::new(alloc), Text::new(alloc, "")?, event)
+    let name = name.copy(alloc)?;
+    let version = found.version;
+    with_event(alloc, repo, Event::Tag { name, version })
 }

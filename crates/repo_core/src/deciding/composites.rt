@@ -4,8 +4,8 @@ ghost use Rattle.plain_repository.specs.Composites.{decide_begin, decide_end};
 ghost use Rattle.model_state.specs.Names.{is_name};
 ghost use Rattle.repo_core.specs.Decisions.{seen, CanMakeIt};
 
-use crate::deciding::answers::{Decision, refuse, with_room};
-use ecore_meta::{List, Text};
+use crate::deciding::answers::{Decision, refuse, with_event};
+use ecore_meta::Text;
 use op_form::Event;
 use repo_state::Repo;
 use script_lang::Refusal;
@@ -30,11 +30,8 @@ pub(crate) fn decide_begin(
     if workspace.is_open() {
         return Ok(refuse(alloc, Refusal::CompositeOpen));
     }
-    let event = Event::Begin {
-        ws,
-        name: name.copy(alloc)?,
-    };
-    with_room(alloc, repo, List::new(alloc), Text::new(alloc, "")?, event)
+    let name = name.copy(alloc)?;
+    with_event(alloc, repo, Event::Begin { ws, name })
 }
 
 /// `end WS`.
@@ -50,11 +47,5 @@ pub(crate) fn decide_end(alloc: Global, repo: &Repo, ws: u32) -> Result<Decision
     if !workspace.is_open() {
         return Ok(refuse(alloc, Refusal::NoComposite));
     }
-    with_room(
-        alloc,
-        repo,
-        List::new(alloc),
-        Text::new(alloc, "")?,
-        Event::End { ws },
-    )
+    with_event(alloc, repo, Event::End { ws })
 }

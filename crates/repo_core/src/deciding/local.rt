@@ -3,8 +3,8 @@ ghost use Rattle.std.specs.Prelude.{◌≡◌, ◌≢◌, IfOk, None};
 ghost use Rattle.plain_repository.specs.Local.{decide_undo, decide_discard};
 ghost use Rattle.repo_core.specs.Decisions.{seen, CanMakeIt};
 
-use crate::deciding::answers::{Decision, refuse, tell, with_room};
-use ecore_meta::{List, Text};
+use crate::deciding::answers::{Decision, refuse, tell_lines, with_event};
+use ecore_meta::List;
 use op_form::Event;
 use repo_state::Repo;
 use script_lang::Refusal;
@@ -26,13 +26,7 @@ pub(crate) fn decide_undo(alloc: Global, repo: &Repo, ws: u32) -> Result<Decisio
     if !workspace.has_operations() {
         return Ok(refuse(alloc, Refusal::NothingLocal));
     }
-    with_room(
-        alloc,
-        repo,
-        List::new(alloc),
-        Text::new(alloc, "")?,
-        Event::Undo { ws },
-    )
+    with_event(alloc, repo, Event::Undo { ws })
 }
 
 /// `discard WS`.
@@ -45,9 +39,8 @@ pub(crate) fn decide_discard(alloc: Global, repo: &Repo, ws: u32) -> Result<Deci
     let Some(workspace) = repo.workspace(ws) else {
         return Ok(refuse(alloc, Refusal::NoWorkspace));
     };
-    let words = Text::new(alloc, "")?;
     if !workspace.is_open() && !workspace.has_local() {
-        return Ok(tell(List::new(alloc), words));
+        return tell_lines(alloc, List::new(alloc));
     }
-    with_room(alloc, repo, List::new(alloc), words, Event::Discard { ws })
+    with_event(alloc, repo, Event::Discard { ws })
 }

@@ -2,14 +2,17 @@
 ghost use Rattle.std.specs.Prelude.{◌≡◌, ◌≢◌, ◌<◌, [], IfOk, Some, false, length, unwrap_or};
 ghost use Rattle.history_tree.specs.History.{head};
 ghost use Rattle.plain_repository.specs.Choices.{chosen};
-ghost use Rattle.plain_repository.specs.Merging.{decide_merge, decide_update, merge_buckets, merge_of};
+ghost use Rattle.plain_repository.specs.Merging.{decide_merge, decide_update, merge_buckets, merge_of, update_buckets, update_to};
 ghost use Rattle.plain_repository.specs.State.{is_open, workspace_of};
 ghost use Rattle.repo_state.specs.Keeping.{plain_of};
+ghost use Rattle.repo_state.specs.Planning.{HaveNumbers, IsMergePlan};
 ghost use Rattle.repo_core.specs.Decisions.{seen, CanMakeIt};
 
-use crate::deciding::answers::{Decision, number_words, refuse, tell, with_room};
+use crate::deciding::answers::{Decision, refuse, tell_number, with_number};
 use crate::deciding::choosing::{refused_choices, text_or_empty};
-use ecore_meta::{List, Text};
+use ecore_meta::Text;
+use footprint::Buckets;
+use merge_plans::Plan;
 use op_form::Event;
 use repo_state::{Begun, Repo, Workspace};
 use script_lang::Refusal;
@@ -37,19 +40,38 @@ pub(crate) fn decide_update(
     }
     repo.orderly();
     let plan = begun.update_plan(alloc, workspace)?;
-    if let Some(refused) = refused_choices(alloc, &plan.buckets, choices)? {
+    decide_update_of(alloc, repo, begun, ws, workspace, &plan.buckets, choices)
+}
+
+/// The same, by the buckets of the update, of a workspace without an open composite.
+fn decide_update_of(
+    alloc: Global,
+    repo: &Repo,
+    begun: &Begun,
+    ws: u32,
+    workspace: &Workspace,
+    buckets: &Buckets,
+    choices: &Option<Text>,
+) -> Result<Decision, AllocError>
+    requires meta { repo.now.meta ≡ Some begun.now.meta }
+    requires history { repo.now.history ≡ begun.now.history.history }
+    requires there { workspace_of repo.now ws ≡ Some (plain_of workspace.now) }
+    requires closed { is_open (Some (plain_of workspace.now)) ≡ false }
+    requires rows { buckets.now.rows ≡ update_buckets begun.now.meta repo.now.history (plain_of workspace.now) }
+    requires places { HaveNumbers buckets.now.rows }
+    requires branch { workspace.now.branch < length begun.now.history.history.branches }
+    ensures decision { IfOk result (λ d. seen d ≡ chosen (update_buckets begun.now.meta repo.now.history (plain_of workspace.now)) choices.now (update_to repo.now ws (plain_of workspace.now) (unwrap_or choices.now []) (head repo.now.history workspace.now.branch))) }
+    ensures made { IfOk result (λ d. CanMakeIt repo.now d.made) }
+{
+    if let Some(refused) = refused_choices(alloc, buckets, choices)? {
         return Ok(refused);
     }
     let head = begun.history.head(workspace.branch);
-    let words = number_words(alloc, head as u64)?;
     if workspace.base == head {
-        return Ok(tell(List::new(alloc), words));
+        return tell_number(alloc, head as u64);
     }
-    let event = Event::Update {
-        ws,
-        choices: text_or_empty(alloc, choices)?,
-    };
-    with_room(alloc, repo, List::new(alloc), words, event)
+    let choices = text_or_empty(alloc, choices)?;
+    with_number(alloc, repo, head as u64, Event::Update { ws, choices })
 }
 
 /// `merge WS BRANCH [CHOICES]`: what another branch has comes after what the workspace has.
@@ -105,17 +127,45 @@ fn decide_merge_of(
     repo.orderly();
     let head = begun.history.head(branch);
     let plan = begun.merge_plan(alloc, workspace, head)?;
+    decide_merge_by(
+        alloc, repo, begun, ws, workspace, branch, head, &plan, choices,
+    )
+}
+
+/// The same, by the plan of the merge of the branch's head.
+fn decide_merge_by(
+    alloc: Global,
+    repo: &Repo,
+    _begun: &Begun,
+    ws: u32,
+    _workspace: &Workspace,
+    branch: u32,
+    other: u32,
+    plan: &Plan,
+    choices: &Option<Text>,
+) -> Result<Decision, AllocError>
+    requires meta { repo.now.meta ≡ Some _begun.now.meta }
+    requires history { repo.now.history ≡ _begun.now.history.history }
+    requires there { workspace_of repo.now ws ≡ Some (plain_of _workspace.now) }
+    requires closed { is_open (Some (plain_of _workspace.now)) ≡ false }
+    requires branch { branch < length repo.now.history.branches }
+    requires apart { branch ≢ _workspace.now.branch }
+    requires at { other ≡ head _begun.now.history.history branch }
+    requires plan { IsMergePlan _begun.now.meta _begun.now.history.history (plain_of _workspace.now) other plan.now }
+    ensures decision { IfOk result (λ d. seen d ≡ chosen (merge_buckets _begun.now.meta repo.now.history (plain_of _workspace.now) (head repo.now.history branch)) choices.now (merge_of repo.now ws (plain_of _workspace.now) branch (unwrap_or choices.now []) (head repo.now.history branch))) }
+    ensures made { IfOk result (λ d. CanMakeIt repo.now d.made) }
+{
     if let Some(refused) = refused_choices(alloc, &plan.buckets, choices)? {
         return Ok(refused);
     }
-    let words = number_words(alloc, head as u64)?;
     if plan.theirs.len() == 0 {
-        return Ok(tell(List::new(alloc), words));
+        return tell_number(alloc, other as u64);
     }
+    let choices = text_or_empty(alloc, choices)?;
     let event = Event::Merge {
         ws,
         branch,
-        choices: text_or_empty(alloc, choices)?,
+        choices,
     };
-    with_room(alloc, repo, List::new(alloc), words, event)
+    with_number(alloc, repo, other as u64, event)
 }

@@ -1,11 +1,11 @@
 //! The working model that a command needs.
-ghost use Rattle.std.specs.Prelude.{◌≡◌, OnOk, Some};
+ghost use Rattle.std.specs.Prelude.{◌≡◌, IfNone, IfSome, OnOk, Some, is_some, true};
 ghost use Rattle.plain_repository.specs.State.{model_of, workspace_of};
 ghost use Rattle.model_state.specs.Good.{Good};
 ghost use Rattle.repo_core.specs.Shown.{reads_version};
 ghost use Rattle.repo_state.specs.Keeping.{plain_of};
 ghost use Rattle.repo_state.specs.Working.{IsWorkingModel};
-ghost use Rattle.repo_core.specs.Needs.{creation_without_id, given_id, model_for, with_id};
+ghost use Rattle.repo_core.specs.Needs.{NeedsNone, creation_without_id, given_id, model_for, with_id};
 ghost use Rattle.script_lang.specs.Spelling.{IsCommand};
 
 use ecore_meta::Text;
@@ -17,7 +17,7 @@ use std::alloc::{AllocError, Global};
 use working_model::Working;
 
 /// The workspace whose working model a command needs.
-pub(crate) fn model_for(command: &Command) -> Option<u32>
+fn model_for(command: &Command) -> Option<u32>
     ensures { result ≡ model_for command.now }
 {
     match command {
@@ -27,6 +27,21 @@ pub(crate) fn model_for(command: &Command) -> Option<u32>
         Command::Validate { ws } => Some(*ws),
         _ => None,
     }
+}
+
+/// The same, where that workspace is there.
+pub(crate) fn wanted(repo: &Repo, command: &Command) -> Option<u32>
+    ensures needs { IfSome result (λ ws. model_for command.now ≡ Some ws) }
+    ensures there { IfSome result (λ ws. is_some (workspace_of repo.now ws) ≡ true) }
+    ensures none { IfNone result (NeedsNone repo.now command.now) }
+{
+    let Some(ws) = model_for(command) else {
+        return None;
+    };
+    if repo.workspace(ws).is_none() {
+        return None;
+    }
+    Some(ws)
 }
 
 /// Whether a command reads the state of a version.

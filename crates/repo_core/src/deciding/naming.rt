@@ -2,14 +2,16 @@
 ghost use Rattle.std.specs.Prelude.{◌≡◌, ◌<◌, [], ◌∷◌, IfOk, OnOk, Some, length};
 ghost use Rattle.emfjson_text.specs.Tree.{text};
 ghost use Rattle.history_tree.specs.States.{state_of};
+ghost use Rattle.model_state.specs.Good.{Good};
 ghost use Rattle.plain_repository.specs.Specs.{named, unknown};
 ghost use Rattle.version_states.specs.Cached.{LeavesFirst, MayUse, Uses};
 ghost use Rattle.repo_state.specs.Cached.{HasForms};
 
 use crate::versions::version_state;
-use ecore_meta::{List, Text};
+use ecore_meta::{List, Metamodel, Text};
 use emfjson_text::write_model;
 use history_tree::{FindFault, Found, History};
+use model_graph::Graph;
 use page_pool::Pool;
 use repo_state::{Begun, Repo};
 use script_lang::{Refusal, Spec};
@@ -39,6 +41,28 @@ pub(crate) fn unknown(fault: FindFault) -> Refusal
     }
 }
 
+/// A list of one text.
+fn alone(alloc: Global, line: Text) -> Result<List<Text>, AllocError>
+    ensures { IfOk result (λ lines. lines ≡ line ∷ []) }
+{
+    let mut lines = List::new(alloc);
+    lines.push(line)?;
+    Ok(lines)
+}
+
+/// The text of a model, as the only data line.
+pub(crate) fn model_lines(
+    alloc: Global,
+    model: &Graph,
+    meta: &Metamodel,
+) -> Result<List<Text>, AllocError>
+    requires { Good meta.now model.now }
+    ensures { IfOk result (λ lines. lines ≡ text meta.now model.now ∷ []) }
+{
+    let line = write_model(alloc, model, meta)?;
+    alone(alloc, line)
+}
+
 /// The text of a version, as the only data line.
 pub(crate) fn text_of(
     alloc: Global,
@@ -59,7 +83,5 @@ pub(crate) fn text_of(
     ensures forms { HasForms repo.now pool.new cache.new }
 {
     let model = version_state(alloc, cache, pool, repo, begun, v)?;
-    let mut lines = List::new(alloc);
-    lines.push(write_model(alloc, model.graph(), &begun.meta)?)?;
-    Ok(lines)
+    model_lines(alloc, model.graph(), &begun.meta)
 }

@@ -1,16 +1,26 @@
 //! The command `tidy`.
 ghost use Rattle.std.specs.Prelude.{◌≡◌, IfOk, Some};
 ghost use Rattle.plain_repository.specs.Tidying.{decide_tidy};
+ghost use Rattle.tidy_laws.specs.Tidy.{is_tidy};
 ghost use Rattle.repo_core.specs.Decisions.{seen, CanMakeIt};
 
-use crate::deciding::answers::{Decision, refuse, tell, with_room};
+use crate::deciding::answers::{Decision, refuse, tell_lines, with_event};
 use canoniser::is_tidy;
-use ecore_meta::{List, Text};
+use ecore_meta::{List, Metamodel};
 use merge_plans::copy_operations;
+use model_state::Operation;
 use op_form::Event;
 use repo_state::{Begun, Repo};
 use script_lang::Refusal;
 use std::alloc::{AllocError, Global};
+
+/// Whether operations are tidy.
+fn are_tidy(alloc: Global, operations: &[Operation], meta: &Metamodel) -> Result<bool, AllocError>
+    ensures { IfOk result (λ b. b ≡ is_tidy meta.now operations.now) }
+{
+    let package = copy_operations(alloc, operations)?;
+    is_tidy(alloc, &package, meta)
+}
 
 /// `tidy WS`.
 #[tactic(auto, unfolding(plain_repository::specs::Tidying::decide_tidy))]
@@ -30,10 +40,8 @@ pub(crate) fn decide_tidy(
     if workspace.is_open() {
         return Ok(refuse(alloc, Refusal::CompositeOpen));
     }
-    let words = Text::new(alloc, "")?;
-    let package = copy_operations(alloc, workspace.operations())?;
-    if is_tidy(alloc, &package, &begun.meta)? {
-        return Ok(tell(List::new(alloc), words));
+    if are_tidy(alloc, workspace.operations(), &begun.meta)? {
+        return tell_lines(alloc, List::new(alloc));
     }
-    with_room(alloc, repo, List::new(alloc), words, Event::Tidy { ws })
+    with_event(alloc, repo, Event::Tidy { ws })
 }

@@ -12,12 +12,11 @@ ghost use Rattle.repo_state.specs.Keeping.{plain_composite};
 ghost use Rattle.repo_state.specs.Working.{IsWorkingModel};
 ghost use Rattle.repo_core.specs.Decisions.{seen, CanMakeIt};
 
-use crate::deciding::answers::{Decision, refuse, tell};
+use crate::deciding::answers::{Decision, refuse, tell_lines};
 use crate::deciding::models::settle;
-use crate::deciding::naming::{find, text_of, unknown};
+use crate::deciding::naming::{find, model_lines, text_of, unknown};
 use data_lines::{log_lines, open_lines, operation_lines, package_lines, validate_lines};
 use ecore_meta::{List, Metamodel, Text};
-use emfjson_text::write_model;
 use model_graph::Graph;
 use op_form::is_package;
 use page_pool::Pool;
@@ -73,7 +72,7 @@ pub(crate) fn decide_changes(
     begun.meta.sound();
     let mut lines = operation_lines(alloc, workspace.operations(), &begun.meta)?;
     push_open_lines(alloc, &mut lines, workspace.composite(), &begun.meta)?;
-    Ok(tell(lines, Text::new(alloc, "")?))
+    tell_lines(alloc, lines)
 }
 
 /// `show WS`: the text of the working model.
@@ -99,9 +98,8 @@ pub(crate) fn decide_show(
         return Ok(refuse(alloc, Refusal::NoWorkspace));
     };
     settle(repo, begun, ws, workspace, model);
-    let mut lines = List::new(alloc);
-    lines.push(write_model(alloc, model, &begun.meta)?)?;
-    Ok(tell(lines, Text::new(alloc, "")?))
+    let lines = model_lines(alloc, model, &begun.meta)?;
+    tell_lines(alloc, lines)
 }
 
 /// `validate WS`: the features that are below their lower bounds.
@@ -128,7 +126,7 @@ pub(crate) fn decide_validate(
     };
     settle(repo, begun, ws, workspace, model);
     let lines = validate_lines(alloc, model, &begun.meta)?;
-    Ok(tell(lines, Text::new(alloc, "")?))
+    tell_lines(alloc, lines)
 }
 
 /// `cat SPEC`: the text of the version.
@@ -156,7 +154,7 @@ pub(crate) fn decide_cat(
         Err(fault) => return Ok(refuse(alloc, unknown(fault))),
     };
     let lines = text_of(alloc, cache, pool, repo, begun, found.version)?;
-    Ok(tell(lines, Text::new(alloc, "")?))
+    tell_lines(alloc, lines)
 }
 
 /// `package SPEC`: the operations of the version, and their bytes.
@@ -183,7 +181,7 @@ pub(crate) fn decide_package(
     repo.orderly();
     begun.meta.sound();
     let lines = package_lines(alloc, &version.package, &begun.meta)?;
-    Ok(tell(lines, Text::new(alloc, "")?))
+    tell_lines(alloc, lines)
 }
 
 /// `log`: the versions.
@@ -194,5 +192,5 @@ pub(crate) fn decide_log(alloc: Global, _repo: &Repo, begun: &Begun) -> Result<D
     ensures made { IfOk result (λ d. CanMakeIt _repo.now d.made) }
 {
     let lines = log_lines(alloc, &begun.history)?;
-    Ok(tell(lines, Text::new(alloc, "")?))
+    tell_lines(alloc, lines)
 }

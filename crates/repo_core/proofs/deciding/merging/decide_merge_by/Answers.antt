@@ -14,17 +14,17 @@ use Rattle.repo_core.specs.Decisions.{seen}
 use Rattle.repo_state.specs.Keeping.{plain_of}
 use Rattle.repo_state.proofs.Merges.{merge_could, nothing_left, plan_rows, plan_theirs, something_left}
 use Rattle.repo_core.proofs.Chosen.{merge_none, merge_some, passed_fit, passed_on, refused_made, refused_seen}
-use Rattle.repo_core.proofs.deciding.merging.decide_merge_of.Goals as goal
+use Rattle.repo_core.proofs.deciding.merging.decide_merge_by.Goals as goal
 
 pub returns-in-Some-clause-decision : goal.returns-in-Some-clause-decision
 returns-in-Some-clause-decision c =
     let s = c.args.repo.now in
-    let meta = c.args.begun.now.meta in
-    let g = c.args.begun.now.history.history in
-    let w = plain_of c.args.workspace.now in
+    let meta = c.args._begun.now.meta in
+    let g = c.args._begun.now.history.history in
+    let w = plain_of c.args._workspace.now in
     let branch = c.args.branch in
-    let plan = c.in_ok-plan.plan in
-    let rows = plan_rows meta s.history g w branch c.head-head.result plan.buckets.rows c.requires.history c.head-head.ensures.head c.in_ok-plan.ensures.plan.buckets in
+    let plan = c.args.plan.now in
+    let rows = plan_rows meta s.history g w branch c.args.other plan.buckets.rows c.requires.history c.requires.at c.requires.plan.buckets in
     let answer = merge_of s c.args.ws w branch (unwrap_or c.args.choices.now []) (head s.history branch) in
     refused_seen c.in_ok-refused.field-0 c.in-Some.refused plan.buckets.rows c.args.choices.now answer c.in-Some.is c.in_ok-refused.ensures.refused ∙ ap (λ (l : List Bucket). chosen l c.args.choices.now answer) rows
 
@@ -34,54 +34,55 @@ returns-in-Some-clause-made c = refused_made c.in_ok-refused.field-0 c.in-Some.r
 pub returns-then-len-eq0-clause-decision : goal.returns-then-len-eq0-clause-decision
 returns-then-len-eq0-clause-decision c =
     let s = c.args.repo.now in
-    let meta = c.args.begun.now.meta in
-    let g = c.args.begun.now.history.history in
-    let w = plain_of c.args.workspace.now in
+    let meta = c.args._begun.now.meta in
+    let g = c.args._begun.now.history.history in
+    let w = plain_of c.args._workspace.now in
     let branch = c.args.branch in
-    let plan = c.in_ok-plan.plan in
-    let rows = plan_rows meta s.history g w branch c.head-head.result plan.buckets.rows c.requires.history c.head-head.ensures.head c.in_ok-plan.ensures.plan.buckets in
-    let theirs = plan_theirs s.history g w branch c.head-head.result plan.theirs c.requires.history c.head-head.ensures.head c.in_ok-plan.ensures.plan.theirs in
+    let plan = c.args.plan.now in
+    let rows = plan_rows meta s.history g w branch c.args.other plan.buckets.rows c.requires.history c.requires.at c.requires.plan.buckets in
+    let theirs = plan_theirs s.history g w branch c.args.other plan.theirs c.requires.history c.requires.at c.requires.plan.theirs in
     let answer = merge_of s c.args.ws w branch (unwrap_or c.args.choices.now []) (head s.history branch) in
     let passed = ap (λ (l : List Bucket). chosen l c.args.choices.now answer) (sym rows) ∙ passed_on c.in_ok-refused.field-0 plan.buckets.rows c.args.choices.now answer c.in_default.is c.in_ok-refused.ensures.passed in
-    let words = c.in_ok-words.ensures ∙ ap decimal (c.head-head.ensures.head ∙ ap (λ (h : History). head h branch) (sym c.requires.history)) in
+    let at = c.requires.at ∙ ap (λ (h : History). head h branch) (sym c.requires.history) in
     let none = nothing_left s.history w (head s.history branch) plan.theirs theirs (sym c.len.ensures ∙ c.if-len-eq0.true) in
-    c.tell.ensures.decision ∙ ap (λ (l : List (List ℕ)). told l c.in_ok-words.words) c.new.ensures ∙ ap (told []) words
-    ∙ sym (merge_none s c.args.ws w branch (unwrap_or c.args.choices.now []) (head s.history branch) none) ∙ sym passed
+    subst (λ (y : plain.Decision). IfOk c.tell_number.result (λ d. seen d ≡ y))
+    (ap (λ (n : ℕ). told [] (decimal n)) at ∙ sym (merge_none s c.args.ws w branch (unwrap_or c.args.choices.now []) (head s.history branch) none) ∙ sym passed)
+    c.tell_number.ensures.decision
 
-pub with_room-requires : goal.with_room-requires
-with_room-requires c =
+pub with_number-requires : goal.with_number-requires
+with_number-requires c =
     let s = c.args.repo.now in
-    let meta = c.args.begun.now.meta in
-    let g = c.args.begun.now.history.history in
-    let w = plain_of c.args.workspace.now in
+    let meta = c.args._begun.now.meta in
+    let g = c.args._begun.now.history.history in
+    let w = plain_of c.args._workspace.now in
     let branch = c.args.branch in
-    let plan = c.in_ok-plan.plan in
-    let rows = plan_rows meta s.history g w branch c.head-head.result plan.buckets.rows c.requires.history c.head-head.ensures.head c.in_ok-plan.ensures.plan.buckets in
-    let theirs = plan_theirs s.history g w branch c.head-head.result plan.theirs c.requires.history c.head-head.ensures.head c.in_ok-plan.ensures.plan.theirs in
+    let plan = c.args.plan.now in
+    let rows = plan_rows meta s.history g w branch c.args.other plan.buckets.rows c.requires.history c.requires.at c.requires.plan.buckets in
+    let theirs = plan_theirs s.history g w branch c.args.other plan.theirs c.requires.history c.requires.at c.requires.plan.theirs in
     let some = something_left s.history w (head s.history branch) plan.theirs theirs (λ none. c.if-len-eq0.false (c.len.ensures ∙ none)) in
     let fit = subst (λ (l : List Bucket). are_choices (unwrap_or c.args.choices.now []) l ≡ true) rows (passed_fit c.in_ok-refused.field-0 plan.buckets.rows c.args.choices.now c.in_default.is c.in_ok-refused.ensures.fit) in
     record {
-      could = subst (λ (letters : List ℕ). playable_with s s.meta (Merge c.args.ws branch letters) ≡ true) (sym c.in_ok-text_or_empty.ensures)
-          (merge_could s meta c.args.ws branch (unwrap_or c.args.choices.now []) w c.requires.meta c.requires.there c.requires.closed c.requires.branch c.requires.other some fit);
+      could = subst (λ (letters : List ℕ). playable_with s s.meta (Merge c.args.ws branch letters) ≡ true) (sym c.in_ok-choices.ensures)
+          (merge_could s meta c.args.ws branch (unwrap_or c.args.choices.now []) w c.requires.meta c.requires.there c.requires.closed c.requires.branch c.requires.apart some fit);
     }
 
 pub returns-clause-decision : goal.returns-clause-decision
 returns-clause-decision c =
     let s = c.args.repo.now in
-    let meta = c.args.begun.now.meta in
-    let g = c.args.begun.now.history.history in
-    let w = plain_of c.args.workspace.now in
+    let meta = c.args._begun.now.meta in
+    let g = c.args._begun.now.history.history in
+    let w = plain_of c.args._workspace.now in
     let branch = c.args.branch in
-    let plan = c.in_ok-plan.plan in
-    let rows = plan_rows meta s.history g w branch c.head-head.result plan.buckets.rows c.requires.history c.head-head.ensures.head c.in_ok-plan.ensures.plan.buckets in
-    let theirs = plan_theirs s.history g w branch c.head-head.result plan.theirs c.requires.history c.head-head.ensures.head c.in_ok-plan.ensures.plan.theirs in
+    let plan = c.args.plan.now in
+    let rows = plan_rows meta s.history g w branch c.args.other plan.buckets.rows c.requires.history c.requires.at c.requires.plan.buckets in
+    let theirs = plan_theirs s.history g w branch c.args.other plan.theirs c.requires.history c.requires.at c.requires.plan.theirs in
     let answer = merge_of s c.args.ws w branch (unwrap_or c.args.choices.now []) (head s.history branch) in
     let passed = ap (λ (l : List Bucket). chosen l c.args.choices.now answer) (sym rows) ∙ passed_on c.in_ok-refused.field-0 plan.buckets.rows c.args.choices.now answer c.in_default.is c.in_ok-refused.ensures.passed in
-    let words = c.in_ok-words.ensures ∙ ap decimal (c.head-head.ensures.head ∙ ap (λ (h : History). head h branch) (sym c.requires.history)) in
+    let at = c.requires.at ∙ ap (λ (h : History). head h branch) (sym c.requires.history) in
     let some = something_left s.history w (head s.history branch) plan.theirs theirs (λ none. c.if-len-eq0.false (c.len.ensures ∙ none)) in
-    let event = Merge c.args.ws branch c.in_ok-text_or_empty.field-0 in
-    subst (λ (y : plain.Decision). IfOk c.with_room.result (λ d. seen d ≡ y))
-    (ap (λ (l : List (List ℕ)). with_room s l c.in_ok-words.words event) c.new-2.ensures ∙ ap (λ (t : List ℕ). with_room s [] t event) words
-    ∙ ap (λ (letters : List ℕ). with_room s [] (decimal (head s.history branch)) (Merge c.args.ws branch letters)) c.in_ok-text_or_empty.ensures
+    let event = Merge c.args.ws branch c.in_ok-choices.choices in
+    subst (λ (y : plain.Decision). IfOk c.with_number.result (λ d. seen d ≡ y))
+    (ap (λ (n : ℕ). with_room s [] (decimal n) event) at
+    ∙ ap (λ (letters : List ℕ). with_room s [] (decimal (head s.history branch)) (Merge c.args.ws branch letters)) c.in_ok-choices.ensures
     ∙ sym (merge_some s c.args.ws w branch (unwrap_or c.args.choices.now []) (head s.history branch) some) ∙ sym passed)
-    c.with_room.ensures.decision
+    c.with_number.ensures.decision
