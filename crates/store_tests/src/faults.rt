@@ -34,15 +34,25 @@ fn status_at(call: u64) -> Status {
     }
 }
 
-// How many events a file has, as `--check` counts them.
-fn events_in(alloc: Global, file: Vec<u8>) -> Result<usize, Fail> {
-    let mut host = over(alloc, Vec::new(alloc), file);
-    if asked(alloc, "--check", &mut host)? != Status::Accepted {
-        return Err("no store")?;
-    }
-    let said = std::str::from_utf8(host.said())?;
+// The number that `--check` prints as its third word.
+fn count_in(said: &[u8]) -> Result<usize, Fail> {
+    let said = std::str::from_utf8(said)?;
     let count = said.split(' ').nth(2).ok_or("no count")?;
     Ok(count.parse::<usize>()?)
+}
+
+// How many events a host's file has, as `--check` counts them.
+fn events_of(alloc: Global, host: &mut MemoryHost) -> Result<usize, Fail> {
+    if asked(alloc, "--check", host)? != Status::Accepted {
+        return Err("no store")?;
+    }
+    count_in(host.said())
+}
+
+// How many events a file has.
+fn events_in(alloc: Global, file: Vec<u8>) -> Result<usize, Fail> {
+    let mut host = over(alloc, Vec::new(alloc), file);
+    events_of(alloc, &mut host)
 }
 
 // How many events have their reply among what was printed.
@@ -101,15 +111,33 @@ fn kept_at(calls: u64, fill: u8) -> u64 {
     (calls / 5).max(1).min(EVENTS as u64 + 1) - 1
 }
 
+// How many events are there again after the crash.
+fn is_kept(
+    rt: &impl Abort,
+    alloc: Global,
+    host: &MemoryHost,
+    calls: u64,
+    fill: u8,
+) -> Result<(), Fail> {
+    let kept = kept_in(rt, alloc, host.said(), host.stop_image(fill)?)?;
+    assert_eq!(rt; kept as u64, kept_at(calls, fill), "{calls} {fill}");
+    Ok(())
+}
+
+// The same for each fill.
+fn are_kept(rt: &impl Abort, alloc: Global, host: &MemoryHost, calls: u64) -> Result<(), Fail> {
+    for fill in [0, 1, 164, 165, 166, 255] {
+        is_kept(rt, alloc, host, calls, fill)?;
+    }
+    Ok(())
+}
+
 #[test]
 fn a_crash_between_two_calls_leaves_the_first_events_whole(rt: HostRuntime) -> Result<(), Fail> {
     let alloc = rt.alloc();
     for calls in 0..=CALLS {
         let host = crashed(&rt, alloc, calls)?;
-        for fill in [0, 1, 164, 165, 166, 255] {
-            let kept = kept_in(&rt, alloc, host.said(), host.stop_image(fill)?)?;
-            assert_eq!(&rt; kept as u64, kept_at(calls, fill), "{calls} {fill}");
-        }
+        are_kept(&rt, alloc, &host, calls)?;
     }
     Ok(())
 }

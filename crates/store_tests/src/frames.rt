@@ -40,27 +40,60 @@ fn stopped(alloc: Global, title: &str, calls: u64) -> Result<(MemoryHost, bool),
     Ok((fuse.into_inner(), is_whole))
 }
 
-// Of the runs in which the book's reply was printed and the title's was not, each leaves the book with or without its title. Of those with both
-// replies each leaves it with its title. Gives how many calls there are of both sorts.
-fn sorts(rt: &impl Abort, alloc: Global, title: &str) -> Result<(u64, u64), Fail> {
-    let without = text(alloc, "")?;
-    let with = text(alloc, format!(in alloc; ",\"title\":\"{title}\"")?.as_str())?;
+// What is printed of the book with its title and without.
+fn texts(alloc: Global, title: &str) -> Result<(String, String), Fail> {
+    let field = format!(in alloc; ",\"title\":\"{title}\"")?;
+    Ok((text(alloc, field.as_str())?, text(alloc, "")?))
+}
+
+// Whether this is what a crash leaves after a run that printed so much. It is the book with its title where both replies were printed. Where the
+// book's alone was it is the book with or without its title.
+fn is_right(said: &[u8], found: &str, texts: &(String, String)) -> bool {
+    let is_with = found == texts.0.as_str();
+    if said == BOTH.as_bytes() {
+        return is_with;
+    }
+    said != BOOK.as_bytes() || is_with || found == texts.1.as_str()
+}
+
+fn is_left(
+    rt: &impl Abort,
+    alloc: Global,
+    host: &MemoryHost,
+    texts: &(String, String),
+    fill: u8,
+    calls: u64,
+) -> Result<(), Fail> {
+    let found = shown(alloc, host, fill)?;
+    assert!(rt; is_right(host.said(), found.as_str(), texts), "{calls}");
+    Ok(())
+}
+
+// How a run ended: whether the book's reply alone was printed, whether both replies were, and whether the run ended before the crash.
+fn stop(
+    rt: &impl Abort,
+    alloc: Global,
+    title: &str,
+    texts: &(String, String),
+    calls: u64,
+) -> Result<(bool, bool, bool), Fail> {
+    let (host, is_whole) = stopped(alloc, title, calls)?;
+    is_left(rt, alloc, &host, texts, 0, calls)?;
+    is_left(rt, alloc, &host, texts, 165, calls)?;
+    let is_book = host.said() == BOOK.as_bytes();
+    Ok((is_book, host.said() == BOTH.as_bytes(), is_whole))
+}
+
+// How many calls there are after which the book's reply alone was printed, and after which both were.
+fn sorts(
+    rt: &impl Abort,
+    alloc: Global,
+    title: &str,
+    texts: &(String, String),
+) -> Result<(u64, u64), Fail> {
     let (mut early, mut late) = (0_u64, 0_u64);
     for calls in 0..40 {
-        let (host, is_whole) = stopped(alloc, title, calls)?;
-        let (is_book, is_both) = (
-            host.said() == BOOK.as_bytes(),
-            host.said() == BOTH.as_bytes(),
-        );
-        for fill in [0, 165] {
-            let found = shown(alloc, &host, fill)?;
-            let is_with = found.as_str() == with.as_str();
-            assert!(rt; !is_both || is_with, "{calls}");
-            assert!(rt;
-                !is_book || is_with || found.as_str() == without.as_str(),
-                "{calls}"
-            );
-        }
+        let (is_book, is_both, is_whole) = stop(rt, alloc, title, texts, calls)?;
         early = u64::saturating_add(early, u64::from(is_book));
         late = u64::saturating_add(late, u64::from(is_both));
         if is_whole {
@@ -76,6 +109,8 @@ fn a_long_title_is_there_or_not_after_a_crash_and_is_once_it_was_replied(
     rt: HostRuntime,
 ) -> Result<(), Fail> {
     let alloc = rt.alloc();
-    assert_eq!(&rt; sorts(&rt, alloc, title(alloc)?.as_str())?, (10, 2));
+    let title = title(alloc)?;
+    let texts = texts(alloc, title.as_str())?;
+    assert_eq!(&rt; sorts(&rt, alloc, title.as_str(), &texts)?, (10, 2));
     Ok(())
 }
