@@ -6,6 +6,9 @@ ghost use Rattle.commit_journal.specs.Journal.{RecordFits, fit_of, next_gate};
 /// The offset of the first gate: after the header.
 pub const FIRST_GATE: u64 = 16;
 
+/// The byte of a gate that a record stands behind; any other closes it.
+pub(crate) const OPEN_GATE: u8 = 0xa5;
+
 /// The most bytes of a record: its gate, its length and its byte string.
 const RECORD_LIMIT: u64 = 1 << 24;
 

@@ -6,6 +6,7 @@ ghost use Rattle.page_pool.specs.Frames.{out_of, SameFrames};
 ghost use Rattle.page_pool.specs.Paged.{AreOut, AreFree, KeepsOthers, frames_for};
 ghost use Rattle.commit_journal.specs.Journal.{JournalState, after_gate, four_bytes, IsShort, HoldsRecord, IsReady, IsBeforeOrAfter, IsAtRest, IsGateLast};
 
+use crate::fit::OPEN_GATE;
 use crate::write::{write_durably, write_pages};
 use host_port::{Failed, Host};
 use page_pool::{PagedBytes, Pool};
@@ -145,7 +146,7 @@ impl Journal {
         let done = write_pages(host, gate + 1, pool, &prepared.paged);
         prepared.paged.give_up(pool);
         done?;
-        write_durably(host, gate, &[165])?;
+        write_durably(host, gate, &[OPEN_GATE])?;
         self.end = gate + length;
         self.broken = false;
         Ok(())

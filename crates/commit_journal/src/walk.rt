@@ -6,7 +6,7 @@ ghost use Rattle.commit_journal.specs.Journal.{WalkState, header, four_bytes, Is
 ghost use Rattle.commit_journal.specs.Walk.{IfDamaged};
 
 use crate::fault::JournalFault;
-use crate::fit::{FIRST_GATE, JOURNAL_LIMIT, MOST_BYTES};
+use crate::fit::{FIRST_GATE, JOURNAL_LIMIT, MOST_BYTES, OPEN_GATE};
 use crate::journal::Journal;
 use crate::write::write_durably;
 use host_port::{Failed, Host};
@@ -92,7 +92,7 @@ fn read_gate<H: Host>(host: &mut H, gate: u64) -> Result<Gate, Failed>
     if length - gate < 5 {
         let mut mark = [0; 1];
         host.read_at(gate, &mut mark)?;
-        return Ok(if mark[0] == 165 {
+        return Ok(if mark[0] == OPEN_GATE {
             Gate::Broken
         } else {
             Gate::Closed
@@ -100,7 +100,7 @@ fn read_gate<H: Host>(host: &mut H, gate: u64) -> Result<Gate, Failed>
     }
     let mut head = [0; 5];
     host.read_at(gate, &mut head)?;
-    if head[0] != 165 {
+    if head[0] != OPEN_GATE {
         return Ok(Gate::Closed);
     }
     let size = u64::from(number_in(&[head[1], head[2], head[3], head[4]]));

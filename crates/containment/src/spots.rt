@@ -7,7 +7,7 @@ ghost use Rattle.containment.specs.Refusals.{IsRefusal, spot_refusal};
 
 use crate::MoveFault;
 use ecore_meta::List;
-use model_state::{Entry, Look, Place, Step, rank_between};
+use model_state::{Entry, Look, Place, RANK_GAP, Step, rank_between};
 use opposites::{Opening, index_or_end};
 use std::alloc::{AllocError, Global};
 
@@ -27,7 +27,7 @@ fn even_reranks(alloc: Global, list: &[Entry]) -> Result<List<Step>, AllocError>
 {
     let mut steps = List::new(alloc);
     for (i, x) in list.iter().enumerate() {
-        let new = (i as u64 + 1) * 4294967296;
+        let new = (i as u64 + 1) * RANK_GAP;
         if x.rank != new {
             steps.push(Step::RerankPlace {
                 e: x.id.copy(alloc)?,

@@ -134,13 +134,16 @@ pub(crate) fn any_bad_default(
     Ok(false)
 }
 
+/// The greatest bound that a feature holds.
+const GREATEST_BOUND: i64 = 4_294_967_295;
+
 /// A bound as a natural number, the greatest that a feature holds where it is greater.
 fn natural(bound: i64) -> u32
     ensures { result ≡ natural bound }
 {
     if bound < 0 {
         0
-    } else if bound > 4294967295 {
+    } else if bound > GREATEST_BOUND {
         u32::MAX
     } else {
         bound as u32

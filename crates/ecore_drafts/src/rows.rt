@@ -8,6 +8,9 @@ ghost use Rattle.ecore_drafts.specs.Fit.{NamesFit, is_misnamed};
 
 use ecore_meta::{List, Text};
 
+/// So many rows of one sort that they can't be numbered with 32 bits: `2^32 - 1`.
+const TOO_MANY: usize = 4_294_967_295;
+
 /// What a document says of a package, in its order: the classifiers by name, and names still to be resolved.
 #[derive(Drop)]
 pub struct MetaRows {
@@ -115,8 +118,8 @@ impl ClassifierRow {
         ensures { result ≡ is_many self.now }
     {
         match self {
-            ClassifierRow::Class(row) => row.features.len() >= 4294967295,
-            ClassifierRow::Enum(row) => row.literals.len() >= 4294967295,
+            ClassifierRow::Class(row) => row.features.len() >= TOO_MANY,
+            ClassifierRow::Enum(row) => row.literals.len() >= TOO_MANY,
             ClassifierRow::Plain(_) => false,
         }
     }
@@ -192,7 +195,7 @@ fn any_is_many(rows: &[ClassifierRow]) -> bool
 fn is_numbered(rows: &[ClassifierRow]) -> bool
     ensures { result ≡ is_numbered rows.now }
 {
-    rows.len() < 4294967295 && features_are_few(rows) && !any_is_many(rows)
+    rows.len() < TOO_MANY && features_are_few(rows) && !any_is_many(rows)
 }
 
 impl MetaRows {

@@ -16,7 +16,7 @@ use crate::draft::Held;
 use crate::fault::ModelFault;
 use ecore_meta::{List, Metamodel, Scalar, Value};
 use emfjson_io::value_in;
-use model_state::{is_default, is_same_value, upper_of};
+use model_state::{MOST_ENTRIES, is_default, is_same_value, upper_of};
 use serde_json::Value as Json;
 use std::alloc::{AllocError, Global};
 
@@ -44,7 +44,7 @@ pub fn is_within(count: usize, upper: Option<u32>) -> bool
 fn may_hold(meta: &Metamodel, feature: u32, count: usize) -> bool
     ensures { result ≡ may_hold meta.now feature count }
 {
-    is_within(count, upper_of(meta, feature)) && count <= 4294967295
+    is_within(count, upper_of(meta, feature)) && count <= MOST_ENTRIES
 }
 
 fn value_of(

@@ -16,7 +16,7 @@ use ecore_meta::List;
 use edit_laws::EditFault;
 use emfjson_drafts::DocParent;
 use emfjson_model::DocRow;
-use model_state::{Entry, Id, Look, Place, Step};
+use model_state::{Entry, Id, Look, Place, RANK_GAP, Step};
 use std::alloc::{AllocError, Global};
 use std::collections::BTreeMap;
 
@@ -24,7 +24,7 @@ use std::collections::BTreeMap;
 pub(crate) fn rank_of(k: usize) -> u64
     ensures { result ≡ rank_of k }
 {
-    (k as u64).saturating_add(1).saturating_mul(4294967296)
+    (k as u64).saturating_add(1).saturating_mul(RANK_GAP)
 }
 
 /// The place of a row.

@@ -9,7 +9,7 @@ ghost use Rattle.model_import.specs.Roots.{has_end, root_after, root_made, with_
 
 use ecore_meta::List;
 use edit_laws::EditFault;
-use model_state::{Entry, Id, Place, Step, rank_between};
+use model_state::{Entry, Id, MOST_ENTRIES, Place, RANK_GAP, Step, rank_between};
 use std::alloc::{AllocError, Global};
 
 /// The rank after the last of the entries, None where none is left.
@@ -31,7 +31,7 @@ fn even_entries(alloc: Global, list: &[Entry]) -> Result<List<Entry>, AllocError
     let mut n: u64 = 1;
     for x in list {
         even.push(Entry {
-            rank: n * 4294967296,
+            rank: n * RANK_GAP,
             id: x.id.copy(alloc)?,
         })?;
         n += 1;
@@ -52,7 +52,7 @@ fn even_reranks(alloc: Global, list: &[Entry], steps: &mut List<Step>) -> Result
 {
     let mut n: u64 = 1;
     for x in list {
-        let new = n * 4294967296;
+        let new = n * RANK_GAP;
         if !is_same(x.rank, new) {
             steps.push(Step::RerankPlace {
                 e: x.id.copy(alloc)?,
@@ -102,7 +102,7 @@ fn spread_root(
     ensures roots { OnOk result (roots.new ≡ with_ranks roots.old (evened 1 roots.old) ++ record { rank = (length roots.old + 1) * 4294967296; id = e.now } ∷ []) }
     ensures steps { OnOk result (steps.new ≡ (steps.old ++ rerank_places roots.old (evened 1 roots.old)) ++ New e.now class Root ((length roots.old + 1) * 4294967296) ∷ []) }
 {
-    let rank = (roots.len() as u64 + 1) * 4294967296;
+    let rank = (roots.len() as u64 + 1) * RANK_GAP;
     even_reranks(alloc, roots.as_slice(), steps)?;
     let mut even = even_entries(alloc, roots.as_slice())?;
     push_root(alloc, &mut even, steps, e, class, rank)?;
@@ -133,7 +133,7 @@ pub(crate) fn add_root(
             Ok(()) => Ok(()),
         },
         None => {
-            if roots.len() >= 4294967295 {
+            if roots.len() >= MOST_ENTRIES {
                 return Err(EditFault::Bound);
             }
             match spread_root(alloc, roots, steps, e, class) {

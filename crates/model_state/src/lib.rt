@@ -18,7 +18,7 @@ pub use id::{Id, IdFault};
 pub use look::{Change, Look};
 pub use name::is_name;
 pub use operation::{OpKind, Operation, Package};
-pub use rank::rank_between;
+pub use rank::{MOST_ENTRIES, RANK_GAP, rank_between};
 pub use step::{ApplyFault, Place, Placed, Step, StepFault};
 pub use typing::{
     attr_fits, child_upper, class_has, fits, is_attr, is_below_bound, is_concrete, is_default,

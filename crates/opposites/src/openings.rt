@@ -6,7 +6,7 @@ ghost use Rattle.edit_laws.specs.Spot.{rank_for, ranks_of, evened, spot};
 ghost use Rattle.edit_laws.specs.Rows.{reranks};
 
 use ecore_meta::List;
-use model_state::{Entry, Id, Step, rank_between};
+use model_state::{Entry, Id, MOST_ENTRIES, RANK_GAP, Step, rank_between};
 use std::alloc::{AllocError, Global};
 
 /// A list into which an entry is inserted.
@@ -66,9 +66,9 @@ fn even_rank(n: usize, k: usize) -> Option<u64>
     requires within { k ≤ n }
     ensures { result ≡ rank_between (k * 4294967296) (cond (nat_lt k n) (Some ((k + 1) * 4294967296)) None) }
 {
-    let before = (k as u64) * 4294967296;
+    let before = (k as u64) * RANK_GAP;
     if k < n {
-        rank_within(before, Some((k as u64 + 1) * 4294967296))
+        rank_within(before, Some((k as u64 + 1) * RANK_GAP))
     } else {
         rank_within(before, None)
     }
@@ -84,7 +84,7 @@ fn find_rank(list: &[Entry], k: usize) -> Option<(bool, u64)>
     match rank_within(rank_before(list, k), rank_at(list, k)) {
         Some(rank) => Some((false, rank)),
         None => {
-            if list.len() >= 4294967295 {
+            if list.len() >= MOST_ENTRIES {
                 return None;
             }
             match even_rank(list.len(), k) {
@@ -128,7 +128,7 @@ fn even_reranks(
     ensures { OnOk result (steps.new ≡ steps.old ++ reranks a.now f list.now (evened 1 list.now)) }
 {
     for (i, x) in list.iter().enumerate() {
-        let new = (i as u64 + 1) * 4294967296;
+        let new = (i as u64 + 1) * RANK_GAP;
         if x.rank != new {
             steps.push(Step::RerankRow {
                 a: a.copy(alloc)?,

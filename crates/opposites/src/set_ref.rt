@@ -14,7 +14,7 @@ use crate::link::link_step;
 use crate::there::{displace, enter_there};
 use crate::unlink::unlinks;
 use ecore_meta::{List, Metamodel};
-use model_state::{Id, Look, Step, may_link, opposite_of};
+use model_state::{Id, Look, RANK_GAP, Step, may_link, opposite_of};
 use std::alloc::Global;
 
 /// The steps that set a reference that isn't there. Refused with Bound.
@@ -36,7 +36,7 @@ fn set_ref<L: Look>(
     unlinks(alloc, look, opposite, a, f, mine.as_slice(), &mut steps)?;
     displace(alloc, look, meta, opposite, f, b, &mut steps)?;
     let there = enter_there(alloc, look, meta, opposite, b, &mut steps)?;
-    steps.push(link_step(alloc, opposite, a, f, 4294967296, b, there)?)?;
+    steps.push(link_step(alloc, opposite, a, f, RANK_GAP, b, there)?)?;
     Ok(steps)
 }
 

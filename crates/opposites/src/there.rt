@@ -8,7 +8,7 @@ use crate::bounds::{has_room_for, holds_one};
 use crate::entering::enter_last;
 use crate::unlink::unlinks;
 use ecore_meta::{List, Metamodel};
-use model_state::{Id, Look, Step};
+use model_state::{Id, Look, RANK_GAP, Step};
 use std::alloc::{AllocError, Global};
 
 /// Whether the opposite's list has room, once the entry that it displaces is removed.
@@ -47,10 +47,10 @@ fn rank_there<L: Look>(
     ensures full { IfErr result (λ e. IsFull (is_some (rank_there meta.now (L.state look.now).row opposite b.now)) e) }
 {
     match opposite {
-        None => Ok(4294967296),
+        None => Ok(RANK_GAP),
         Some(g) => {
             if holds_one(meta, g) {
-                Ok(4294967296)
+                Ok(RANK_GAP)
             } else {
                 enter_last(alloc, look, b, g, steps)
             }

@@ -20,7 +20,9 @@ use crate::operation::{one_step, operation};
 use ecore_meta::{Kind, List, Metamodel, Text, Value};
 use edit_laws::EditFault;
 use edits::Recorded;
-use model_state::{Id, Look, OpKind, Step, is_below_bound, is_many, is_same_value, upper_of};
+use model_state::{
+    Id, Look, MOST_ENTRIES, OpKind, Step, is_below_bound, is_many, is_same_value, upper_of,
+};
 use std::alloc::{AllocError, Global};
 
 fn contains(values: &[Value], v: &Value) -> bool
@@ -120,7 +122,7 @@ fn takes<L: Look>(
     if unique && contains(values, value) {
         return Err(EditFault::AlreadyThere);
     }
-    if !has_room(meta, named.feature, values.len()) || values.len() >= 4294967295 {
+    if !has_room(meta, named.feature, values.len()) || values.len() >= MOST_ENTRIES {
         return Err(EditFault::Bound);
     }
     Ok(())

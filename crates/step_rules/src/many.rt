@@ -15,8 +15,8 @@ ghost use Rattle.model_state.specs.declared.step.Step.TheVariants.{Ins, Del, Shi
 use crate::Write;
 use ecore_meta::{List, Metamodel, Value};
 use model_state::{
-    Id, StepFault, class_has, is_below_bound, is_many, is_same_value, is_unique, many_fits,
-    upper_of,
+    Id, MOST_ENTRIES, StepFault, class_has, is_below_bound, is_many, is_same_value, is_unique,
+    many_fits, upper_of,
 };
 use std::alloc::{AllocError, Global};
 
@@ -177,7 +177,7 @@ pub fn take_ins<S: Write>(
     if !is_below_bound(count, upper_of(meta, f)) {
         return Err(StepFault::Bound);
     }
-    if count >= 4294967295 {
+    if count >= MOST_ENTRIES {
         return Err(StepFault::Bound);
     }
     match write_inserted(model, alloc, e, f, at as usize, v) {

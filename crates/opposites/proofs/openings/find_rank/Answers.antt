@@ -10,4 +10,4 @@ returns-in-Some-even_rank-clause-rank c =
     let none : rank_for (ranks_of c.args.list.now) c.args.k ≡ None =
     sym ((λ i. rank_between (c.rank_before.ensures i) (c.rank_at.ensures i))) ∙ sym c.rank_within.ensures ∙ c.in-None.is in
     sym c.in-Some-even_rank.is ∙ c.even_rank.ensures
-    ∙ sym (spot_anew c.args.list.now c.args.k c.requires none (is_less (length c.args.list.now) 4294967295 c.if-list-ge4294967295.false))
+    ∙ sym (spot_anew c.args.list.now c.args.k c.requires none (is_less (length c.args.list.now) 4294967295 c.if-list-ge-MOST_ENTRIES.false))
