@@ -2,10 +2,14 @@
 use Rattle.std.specs.Prelude.{ℕ, ◌+◌, ◌*◌, ◌%◌, List, [], ◌∷◌}
 use Rattle.model_laws.specs.Cells.{Cell, OfKind, OfPlace, OfRank, OfAttr, OfRow, OfWhole, About}
 
+-- the numbers of texts are below this prime
+abbrev pub key_range : ℕ
+key_range = 1000003
+
 -- the number of a text, from the one so far
 abbrev pub text_key : ℕ → List ℕ → ℕ
 text_key n [] = n
-text_key n (b ∷ bs) = text_key ((n * 31 + b) % 1000003) bs
+text_key n (b ∷ bs) = text_key ((n * 31 + b) % key_range) bs
 
 -- the number of a cell
 abbrev pub cell_key : Cell → ℕ

@@ -1,19 +1,22 @@
 //! The numbers of cells, by which tables list them: equal cells have equal numbers.
 ghost use Rattle.std.specs.Prelude.{ℕ, ◌≡◌, ◌<◌, ◌%◌};
 ghost use Rattle.footprint.specs.Prints.{seen};
-ghost use Rattle.cell_index.specs.Keys.{text_key, cell_key};
+ghost use Rattle.cell_index.specs.Keys.{text_key, cell_key, key_range};
 
 use footprint::Cell;
 use model_state::Id;
 
+/// The numbers of ids are below this prime.
+const KEY_RANGE: u64 = 1_000_003;
+
 /// A number of the id.
 fn id_key(id: &Id) -> u64
     ensures key { result ≡ text_key 0 id.now }
-    ensures low { result < 1000003 }
+    ensures low { result < key_range }
 {
     let mut key = 0;
     for b in id.as_str().as_bytes() {
-        key = (key * 31 + *b as u64) % 1_000_003;
+        key = (key * 31 + *b as u64) % KEY_RANGE;
     }
     key
 }

@@ -6,7 +6,7 @@ use Rattle.std.specs.Prelude.{IsTrue}
 use Rattle.host_port.specs.Host.{Told, GoesOn, Throughout, disk_now, Disk, Span, MayLeave, WrittenPart, overwritten, written, synced, CrashLeaves}
 use Rattle.host_port.proofs.Replaying.{whole_write}
 use Rattle.commit_journal.specs.TornWrites.{IsSettled, Torn, IsWriting}
-use Rattle.commit_journal.specs.Journal.{after_gate, HoldsRecord, RecordFits, IsReady, IsShort, EndsAt, IsAtRest, IsBeforeOrAfter, IsGateLast}
+use Rattle.commit_journal.specs.Journal.{after_gate, HoldsRecord, RecordFits, IsReady, IsShort, EndsAt, IsAtRest, IsBeforeOrAfter, IsGateLast, open_gate}
 use Rattle.commit_journal.proofs.Torn.{torn_part, left_settled, torn_front, torn_back}
 use Rattle.commit_journal.proofs.Ends.{stands, same_end, opened, shut, length-after_gate}
 use Rattle.page_pool.specs.Frames.{Frames}
@@ -86,37 +86,37 @@ module _ (old : Disk) (forms : List (List ℕ)) (gate : ℕ) (form : List ℕ) (
     long = omega (arith, staged_long, torn.no_shorter)
 
     pub either : IsBeforeOrAfter forms form x
-    either = elim (cases_eq (get_or x gate 0) 165) [
+    either = elim (cases_eq (get_or x gate 0) open_gate) [
       | inl is_open ↦ inr (stands x (forms ++ form ∷ []) (gate + 5 + length form) (opened old.now forms gate at_rest.ends form (drop (gate + 1 + length (after_gate form)) old.now) x prefix back short fits long is_open))
       | inr is_shut ↦ inl (stands x forms gate (shut old.now forms gate at_rest.ends form (drop (gate + 1 + length (after_gate form)) old.now) x prefix back short fits long is_shut))
     ]
 
-    pub after : get_or x gate 0 ≡ 165 → EndsAt x (forms ++ form ∷ []) (gate + 5 + length form)
+    pub after : get_or x gate 0 ≡ open_gate → EndsAt x (forms ++ form ∷ []) (gate + 5 + length form)
     after is_open = opened old.now forms gate at_rest.ends form (drop (gate + 1 + length (after_gate form)) old.now) x prefix back short fits long is_open
 
     pub behind_stays : take (length (after_gate form)) (drop (gate + 1) x) ≡ after_gate form
     behind_stays = ap (λ (l : List ℕ). take (length (after_gate form)) l) back ∙ take_at (after_gate form) (drop (gate + 1 + length (after_gate form)) old.now) (length (after_gate form)) refl
 
   -- and then the gate
-  pub second_leaves : (disk : Disk) → IsWriting mid gate (165 ∷ []) disk → CrashLeaves (IsBeforeOrAfter forms form) disk
-  second_leaves disk writing x left = either x (left_torn mid gate (165 ∷ []) (synced_settled (written old (gate + 1) (after_gate form))) (omega (arith, staged_long)) disk writing x left)
+  pub second_leaves : (disk : Disk) → IsWriting mid gate (open_gate ∷ []) disk → CrashLeaves (IsBeforeOrAfter forms form) disk
+  second_leaves disk writing x left = either x (left_torn mid gate (open_gate ∷ []) (synced_settled (written old (gate + 1) (after_gate form))) (omega (arith, staged_long)) disk writing x left)
 
-  pub second_front : (disk : Disk) → IsWriting mid gate (165 ∷ []) disk → take gate disk.now ≡ take gate old.now
-  second_front disk writing = prefix disk.now (now_torn mid gate (165 ∷ []) (synced_settled (written old (gate + 1) (after_gate form))) (omega (arith, staged_long)) disk writing)
+  pub second_front : (disk : Disk) → IsWriting mid gate (open_gate ∷ []) disk → take gate disk.now ≡ take gate old.now
+  second_front disk writing = prefix disk.now (now_torn mid gate (open_gate ∷ []) (synced_settled (written old (gate + 1) (after_gate form))) (omega (arith, staged_long)) disk writing)
 
-  pub second_behind : (disk : Disk) → IsWriting mid gate (165 ∷ []) disk → take (length (after_gate form)) (drop (gate + 1) disk.stable) ≡ after_gate form
+  pub second_behind : (disk : Disk) → IsWriting mid gate (open_gate ∷ []) disk → take (length (after_gate form)) (drop (gate + 1) disk.stable) ≡ after_gate form
   second_behind disk (inl part) = ap (λ (l : List ℕ). take (length (after_gate form)) (drop (gate + 1) l)) part.stable ∙ ap (λ (l : List ℕ). take (length (after_gate form)) l) staged_back
       ∙ take_at (after_gate form) (drop (gate + 1 + length (after_gate form)) old.now) (length (after_gate form)) refl
   second_behind disk (inr done) = ap (λ d. take (length (after_gate form)) (drop (gate + 1) d.stable)) done
-      ∙ behind_stays (overwritten staged gate (165 ∷ [])) (whole_torn mid gate (165 ∷ []) (synced_settled (written old (gate + 1) (after_gate form))) (omega (arith, staged_long)))
+      ∙ behind_stays (overwritten staged gate (open_gate ∷ [])) (whole_torn mid gate (open_gate ∷ []) (synced_settled (written old (gate + 1) (after_gate form))) (omega (arith, staged_long)))
 
-  pub second_done : (disk : Disk) → disk ≡ synced (written mid gate (165 ∷ [])) → IsAtRest disk (forms ++ form ∷ []) (gate + 5 + length form)
+  pub second_done : (disk : Disk) → disk ≡ synced (written mid gate (open_gate ∷ [])) → IsAtRest disk (forms ++ form ∷ []) (gate + 5 + length form)
   second_done disk done =
-      let torn = whole_torn mid gate (165 ∷ []) (synced_settled (written old (gate + 1) (after_gate form))) (omega (arith, staged_long)) in
-      let back = overwritten_back staged gate (165 ∷ []) (omega (arith, staged_long)) in
-      let new = overwritten staged gate (165 ∷ []) in
-      let gate_is : get_or new gate 0 ≡ 165 = ap (λ (l : List ℕ). get_or l gate 0) (append_assoc (take gate staged) (165 ∷ []) (drop (gate + 1) staged)) ∙ get_or_at (take gate staged) 165 (drop (gate + 1) staged) 0 gate (omega (arith, length-take gate staged, staged_long)) in
-      subst (λ d. IsAtRest d (forms ++ form ∷ []) (gate + 5 + length form)) (sym done) (record { settled = synced_settled (written mid gate (165 ∷ [])); ends = after new torn gate_is })
+      let torn = whole_torn mid gate (open_gate ∷ []) (synced_settled (written old (gate + 1) (after_gate form))) (omega (arith, staged_long)) in
+      let back = overwritten_back staged gate (open_gate ∷ []) (omega (arith, staged_long)) in
+      let new = overwritten staged gate (open_gate ∷ []) in
+      let gate_is : get_or new gate 0 ≡ open_gate = ap (λ (l : List ℕ). get_or l gate 0) (append_assoc (take gate staged) (open_gate ∷ []) (drop (gate + 1) staged)) ∙ get_or_at (take gate staged) open_gate (drop (gate + 1) staged) 0 gate (omega (arith, length-take gate staged, staged_long)) in
+      subst (λ d. IsAtRest d (forms ++ form ∷ []) (gate + 5 + length form)) (sym done) (record { settled = synced_settled (written mid gate (open_gate ∷ [])); ends = after new torn gate_is })
 
 pub is_short : (gate : ℕ) (form : List ℕ) → RecordFits gate (length form) → IsShort form
 is_short gate form fit = omega (arith, fit.short)
@@ -150,13 +150,13 @@ module _ (a b : Told) (gate at : ℕ) (form bytes : List ℕ) (gate_is : at ≡ 
   one_gate_last rest told t low high = inl (first_gate (disk_now a) (rest told).0 gate form (rest told).1 (is_short gate form fit) fit.room (b.disk t) (first told t low high))
 
   module _ (c : Told) (ab : GoesOn a b) (bc : GoesOn b c) (done : IsTrue a.tells → disk_now b ≡ synced (written (disk_now a) (at + 1) bytes))
-      (later : Throughout b c (λ disk said. IsWriting (disk_now b) at (165 ∷ []) disk)) where
+      (later : Throughout b c (λ disk said. IsWriting (disk_now b) at (open_gate ∷ []) disk)) where
     mid_is : IsTrue a.tells → disk_now b ≡ synced (written (disk_now a) (gate + 1) (after_gate form))
     mid_is told = done told ∙ ap (λ (n : ℕ). synced (written (disk_now a) (n + 1) bytes)) gate_is ∙ ap (λ (l : List ℕ). synced (written (disk_now a) (gate + 1) l)) bytes_is
 
-    second : IsTrue a.tells → (t : ℕ) → b.clock ≤ t → t ≤ c.clock → IsWriting (synced (written (disk_now a) (gate + 1) (after_gate form))) gate (165 ∷ []) (c.disk t)
-    second told t low high = subst (λ (n : ℕ). IsWriting (synced (written (disk_now a) (gate + 1) (after_gate form))) n (165 ∷ []) (c.disk t)) gate_is
-        (subst (λ (d : Disk). IsWriting d at (165 ∷ []) (c.disk t)) (mid_is told) (later (told_next a b ab told) t low high))
+    second : IsTrue a.tells → (t : ℕ) → b.clock ≤ t → t ≤ c.clock → IsWriting (synced (written (disk_now a) (gate + 1) (after_gate form))) gate (open_gate ∷ []) (c.disk t)
+    second told t low high = subst (λ (n : ℕ). IsWriting (synced (written (disk_now a) (gate + 1) (after_gate form))) n (open_gate ∷ []) (c.disk t)) gate_is
+        (subst (λ (d : Disk). IsWriting d at (open_gate ∷ []) (c.disk t)) (mid_is told) (later (told_next a b ab told) t low high))
 
     pub two_any_moment : (forms : List (List ℕ)) → IsAtRest (disk_now a) forms gate → Throughout a c (λ disk said. CrashLeaves (IsBeforeOrAfter forms form) disk)
     two_any_moment forms at_rest told = carry_on a b c (λ disk said. CrashLeaves (IsBeforeOrAfter forms form) disk) ab bc (one_any_moment forms at_rest)
@@ -170,6 +170,6 @@ module _ (a b : Told) (gate at : ℕ) (form bytes : List ℕ) (gate_is : at ≡ 
     two_gate_last rest told = carry_on a b c (λ disk said. IsGateLast (disk_now a) gate (after_gate form) disk) ab bc (one_gate_last rest)
         (λ told_b t low high. inr (second_behind (disk_now a) (rest told).0 gate form (rest told).1 (is_short gate form fit) fit.room (c.disk t) (second told t low high))) told
 
-    pub added : (IsTrue b.tells → disk_now c ≡ synced (written (disk_now b) at (165 ∷ []))) → IsTrue a.tells → (forms : List (List ℕ)) → IsAtRest (disk_now a) forms gate → IsAtRest (disk_now c) (forms ++ form ∷ []) (gate + 5 + length form)
+    pub added : (IsTrue b.tells → disk_now c ≡ synced (written (disk_now b) at (open_gate ∷ []))) → IsTrue a.tells → (forms : List (List ℕ)) → IsAtRest (disk_now a) forms gate → IsAtRest (disk_now c) (forms ++ form ∷ []) (gate + 5 + length form)
     added ended told forms at_rest = second_done (disk_now a) forms gate form at_rest (is_short gate form fit) fit.room (disk_now c)
-        (ended (told_next a b ab told) ∙ ap (λ (n : ℕ). synced (written (disk_now b) n (165 ∷ []))) gate_is ∙ ap (λ (d : Disk). synced (written d gate (165 ∷ []))) (mid_is told))
+        (ended (told_next a b ab told) ∙ ap (λ (n : ℕ). synced (written (disk_now b) n (open_gate ∷ []))) gate_is ∙ ap (λ (d : Disk). synced (written d gate (open_gate ∷ []))) (mid_is told))

@@ -3,7 +3,7 @@ use Rattle.std.proofs.Common.{◌≡◌, ◌≢◌, inl, inr, ℕ, ◌+◌, ◌^
 use Rattle.std.proofs.lemmas.List.{append-nil, get_or-take, get_or_at, take_at, drop_more}
 use Rattle.std.proofs.lemmas.List.Elements.{All-push}
 use Rattle.std.proofs.lemmas.Bool.{cases_lt}
-use Rattle.commit_journal.specs.Journal.{header, four_bytes, record_of, records, after_gate, IsShort, EndsAt, StandsFor}
+use Rattle.commit_journal.specs.Journal.{header, four_bytes, record_of, records, after_gate, IsShort, EndsAt, StandsFor, open_gate}
 
 pub length-header : length header ≡ 16
 unfolding header
@@ -50,13 +50,13 @@ module _ (file : List ℕ) (forms : List (List ℕ)) (place : ℕ) (ends : EndsA
   -- a whole record after any gate counts or it doesn't
   module _ (form rest x : List ℕ) (prefix : take place x ≡ take place file) (behind : drop (place + 1) x ≡ after_gate form ++ rest)
       (short : IsShort form) (fits : place + length form + 6 ≤ 2 ^ 40) (long : place < length x) where
-    whole : get_or x place 0 ≡ 165 → x ≡ (header ++ records (forms ++ form ∷ [])) ++ 0 ∷ rest
+    whole : get_or x place 0 ≡ open_gate → x ≡ (header ++ records (forms ++ form ∷ [])) ++ 0 ∷ rest
     whole is_open =
-        let back : drop place x ≡ 165 ∷ after_gate form ++ rest = drop_more x place 0 long ∙ ap (λ (g : ℕ). g ∷ drop (place + 1) x) is_open ∙ ap (λ (l : List ℕ). 165 ∷ l) behind in
+        let back : drop place x ≡ open_gate ∷ after_gate form ++ rest = drop_more x place 0 long ∙ ap (λ (g : ℕ). g ∷ drop (place + 1) x) is_open ∙ ap (λ (l : List ℕ). open_gate ∷ l) behind in
         sym (take-append-drop place x) ∙ ap (λ (l : List ℕ). l ++ drop place x) (prefix ∙ ends.reads.prefix) ∙ ap (λ (l : List ℕ). (header ++ records forms) ++ l) back
         ∙ sym (ap (λ (l : List ℕ). (header ++ l) ++ 0 ∷ rest) (records-push forms form) ∙ simp append_assoc)
 
-    pub opened : get_or x place 0 ≡ 165 → EndsAt x (forms ++ form ∷ []) (place + 5 + length form)
+    pub opened : get_or x place 0 ≡ open_gate → EndsAt x (forms ++ form ∷ []) (place + 5 + length form)
     opened is_open =
         let size : length (header ++ records (forms ++ form ∷ [])) ≡ place + 5 + length form =
         omega (arith, length-append header (records (forms ++ form ∷ [])), ap length (records-push forms form), length-append (records forms) (record_of form), length-record_of form, length-header, ends.reads.place_is) in
@@ -73,7 +73,7 @@ module _ (file : List ℕ) (forms : List (List ℕ)) (place : ℕ) (ends : EndsA
           low = omega arith;
         }
 
-    pub shut : get_or x place 0 ≢ 165 → EndsAt x forms place
+    pub shut : get_or x place 0 ≢ open_gate → EndsAt x forms place
     shut closed = record {
       reads = record { prefix = prefix ∙ ends.reads.prefix; place_is = ends.reads.place_is; sizes = ends.reads.sizes };
       in_file = long;

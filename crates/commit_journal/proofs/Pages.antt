@@ -6,7 +6,7 @@ use Rattle.std.proofs.lemmas.List.Elements.{All-contains_itself}
 use Rattle.host_port.specs.Host.{Told, Disk, Span, GoesOn, Throughout, KeepsSaid, KeepsInput, RaisesDiskAlone, disk_now, WrittenPart, overwritten, written, synced}
 use Rattle.host_port.proofs.Course.{told_next, carry_on, at_last, course_on, course_still, still_said, still_input, keeps_said_on, keeps_input_on, disk_alone_on}
 use Rattle.host_port.proofs.Replaying.{length-overwritten}
-use Rattle.page_pool.specs.Frames.{Frames}
+use Rattle.page_pool.specs.Frames.{Frames, frame_size}
 use Rattle.page_pool.specs.Paged.{PagedState, AreOut, content, joined, frames_for}
 use Rattle.page_pool.proofs.Among.{length-joined}
 use Rattle.commit_journal.specs.TornWrites.{IsWithin, WrittenWithin, IsWriting}
@@ -70,10 +70,10 @@ wrote_none a at bytes = record {
   now = λ told. sym (over_none (disk_now a).now at);
 }
 
-module _ (a b c : Told) (at place n : ℕ) (bytes piece : List ℕ) (wrote : Wrote a b at bytes n) (place_is : place ≡ at + n) (low : n ≤ length bytes) (piece_is : piece ≡ take 4096 (drop n bytes)) (fits : IsTrue a.tells → at ≤ length (disk_now a).now)
+module _ (a b c : Told) (at place n : ℕ) (bytes piece : List ℕ) (wrote : Wrote a b at bytes n) (place_is : place ≡ at + n) (low : n ≤ length bytes) (piece_is : piece ≡ take frame_size (drop n bytes)) (fits : IsTrue a.tells → at ≤ length (disk_now a).now)
     (course : GoesOn b c) (said : KeepsSaid b c) (input : KeepsInput b c) (alone : RaisesDiskAlone b c) (part : Throughout b c (λ disk said. WrittenPart (disk_now b) (span_of place piece) disk)) where
   within : IsWithin (span_of at bytes) (span_of place piece)
-  within = let l = ap length piece_is in let t = length-take 4096 (drop n bytes) in let d = length-drop n bytes in record { from = omega (arith, place_is); to = omega (arith, place_is, l, t, d, low) }
+  within = let l = ap length piece_is in let t = length-take frame_size (drop n bytes) in let d = length-drop n bytes in record { from = omega (arith, place_is); to = omega (arith, place_is, l, t, d, low) }
 
   pub piece_during : Throughout a c (λ disk said. WrittenWithin (disk_now a) (span_of at bytes) disk)
   piece_during told = carry_on a b c (λ disk said. WrittenWithin (disk_now a) (span_of at bytes) disk) wrote.course course wrote.during
@@ -91,13 +91,13 @@ module _ (a b c : Told) (at place n : ℕ) (bytes piece : List ℕ) (wrote : Wro
   pub piece_alone : RaisesDiskAlone a c
   piece_alone = disk_alone_on a b c wrote.alone alone
 
-  next : take (n + 4096) bytes ≡ take n bytes ++ piece
-  next = sym (take-append-drop n (take (n + 4096) bytes)) ∙ ap (λ (l : List ℕ). l ++ drop n (take (n + 4096) bytes)) (take-take n (n + 4096) bytes (omega arith)) ∙ ap (λ (l : List ℕ). take n bytes ++ l) (drop-take n 4096 bytes ∙ sym piece_is)
+  next : take (n + frame_size) bytes ≡ take n bytes ++ piece
+  next = sym (take-append-drop n (take (n + frame_size) bytes)) ∙ ap (λ (l : List ℕ). l ++ drop n (take (n + frame_size) bytes)) (take-take n (n + frame_size) bytes (omega arith)) ∙ ap (λ (l : List ℕ). take n bytes ++ l) (drop-take n frame_size bytes ∙ sym piece_is)
 
   place_at : place ≡ at + length (take n bytes)
   place_at = let t = length-take n bytes in omega (arith, place_is, t, low)
 
-  pub one_wrote : (IsTrue b.tells → disk_now c ≡ written (disk_now b) place piece) → Wrote a c at bytes (n + 4096)
+  pub one_wrote : (IsTrue b.tells → disk_now c ≡ written (disk_now b) place piece) → Wrote a c at bytes (n + frame_size)
   one_wrote whole = record {
     course = piece_course;
     said = piece_said;

@@ -3,7 +3,7 @@ use Rattle.std.proofs.Common.{◌≡◌, ◌≢◌, inl, inr, ℕ, suc, ◌+◌,
 use Rattle.std.proofs.lemmas.List.{take_at, drop_at, get_or-take, get_or-drop, get_or_append_left, length-drop}
 use Rattle.std.specs.Prelude.{All}
 use Rattle.std.specs.Int.{from_be_bytes}
-use Rattle.commit_journal.specs.Journal.{header, four_bytes, record_of, records, IsShort, ReadsTo, EndsAt, StandsFor, StandsForNone, IsStuck, IsNoHeader, IsMounted}
+use Rattle.commit_journal.specs.Journal.{header, four_bytes, record_of, records, IsShort, ReadsTo, EndsAt, StandsFor, StandsForNone, IsStuck, IsNoHeader, IsMounted, open_gate}
 use Rattle.commit_journal.proofs.Ends.{length-four_bytes, length-header, length-record_of, no_records}
 use Rattle.commit_journal.proofs.Mounting.{new_ends}
 use Rattle.commit_journal.proofs.Walking.{value_of-four_bytes}
@@ -37,13 +37,13 @@ module _ (f h s t : List ℕ) (short_f : IsShort f) (short_h : IsShort h) (same 
 tail_same : (a b : ℕ) (s t : List ℕ) → a ∷ s ≡ b ∷ t → s ≡ t
 tail_same a b s t e = ap (λ (l : List ℕ). drop 1 l) e
 
-pub same_forms : (a b : List (List ℕ)) (s t : List ℕ) → records a ++ s ≡ records b ++ t → get_or s 0 0 ≢ 165 → get_or t 0 0 ≢ 165 → All IsShort a → All IsShort b → a ≡ b
+pub same_forms : (a b : List (List ℕ)) (s t : List ℕ) → records a ++ s ≡ records b ++ t → get_or s 0 0 ≢ open_gate → get_or t 0 0 ≢ open_gate → All IsShort a → All IsShort b → a ≡ b
 same_forms [] [] s t same closed_s closed_t short_a short_b = refl
 same_forms [] (h ∷ b) s t same closed_s closed_t short_a short_b = absurd (closed_s (ap (λ (l : List ℕ). get_or l 0 0) same))
 same_forms (f ∷ a) [] s t same closed_s closed_t short_a short_b = absurd (closed_t (sym (ap (λ (l : List ℕ). get_or l 0 0) same)))
 same_forms (f ∷ a) (h ∷ b) s t same closed_s closed_t short_a short_b =
     let tails : (four_bytes (length f) ++ f) ++ (records a ++ s) ≡ (four_bytes (length h) ++ h) ++ (records b ++ t) =
-    sym (append_assoc (four_bytes (length f) ++ f) (records a) s) ∙ tail_same 165 165 _ _ same ∙ append_assoc (four_bytes (length h) ++ h) (records b) t in
+    sym (append_assoc (four_bytes (length f) ++ f) (records a) s) ∙ tail_same open_gate open_gate _ _ same ∙ append_assoc (four_bytes (length h) ++ h) (records b) t in
     let short_f = first_of a f short_a in
     let short_h = first_of b h short_b in
     let one = form_same f h (records a ++ s) (records b ++ t) short_f short_h tails in
@@ -71,8 +71,8 @@ one_meaning file first forms place (inl short) ends =
 one_meaning file first forms place (inr long) ends = one_reading file first forms long.1.0 place long.1.1 ends
 
 no_forms : (a b : List (List ℕ)) (s t : List ℕ) (base start : ℕ) → records a ++ s ≡ records b ++ t → start ≡ base + length (records a)
-    → (0 < length s → get_or s 0 0 ≡ 165) → ((form : List ℕ) → IsShort form → start + 5 + length form < 2 ^ 40 → take (5 + length form) s ≡ record_of form → ⊥)
-    → 0 < length t → get_or t 0 0 ≢ 165 → All IsShort a → All IsShort b → base + length (records b) < 2 ^ 40 → ⊥
+    → (0 < length s → get_or s 0 0 ≡ open_gate) → ((form : List ℕ) → IsShort form → start + 5 + length form < 2 ^ 40 → take (5 + length form) s ≡ record_of form → ⊥)
+    → 0 < length t → get_or t 0 0 ≢ open_gate → All IsShort a → All IsShort b → base + length (records b) < 2 ^ 40 → ⊥
 no_forms [] [] s t base start same start_is not_closed no_record some closed short_a short_b low =
     closed (ap (λ (l : List ℕ). get_or l 0 0) (sym same) ∙ not_closed (omega (arith, ap length same, some)))
 no_forms [] (h ∷ b) s t base start same start_is not_closed no_record some closed short_a short_b low =
@@ -83,7 +83,7 @@ no_forms (f ∷ a) [] s t base start same start_is not_closed no_record some clo
     closed (sym (ap (λ (l : List ℕ). get_or l 0 0) same))
 no_forms (f ∷ a) (h ∷ b) s t base start same start_is not_closed no_record some closed short_a short_b low =
     let tails : (four_bytes (length f) ++ f) ++ (records a ++ s) ≡ (four_bytes (length h) ++ h) ++ (records b ++ t) =
-    sym (append_assoc (four_bytes (length f) ++ f) (records a) s) ∙ tail_same 165 165 _ _ same ∙ append_assoc (four_bytes (length h) ++ h) (records b) t in
+    sym (append_assoc (four_bytes (length f) ++ f) (records a) s) ∙ tail_same open_gate open_gate _ _ same ∙ append_assoc (four_bytes (length h) ++ h) (records b) t in
     let short_f = first_of a f short_a in
     let short_h = first_of b h short_b in
     let one = form_same f h (records a ++ s) (records b ++ t) short_f short_h tails in

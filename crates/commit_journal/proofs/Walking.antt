@@ -4,7 +4,7 @@ use Rattle.std.proofs.lemmas.List.{length-take, length-drop, drop-drop, take_at,
 use Rattle.std.proofs.lemmas.List.Elements.{All-push}
 use Rattle.std.specs.Int.{from_be_bytes}
 use Rattle.std.proofs.lemmas.Nat.{from_be_bytes-to_be_bytes_4, be_bytes_4}
-use Rattle.commit_journal.specs.Journal.{header, four_bytes, record_of, records, IsShort, ReadsTo, IsOpen, IsStuck, IsNoHeader}
+use Rattle.commit_journal.specs.Journal.{header, four_bytes, record_of, records, IsShort, ReadsTo, IsOpen, IsStuck, IsNoHeader, most_bytes, open_gate}
 use Rattle.commit_journal.proofs.Ends.{records-push, length-record_of, length-four_bytes}
 
 pub value_of-four_bytes : (n : ℕ) → n < 2 ^ 32 → from_be_bytes w32 (four_bytes n) ≡ n
@@ -53,7 +53,7 @@ module _ (file : List ℕ) (gate : ℕ) where
     no_record = λ form small below is. absurd (omega (arith, ap length is, length-record_of form, length-take (5 + length form) (drop gate file), length-drop gate file));
   }
 
-  pub too_short : gate < length file → get_or file gate 0 ≡ 165 → length file - gate < 5 → IsStuck file gate
+  pub too_short : gate < length file → get_or file gate 0 ≡ open_gate → length file - gate < 5 → IsStuck file gate
   too_short low is_open short = record {
     not_closed = λ below. is_open;
     no_record = λ form small below is. absurd (omega (arith, ap length is, length-record_of form, length-take (5 + length form) (drop gate file), length-drop gate file));
@@ -70,8 +70,8 @@ module _ (file : List ℕ) (gate : ℕ) where
       ∙ ap (λ (l : List ℕ). take 4 (drop 1 l)) (sym (parts n) ∙ is)
       ∙ take_at (four_bytes n) form 4 (length-four_bytes n)
 
-  pub no_room : (size : ℕ) → get_or file gate 0 ≡ 165 → take 4 (drop (gate + 1) file) ≡ four_bytes size → size < 2 ^ 32
-      → ((size ≤ 16777211) → (gate + 5 + size < 2 ^ 40) → length file < gate + 5 + size) → IsStuck file gate
+  pub no_room : (size : ℕ) → get_or file gate 0 ≡ open_gate → take 4 (drop (gate + 1) file) ≡ four_bytes size → size < 2 ^ 32
+      → ((size ≤ most_bytes) → (gate + 5 + size < 2 ^ 40) → length file < gate + 5 + size) → IsStuck file gate
   no_room size is_open spelt low none = record {
     not_closed = λ below. is_open;
     no_record = λ form small below is.
@@ -81,17 +81,17 @@ module _ (file : List ℕ) (gate : ℕ) where
         absurd (omega (arith, size_same, long, past));
   }
 
-  pub one_record : (forms : List (List ℕ)) (form : List ℕ) (size : ℕ) → ReadsTo file forms gate → IsOpen file gate size → size ≤ 16777211 → form ≡ take size (drop (gate + 5) file)
+  pub one_record : (forms : List (List ℕ)) (form : List ℕ) (size : ℕ) → ReadsTo file forms gate → IsOpen file gate size → size ≤ most_bytes → form ≡ take size (drop (gate + 5) file)
       → ReadsTo file (forms ++ form ∷ []) (gate + 5 + size)
   one_record forms form size reads at_gate small form_is =
       let room = at_gate.whole in
       let low : gate < length file = omega (arith, room) in
       let long : length form ≡ size = omega (arith, ap length form_is, length-take size (drop (gate + 5) file), length-drop (gate + 5) file, room) in
-      let one : take 1 (drop gate file) ≡ 165 ∷ [] = ap (λ (l : List ℕ). take 1 l) (drop_more file gate 0 low) ∙ ap (λ (n : ℕ). n ∷ []) at_gate.opened in
+      let one : take 1 (drop gate file) ≡ open_gate ∷ [] = ap (λ (l : List ℕ). take 1 l) (drop_more file gate 0 low) ∙ ap (λ (n : ℕ). n ∷ []) at_gate.opened in
       let field_same : take 4 (drop (gate + 1) file) ≡ four_bytes (length form) = at_gate.length_is ∙ sym (ap four_bytes long) in
       let piece : take (5 + size) (drop gate file) ≡ record_of form =
       parts size ∙ ap (λ (l : List ℕ). l ++ (take 4 (drop (gate + 1) file) ++ take size (drop (gate + 5) file))) one
-      ∙ ap (λ (l : List ℕ). 165 ∷ l ++ take size (drop (gate + 5) file)) field_same ∙ ap (λ (l : List ℕ). 165 ∷ four_bytes (length form) ++ l) (sym form_is) in
+      ∙ ap (λ (l : List ℕ). open_gate ∷ l ++ take size (drop (gate + 5) file)) field_same ∙ ap (λ (l : List ℕ). open_gate ∷ four_bytes (length form) ++ l) (sym form_is) in
       let place : gate + 5 + size ≡ gate + (5 + size) = omega arith in
       record {
         prefix = ap (λ (k : ℕ). take k file) place ∙ take-add gate (5 + size) file ∙ ap (λ (l : List ℕ). l ++ take (5 + size) (drop gate file)) reads.prefix

@@ -20,9 +20,13 @@ new_file = header ++ 0 ∷ []
 unfoldable pub four_bytes : ℕ → List ℕ
 four_bytes n = to_be_bytes w32 n
 
+-- the byte of an open gate; with any other a gate is closed
+abbrev pub open_gate : ℕ
+open_gate = 165
+
 -- an open gate, the length and the byte string
 abbrev pub record_of : List ℕ → List ℕ
-record_of form = 165 ∷ four_bytes (length form) ++ form
+record_of form = open_gate ∷ four_bytes (length form) ++ form
 
 -- the records of some byte strings, one after another
 abbrev pub records : List (List ℕ) → List ℕ
@@ -59,7 +63,7 @@ pub record ReadsTo (file : List ℕ) (forms : List (List ℕ)) (place : ℕ) : T
 pub record EndsAt (file : List ℕ) (forms : List (List ℕ)) (place : ℕ) : Type 0 where
   pub reads : ReadsTo file forms place
   pub in_file : place < length file
-  pub closed : slice_index file place ≢ 165
+  pub closed : slice_index file place ≢ open_gate
   pub low : place < 2 ^ 40
 
 -- the file stands for these byte strings: it is too short to hold any, or its records up to a closed gate are theirs
@@ -81,16 +85,16 @@ IsBeforeOrAfter forms form file = StandsFor file forms ⊎ StandsFor file (forms
 -- a closed gate stands there
 pub record IsClosed (file : List ℕ) (place : ℕ) : Type 0 where
   pub in_file : place < length file
-  pub closed : slice_index file place ≢ 165
+  pub closed : slice_index file place ≢ open_gate
 
 -- neither a closed gate nor a whole record stands there
 pub record IsStuck (file : List ℕ) (place : ℕ) : Type 0 where
-  pub not_closed : place < length file → slice_index file place ≡ 165
+  pub not_closed : place < length file → slice_index file place ≡ open_gate
   pub no_record : (form : List ℕ) → IsShort form → place + 5 + length form < 2 ^ 40 → ¬ (take (5 + length form) (drop place file) ≡ record_of form)
 
 -- an open gate stands there, then the length of a byte string, and after it so many bytes
 pub record IsOpen (file : List ℕ) (place size : ℕ) : Type 0 where
-  pub opened : slice_index file place ≡ 165
+  pub opened : slice_index file place ≡ open_gate
   pub length_is : take 4 (drop (place + 1) file) ≡ four_bytes size
   pub whole : place + 5 + size ≤ length file
 
@@ -141,7 +145,7 @@ HoldsRecord pool prepared form = HoldsBytes pool prepared (after_gate form)
 
 -- a record of this size may be appended at a journal's end
 pub record RecordFits (end size : ℕ) : Type 0 where
-  pub short : size + 5 ≤ 16777216
+  pub short : size + 5 ≤ 2 ^ 24
   pub room : end + size + 6 ≤ 2 ^ 40
 
 -- Whether such a record may be appended there, or which limit stands in its way. A journal has at most 2 ^ 40 bytes with the gate

@@ -2,7 +2,7 @@
 //! last.
 ghost use Rattle.std.specs.Prelude.{◌≡◌, ◌+◌, ◌^◌, ◌<◌, ◌≤◌, ◌++◌, [], ◌∷◌, List, ℕ, length, take, IsTrue, IfOk, OnOk, OnErr, true, false};
 ghost use Rattle.host_port.specs.Host.{disk_now, Rose, GoesOn, Throughout, KeepsSaid, KeepsInput, RaisesDiskAlone, CrashLeaves};
-ghost use Rattle.page_pool.specs.Frames.{out_of, SameFrames};
+ghost use Rattle.page_pool.specs.Frames.{out_of, SameFrames, pool_limit};
 ghost use Rattle.page_pool.specs.Paged.{AreOut, AreFree, KeepsOthers, frames_for};
 ghost use Rattle.commit_journal.specs.Journal.{JournalState, after_gate, four_bytes, IsShort, HoldsRecord, IsReady, IsBeforeOrAfter, IsAtRest, IsGateLast};
 
@@ -89,7 +89,7 @@ impl Journal {
         form: &[u8],
     ) -> Result<Prepared, AllocError>
         requires short { IsShort form.now }
-        requires room { out_of pool.old + frames_for (length form.now + 5) ≤ 8192 }
+        requires room { out_of pool.old + frames_for (length form.now + 5) ≤ pool_limit }
         ensures holds { IfOk result (λ prepared. HoldsRecord pool.new prepared form.now) }
         ensures fresh { IfOk result (λ prepared. AreFree pool.old prepared.frames) }
         ensures others { IfOk result (λ prepared. KeepsOthers pool.old pool.new prepared.frames) }

@@ -2,7 +2,7 @@
 ghost use Rattle.std.specs.Prelude.{◌≡◌, ◌⊎◌, ◌+◌, ◌^◌, ◌<◌, ◌≤◌, ◌++◌, [], ◌∷◌, List, ℕ, length, IsTrue, IfOk, OnOk, IfErr, IfSome, IfNone, OnErr, IsErrOf, true, false};
 ghost use Rattle.host_port.specs.Host.{disk_now, Rose, GoesOn, Throughout, KeepsDisk, KeepsSaid, KeepsInput, RaisesDiskAlone, CrashLeaves};
 ghost use Rattle.std.specs.Bool.{OnTrue, OnFalse};
-ghost use Rattle.commit_journal.specs.Journal.{WalkState, header, four_bytes, IsWalked, IsClosed, IsStuck, IsOpen, IsNoHeader, IsAtRest, IsShort, MountedFrom, StandsForSame, StandsForNone};
+ghost use Rattle.commit_journal.specs.Journal.{WalkState, header, four_bytes, IsWalked, IsClosed, IsStuck, IsOpen, IsNoHeader, IsAtRest, IsShort, MountedFrom, StandsForSame, StandsForNone, most_bytes};
 ghost use Rattle.commit_journal.specs.Walk.{IfDamaged};
 
 use crate::fault::JournalFault;
@@ -55,8 +55,8 @@ fn number_in(field: &[u8; 4]) -> u32
 fn has_room(length: u64, gate: u64, size: u64) -> bool
     requires gate { gate < 2 ^ 40 }
     requires field { gate + 5 ≤ length }
-    ensures room { OnTrue result ((size ≤ 16777211) × (gate + 5 + size < 2 ^ 40) × (gate + 5 + size ≤ length)) }
-    ensures none { OnFalse result ((size ≤ 16777211) → (gate + 5 + size < 2 ^ 40) → length < gate + 5 + size) }
+    ensures room { OnTrue result ((size ≤ most_bytes) × (gate + 5 + size < 2 ^ 40) × (gate + 5 + size ≤ length)) }
+    ensures none { OnFalse result ((size ≤ most_bytes) → (gate + 5 + size < 2 ^ 40) → length < gate + 5 + size) }
 {
     size <= MOST_BYTES && gate + 5 + size < JOURNAL_LIMIT && size <= length - gate - 5
 }
@@ -77,7 +77,7 @@ fn read_gate<H: Host>(host: &mut H, gate: u64) -> Result<Gate, Failed>
     ensures closed { IfOk result (λ found. found ≡ Gate.Closed → IsTrue (H.told host.old).tells → IsClosed (disk_now (H.told host.old)).now gate) }
     ensures broken { IfOk result (λ found. found ≡ Gate.Broken → IsTrue (H.told host.old).tells → IsStuck (disk_now (H.told host.old)).now gate) }
     ensures open { IfOk result (λ found. (size : ℕ) → found ≡ Gate.Open size → IsTrue (H.told host.old).tells → IsOpen (disk_now (H.told host.old)).now gate size) }
-    ensures short { IfOk result (λ found. (size : ℕ) → found ≡ Gate.Open size → (size ≤ 16777211) × (gate + 5 + size < 2 ^ 40)) }
+    ensures short { IfOk result (λ found. (size : ℕ) → found ≡ Gate.Open size → (size ≤ most_bytes) × (gate + 5 + size < 2 ^ 40)) }
     ensures cause { OnErr result (Rose (H.told host.old).disk_faults (H.told host.new).disk_faults) }
     ensures alone { RaisesDiskAlone (H.told host.old) (H.told host.new) }
     ensures course { GoesOn (H.told host.old) (H.told host.new) }

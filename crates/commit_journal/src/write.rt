@@ -5,7 +5,7 @@ ghost use Rattle.page_pool.specs.Paged.{AreOut, content, frames_for};
 ghost use Rattle.commit_journal.specs.TornWrites.{IsWriting, WrittenWithin};
 
 use host_port::{Failed, Host};
-use page_pool::{PagedBytes, Pool};
+use page_pool::{FRAME_SIZE, PagedBytes, Pool};
 
 pub(crate) fn write_durably<H: Host>(host: &mut H, at: u64, bytes: &[u8]) -> Result<(), Failed>
     requires place { IsTrue (H.told host.old).tells → at ≤ length (disk_now (H.told host.old)).now }
@@ -43,7 +43,7 @@ fn write_pieces<H: Host>(
 {
     for i in 0..paged.frames() {
         let piece = paged.piece(pool, i);
-        host.write_at(at + 4096 * i as u64, piece)?;
+        host.write_at(at + FRAME_SIZE as u64 * i as u64, piece)?;
     }
     Ok(())
 }

@@ -4,6 +4,7 @@ ghost use Rattle.edit_laws.specs.Spot.{end_spot, evened, rank_for, ranks_of, spo
 ghost use Rattle.edit_laws.specs.Places.{rerank_places};
 ghost use Rattle.model_state.specs.Listing.{children};
 ghost use Rattle.containment.specs.Refusals.{IsRefusal, spot_refusal};
+ghost use Rattle.model_state.specs.Ranks.{most_entries};
 
 use crate::MoveFault;
 use ecore_meta::List;
@@ -22,7 +23,7 @@ pub struct Spot {
 
 /// A step for each element whose rank changes, where all are spread evenly.
 fn even_reranks(alloc: Global, list: &[Entry]) -> Result<List<Step>, AllocError>
-    requires { length list.now < 4294967295 }
+    requires { length list.now < most_entries }
     ensures { IfOk result (λ s. s ≡ rerank_places list.now (evened 1 list.now)) }
 {
     let mut steps = List::new(alloc);
@@ -42,7 +43,7 @@ fn even_reranks(alloc: Global, list: &[Entry]) -> Result<List<Step>, AllocError>
 /// The reranks of the others, where there is no room.
 fn reranks(alloc: Global, opening: &Opening) -> Result<List<Step>, AllocError>
     requires reranks { opening.now.reranks ≡ not (is_some (rank_for (ranks_of opening.now.others) opening.now.index)) }
-    requires small { opening.now.reranks ≡ true → length opening.now.others < 4294967295 }
+    requires small { opening.now.reranks ≡ true → length opening.now.others < most_entries }
     ensures { IfOk result (λ s. s ≡ rerank_places opening.now.others (spot opening.now.others opening.now.index).ranks) }
 {
     if opening.reranks {

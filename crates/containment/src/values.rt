@@ -4,6 +4,7 @@ ghost use Rattle.model_state.specs.Good.{Good};
 ghost use Rattle.edit_laws.specs.Attributes.{put_made};
 ghost use Rattle.edit_laws.specs.ManyValues.{dels};
 ghost use Rattle.containment.specs.Deletes.{emptied_made, values_made};
+ghost use Rattle.model_state.specs.Ranks.{most_entries};
 
 use crate::features::Slot;
 use ecore_meta::{List, Metamodel, Value};
@@ -39,7 +40,7 @@ fn dels(
     values: &[Value],
     steps: &mut List<Step>,
 ) -> Result<(), AllocError>
-    requires { length values.now ≤ 4294967295 }
+    requires { length values.now ≤ most_entries }
     ensures { OnOk result (steps.new ≡ steps.old ++ dels e.now f 0 values.now) }
 {
     for at in (0..values.len()).rev() {

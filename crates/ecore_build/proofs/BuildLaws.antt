@@ -1,6 +1,6 @@
 -- What the parts of a document are, by number.
 use Rattle.std.proofs.Common.{◌≡◌, ℕ, zero, suc, ◌+◌, ◌<◌, ◌≤◌, Bool, true, false, List, [], ◌∷◌, ◌++◌, refl, sym, ap, subst, ◌∙◌, arith, length, length-append, map, take, nat_eq, cond, ◌||◌}
-use Rattle.std.specs.Prelude.{Option, None, Some}
+use Rattle.std.specs.Prelude.{Option, None, Some, ◌^◌}
 use Rattle.std.specs.List.{AllByRecursion, list_any, cons_option, enumerate_from, filter, filter_map, flat_map, range_with_len}
 use Rattle.std.specs.BTreeSet.{BTreeSet}
 use Rattle.std.proofs.lemmas.List.{length-map}
@@ -115,7 +115,7 @@ drafts_few rows = ap length (drafts_counted rows) ∙ drafts_count rows 0 rows
 pub enums_short : (rows : ClassifierRows) → AreFew rows → AreShort (enums_in rows)
 enums_short [] few = tt
 enums_short (Class c ∷ rows) few = enums_short rows few.1
-enums_short (Enum e ∷ rows) few = (subst (λ k. k < 4294967296) (sym (length-map e.literals literal)) (omega (arith, few.0)), enums_short rows few.1)
+enums_short (Enum e ∷ rows) few = (subst (λ k. k < 2 ^ 32) (sym (length-map e.literals literal)) (omega (arith, few.0)), enums_short rows few.1)
 enums_short (Plain t ∷ rows) few = enums_short rows few.1
 
 -- the classes with the features of each, their places from n on

@@ -23,9 +23,13 @@ use Rattle.ecore_meta.specs.declared.meta.Value.{Value}
 use Rattle.ecore_drafts.specs.declared.rows.MetaRows.{MetaRows}
 use Rattle.ecore_drafts.specs.declared.rows.ClassRow.{ClassRow}
 
+-- the greatest bound that a feature holds
+abbrev pub greatest_bound : ℕ
+greatest_bound = 4294967295
+
 -- a bound as a natural number, the greatest that a feature holds where it is greater
 abbrev pub natural : ℤ → ℕ
-natural (pos n) = min n 4294967295
+natural (pos n) = min n greatest_bound
 natural (negsuc n) = 0
 
 -- the number of the opposite, where there is one

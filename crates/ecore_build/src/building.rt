@@ -1,7 +1,7 @@
 //! The building of a metamodel: names are resolved, faults looked for in their order, and then the tables assembled.
-ghost use Rattle.std.specs.Prelude.{◌≡◌, ◌<◌, IfOk, IfErr, None, false, length, map};
+ghost use Rattle.std.specs.Prelude.{◌≡◌, ◌<◌, IfOk, IfErr, None, false, length, map, ◌^◌};
 ghost use Rattle.ecore_build.specs.Build.{Chains, meta_of};
-ghost use Rattle.ecore_drafts.specs.Counts.{Numbered};
+ghost use Rattle.ecore_drafts.specs.Counts.{Numbered, too_many};
 ghost use Rattle.ecore_drafts.specs.Document.{feature_total, supers_in};
 ghost use Rattle.ecore_drafts.specs.Supers.{all_above};
 ghost use Rattle.ecore_drafts.specs.Fit.{NamesFit};
@@ -39,7 +39,7 @@ fn listed(
     supers: &[Vec<u32>],
     above: &[BTreeSet<u32>],
 ) -> Result<Vec<Vec<u32>>, AllocError>
-    requires few { feature_total rows.now < 4294967295 }
+    requires few { feature_total rows.now < too_many }
     requires supers { map (λ ups. ups.items) supers.now ≡ supers_in rows.now rows.now }
     requires rising { map (λ s. s.keys) above.now ≡ all_above (map (λ ups. ups.items) supers.now) }
     ensures { IfOk result (λ v. map (λ fs. fs.items) v.items ≡ features_of rows.now) }
@@ -75,7 +75,7 @@ fn resolve<'a>(
 
 /// The first fault of those that the resolved features alone show.
 fn last_fault(alloc: Global, resolved: &Resolved) -> Result<Option<MetaFault>, AllocError>
-    requires { length resolved.now.drafts.items < 4294967296 }
+    requires { length resolved.now.drafts.items < 2 ^ 32 }
     ensures { IfOk result (λ o. o ≡ first_true (last_tests resolved.now.drafts.items resolved.now.enums)) }
 {
     if any_self(resolved.drafts.as_slice()) {

@@ -1,5 +1,5 @@
 //! The tests for faults of names, types, opposites and bounds, each over the whole document.
-ghost use Rattle.std.specs.Prelude.{◌≡◌, ◌<◌, IfOk, Some, length, map, slice_get};
+ghost use Rattle.std.specs.Prelude.{◌≡◌, ◌<◌, IfOk, Some, length, map, slice_get, ◌^◌};
 ghost use Rattle.std.specs.List.{list_any};
 ghost use Rattle.std.specs.Option.{option_copied};
 ghost use Rattle.ecore_meta.specs.Names.{has_repeat};
@@ -152,7 +152,7 @@ pub(crate) fn at(drafts: &[Draft], n: u32) -> Option<&Draft>
 
 /// Whether some reference names itself as its opposite.
 pub(crate) fn any_self(drafts: &[Draft]) -> bool
-    requires { length drafts.now < 4294967296 }
+    requires { length drafts.now < 2 ^ 32 }
     ensures { result ≡ any_from is_self 0 drafts.now }
 {
     for (n, draft) in drafts.iter().enumerate() {
@@ -165,7 +165,7 @@ pub(crate) fn any_self(drafts: &[Draft]) -> bool
 
 /// Whether some reference has an opposite that is none, or does not answer.
 pub(crate) fn any_unanswered(drafts: &[Draft]) -> bool
-    requires { length drafts.now < 4294967296 }
+    requires { length drafts.now < 2 ^ 32 }
     ensures { result ≡ any_from (is_unanswered drafts.now) 0 drafts.now }
 {
     for (n, draft) in drafts.iter().enumerate() {

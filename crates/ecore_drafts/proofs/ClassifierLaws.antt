@@ -1,6 +1,6 @@
 -- What an index of the classifiers answers.
 use Rattle.std.proofs.Common.{◌≡◌, ℕ, ◌+◌, ◌≤◌, ◌<◌, List, [], ◌∷◌, ◌++◌, ap, subst, sym, zero, suc, ◌∙◌, arith, length, map, take, get_or}
-use Rattle.std.specs.Prelude.{Option, None, Some, slice_get}
+use Rattle.std.specs.Prelude.{Option, None, Some, slice_get, ◌^◌}
 use Rattle.std.specs.BTreeMap.{BTreeMap}
 use denote.Ref.{Bor}
 use Rattle.std.specs.Option.{option_and_then}
@@ -16,6 +16,7 @@ use Rattle.ecore_drafts.specs.declared.classifiers.Classifier.TheVariants.{Class
 use Rattle.ecore_drafts.specs.declared.rows.ClassifierRow.TheVariants.{Class, Enum, Plain}
 use Rattle.ecore_drafts.specs.declared.rows.ClassifierRow.{ClassifierRow}
 use Rattle.ecore_drafts.specs.declared.rows.ClassRow.{ClassRow}
+use Rattle.ecore_drafts.specs.Counts.{too_many}
 
 pub named_is : (rows : ClassifierRows) (index : BTreeMap (Bor Name) ℕ) (numbers : List Classifier) (own : List (BTreeMap (Bor Name) ℕ)) → Tells rows index numbers own → (q : Name) → option_and_then (λ p. slice_get numbers p) (place_in index q) ≡ classifier_named rows q
 unfolding classifier_named
@@ -36,7 +37,7 @@ first_fits c f e (Enum r ∷ rows) (suc p) n first row h k = let more = first_fi
 first_fits c f e (Plain t ∷ rows) (suc p) n first row h k = let more = first_fits c f e rows p n first row h k in omega (arith, more)
 
 -- a class at its place has numbers for its features
-pub fits_at : (rows : ClassifierRows) (p : ℕ) (row : ClassifierRow) (kind : Option Classifier) → feature_total rows < 4294967295 → slice_get rows p ≡ Some row → slice_get (numbered 0 0 0 rows) p ≡ kind → FitsIn row kind
+pub fits_at : (rows : ClassifierRows) (p : ℕ) (row : ClassifierRow) (kind : Option Classifier) → feature_total rows < too_many → slice_get rows p ≡ Some row → slice_get (numbered 0 0 0 rows) p ≡ kind → FitsIn row kind
 fits_at rows p (Class row) (Some (OfClass n first)) few h k = let fits = first_fits 0 0 0 rows p n first row h k in omega (arith, fits)
 fits_at rows p (Class row) (Some (OfEnum e empty)) few h k = tt
 fits_at rows p (Class row) (Some OfPlain) few h k = tt
@@ -80,9 +81,9 @@ placed_some (x ∷ rows) (y ∷ ms) zero row all r s = cc
 placed_some (x ∷ rows) (y ∷ ms) (suc p) row all r s = placed_some rows ms p row all.1 r s
 
 -- the number of a feature fits, where its class's features have numbers
-pub fits_place : (row : ClassifierRow) (kind : Option Classifier) (k : ClassRow) (n first p : ℕ) (m : BTreeMap (Bor Name) ℕ) (q : Name) → row ≡ Class k → kind ≡ Some (OfClass n first) → FitsIn row kind → Placed row m → place_in m q ≡ Some p → first + p < 4294967296
+pub fits_place : (row : ClassifierRow) (kind : Option Classifier) (k : ClassRow) (n first p : ℕ) (m : BTreeMap (Bor Name) ℕ) (q : Name) → row ≡ Class k → kind ≡ Some (OfClass n first) → FitsIn row kind → Placed row m → place_in m q ≡ Some p → first + p < 2 ^ 32
 fits_place row kind k n first p m q r t fits placed at =
-    let f : first + length k.features < 4294967296 = subst (λ x. FitsIn x (Some (OfClass n first))) r (subst (FitsIn row) t fits) in
+    let f : first + length k.features < 2 ^ 32 = subst (λ x. FitsIn x (Some (OfClass n first))) r (subst (FitsIn row) t fits) in
     let g : number_of q (feature_names k.features) ≡ Some p = sym (subst (λ x. Placed x m) r placed q) ∙ at in
     let h = number_of-below q (feature_names k.features) p g in
     omega (arith, f, h, length-map k.features (λ (x : FeatureRow). x.name))

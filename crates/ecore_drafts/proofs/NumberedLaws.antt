@@ -2,7 +2,7 @@
 use Rattle.std.proofs.Common.{◌≡◌, ◌↔◌, ℕ, ◌<◌, Bool, true, false, [], ◌∷◌, ◌&&◌, ◌||◌, not, IsTrue, refl, sym, ◌∙◌, length, rules}
 use Rattle.std.specs.Prelude.{nat_lt}
 use Rattle.std.specs.List.{list_any}
-use Rattle.ecore_drafts.specs.Counts.{AreFew, Numbered, is_numbered, Few, is_many}
+use Rattle.ecore_drafts.specs.Counts.{AreFew, Numbered, is_numbered, Few, is_many, too_many}
 use Rattle.ecore_drafts.specs.Document.{ClassifierRows, feature_total}
 use Rattle.ecore_drafts.specs.declared.rows.ClassifierRow.{ClassifierRow}
 use Rattle.ecore_drafts.specs.declared.rows.ClassifierRow.TheVariants.{Class, Enum, Plain}
@@ -46,13 +46,13 @@ both true b h k = k
 both false b h k = cc
 
 few_of : (row : ClassifierRow) → is_many row ≡ false → Few row
-few_of (Class c) h = less (length c.features) 4294967295 (double _ h)
-few_of (Enum e) h = less (length e.literals) 4294967295 (double _ h)
+few_of (Class c) h = less (length c.features) too_many (double _ h)
+few_of (Enum e) h = less (length e.literals) too_many (double _ h)
 few_of (Plain t) h = tt
 
 not_many : (row : ClassifierRow) → Few row → is_many row ≡ false
-not_many (Class c) h = of_true _ (is_less (length c.features) 4294967295 h)
-not_many (Enum e) h = of_true _ (is_less (length e.literals) 4294967295 h)
+not_many (Class c) h = of_true _ (is_less (length c.features) too_many h)
+not_many (Enum e) h = of_true _ (is_less (length e.literals) too_many h)
 not_many (Plain t) h = refl
 
 all_few : (rows : ClassifierRows) → list_any is_many rows ≡ false → AreFew rows
@@ -68,9 +68,9 @@ numbered_is rows b is = (forth, back)
   where
     forth : b ≡ true → Numbered rows
     forth h =
-        let at = two (nat_lt (length rows) 4294967295) _ (sym is ∙ h) in
-        let more = two (nat_lt (feature_total rows) 4294967295) _ at.1 in
-        record { classifiers = less (length rows) 4294967295 at.0; features = less (feature_total rows) 4294967295 more.0; parts = all_few rows (not_true _ more.1) }
+        let at = two (nat_lt (length rows) too_many) _ (sym is ∙ h) in
+        let more = two (nat_lt (feature_total rows) too_many) _ at.1 in
+        record { classifiers = less (length rows) too_many at.0; features = less (feature_total rows) too_many more.0; parts = all_few rows (not_true _ more.1) }
 
     back : Numbered rows → b ≡ true
-    back h = is ∙ both _ _ (is_less (length rows) 4294967295 h.classifiers) (both _ _ (is_less (feature_total rows) 4294967295 h.features) (not_false _ (none_many rows h.parts)))
+    back h = is ∙ both _ _ (is_less (length rows) too_many h.classifiers) (both _ _ (is_less (feature_total rows) too_many h.features) (not_false _ (none_many rows h.parts)))

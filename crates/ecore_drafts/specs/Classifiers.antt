@@ -1,5 +1,5 @@
 -- What an index of the classifiers holds: each with a number, counted from the first on.
-use Rattle.std.specs.Prelude.{◌≡◌, ℕ, suc, ◌<◌, ◌+◌, true, false, cond, List, [], ◌∷◌, Option, None, Some, map, length, slice_get}
+use Rattle.std.specs.Prelude.{◌≡◌, ℕ, suc, ◌<◌, ◌+◌, true, false, cond, List, [], ◌∷◌, Option, None, Some, map, length, slice_get, ◌^◌}
 use Rattle.std.specs.BTreeMap.{BTreeMap}
 use Rattle.std.specs.Option.{option_map, option_and_then}
 use denote.Ref.{Bor}
@@ -12,6 +12,7 @@ use Rattle.ecore_drafts.specs.declared.drafts.Target.{Target}
 use Rattle.ecore_drafts.specs.declared.drafts.Target.TheVariants.{Missing, Values}
 use Rattle.ecore_drafts.specs.declared.rows.ClassifierRow.{ClassifierRow}
 use Rattle.ecore_drafts.specs.declared.rows.ClassifierRow.TheVariants.{Class, Enum, Plain}
+use Rattle.ecore_drafts.specs.Counts.{too_many}
 
 -- each classifier with its number, after so many classes, features and enums
 abbrev pub numbered : ℕ → ℕ → ℕ → ClassifierRows → List Classifier
@@ -69,7 +70,7 @@ pub record Tells (rows : ClassifierRows) (index : BTreeMap (Bor Name) ℕ) (numb
   pub places : (q : Name) → place_in index q ≡ number_of q (map classifier_name rows)
   pub placed : AllPlaced rows own
   pub kinds : numbers ≡ numbered 0 0 0 rows
-  pub features : feature_total rows < 4294967295
+  pub features : feature_total rows < too_many
 
 -- none exactly where a name stands twice
 abbrev pub MayHave : ClassifierRows → Option ClassifierRows → Type 0
@@ -78,5 +79,5 @@ MayHave rows (Some found) = (has_repeat (map classifier_name rows) ≡ false) ×
 
 -- the numbers of the features that the class declares are below 2^32
 abbrev pub FitsIn : ClassifierRow → Option Classifier → Type 0
-FitsIn (Class row) (Some (OfClass n first)) = first + length row.features < 4294967296
+FitsIn (Class row) (Some (OfClass n first)) = first + length row.features < 2 ^ 32
 FitsIn row kind = Unit {0}

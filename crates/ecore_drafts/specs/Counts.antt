@@ -5,16 +5,20 @@ use Rattle.ecore_drafts.specs.Document.{ClassifierRows, feature_total}
 use Rattle.ecore_drafts.specs.declared.rows.ClassifierRow.{ClassifierRow}
 use Rattle.ecore_drafts.specs.declared.rows.ClassifierRow.TheVariants.{Class, Enum, Plain}
 
+-- so many of one sort that they can't be numbered with 32 bits: 2^32 - 1
+abbrev pub too_many : ℕ
+too_many = 4294967295
+
 -- the features or literals of a classifier can be numbered
 abbrev pub Few : ClassifierRow → Type 0
-Few (Class c) = length c.features < 4294967295
-Few (Enum e) = length e.literals < 4294967295
+Few (Class c) = length c.features < too_many
+Few (Enum e) = length e.literals < too_many
 Few (Plain t) = Unit {0}
 
 -- too many features or literals of a classifier to be numbered
 abbrev pub is_many : ClassifierRow → Bool
-is_many (Class c) = not (nat_lt (length c.features) 4294967295)
-is_many (Enum e) = not (nat_lt (length e.literals) 4294967295)
+is_many (Class c) = not (nat_lt (length c.features) too_many)
+is_many (Enum e) = not (nat_lt (length e.literals) too_many)
 is_many (Plain t) = false
 
 -- the features or literals of each classifier can be numbered
@@ -24,10 +28,10 @@ AreFew (row ∷ rows) = Few row × AreFew rows
 
 -- fewer than 2^32 - 1 classifiers, features, and literals of an enum
 pub record Numbered (rows : ClassifierRows) : Type 0 where
-  pub classifiers : length rows < 4294967295
-  pub features : feature_total rows < 4294967295
+  pub classifiers : length rows < too_many
+  pub features : feature_total rows < too_many
   pub parts : AreFew rows
 
 -- the same as a test
 abbrev pub is_numbered : ClassifierRows → Bool
-is_numbered rows = nat_lt (length rows) 4294967295 && (nat_lt (feature_total rows) 4294967295 && not (list_any is_many rows))
+is_numbered rows = nat_lt (length rows) too_many && (nat_lt (feature_total rows) too_many && not (list_any is_many rows))

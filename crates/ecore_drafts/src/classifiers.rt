@@ -6,6 +6,7 @@ ghost use Rattle.ecore_meta.specs.Names.{Name, has_repeat, number_of, place_in};
 ghost use Rattle.ecore_meta.specs.Values.{or_else};
 ghost use Rattle.ecore_drafts.specs.Document.{classifier_name, class_number, feature_names, feature_number, feature_total};
 ghost use Rattle.ecore_drafts.specs.Classifiers.{AllPlaced, FitsIn, MayHave, Placed, class_in, classifier_named, number_at, number_in, numbered};
+ghost use Rattle.ecore_drafts.specs.Counts.{too_many};
 
 use crate::names::{classifier_names, index};
 use crate::rows::{ClassifierRow, FeatureRow};
@@ -51,8 +52,8 @@ impl<'a> Classifiers<'a> {
         alloc: Global,
         rows: &'a [ClassifierRow],
     ) -> Result<Option<Classifiers<'a>>, AllocError>
-        requires classifiers { length rows.now < 4294967295 }
-        requires features { feature_total rows.now < 4294967295 }
+        requires classifiers { length rows.now < too_many }
+        requires features { feature_total rows.now < too_many }
         ensures { IfOk result (MayHave rows.now) }
     {
         let names = classifier_names(alloc, rows)?;
@@ -132,7 +133,7 @@ fn feature_at(
     feature: &str,
 ) -> Option<u32>
     requires kinds { kinds.now ≡ numbered 0 0 0 rows.now }
-    requires few { feature_total rows.now < 4294967295 }
+    requires few { feature_total rows.now < too_many }
     requires own { AllPlaced rows.now own.now }
     ensures { result ≡ number_at rows.now place feature.now }
 {
@@ -209,8 +210,8 @@ fn kind_of(row: &ClassifierRow, classes: u32, features: u32, enums: u32) -> Clas
 
 /// The classifiers in their order, each kind numbered by itself.
 fn number(alloc: Global, rows: &[ClassifierRow]) -> Result<Vec<Classifier>, AllocError>
-    requires classifiers { length rows.now < 4294967295 }
-    requires features { feature_total rows.now < 4294967295 }
+    requires classifiers { length rows.now < too_many }
+    requires features { feature_total rows.now < too_many }
     ensures { IfOk result (λ v. v.items ≡ numbered 0 0 0 rows.now) }
 {
     let mut numbered = Vec::new(alloc);

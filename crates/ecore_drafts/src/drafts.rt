@@ -2,6 +2,7 @@
 ghost use Rattle.std.specs.Prelude.{◌≡◌, ◌<◌, ◌+◌, ◌++◌, IfOk, OnOk, length, map};
 ghost use Rattle.ecore_drafts.specs.Classifiers.{scalar_in};
 ghost use Rattle.ecore_drafts.specs.Drafts.{class_target, draft, drafts, ecore_scalar, end_of, target_of, value_target};
+ghost use Rattle.ecore_drafts.specs.Counts.{too_many};
 
 use crate::classifiers::{Classifier, Classifiers};
 use crate::rows::{ClassifierRow, FeatureRow, TypeName};
@@ -182,7 +183,7 @@ impl<'a> Classifiers<'a> {
     /// The features of the document in the order of their declaration.
     pub fn drafts(&self, alloc: Global, rows: &[ClassifierRow]) -> Result<Vec<Draft>, AllocError>
         requires same { self.now ≡ rows.now }
-        requires few { length rows.now < 4294967295 }
+        requires few { length rows.now < too_many }
         ensures { IfOk result (λ v. v.items ≡ drafts rows.now) }
     {
         let mut drafts = Vec::new(alloc);

@@ -1,7 +1,7 @@
 //! The rows of a document: classifiers, features and literals as they are written, with unresolved names.
 ghost use Rattle.std.specs.Prelude.{◌≡◌, ◌↔◌, IsTrue, length, nat_lt};
 ghost use Rattle.std.specs.List.{list_any};
-ghost use Rattle.ecore_drafts.specs.Counts.{Numbered, is_numbered, is_many};
+ghost use Rattle.ecore_drafts.specs.Counts.{Numbered, is_numbered, is_many, too_many};
 ghost use Rattle.ecore_drafts.specs.Document.{classifier_name, feature_total, features_in};
 ghost use Rattle.ecore_meta.specs.Named.{has_slash, is_taken};
 ghost use Rattle.ecore_drafts.specs.Fit.{NamesFit, is_misnamed};
@@ -10,6 +10,9 @@ use ecore_meta::{List, Text};
 
 /// So many rows of one sort that they can't be numbered with 32 bits: `2^32 - 1`.
 const TOO_MANY: usize = 4_294_967_295;
+
+/// The most features of a document: one fewer.
+const MOST_FEATURES: u32 = 4_294_967_294;
 
 /// What a document says of a package, in its order: the classifiers by name, and names still to be resolved.
 #[derive(Drop)]
@@ -171,9 +174,9 @@ fn any_is_misnamed(rows: &[ClassifierRow]) -> bool
 /// Whether the features of all classes are fewer than 2^32 - 1: what is left is counted down, so no sum grows too
 /// large.
 fn features_are_few(rows: &[ClassifierRow]) -> bool
-    ensures { result ≡ nat_lt (feature_total rows.now) 4294967295 }
+    ensures { result ≡ nat_lt (feature_total rows.now) too_many }
 {
-    let mut left: u32 = 4294967294;
+    let mut left: u32 = MOST_FEATURES;
     for row in rows {
         let count = row.feature_count();
         if count > left as usize {

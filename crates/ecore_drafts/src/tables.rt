@@ -1,10 +1,11 @@
 //! The tables of inheritance: all classes above each class, cycles among them, and the features that each class
 //! declares.
-ghost use Rattle.std.specs.Prelude.{◌≡◌, ◌<◌, ◌+◌, IfOk, length, map};
+ghost use Rattle.std.specs.Prelude.{◌≡◌, ◌<◌, ◌+◌, IfOk, length, map, ◌^◌};
 ghost use Rattle.std.specs.List.{list_any, range_with_len};
 ghost use Rattle.ecore_drafts.specs.Document.{feature_total, own_features};
 ghost use Rattle.ecore_drafts.specs.Supers.{super_cycle, Inside, all_above};
 ghost use Rattle.ecore_meta.specs.Meta.{is_in};
+ghost use Rattle.ecore_drafts.specs.Counts.{too_many};
 
 use crate::rows::ClassifierRow;
 use crate::supers::above;
@@ -15,7 +16,7 @@ use std::collections::BTreeSet;
 /// For each class, itself and all those above it.
 pub fn all_above(alloc: Global, supers: &[Vec<u32>]) -> Result<Vec<BTreeSet<u32>>, AllocError>
     requires inside { Inside (map (λ ups. ups.items) supers.now) }
-    requires few { length supers.now < 4294967296 }
+    requires few { length supers.now < 2 ^ 32 }
     ensures { IfOk result (λ v. map (λ s. s.keys) v.items ≡ all_above (map (λ ups. ups.items) supers.now)) }
 {
     let mut table = Vec::new(alloc);
@@ -41,7 +42,7 @@ fn any_below(above: &[BTreeSet<u32>], ups: &[u32], class: u32) -> bool
 pub fn any_cycle(supers: &[Vec<u32>], above: &[BTreeSet<u32>]) -> bool
     requires above { map (λ s. s.keys) above.now ≡ all_above (map (λ ups. ups.items) supers.now) }
     requires inside { Inside (map (λ ups. ups.items) supers.now) }
-    requires few { length supers.now < 4294967296 }
+    requires few { length supers.now < 2 ^ 32 }
     ensures { result ≡ super_cycle (map (λ ups. ups.items) supers.now) }
 {
     for (class, ups) in supers.iter().enumerate() {
@@ -54,7 +55,7 @@ pub fn any_cycle(supers: &[Vec<u32>], above: &[BTreeSet<u32>]) -> bool
 
 /// The numbers from `first` on, as many as `count`: those of the features that one class declares.
 fn numbers(alloc: Global, first: u32, count: usize) -> Result<Vec<u32>, AllocError>
-    requires { first + count < 4294967296 }
+    requires { first + count < 2 ^ 32 }
     ensures { IfOk result (λ v. v.items ≡ range_with_len first count) }
 {
     let mut numbers = Vec::new(alloc);
@@ -66,7 +67,7 @@ fn numbers(alloc: Global, first: u32, count: usize) -> Result<Vec<u32>, AllocErr
 
 /// The numbers of the features that each class itself declares.
 pub fn own_features(alloc: Global, rows: &[ClassifierRow]) -> Result<Vec<Vec<u32>>, AllocError>
-    requires { feature_total rows.now < 4294967295 }
+    requires { feature_total rows.now < too_many }
     ensures { IfOk result (λ v. map (λ fs. fs.items) v.items ≡ own_features rows.now) }
 {
     let mut own = Vec::new(alloc);

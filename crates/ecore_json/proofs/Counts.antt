@@ -6,7 +6,7 @@ use Rattle.std.specs.Cmp.Lexicographic.{slice_cmp}
 use Rattle.serde_json.specs.Data.{Data, null, boolean, number, string, array, object, Items, no_items, item, Members, no_members, member}
 use Rattle.serde_json.specs.Find.{get, get_member, as_array}
 use Rattle.serde_json.specs.Read.{read}
-use Rattle.ecore_drafts.specs.Counts.{Numbered, AreFew, Few}
+use Rattle.ecore_drafts.specs.Counts.{Numbered, AreFew, Few, too_many}
 use Rattle.ecore_drafts.specs.Document.{feature_total, features_in}
 use Rattle.ecore_drafts.specs.declared.rows.ClassifierRow.{ClassifierRow}
 use Rattle.ecore_drafts.specs.declared.rows.ClassifierRow.TheVariants.{Class, Enum, Plain}
@@ -85,7 +85,7 @@ features_by own d true b = let h = rows_within (feature_row own) (codes "eStruct
 features_by own d false true = omega arith
 features_by own d false false = omega arith
 
-few_by : (own : Name) (d : Data) (a b : Bool) → weight d ≤ 4294967295 → Few (row_by own d a b)
+few_by : (own : Name) (d : Data) (a b : Bool) → weight d ≤ too_many → Few (row_by own d a b)
 few_by own d true b h = let r = rows_within (feature_row own) (codes "eStructuralFeatures") d in omega arith
 few_by own d false true h = let r = rows_within literal_row (codes "eLiterals") d in omega arith
 few_by own d false false h = tt
@@ -96,11 +96,11 @@ features_within own (d ∷ ds) =
     let a = features_by own d (is_a ecore_class d) (is_a ecore_enum d) in
     let b = features_within own ds in omega arith
 
-all_few : (own : Name) (ds : List Data) → total ds ≤ 4294967295 → AreFew (map (classifier_row own) ds)
+all_few : (own : Name) (ds : List Data) → total ds ≤ too_many → AreFew (map (classifier_row own) ds)
 all_few own [] h = tt
 all_few own (d ∷ ds) h = (few_by own d (is_a ecore_class d) (is_a ecore_enum d) (omega arith), all_few own ds (omega arith))
 
-numbered : (d : Data) → weight d ≤ 4294967295 → Numbered (rows_of d).classifiers
+numbered : (d : Data) → weight d ≤ too_many → Numbered (rows_of d).classifiers
 unfolding rows_of
 numbered d h =
     let t = within (codes "eClassifiers") d in
@@ -132,7 +132,7 @@ package_kept : (o : Option Data) → heavy (if_package o) ≤ heavy o
 package_kept None = omega arith
 package_kept (Some d) = kept (is_a ecore_package d) d
 
-pub package_numbered : (text : Name) (d p : Data) → length text < 4294967295 → read text ≡ Some d → Some p ≡ package_of d → Numbered (rows_of p).classifiers
+pub package_numbered : (text : Name) (d p : Data) → length text < too_many → read text ≡ Some d → Some p ≡ package_of d → Numbered (rows_of p).classifiers
 package_numbered text d p short is package_is =
     let a = read_weight text d is in
     let b = root_weight d in

@@ -1,6 +1,6 @@
 -- Names of a package without a fault are of their form.
 use Rattle.std.proofs.Common.{◌≡◌, ℕ, ◌==◌, Bool, true, false, cond, not, ◌&&◌, ◌||◌, List, [], ◌∷◌, length, map, refl, sym, ap, subst, ◌∙◌, codes, rules}
-use Rattle.std.specs.Prelude.{Option, None, Some, is_some, option_and_then, nat_le}
+use Rattle.std.specs.Prelude.{Option, None, Some, is_some, option_and_then, nat_lt}
 use Rattle.std.specs.List.{AllByRecursion, list_all}
 use Rattle.std.specs.Option.{option_map_or}
 use Rattle.std.specs.Char.{is_ascii_alphabetic}
@@ -22,7 +22,7 @@ use Rattle.ecore_json.specs.declared.fault.WalkFault.{WalkFault}
 use Rattle.ecore_json.specs.declared.table.Position.{Position}
 use Rattle.ecore_json.specs.declared.table.Shape.{Shape}
 use Rattle.ecore_json.specs.Classes.{ecore_attribute, ecore_class, ecore_data_type, ecore_enum, ecore_reference}
-use Rattle.ecore_json.specs.References.{is_feature_name, is_mark, is_name, is_name_byte}
+use Rattle.ecore_json.specs.References.{is_feature_name, is_mark, is_name, is_name_byte, most_name_bytes}
 use Rattle.ecore_json.specs.Rows.{alone_or, class_row, classifier_row, elements, enum_row, feature_row, list_of, own_prefix, rows_of, text_at}
 use Rattle.ecore_json.specs.Table.{required, wants}
 use Rattle.ecore_json.specs.Walk as Walk
@@ -211,8 +211,8 @@ free_bytes (b ∷ bs) h =
 no_slash : (t : Name) → is_name t ≡ true → has_slash t ≡ false
 no_slash [] h = cc
 no_slash (b ∷ bs) h =
-    let first = and_first (is_ascii_alphabetic b || is_mark b) (nat_le (length bs) 127 && list_all is_name_byte bs) h in
-    let rest = and_second (nat_le (length bs) 127) (list_all is_name_byte bs) (and_second (is_ascii_alphabetic b || is_mark b) (nat_le (length bs) 127 && list_all is_name_byte bs) h) in
+    let first = and_first (is_ascii_alphabetic b || is_mark b) (nat_lt (length bs) most_name_bytes && list_all is_name_byte bs) h in
+    let rest = and_second (nat_lt (length bs) most_name_bytes) (list_all is_name_byte bs) (and_second (is_ascii_alphabetic b || is_mark b) (nat_lt (length bs) most_name_bytes && list_all is_name_byte bs) h) in
     ap (λ t. t || has_slash bs) (free_byte (λ b. is_ascii_alphabetic b || is_mark b) refl b first) ∙ free_bytes bs rest
 
 not_taken : (t : Name) → is_feature_name t ≡ true → is_taken t ≡ false

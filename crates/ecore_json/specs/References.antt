@@ -1,5 +1,5 @@
 -- Names, and the references that name a classifier, a type of Ecore or a feature.
-use Rattle.std.specs.Prelude.{ℕ, ◌==◌, ◌&&◌, ◌||◌, not, nat_le, Bool, false, [], ◌∷◌, length, codes, cond, Option, None, Some, is_some}
+use Rattle.std.specs.Prelude.{ℕ, ◌==◌, ◌&&◌, ◌||◌, not, nat_lt, Bool, false, [], ◌∷◌, length, codes, cond, Option, None, Some, is_some}
 use Rattle.std.specs.Char.{is_ascii_alphabetic, is_ascii_alphanumeric}
 use Rattle.std.specs.List.{list_all, before_first, after_first}
 use Rattle.std.specs.Str.{bytes_eq}
@@ -14,10 +14,14 @@ is_mark b = (b == 95) || (b == 36)
 abbrev pub is_name_byte : ℕ → Bool
 is_name_byte b = is_ascii_alphanumeric b || is_mark b
 
--- a letter, `_` or `$`, and letters, digits, `_` and `$` after it, at most 128 bytes
+-- the most bytes of a name
+abbrev pub most_name_bytes : ℕ
+most_name_bytes = 128
+
+-- a letter, `_` or `$`, and letters, digits, `_` and `$` after it, no more bytes than the most
 abbrev pub is_name : Name → Bool
 is_name [] = false
-is_name (b ∷ bs) = (is_ascii_alphabetic b || is_mark b) && (nat_le (length bs) 127 && list_all is_name_byte bs)
+is_name (b ∷ bs) = (is_ascii_alphabetic b || is_mark b) && (nat_lt (length bs) most_name_bytes && list_all is_name_byte bs)
 
 -- a name, and none of the keys that a model text keeps for itself
 abbrev pub is_feature_name : Name → Bool

@@ -1,6 +1,6 @@
 -- The first fault of a package, on a walk over its JSON tree. What an object leaves out is judged as the walk enters it. Then
 -- come its keys in the order of their bytes, a missing one where it would stand, and what is nested at its key.
-use Rattle.std.specs.Prelude.{ℤ, pos, negsuc, ◌&&◌, ◌||◌, not, int_le, Bool, true, false, List, [], ◌∷◌, codes, cond, Option, None, Some, is_some, option_and_then}
+use Rattle.std.specs.Prelude.{ℤ, pos, ◌&&◌, ◌||◌, not, Bool, true, false, List, [], ◌∷◌, codes, cond, Option, None, Some, is_some, option_and_then}
 use Rattle.std.specs.Option.{option_map_or}
 use Rattle.std.specs.Ordering.{nat_cmp, is_lt, int_eq}
 use Rattle.std.specs.Cmp.Lexicographic.{slice_cmp}
@@ -18,7 +18,9 @@ use Rattle.ecore_json.specs.declared.table.ValueKind.{ValueKind}
 use Rattle.ecore_json.specs.declared.table.ValueKind.TheVariants.{Anything, Flag, Whole, Text, Name as OfName, FeatureName, TypeReference, OppositeReference}
 use Rattle.ecore_json.specs.declared.table.Wanted.{Wanted}
 use Rattle.ecore_json.specs.declared.table.Wanted.TheVariants.{Value, Object, Objects}
+use Rattle.ecore_meta.specs.declared.meta.Scalar.TheVariants.{Int}
 use Rattle.ecore_meta.specs.Names.{Name}
+use Rattle.ecore_meta.specs.Typing.{half_of, in_width}
 use Rattle.ecore_json.specs.References.{is_name, is_feature_name, is_type_reference, own_feature}
 use Rattle.ecore_json.specs.Table.{wants, required}
 
@@ -142,7 +144,7 @@ is_before (Some r) k = is_lt (slice_cmp nat_cmp r k)
 -- a number of 32 bits, signed
 abbrev pub fits : Option ℤ → Bool
 fits None = false
-fits (Some n) = int_le (negsuc 2147483647) n && int_le n (pos 2147483647)
+fits (Some n) = in_width (half_of Int) n
 
 -- the value is of the kind; own begins the references of the package
 abbrev pub is_of : Name → ValueKind → Data → Bool

@@ -5,6 +5,9 @@ ghost use Rattle.ecore_json.specs.References.{is_name, is_name_byte, is_feature_
 
 use crate::ecore;
 
+/// The most bytes of a name.
+const MOST_NAME_BYTES: usize = 128;
+
 /// Whether a text is a name: a letter, `_` or `$`, and letters, digits, `_` or `$` after it, all ASCII, at most
 /// 128 bytes.
 pub(crate) fn is_name(text: &str) -> bool
@@ -14,7 +17,7 @@ pub(crate) fn is_name(text: &str) -> bool
         [] => false,
         [first, rest @ ..] => {
             (first.is_ascii_alphabetic() || *first == b'_' || *first == b'$')
-                && rest.len() <= 127
+                && rest.len() < MOST_NAME_BYTES
                 && are_name_bytes(rest)
         }
     }

@@ -9,6 +9,7 @@ use crate::ecore;
 use crate::fault::WalkFault;
 use crate::reference::{is_feature_name, is_name, is_type_reference, own_feature};
 use crate::table::{Position, Shape, ValueKind, Wanted, required, wants};
+use ecore_meta::Scalar;
 use serde_json::{Map, Value};
 
 /// Whether an object says that it is of that class of Ecore.
@@ -179,7 +180,7 @@ fn is_whole(value: &Value) -> bool
 {
     match value.as_i64() {
         None => false,
-        Some(n) => -2_147_483_648 <= n && n <= 2_147_483_647,
+        Some(n) => Scalar::Int.has_whole(n),
     }
 }
 

@@ -1,6 +1,6 @@
 -- What std's parse of a signed number of 64 bits says, in the words of the values.
 use Rattle.std.proofs.Common.{◌≡◌, ◌≢◌, ℕ, ℤ, zero, suc, ◌<◌, ◌≤◌, ◌^◌, Bool, true, false, List, [], ◌∷◌, cond, refl, sym, ap, subst, ◌∙◌, arith, length, drop, get_or, nat_eq, rules}
-use Rattle.std.specs.Prelude.{pos, negsuc, neg_ℤ, Option, None, Some, Result, Ok, Err, nat_lt, FitsSigned, if◌then◌else◌, slice_index, slice_get}
+use Rattle.std.specs.Prelude.{pos, negsuc, neg_ℤ, Option, None, Some, Result, Ok, Err, nat_lt, FitsSigned, if◌then◌else◌, slice_index, slice_get, ◌^◌}
 use Rattle.std.specs.Str.{all_ascii_digits}
 use mir.Syntax.{w64}
 use mir.Val.{to_z, of_z}
@@ -156,15 +156,15 @@ half_small (LiteralType e) = omega arith
 pub literals_is : (enums : List Enum) (i : ℕ) (o : Option Enum) → o ≡ slice_get enums i → option_map_or (λ (x : Enum). x.literals) o [] ≡ literals_at enums i
 literals_is enums i o is = ap (λ x. option_map_or (λ (y : Enum). y.literals) x []) is
 
-pub short_at : (enums : List Enum) (i : ℕ) (x : Enum) → AreShort enums → Some x ≡ slice_get enums i → length x.literals < 4294967296
+pub short_at : (enums : List Enum) (i : ℕ) (x : Enum) → AreShort enums → Some x ≡ slice_get enums i → length x.literals < 2 ^ 32
 short_at [] i x short is = cc
-short_at (y ∷ ys) zero x short is = subst (λ (z : Enum). length z.literals < 4294967296) (same_some is) short.0
+short_at (y ∷ ys) zero x short is = subst (λ (z : Enum). length z.literals < 2 ^ 32) (same_some is) short.0
   where
     same_some : Some x ≡ Some y → y ≡ x
     same_some h = cc
 short_at (y ∷ ys) (suc i) x short is = short_at ys i x short.1 is
 
-pub short_in : (enums : List Enum) (i : ℕ) (d : Enum) → AreShort enums → i < length enums → length (get_or enums i d).literals < 4294967296
+pub short_in : (enums : List Enum) (i : ℕ) (d : Enum) → AreShort enums → i < length enums → length (get_or enums i d).literals < 2 ^ 32
 short_in [] i d short h = absurd (omega arith)
 short_in (y ∷ ys) zero d short h = short.0
 short_in (y ∷ ys) (suc i) d short h = short_in ys i d short.1 (omega arith)

@@ -1,5 +1,5 @@
 -- What the indexes of a metamodel and of its enums hold.
-use Rattle.std.specs.Prelude.{String, ◌≡◌, ◌<◌, ℕ, List, [], ◌∷◌, length, map}
+use Rattle.std.specs.Prelude.{String, ◌≡◌, ◌<◌, ℕ, List, [], ◌∷◌, length, map, ◌^◌}
 use Rattle.std.specs.BTreeMap.{BTreeMap, get_by_text}
 use Rattle.ecore_meta.specs.Holds.{Holds}
 use Rattle.ecore_meta.specs.Meta.{Meta, class_named}
@@ -17,7 +17,7 @@ AllKnown (e ∷ es) (m ∷ ms) = ((q : Name) → get_by_text m q ≡ literal_in 
 
 -- enums and their literals can be numbered, and so much holds of the indexes of the literals
 pub record HasLiterals {Y : Type 0} (enums : List Enum) (literals : List (BTreeMap (String Y) ℕ)) : Type 0 where
-  pub few : length enums < 4294967296
+  pub few : length enums < 2 ^ 32
   pub short : AreShort enums
   pub known : AllKnown enums literals
 

@@ -1,5 +1,5 @@
 -- The value that a text stands for.
-use Rattle.std.specs.Prelude.{◌≡◌, ℕ, ℤ, pos, neg_ℤ, ◌+◌, ◌-◌, ◌*◌, Bool, true, false, List, [], ◌∷◌, Option, None, Some, map, drop, length, codes, cond, nat_eq, ◌<◌, if◌then◌else◌}
+use Rattle.std.specs.Prelude.{◌≡◌, ℕ, ℤ, pos, neg_ℤ, ◌+◌, ◌-◌, ◌*◌, Bool, true, false, List, [], ◌∷◌, Option, None, Some, map, drop, length, codes, cond, nat_eq, ◌<◌, if◌then◌else◌, ◌^◌}
 use Rattle.std.specs.Option.{option_map, option_and_then}
 use Rattle.std.specs.Str.{bytes_eq, all_ascii_digits}
 use Rattle.ecore_meta.specs.Names.{number_of}
@@ -87,7 +87,7 @@ default_of (LiteralType e) = Some (Literal 0)
 -- the literals of each enum can be numbered
 abbrev pub AreShort : List Enum → Type 0
 AreShort [] = Unit {0}
-AreShort (found ∷ enums) = (length found.literals < 4294967296) × AreShort enums
+AreShort (found ∷ enums) = (length found.literals < 2 ^ 32) × AreShort enums
 
 -- why a text was not read: it stands for no value, or there was no memory
 abbrev pub IsBad : Option Value → ValueFault → Type 0

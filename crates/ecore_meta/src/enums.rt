@@ -1,5 +1,5 @@
 //! The enums of a metamodel by number, and their literals by number, by text and by name.
-ghost use Rattle.std.specs.Prelude.{◌≡◌, ◌<◌, IfOk, length, slice_get};
+ghost use Rattle.std.specs.Prelude.{◌≡◌, ◌<◌, IfOk, length, slice_get, ◌^◌};
 ghost use Rattle.std.specs.BTreeMap.{get_by_text};
 ghost use Rattle.std.specs.Option.{option_and_then, option_copied};
 ghost use Rattle.ecore_meta.specs.Typing.{literals_at, text_in};
@@ -90,7 +90,7 @@ fn number_at(indexes: &[BTreeMap<String, u32>], n: u32, name: &str) -> Option<u3
 impl Enums {
     /// The enums of a list.
     pub fn new(alloc: Global, items: Vec<Enum>) -> Result<Enums, AllocError>
-        requires few { length items.items < 4294967296 }
+        requires few { length items.items < 2 ^ 32 }
         requires short { AreShort items.items }
         ensures { IfOk result (λ a. a ≡ items.items) }
     {

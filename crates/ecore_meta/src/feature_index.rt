@@ -1,5 +1,5 @@
 //! The index of features by name: the number of each name, and for each class its features by the numbers of their names.
-ghost use Rattle.std.specs.Prelude.{◌≡◌, ◌<◌, ℕ, IfOk, None, OnOk, Some, cond, length, map, nat_eq, slice_get};
+ghost use Rattle.std.specs.Prelude.{◌≡◌, ◌<◌, ℕ, IfOk, None, OnOk, Some, cond, length, map, nat_eq, slice_get, ◌^◌};
 ghost use Rattle.std.specs.BTreeMap.{get, get_by_text};
 ghost use Rattle.std.specs.Option.{option_and_then, option_copied};
 ghost use Rattle.std.specs.Ordering.{nat_cmp};
@@ -18,7 +18,7 @@ pub(crate) fn name_index(
     alloc: Global,
     features: &[Feature],
 ) -> Result<BTreeMap<String, u32>, AllocError>
-    requires { length features.now < 4294967296 }
+    requires { length features.now < 2 ^ 32 }
     ensures { IfOk result (λ m. (q : Name) → get_by_text m q ≡ number_of q (map (λ f. f.name) features.now)) }
 {
     let mut index = BTreeMap::new(alloc);

@@ -1,5 +1,5 @@
 //! Indexes of names: of the classes of a metamodel, and of the literals of its enums.
-ghost use Rattle.std.specs.Prelude.{◌≡◌, ◌<◌, IfOk, None, OnOk, Some, cond, length, map};
+ghost use Rattle.std.specs.Prelude.{◌≡◌, ◌<◌, IfOk, None, OnOk, Some, cond, length, map, ◌^◌};
 ghost use Rattle.std.specs.BTreeMap.{get_by_text};
 ghost use Rattle.std.specs.Str.{bytes_eq};
 ghost use Rattle.ecore_meta.specs.Indexes.{AllKnown};
@@ -32,7 +32,7 @@ pub(crate) fn class_index(
     alloc: Global,
     classes: &[Class],
 ) -> Result<BTreeMap<String, u32>, AllocError>
-    requires { length classes.now < 4294967296 }
+    requires { length classes.now < 2 ^ 32 }
     ensures { IfOk result (λ m. (q : Name) → get_by_text m q ≡ number_of q (map (λ c. c.name) classes.now)) }
 {
     let mut index = BTreeMap::new(alloc);
@@ -47,7 +47,7 @@ fn enter_texts(
     literals: &[EnumLiteral],
     index: &mut BTreeMap<String, u32>,
 ) -> Result<(), AllocError>
-    requires { length literals.now < 4294967296 }
+    requires { length literals.now < 2 ^ 32 }
     ensures { OnOk result ((q : Name) → get_by_text index.new q ≡ or_else (get_by_text index.old q) (number_of q (map (λ l. l.text) literals.now))) }
 {
     for (n, literal) in literals.iter().enumerate() {
@@ -61,7 +61,7 @@ fn enter_names(
     literals: &[EnumLiteral],
     index: &mut BTreeMap<String, u32>,
 ) -> Result<(), AllocError>
-    requires { length literals.now < 4294967296 }
+    requires { length literals.now < 2 ^ 32 }
     ensures { OnOk result ((q : Name) → get_by_text index.new q ≡ or_else (get_by_text index.old q) (number_of q (map (λ l. l.name) literals.now))) }
 {
     for (n, literal) in literals.iter().enumerate() {
@@ -75,7 +75,7 @@ fn literal_index(
     alloc: Global,
     literals: &[EnumLiteral],
 ) -> Result<BTreeMap<String, u32>, AllocError>
-    requires { length literals.now < 4294967296 }
+    requires { length literals.now < 2 ^ 32 }
     ensures { IfOk result (λ m. (q : Name) → get_by_text m q ≡ literal_in literals.now q) }
 {
     let mut index = BTreeMap::new(alloc);

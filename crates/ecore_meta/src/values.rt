@@ -3,6 +3,7 @@
 ghost use Rattle.std.specs.Prelude.{◌≡◌, IfOk, IfSome, FitsSigned, Some, None, cond, nat_eq, slice_index};
 ghost use mir.Syntax.{w64};
 ghost use Rattle.ecore_meta.specs.Typing.{half_of, in_width};
+ghost use Rattle.ecore_meta.specs.declared.meta.Scalar.TheVariants.{Byte, Short, Int, Long};
 ghost use Rattle.ecore_meta.specs.declared.meta.Value.TheVariants.{Whole};
 ghost use Rattle.ecore_meta.specs.Values.{default_of, flag_of, named_of, value_of, whole_in, whole_of, wide};
 
@@ -35,25 +36,25 @@ fn whole_of(text: &str) -> Option<i64>
 }
 
 fn fits_byte(n: i64) -> bool
-    ensures { result ≡ in_width 128 n }
+    ensures { result ≡ in_width (half_of Byte) n }
 {
     -128 <= n && n < 128
 }
 
 fn fits_short(n: i64) -> bool
-    ensures { result ≡ in_width 32768 n }
+    ensures { result ≡ in_width (half_of Short) n }
 {
     -32768 <= n && n < 32768
 }
 
 fn fits_int(n: i64) -> bool
-    ensures { result ≡ in_width 2147483648 n }
+    ensures { result ≡ in_width (half_of Int) n }
 {
     -2147483648 <= n && n < 2147483648
 }
 
 fn fits_long(n: i64) -> bool
-    ensures { result ≡ in_width 9223372036854775808 n }
+    ensures { result ≡ in_width (half_of Long) n }
 {
     // For the range of n, which the contract needs.
     let _n = n;

@@ -30,6 +30,7 @@ use Rattle.edit_laws.proofs.Pairs.{rows_apart, some_of}
 use Rattle.edit_laws.proofs.Clears.{Held, pair_row, targets_differ}
 use Rattle.edit_laws.proofs.Sets.{set_ref_meets, clear_gone, own_near}
 use Rattle.edit_laws.proofs.LinkEdits.{left_targets, ranked_missing, none_without, others_held}
+use Rattle.model_state.specs.Ranks.{rank_gap}
 
 -- a run of no step changes nothing
 pub idle_from : (meta : Meta) (m : State) (ss : List Step) (row : Rows) → fold meta m ss ≡ Some (record m { row = row }) → ss ≡ [] → row ≡ m.row
@@ -47,7 +48,7 @@ nothing_if o r ss is = ap (λ (x : Option ℕ). cond (is_some x) [] ss) is
 
 module _ (meta : Meta) (sound : Sound meta) (m : State) (a : IdBytes) (f : ℕ) (b : IdBytes) where
   abbrev joined_row : Rows
-  joined_row = join (opposite_of meta f) a f (Some 4294967296) b (clear_there meta (opposite_of meta f) f b (clear (opposite_of meta f) a f m.row))
+  joined_row = join (opposite_of meta f) a f (Some rank_gap) b (clear_there meta (opposite_of meta f) f b (clear (opposite_of meta f) a f m.row))
 
   pub set_ref_still : set_ref_after meta a f b m.row ≡ m.row → set_ref_made meta m.row a f b ≡ []
   set_ref_still same =
@@ -55,8 +56,8 @@ module _ (meta : Meta) (sound : Sound meta) (m : State) (a : IdBytes) (f : ℕ) 
         | Some r ↦ λ is. nothing_if (get m.row (a, f, b)) r _ is
         | None ↦ λ none.
             let after : set_ref_after meta a f b m.row ≡ joined_row = ap (λ (o : Option ℕ). cond (is_some o) m.row joined_row) none in
-            absurd (some_none (get m.row (a, f, b)) 4294967296
-            (ap (λ row. get row (a, f, b)) (sym same ∙ after) ∙ join_has meta sound a f (Some 4294967296) b (clear_there meta (opposite_of meta f) f b (clear (opposite_of meta f) a f m.row)) (opposite_of meta f) refl) none)
+            absurd (some_none (get m.row (a, f, b)) rank_gap
+            (ap (λ row. get row (a, f, b)) (sym same ∙ after) ∙ join_has meta sound a f (Some rank_gap) b (clear_there meta (opposite_of meta f) f b (clear (opposite_of meta f) a f m.row)) (opposite_of meta f) refl) none)
       ] refl
 
 pub set_ref_idle : SetRefIdle

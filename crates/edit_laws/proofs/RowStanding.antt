@@ -36,6 +36,7 @@ use Rattle.edit_laws.proofs.Sets as sets
 use Rattle.edit_laws.proofs.Sets.{no_mirror}
 use Rattle.edit_laws.proofs.LinkEdits.{all_filter, left_targets, none_without, ranked_missing}
 use Rattle.edit_laws.proofs.Told.{Ranking, AllHeld, Tells, has_id, one_list, apart_filter, has-reranked, rises_filter, stands, stands_still, length_without, without_none}
+use Rattle.model_state.specs.Ranks.{rank_gap}
 
 -- the targets of a feature have the ranks of its rows
 abbrev pub ranks_in : Rows → IdBytes → ℕ → Ranking
@@ -314,7 +315,7 @@ module _ (meta : Meta) (sound : Sound meta) (m : State) (good : Good meta m) (a 
   kept o = clear_there meta o f b (clear o a f m.row)
 
   abbrev set_row : Option ℕ → Rows
-  set_row o = join o a f (Some 4294967296) b (kept o)
+  set_row o = join o a f (Some rank_gap) b (kept o)
 
   kept_without : (o : Option ℕ) → kept o ≡ without (gone o) m.row
   kept_without o = there_without meta o f b (clear o a f m.row) ∙ without_twice (is_row_or_mirror o a f) (is_displaced meta o f b) m.row
@@ -325,8 +326,8 @@ module _ (meta : Meta) (sound : Sound meta) (m : State) (good : Good meta m) (a 
   set_here : (o : Option ℕ) → opposite_of meta f ≡ o → StandsAt (targets (kept o) a f) (targets (set_row o) a f) b 0
   set_here o is =
       let empty : targets (kept o) a f ≡ [] = no_targets (kept o) a f (sets.none_left meta sound m good a f b may none o) in
-      subst (λ zs. StandsAt (targets (kept o) a f) zs b 0) (sym (join_here meta sound a f (Some 4294967296) b (kept o) o is))
-      (row_stands (kept o) a f b 0 4294967296 [] (ap (without_entry b) empty) (omega arith) refl)
+      subst (λ zs. StandsAt (targets (kept o) a f) zs b 0) (sym (join_here meta sound a f (Some rank_gap) b (kept o) o is))
+      (row_stands (kept o) a f b 0 rank_gap [] (ap (without_entry b) empty) (omega arith) refl)
 
   set_there : (g : ℕ) (is : opposite_of meta f ≡ Some g) → StandsLast (targets (kept (Some g)) b g) (targets (set_row (Some g)) b g) a
   set_there g is =
@@ -335,7 +336,7 @@ module _ (meta : Meta) (sound : Sound meta) (m : State) (good : Good meta m) (a 
       ∙ none_either (gone (Some g) (b, g, a)) (get m.row (b, g, a)) (no_mirror meta sound m good a f b g is none) in
       let rank : is_some (end_spot (targets (kept (Some g)) b g)).rank ≡ true =
       ap (λ xs. is_some (end_spot xs).rank) (sets.others_are meta sound m good a f b may none (Some g) is) ∙ ap (λ o. is_some (rank_there meta m.row o b)) (sym is) ∙ may.ranked none in
-      join_there meta sound a f (Some 4294967296) b (kept (Some g)) g is gone_row rank
+      join_there meta sound a f (Some rank_gap) b (kept (Some g)) g is gone_row rank
     where
       none_either : (b : Bool) (o : Option ℕ) → o ≡ None → cond b None o ≡ None
       none_either true o h = refl
@@ -348,7 +349,7 @@ module _ (meta : Meta) (sound : Sound meta) (m : State) (good : Good meta m) (a 
         let same_o : o ≡ Some g = sym is ∙ there in
         subst (λ o. StandsLast (staying (gone o) m.row b g) (targets (set_row o) b g) a) (sym same_o)
         (subst (λ xs. StandsLast xs (targets (set_row (Some g)) b g) a) (kept_list (Some g) b g) (set_there g there));
-    others = λ x h away. join_others meta sound a f (Some 4294967296) b (kept o) o x h (ap (λ o. is_end o a f b x h) (sym is) ∙ away) ∙ kept_list o x h;
+    others = λ x h away. join_others meta sound a f (Some rank_gap) b (kept o) o x h (ap (λ o. is_end o a f b x h) (sym is) ∙ away) ∙ kept_list o x h;
   }
 
   pub set_joins : Joined meta (gone (opposite_of meta f)) m.row (set_ref_after meta a f b m.row) a f b 0

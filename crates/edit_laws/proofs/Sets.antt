@@ -23,6 +23,7 @@ use Rattle.edit_laws.specs.Laws.{SetRefMeets}
 use Rattle.edit_laws.proofs.Lists.{targets_alike}
 use Rattle.edit_laws.proofs.Clears.{Leads, stays, clear_leads}
 use Rattle.edit_laws.proofs.Joins.{leads_on, join_leads, join_steps, CanJoin, targets_there, count_at, one_room, no_targets}
+use Rattle.model_state.specs.Ranks.{rank_gap}
 
 -- a row that is not there is not missed
 pub clear_kept : (o : Option ℕ) (a : IdBytes) (f : ℕ) (row : Rows) (q : RowKey) → (is_row_or_mirror o a f q ≡ true → get row q ≡ None) → get (clear o a f row) q ≡ get row q
@@ -125,7 +126,7 @@ module _ (meta : Meta) (sound : Sound meta) (m : State) (good : Good meta m) (a 
   ends_alike (Some g) is ra = ap (join_steps (Some g) a f ra b) (others_are (Some g) is)
 
   set_by : (o : Option ℕ) → opposite_of meta f ≡ o
-      → Leads meta m (unlinks m.row o a f (targets m.row a f) ++ (displace meta m.row o f b ++ (reranks_there meta m.row o b ++ link_step o a f 4294967296 b (unwrap_or (rank_there meta m.row o b) 0) ∷ []))) (join o a f (Some 4294967296) b (left o))
+      → Leads meta m (unlinks m.row o a f (targets m.row a f) ++ (displace meta m.row o f b ++ (reranks_there meta m.row o b ++ link_step o a f rank_gap b (unwrap_or (rank_there meta m.row o b) 0) ∷ []))) (join o a f (Some rank_gap) b (left o))
   set_by o is =
       let first : Leads meta m (unlinks m.row o a f (targets m.row a f)) (gone o) = subst (λ o. Leads meta m (unlinks m.row o a f (targets m.row a f)) (clear o a f m.row)) is (clear_leads meta sound a f m good) in
       let n : State = record m { row = gone o } in
@@ -133,15 +134,15 @@ module _ (meta : Meta) (sound : Sound meta) (m : State) (good : Good meta m) (a 
       let k : State = record m { row = left o } in
       let room : room_there meta m o b ≡ true = ap (λ o. room_there meta m o b) (sym is) ∙ may.room none in
       let rank : is_some (rank_there meta m.row o b) ≡ true = ap (λ o. is_some (rank_there meta m.row o b)) (sym is) ∙ may.ranked none in
-      let third = join_leads meta sound k second.good a f 4294967296 b may.typed (none_left o b) (one_room meta (left o) a f may.one (none_left o)) o is (can_join o is room rank) in
+      let third = join_leads meta sound k second.good a f rank_gap b may.typed (none_left o b) (one_room meta (left o) a f may.one (none_left o)) o is (can_join o is room rank) in
       leads_on meta m _ _ (gone o) _ first
       (leads_on meta n _ _ (left o) _ second
-      (subst (λ ss. Leads meta k ss (join o a f (Some 4294967296) b (left o))) (ends_alike o is 4294967296) third))
+      (subst (λ ss. Leads meta k ss (join o a f (Some rank_gap) b (left o))) (ends_alike o is rank_gap) third))
 
 pub set_ref_meets : SetRefMeets
 set_ref_meets meta sound m good a f b may =
-    elim (get m.row (a, f, b)) as (λ r. get m.row (a, f, b) ≡ r → fold meta m (cond (is_some r) [] (unlinks m.row (opposite_of meta f) a f (targets m.row a f) ++ (displace meta m.row (opposite_of meta f) f b ++ (reranks_there meta m.row (opposite_of meta f) b ++ link_step (opposite_of meta f) a f 4294967296 b (unwrap_or (rank_there meta m.row (opposite_of meta f) b) 0) ∷ []))))
-    ≡ Some (record m { row = cond (is_some r) m.row (join (opposite_of meta f) a f (Some 4294967296) b (clear_there meta (opposite_of meta f) f b (clear (opposite_of meta f) a f m.row))) })) [
+    elim (get m.row (a, f, b)) as (λ r. get m.row (a, f, b) ≡ r → fold meta m (cond (is_some r) [] (unlinks m.row (opposite_of meta f) a f (targets m.row a f) ++ (displace meta m.row (opposite_of meta f) f b ++ (reranks_there meta m.row (opposite_of meta f) b ++ link_step (opposite_of meta f) a f rank_gap b (unwrap_or (rank_there meta m.row (opposite_of meta f) b) 0) ∷ []))))
+    ≡ Some (record m { row = cond (is_some r) m.row (join (opposite_of meta f) a f (Some rank_gap) b (clear_there meta (opposite_of meta f) f b (clear (opposite_of meta f) a f m.row))) })) [
       | None ↦ λ none. (set_by meta sound m good a f b may none (opposite_of meta f) refl).run
       | Some r ↦ λ _. refl
     ] refl

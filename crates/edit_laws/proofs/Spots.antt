@@ -10,7 +10,7 @@ use Rattle.finite_maps.proofs.SortLaws.{Rises, rises-in_order}
 use Rattle.model_state.specs.declared.entry.Entry.{Entry}
 use Rattle.model_state.specs.Keys.{IdBytes, id_cmp}
 use Rattle.model_state.specs.Listing.{entry_cmp, last_rank}
-use Rattle.model_state.specs.Ranks.{rank_between}
+use Rattle.model_state.specs.Ranks.{rank_between, most_entries, rank_gap}
 use Rattle.model_state.proofs.EntryLaws.{first_greater, first_less, nat_greater, nat_less, ranks_above}
 use Rattle.model_state.proofs.Orders.{entry_order}
 use Rattle.edit_laws.specs.Spot.{ranks_of, rank_for, evened, spot_by, spot}
@@ -65,8 +65,8 @@ between_is rs (suc k) h =
 same_number : (x y : ℕ) → Some x ≡ Some y → x ≡ y
 same_number x y e = cc
 
-above_last : (lo r : ℕ) (b : Bool) → cond b (Some (lo + 4294967296)) None ≡ Some r → lo < r
-above_last lo r true h = let e : lo + 4294967296 ≡ r = same_number _ _ h in omega arith
+above_last : (lo r : ℕ) (b : Bool) → cond b (Some (lo + rank_gap)) None ≡ Some r → lo < r
+above_last lo r true h = let e : lo + rank_gap ≡ r = same_number _ _ h in omega arith
 above_last lo r false h = cc
 
 within : (lo hi r : ℕ) → rank_between lo (Some hi) ≡ Some r → (lo < r) × (r < hi)
@@ -144,15 +144,15 @@ length-reranked (x ∷ xs) (r ∷ rs) = ap suc (length-reranked xs rs)
 
 ranks_evened : (n : ℕ) (xs : List Entry) → ranks_of (reranked xs (evened n xs)) ≡ evened n xs
 ranks_evened n [] = refl
-ranks_evened n (x ∷ xs) = ap (λ l. (n * 4294967296) ∷ l) (ranks_evened (n + 1) xs)
+ranks_evened n (x ∷ xs) = ap (λ l. (n * rank_gap) ∷ l) (ranks_evened (n + 1) xs)
 
-above_evened : (x : Entry) (n : ℕ) (xs : List Entry) → x.rank < n * 4294967296 → AllByRecursion (λ y. is_lt (entry_cmp y x) ≡ false) (reranked xs (evened n xs))
+above_evened : (x : Entry) (n : ℕ) (xs : List Entry) → x.rank < n * rank_gap → AllByRecursion (λ y. is_lt (entry_cmp y x) ≡ false) (reranked xs (evened n xs))
 above_evened x n [] h = tt
-above_evened x n (y ∷ ys) h = (first_greater (nat_cmp (n * 4294967296) x.rank) (id_cmp y.id x.id) (nat_greater (n * 4294967296) x.rank h), above_evened x (n + 1) ys (omega arith))
+above_evened x n (y ∷ ys) h = (first_greater (nat_cmp (n * rank_gap) x.rank) (id_cmp y.id x.id) (nat_greater (n * rank_gap) x.rank h), above_evened x (n + 1) ys (omega arith))
 
 rises_evened : (n : ℕ) (xs : List Entry) → Rises entry_cmp (reranked xs (evened n xs))
 rises_evened n [] = tt
-rises_evened n (x ∷ xs) = (above_evened (record { rank = n * 4294967296; id = x.id }) (n + 1) xs (omega arith), rises_evened (n + 1) xs)
+rises_evened n (x ∷ xs) = (above_evened (record { rank = n * rank_gap; id = x.id }) (n + 1) xs (omega arith), rises_evened (n + 1) xs)
 
 -- ---- the spot
 -- the others rise with their ranks, and the new entry fits in
@@ -168,7 +168,7 @@ opens_by xs k r e up le None is h =
     let ys = reranked xs (evened 1 xs) in
     record {
       up = rises_evened 1 xs;
-      fits = fits_for e r ys k (rises_evened 1 xs) (subst (λ n. k ≤ n) (sym (length-reranked xs (evened 1 xs))) le) (ap (λ rs. rank_for rs k) (ranks_evened 1 xs) ∙ there (nat_lt (length xs) 4294967295) h);
+      fits = fits_for e r ys k (rises_evened 1 xs) (subst (λ n. k ≤ n) (sym (length-reranked xs (evened 1 xs))) le) (ap (λ rs. rank_for rs k) (ranks_evened 1 xs) ∙ there (nat_lt (length xs) most_entries) h);
     }
   where
     there : (b : Bool) → cond b (rank_for (evened 1 xs) k) None ≡ Some r → rank_for (evened 1 xs) k ≡ Some r

@@ -14,6 +14,7 @@ use Rattle.model_state.specs.Typing.{value_eq, kind_of, upper_of, is_many, is_un
 use Rattle.model_state.specs.Lists.{entry_of, values_of, shifted}
 use Rattle.model_state.specs.State.{State}
 use Rattle.model_state.specs.Steps.{class_has}
+use Rattle.model_state.specs.Ranks.{most_entries}
 
 -- the values that an attribute of an element has
 abbrev pub values_in : State → IdBytes → ℕ → List Value
@@ -76,4 +77,4 @@ pub record MayInsert (meta : Meta) (m : State) (e : IdBytes) (f : ℕ) (k : ℕ)
   pub within : nat_le k (length (values_in m e f)) ≡ true
   pub once : is_unique (kind_of meta f) && list_any (value_eq v) (values_in m e f) ≡ false
   pub room : is_below (length (values_in m e f)) (upper_of meta f) ≡ true
-  pub few : nat_lt (length (values_in m e f)) 4294967295 ≡ true
+  pub few : nat_lt (length (values_in m e f)) most_entries ≡ true

@@ -14,6 +14,7 @@ use Rattle.model_state.specs.Steps.{may_link}
 use Rattle.model_state.specs.Listing.{targets}
 use Rattle.edit_laws.specs.Spot.{spot, end_spot}
 use Rattle.edit_laws.specs.Rows.{Rows, clear, ranked, set_pair, unlinks, reranks, link_step}
+use Rattle.model_state.specs.Ranks.{rank_gap}
 
 -- a plain feature that holds one target at most
 abbrev pub holds_one : Meta → ℕ → Bool
@@ -37,7 +38,7 @@ join (Some g) a f ra b row =
 abbrev pub set_ref_after : Meta → IdBytes → ℕ → IdBytes → Rows → Rows
 set_ref_after meta a f b row =
     cond (is_some (get row (a, f, b))) row
-    (join (opposite_of meta f) a f (Some 4294967296) b (clear_there meta (opposite_of meta f) f b (clear (opposite_of meta f) a f row)))
+    (join (opposite_of meta f) a f (Some rank_gap) b (clear_there meta (opposite_of meta f) f b (clear (opposite_of meta f) a f row)))
 
 -- b stands at the index of the others, and a at the end of the opposite's list
 abbrev pub link_after : Meta → IdBytes → ℕ → IdBytes → ℕ → Rows → Rows
@@ -82,7 +83,7 @@ set_ref_made meta row a f b =
     (unlinks row (opposite_of meta f) a f (targets row a f)
     ++ (displace meta row (opposite_of meta f) f b
     ++ (reranks_there meta row (opposite_of meta f) b
-    ++ link_step (opposite_of meta f) a f 4294967296 b (unwrap_or (rank_there meta row (opposite_of meta f) b) 0) ∷ [])))
+    ++ link_step (opposite_of meta f) a f rank_gap b (unwrap_or (rank_there meta row (opposite_of meta f) b) 0) ∷ [])))
 
 -- the displaced source is unlinked, both lists are renumbered where needed, and then linked
 abbrev pub link_made : Meta → Rows → IdBytes → ℕ → IdBytes → ℕ → List Step

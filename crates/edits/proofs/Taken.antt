@@ -49,6 +49,7 @@ use Rattle.edit_laws.proofs.LinkEdits.{link_meets, unlink_meets, unset_meets, re
 use Rattle.edit_laws.proofs.Creates.{create_meets}
 use Rattle.edit_laws.proofs.AttributeEdits.{put_meets, taken_fits, taken_differs}
 use Rattle.edit_laws.proofs.ManyEdits.{insert_meets, remove_meets, shift_meets, clear_meets}
+use Rattle.model_state.specs.Ranks.{most_entries}
 
 not_refused : (o : Option EditFault) (x y : Effect) → unless_refused o x ≡ Ok y → (o ≡ None) × ◌≡◌ {A = Result Effect EditFault} (Ok x) (Ok y)
 not_refused None x y h = (refl, h)
@@ -98,7 +99,7 @@ module _ (meta : Meta) (m : State) (e : IdBytes) (f : ℕ) (has : class_has meta
       let vs = values_in m e f in
       let once = missed (unique && list_any (value_eq v) vs) _ _ effect h in
       let room = passed (is_below (length vs) (upper_of meta f)) _ _ effect once.1 in
-      let few = passed (nat_lt (length vs) 4294967295) _ _ effect room.1 in
+      let few = passed (nat_lt (length vs) most_entries) _ _ effect room.1 in
       allowed_as meta m (Inserts e f k v) effect few.1 (record {
         many = (has, ap is_many is);
         typed = ap (λ k. many_fits meta k v) is ∙ fit v refl;

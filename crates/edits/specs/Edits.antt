@@ -40,6 +40,7 @@ use Rattle.containment.specs.Moves.{move_after, move_made}
 use Rattle.containment.specs.Deletes.{delete_after, delete_made}
 use Rattle.edits.specs.FreshIds.{id_or_fresh}
 use Rattle.containment.specs.Containers.{containers_of}
+use Rattle.model_state.specs.Ranks.{most_entries}
 
 -- which value of a type a text is, where it is one
 abbrev pub Reading : Type 0
@@ -173,7 +174,7 @@ insert_effect e f unique upper vs k None = Err BadValue
 insert_effect e f unique upper vs k (Some v) =
     if unique && list_any (value_eq v) vs then Err AlreadyThere
     else if not (is_below (length vs) upper) then Err Bound
-    else if not (nat_lt (length vs) 4294967295) then Err Bound
+    else if not (nat_lt (length vs) most_entries) then Err Bound
     else Ok (Inserts e f k v)
 
 -- the feature is a many-valued attribute, the index is one of its values or their end, and the text is a value of its type

@@ -2,13 +2,13 @@
 use Rattle.std.proofs.Common.{◌≡◌, ◌⊎◌, inl, inr, ℕ, zero, suc, ◌+◌, ◌≤◌, List, [], ◌∷◌, length, take, Option, Some, None, Result, Ok, Err, refl, sym, ◌∙◌, ap, subst, arith}
 use Rattle.std.specs.Prelude.{OnErr}
 use Rattle.ecore_meta.specs.Meta.{Meta}
-use Rattle.page_pool.specs.Frames.{Frames, frame_at, out_of, SameFrames}
+use Rattle.page_pool.specs.Frames.{Frames, frame_at, out_of, SameFrames, pool_limit}
 use Rattle.page_pool.specs.Paged.{PagedState, IsAmong, AreFree, KeepsOthers, frames_for}
 use Rattle.page_pool.proofs.Among.{all_kept, joined_kept, out_each, out_not_free}
 use Rattle.state_cache.specs.Entries.{Entries, HoldsAll, IsYielded, held, stands}
 use Rattle.state_cache.proofs.Listed.{stands_kept}
 use Rattle.state_cache.proofs.Standing.{all_yielded}
-use Rattle.commit_journal.specs.Journal.{HoldsRecord}
+use Rattle.commit_journal.specs.Journal.{HoldsRecord, most_bytes}
 use Rattle.commit_journal.proofs.Ends.{length-after_gate}
 use Rattle.plain_repository.specs.State.{State}
 use Rattle.history_tree.specs.History.{History}
@@ -45,10 +45,10 @@ pub forms_yielded : (s : State) (p q : Frames) (n : ℕ) (old new : Entries) →
 forms_yielded s p q n old new yielded forms = none_yielded s.meta s.history p q n old new yielded forms
 
 -- so many frames can be out then as a record takes
-pub room_made : (p q : Frames) (n size : ℕ) (old new : Entries) → HoldsAll p old → IsYielded p q n old new → n ≡ frames_for (size + 5) → size ≤ 16777211 → out_of q + frames_for (size + 5) ≤ 8192
+pub room_made : (p q : Frames) (n size : ℕ) (old new : Entries) → HoldsAll p old → IsYielded p q n old new → n ≡ frames_for (size + 5) → size ≤ most_bytes → out_of q + frames_for (size + 5) ≤ pool_limit
 room_made p q n size old new all yielded is short = by yielded.enough
   where
-    by : (out_of q + n ≤ 8192) ⊎ (new ≡ []) → out_of q + frames_for (size + 5) ≤ 8192
+    by : (out_of q + n ≤ pool_limit) ⊎ (new ≡ []) → out_of q + frames_for (size + 5) ≤ pool_limit
     by (inl enough) = omega (arith, enough, is)
     by (inr none) =
         let none_held : length (held new) ≡ 0 = ap (λ (es : Entries). length (held es)) none in
@@ -60,8 +60,8 @@ record_left p q n size old new all yielded is = record {
   count = yielded.kept.count;
   first = yielded.kept.first;
   no_more = λ less fits.
-      let room : length (held (take (suc yielded.kept.count) old)) + frames_for (size + 5) ≤ 8192 = fits in
-      let enough : yielded.others + length (held (take (suc yielded.kept.count) old)) + n ≤ 8192 = omega (arith, all.count, yielded.out_before, is, room) in
+      let room : length (held (take (suc yielded.kept.count) old)) + frames_for (size + 5) ≤ pool_limit = fits in
+      let enough : yielded.others + length (held (take (suc yielded.kept.count) old)) + n ≤ pool_limit = omega (arith, all.count, yielded.out_before, is, room) in
       yielded.kept.no_more less enough;
 }
 
@@ -117,7 +117,7 @@ both_some p c ready prepared is both = subst (λ (o : Option PagedState). HoldsB
 
 -- a call that uses the pool for the cache leaves a record as it is
 module _ (p q : Frames) (a b : Entries) (prepared : PagedState) (form : List ℕ) (holds : HoldsRecord p prepared form) (both : HoldsBoth p a (Some prepared)) where
-  pub both_may : length form ≤ 16777211 → MayUse p a
+  pub both_may : length form ≤ most_bytes → MayUse p a
   both_may short = record { out = both.out; room = omega (arith, both.count, holds.count, length-after_gate form, short) }
 
   module _ (uses : Uses p q a b) where

@@ -5,7 +5,7 @@ use Rattle.std.proofs.lemmas.Bool.{cases_lt}
 use Rattle.std.proofs.lemmas.List.{append-nil, length-take}
 use Rattle.host_port.specs.Host.{Told, Disk, MayLeave, GoesOn, Throughout, KeepsDisk, KeepsSaid, KeepsInput, disk_now, CrashLeaves}
 use Rattle.host_port.proofs.Course.{carry_on, at_last, told_next, course_on, kept_now, keeps_said_on, keeps_input_on}
-use Rattle.commit_journal.specs.Journal.{WalkState, StandsFor, StandsForSame, StandsForNone, IsWalked, IsAtRest, IsStuck, ReadsTo, MountedFrom, records, header, new_file}
+use Rattle.commit_journal.specs.Journal.{WalkState, StandsFor, StandsForSame, StandsForNone, IsWalked, IsAtRest, IsStuck, ReadsTo, MountedFrom, records, header, new_file, open_gate}
 use Rattle.commit_journal.proofs.Torn.{left_settled}
 use Rattle.commit_journal.proofs.Ends.{records-push, length-record_of, length-header, stands}
 use Rattle.commit_journal.proofs.Mounting.{length-new_file}
@@ -147,7 +147,7 @@ module _ (entry a b : Told) (walk : WalkState) (state : State) (replays : Replay
     length-header,
     reads.place_is,
     ap length (records-push forms bytes),
-    length-append (records forms) (165 ∷ []),
+    length-append (records forms) (open_gate ∷ []),
     length-record_of bytes,
     length-append (records forms) (Rattle.commit_journal.specs.Journal.record_of bytes),
   )

@@ -1,7 +1,7 @@
 -- What the calls of a session do.
 use Rattle.std.specs.Prelude.{◌≡◌, ◌⊎◌, ℕ, ◌+◌, List, ◌++◌, ◌≤◌, Bool, true, false, IsTrue, length, map, Option, Some, None, Result, Ok, Err}
 use Rattle.host_port.specs.Host.{Disk, CrashLeaves}
-use Rattle.page_pool.specs.Frames.{Frames, out_of}
+use Rattle.page_pool.specs.Frames.{Frames, out_of, pool_limit}
 use Rattle.page_pool.specs.Paged.{PagedState, IsAmong, frames_for}
 use Rattle.state_cache.specs.Entries.{Entries, IsCached, Keeps, held}
 use Rattle.commit_journal.specs.Journal.{RecordFits, HoldsRecord, IsWalked}
@@ -79,7 +79,7 @@ pub record HoldsBoth (pool : Frames) (cache : Entries) (ready : Option PagedStat
 -- Those entries of the cache stay that were used last. As many stay as leave room in the pool for the record of an encoding with
 -- so many bytes.
 abbrev pub LeavesRecord : ℕ → Entries → Entries → Type 0
-LeavesRecord size old new = Keeps (λ entries frames. frames + frames_for (size + 5) ≤ 8192) old new
+LeavesRecord size old new = Keeps (λ entries frames. frames + frames_for (size + 5) ≤ pool_limit) old new
 
 -- all of a decision is prepared: its reply's bytes, and its event's record
 pub record IsPlan (pool : Frames) (state : State) (decision : plain.Decision) (plan : Plan) : Type 0 where

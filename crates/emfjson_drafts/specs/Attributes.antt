@@ -13,6 +13,7 @@ use Rattle.emfjson_io.specs.Values.{value_in}
 use Rattle.emfjson_drafts.specs.declared.fault.ModelFault.TheVariants.{BadValue, Bound}
 use Rattle.emfjson_drafts.specs.Parts.{Part, no_part}
 use Rattle.emfjson_drafts.specs.Reads.{Read, «then», unless, found, collected}
+use Rattle.model_state.specs.Ranks.{most_entries}
 
 -- null stands for a feature that is absent
 abbrev pub is_null : Data → Bool
@@ -55,7 +56,7 @@ values_in meta s unique ds = collected (next_value meta s unique) [] ds
 
 -- so many values are within the bound of the attribute, and no more than any holds
 abbrev pub may_hold : Meta → ℕ → ℕ → Bool
-may_hold meta f n = is_within n (upper_of meta f) && nat_le n 4294967295
+may_hold meta f n = is_within n (upper_of meta f) && nat_le n most_entries
 
 -- a many-valued attribute
 abbrev pub many_part : Meta → ℕ → Scalar → Bool → Data → Read Part

@@ -5,7 +5,7 @@ use Rattle.serde_json.specs.Find.{as_bool, as_i64, as_number, as_str, of_integer
 use Rattle.serde_json.specs.Read.{read}
 use Rattle.serde_json.specs.Written.{compact_text}
 use Rattle.ecore_meta.specs.Meta.{Meta}
-use Rattle.ecore_meta.specs.Typing.{literals_of, literal_text}
+use Rattle.ecore_meta.specs.Typing.{half_of, literals_of, literal_text}
 use Rattle.ecore_meta.specs.Values.{IsBad, literal_in, narrow}
 use Rattle.ecore_meta.specs.declared.fault.ValueFault.{ValueFault}
 use Rattle.ecore_meta.specs.declared.meta.Scalar.{Scalar}
@@ -29,10 +29,10 @@ named_in meta e d = option_map (λ n. Literal n) (option_and_then (literal_in (l
 abbrev pub value_in : Meta → Scalar → Data → Option Value
 value_in meta TextType d = option_map (λ t. Text t) (as_str d)
 value_in meta FlagType d = option_map (λ b. Flag b) (as_bool d)
-value_in meta Byte d = whole_in 128 d
-value_in meta Short d = whole_in 32768 d
-value_in meta Int d = whole_in 2147483648 d
-value_in meta Long d = whole_in 9223372036854775808 d
+value_in meta Byte d = whole_in (half_of Byte) d
+value_in meta Short d = whole_in (half_of Short) d
+value_in meta Int d = whole_in (half_of Int) d
+value_in meta Long d = whole_in (half_of Long) d
 value_in meta (LiteralType e) d = named_in meta e d
 
 -- the value of the type that a text is: JSON, and of the type's kind

@@ -24,6 +24,7 @@ use Rattle.emfjson_model.specs.Fits.{AttrFits}
 use Rattle.emfjson_drafts.specs.Parts.{Part, no_part}
 use Rattle.emfjson_drafts.specs.Reads.{Read, «then», collected, found, unless}
 use Rattle.emfjson_model.proofs.Apart.{of_ok, then_ok, unless_ok, unless_true}
+use Rattle.model_state.specs.Ranks.{most_entries}
 
 -- attributes that fit a class
 abbrev pub AttrsFit : Meta → ℕ → List DocAttr → Type 0
@@ -94,7 +95,7 @@ listed meta s unique vs (d ∷ ds) ws so h =
     listed meta s unique (vs ++ one.0 ∷ []) ds ws
     (record { typed = list_all_last (fits meta s) vs one.0 so.typed (in_type meta s d one.0 new.0); once = once_last unique vs one.0 so.once new.1 }) one.2
 
-few : (n : ℕ) → nat_le n 4294967295 ≡ true → n ≤ 4294967295
+few : (n : ℕ) → nat_le n most_entries ≡ true → n ≤ most_entries
 few n h = grind (arith, nat_tests)
 
 module _ (meta : Meta) (c f : ℕ) (has : has_feature meta c f ≡ true) where
@@ -121,8 +122,8 @@ module _ (meta : Meta) (c f : ℕ) (has : has_feature meta c f ≡ true) where
   filled_fits : (s : Scalar) (unique : Bool) (vs : List Value) → kind_of meta f ≡ AttrMany s unique → Listed meta s unique vs → may_hold meta f (length vs) ≡ true → Plain meta c (values_part f vs)
   filled_fits s unique [] kind so may = plain_none meta c
   filled_fits s unique (v ∷ vs) kind so may =
-      let within = and_first (is_within (length (v ∷ vs)) (upper_of meta f)) (nat_le (length (v ∷ vs)) 4294967295) may in
-      let small = and_second (is_within (length (v ∷ vs)) (upper_of meta f)) (nat_le (length (v ∷ vs)) 4294967295) may in
+      let within = and_first (is_within (length (v ∷ vs)) (upper_of meta f)) (nat_le (length (v ∷ vs)) most_entries) may in
+      let small = and_second (is_within (length (v ∷ vs)) (upper_of meta f)) (nat_le (length (v ∷ vs)) most_entries) may in
       record {
         none = refl;
         attrs = (

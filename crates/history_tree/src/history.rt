@@ -4,6 +4,7 @@ ghost use Rattle.std.specs.Option.{option_copied, option_map};
 ghost use Rattle.history_tree.specs.Found.{branch_named, branch_name, tag_named, has_tag, tags_of, found_by_number, found_by_branch, found_by_tag, found_by};
 ghost use Rattle.history_tree.specs.History.{first_version, first_history, with_version, with_branch, with_tag, path, head};
 ghost use Rattle.history_tree.specs.Whole.{ComesBefore, IsWhole};
+ghost use Rattle.history_tree.specs.Room.{most_numbered};
 
 use crate::found::{FindFault, Found};
 use crate::version::{Branch, Tag, Version};
@@ -24,14 +25,14 @@ pub struct History {
 impl Model for History {
     ghost use Rattle.std.specs.Prelude.{◌-◌, ◌≤◌, min, vec_len, vec_capacity};
     ghost use Rattle.history_tree.specs.Heads.{AreHeads};
-    ghost use Rattle.history_tree.specs.Room.{Held};
+    ghost use Rattle.history_tree.specs.Room.{Held, most_numbered};
     ghost use Rattle.history_tree.specs.Whole.{IsWhole};
 
     ghost Value = { Held };
 
     ghost view = { λ h. record { history = record { versions = h.versions.items; branches = h.branches.items; tags = h.tags.items }; spare = min (vec_capacity h.versions - vec_len h.versions) (min (vec_capacity h.branches - vec_len h.branches) (min (vec_capacity h.tags - vec_len h.tags) (vec_capacity h.heads - vec_len h.heads))) } };
 
-    ghost invariant = { λ h. IsWhole (record { versions = h.versions.items; branches = h.branches.items; tags = h.tags.items }) × (vec_len h.versions ≤ 4294967295) × (vec_len h.branches ≤ 4294967295) × (vec_len h.tags ≤ 4294967295) × AreHeads (record { versions = h.versions.items; branches = h.branches.items; tags = h.tags.items }) h.heads.items };
+    ghost invariant = { λ h. IsWhole (record { versions = h.versions.items; branches = h.branches.items; tags = h.tags.items }) × (vec_len h.versions ≤ most_numbered) × (vec_len h.branches ≤ most_numbered) × (vec_len h.tags ≤ most_numbered) × AreHeads (record { versions = h.versions.items; branches = h.branches.items; tags = h.tags.items }) h.heads.items };
 }
 
 /// Version 0, the empty project.
@@ -163,7 +164,7 @@ impl History {
     fn place_named(&self, name: &str) -> Option<usize>
         ensures number { result ≡ branch_named self.now.history name.now }
         ensures there { IfSome result (λ branch. branch < length self.now.history.branches) }
-        ensures small { IfSome result (λ branch. branch < 4294967295) }
+        ensures small { IfSome result (λ branch. branch < most_numbered) }
     {
         self.branches
             .iter()
@@ -305,7 +306,7 @@ impl History {
     /// Adds a version after the head of its branch, whose head it is from now on. It takes no memory.
     pub fn append(&mut self, version: Version)
         requires room { 0 < self.old.spare }
-        requires count { length self.old.history.versions < 4294967295 }
+        requires count { length self.old.history.versions < most_numbered }
         requires branch { version.branch < length self.old.history.branches }
         requires parent { version.parent ≡ Some (head self.old.history version.branch) }
         requires merged { All (λ v. v < length self.old.history.versions) version.merged }
@@ -320,7 +321,7 @@ impl History {
     /// Adds a branch of a new name that starts at a version. It takes no memory.
     pub fn add_branch(&mut self, name: Text, start: u32)
         requires room { 0 < self.old.spare }
-        requires count { length self.old.history.branches < 4294967295 }
+        requires count { length self.old.history.branches < most_numbered }
         requires new { branch_named self.old.history name ≡ None }
         requires start { start < length self.old.history.versions }
         ensures added { self.new.history ≡ with_branch self.old.history name start }
@@ -333,7 +334,7 @@ impl History {
     /// Adds a tag of a new name to a version. It takes no memory.
     pub fn add_tag(&mut self, name: Text, version: u32)
         requires room { 0 < self.old.spare }
-        requires count { length self.old.history.tags < 4294967295 }
+        requires count { length self.old.history.tags < most_numbered }
         requires new { has_tag self.old.history name ≡ false }
         requires version { version < length self.old.history.versions }
         ensures added { self.new.history ≡ with_tag self.old.history name version }

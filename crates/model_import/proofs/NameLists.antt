@@ -10,7 +10,7 @@ use Rattle.edit_laws.specs.declared.fault.EditFault.{EditFault}
 use Rattle.edits.specs.FreshIds.{numbered}
 use Rattle.emfjson_model.specs.declared.doc.DocRow.{DocRow}
 use Rattle.model_import.specs.Import.{Imports, import_of, of_steps, recorded_import, steps_made}
-use Rattle.model_import.specs.Names.{AreNames, IsName, IsNext, any_in_use, first_untaken, is_taken, name_and_rest, names_from, names_of, next_number}
+use Rattle.model_import.specs.Names.{AreNames, IsName, IsNext, any_in_use, first_untaken, is_taken, name_and_rest, names_from, names_of, next_number, greatest_number}
 use Rattle.edits.specs.Answers.{Answers}
 
 if_true : (b : Bool) (x y : ℕ) → b ≡ true → (if b then x else y) ≡ x
@@ -67,9 +67,9 @@ first_is m rows ws (suc n) from k next low =
 
 next_is : (m : State) (rows : List DocRow) (ws from k : ℕ) → IsNext m rows ws from k → next_number m rows ws from ≡ k
 unfolding next_number
-next_is m rows ws from k next = first_is m rows ws 18446744073709551615 from k next (low from k next.small)
+next_is m rows ws from k next = first_is m rows ws greatest_number from k next (low from k next.small)
   where
-    low : (from k : ℕ) → k < 18446744073709551615 → k < from + 18446744073709551615
+    low : (from k : ℕ) → k < greatest_number → k < from + greatest_number
     low from k small = omega arith
 
 -- the ids that a document's elements get are these

@@ -11,7 +11,7 @@ use Rattle.edits.specs.FreshIds.{numbered}
 use Rattle.edits.proofs.Fresh.{numbered_apart}
 use Rattle.emfjson_model.specs.declared.doc.DocRow.{DocRow}
 use Rattle.emfjson_model.specs.Laws.{gives_id, ids_repeat, is_given}
-use Rattle.model_import.specs.Names.{AreNames, IsName, any_in_use, in_use, is_taken}
+use Rattle.model_import.specs.Names.{AreNames, IsName, any_in_use, in_use, is_taken, greatest_number}
 use Rattle.model_import.specs.Laws.{NamesAreNew, ids_differ}
 
 -- ---- tests
@@ -77,7 +77,7 @@ module _ (m : State) (rows : List DocRow) (ws : ℕ) where
       let one : k ≡ j = numbered_apart ws k j small (within_64 j is.2.small) (same (numbered ws k) y e ∙ is.1) in
       apart k j from less is.2.from_there one)
     where
-      within_64 : (j : ℕ) → j < 18446744073709551615 → j < 2 ^ 64
+      within_64 : (j : ℕ) → j < greatest_number → j < 2 ^ 64
       within_64 j h = omega arith
 
       apart : (k j from : ℕ) → k < from → from ≤ j → k ≡ j → ⊥
@@ -113,7 +113,7 @@ module _ (m : State) (rows : List DocRow) (ws : ℕ) where
       ap (λ z. list_any (text_eq z) names) is.1
       ∙ fresh_apart is.0 (small_64 is.0 is.2.small) (free_is is.0 is.2.free).1 next (after is.0 next is.3) rest names are within
     where
-      small_64 : (j : ℕ) → j < 18446744073709551615 → j < 2 ^ 64
+      small_64 : (j : ℕ) → j < greatest_number → j < 2 ^ 64
       small_64 j h = omega arith
 
       after : (j next : ℕ) → next ≡ j + 1 → j < next

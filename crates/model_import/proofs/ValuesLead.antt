@@ -34,6 +34,7 @@ use Rattle.model_import.specs.Laws as laws
 use Rattle.model_import.specs.Names.{name_at}
 use Rattle.model_import.specs.Values.{attr_made, attrs_made, inserts_made, put_made, values_from}
 use Rattle.model_import.proofs.Indexed.{differ_at, drop_at, drop_less, drop_next}
+use Rattle.model_state.specs.Ranks.{most_entries}
 
 -- ---- a value among those of a list
 module _ (p : Value → Bool) where
@@ -94,12 +95,12 @@ module _ (meta : Meta) (s : State) where
     class_is = ap (λ o. class_has meta o f) kind ∙ has
 
     insert_can : (scalar : Scalar) (unique : Bool) → kind_of meta f ≡ AttrMany scalar unique → (done : List Value) (v : Value) (vs : List Value) (attr : Attrs) → get attr (e, f) ≡ entry_of done
-        → list_all (fits meta scalar) (done ++ (v ∷ vs)) ≡ true → is_within (length (done ++ (v ∷ vs))) (upper_of meta f) ≡ true → length (done ++ (v ∷ vs)) ≤ 4294967295 → cond unique (is_distinct (done ++ (v ∷ vs))) true ≡ true
+        → list_all (fits meta scalar) (done ++ (v ∷ vs)) ≡ true → is_within (length (done ++ (v ∷ vs))) (upper_of meta f) ≡ true → length (done ++ (v ∷ vs)) ≤ most_entries → cond unique (is_distinct (done ++ (v ∷ vs))) true ≡ true
         → Can meta (valued attr) (Ins e f (length done) v)
     insert_can scalar unique is done v vs attr entry typed within few distinct =
         let held : values_of (get attr (e, f)) ≡ done = ap values_of entry ∙ part done in
         let more = longer done v vs in
-        let less : length done < 4294967295 = omega (arith, more, few) in
+        let less : length done < most_entries = omega (arith, more, few) in
         pass (tests meta (valued attr) (Ins e f (length done) v)) (
           live,
           (
@@ -114,7 +115,7 @@ module _ (meta : Meta) (s : State) where
                     ap (λ k. not (is_unique k && list_any (value_eq v) (values_of (get attr (e, f))))) is ∙ ap (λ ws. not (unique && list_any (value_eq v) ws)) held ∙ ap not (once unique done v vs distinct),
                     (
                       ap (λ ws. is_below (length ws) (upper_of meta f)) held ∙ room (length done) (length (done ++ (v ∷ vs))) (upper_of meta f) more within,
-                      (ap (λ ws. nat_lt (length ws) 4294967295) held ∙ is_less (length done) 4294967295 less, tt),
+                      (ap (λ ws. nat_lt (length ws) most_entries) held ∙ is_less (length done) most_entries less, tt),
                     ),
                   ),
                 ),
@@ -124,7 +125,7 @@ module _ (meta : Meta) (s : State) where
         )
 
     inserts_lead : (scalar : Scalar) (unique : Bool) → kind_of meta f ≡ AttrMany scalar unique → (vs done : List Value) (attr : Attrs) → get attr (e, f) ≡ entry_of done
-        → list_all (fits meta scalar) (done ++ vs) ≡ true → is_within (length (done ++ vs)) (upper_of meta f) ≡ true → length (done ++ vs) ≤ 4294967295 → cond unique (is_distinct (done ++ vs)) true ≡ true
+        → list_all (fits meta scalar) (done ++ vs) ≡ true → is_within (length (done ++ vs)) (upper_of meta f) ≡ true → length (done ++ vs) ≤ most_entries → cond unique (is_distinct (done ++ vs)) true ≡ true
         → fold meta (valued attr) (inserts_made e f (length done) vs) ≡ Some (valued (set attr (e, f) (entry_of (done ++ vs))))
     inserts_lead scalar unique is [] done attr entry typed within few distinct =
         ap (λ a. Some (valued a)) (sym (set_here attr_order attr (e, f) (entry_of (done ++ [])) (entry ∙ ap entry_of (sym (append-nil done)))))
@@ -136,16 +137,16 @@ module _ (meta : Meta) (s : State) where
         let put : set attr (e, f) (entry_of (insert (values_of (get attr (e, f))) (length done) v)) ≡ attr' = ap (λ ws. set attr (e, f) (entry_of (insert ws (length done) v))) held ∙ ap (λ ws. set attr (e, f) (entry_of ws)) (insert_last done v) in
         let size = length-append done (v ∷ []) in
         let more = longer done v vs in
-        let count : min (length done + 1) 4294967295 ≡ length next = counted (length done) (length next) (length (done ++ (v ∷ vs))) size more few in
-        fold_more meta (valued attr) (Ins e f (length done) v) (inserts_made e f (min (length done + 1) 4294967295) vs) (insert_can scalar unique is done v vs attr entry typed within few distinct)
-        ∙ ap (λ a. fold meta (valued a) (inserts_made e f (min (length done + 1) 4294967295) vs)) put
+        let count : min (length done + 1) most_entries ≡ length next = counted (length done) (length next) (length (done ++ (v ∷ vs))) size more few in
+        fold_more meta (valued attr) (Ins e f (length done) v) (inserts_made e f (min (length done + 1) most_entries) vs) (insert_can scalar unique is done v vs attr entry typed within few distinct)
+        ∙ ap (λ a. fold meta (valued a) (inserts_made e f (min (length done + 1) most_entries) vs)) put
         ∙ ap (λ n. fold meta (valued attr') (inserts_made e f n vs)) count
         ∙ inserts_lead scalar unique is vs next attr' (get-set_same attr_order attr (e, f) (entry_of next))
         (subst (λ ws. list_all (fits meta scalar) ws ≡ true) moved typed) (subst (λ ws. is_within (length ws) (upper_of meta f) ≡ true) moved within)
-        (subst (λ ws. length ws ≤ 4294967295) moved few) (subst (λ ws. cond unique (is_distinct ws) true ≡ true) moved distinct)
+        (subst (λ ws. length ws ≤ most_entries) moved few) (subst (λ ws. cond unique (is_distinct ws) true ≡ true) moved distinct)
         ∙ ap (λ a. Some (valued a)) (set_twice attr_order attr (e, f) (entry_of next) (entry_of (next ++ vs)) ∙ ap (λ ws. set attr (e, f) (entry_of ws)) (sym moved))
       where
-        counted : (n k t : ℕ) → k ≡ n + length (v ∷ []) → n + 1 ≤ t → t ≤ 4294967295 → min (n + 1) 4294967295 ≡ k
+        counted : (n k t : ℕ) → k ≡ n + length (v ∷ []) → n + 1 ≤ t → t ≤ most_entries → min (n + 1) most_entries ≡ k
         counted n k t h g l = omega arith
 
     put_can : (scalar : Scalar) (default : Option Value) → kind_of meta f ≡ Attr scalar default → (v : Value) (attr : Attrs) → get attr (e, f) ≡ None → fits meta scalar v ≡ true → is_default (Attr scalar default) v ≡ false

@@ -7,6 +7,10 @@ use Rattle.edits.specs.FreshIds.{numbered}
 use Rattle.emfjson_model.specs.declared.doc.DocRow.{DocRow}
 use Rattle.emfjson_model.specs.Laws.{gives_id}
 
+-- the greatest number of 64 bits, which no id has
+abbrev pub greatest_number : ℕ
+greatest_number = 18446744073709551615
+
 -- the id is live, or the document gives it
 abbrev pub is_taken : State → List DocRow → IdBytes → Bool
 is_taken m rows e = is_live m e || list_any (gives_id e) rows
@@ -16,7 +20,7 @@ pub record IsNext (m : State) (rows : List DocRow) (ws from k : ℕ) : Type 0 wh
   pub from_there : from ≤ k
   pub free : is_taken m rows (numbered ws k) ≡ false
   pub before : (j : ℕ) → from ≤ j → j < k → is_taken m rows (numbered ws j) ≡ true
-  pub small : k < 18446744073709551615
+  pub small : k < greatest_number
 
 -- The id of a row is the one that the document gives, or else the fresh one of the next number. The numbers go on from next.
 abbrev pub IsName : State → List DocRow → ℕ → ℕ → Option IdBytes → IdBytes → ℕ → Type 0
@@ -51,7 +55,7 @@ first_untaken m rows ws (suc n) k = if is_taken m rows (numbered ws k) then firs
 
 -- the first number from k on whose id is not taken: memory holds fewer elements than there are numbers that are tried
 unfoldable pub next_number : State → List DocRow → ℕ → ℕ → ℕ
-next_number m rows ws k = first_untaken m rows ws 18446744073709551615 k
+next_number m rows ws k = first_untaken m rows ws greatest_number k
 
 -- the id that is given, or else the fresh one of the next number, with the ids of those after it
 abbrev pub name_and_rest : State → List DocRow → ℕ → ℕ → Option IdBytes → (ℕ → List IdBytes) → List IdBytes

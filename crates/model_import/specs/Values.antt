@@ -9,6 +9,7 @@ use Rattle.model_state.specs.Typing.{is_attr, kind_of}
 use Rattle.emfjson_drafts.specs.declared.doc.DocAttr.{DocAttr}
 use Rattle.emfjson_model.specs.declared.doc.DocRow.{DocRow}
 use Rattle.model_import.specs.Names.{name_at}
+use Rattle.model_state.specs.Ranks.{most_entries}
 
 -- the one value of a single attribute
 abbrev pub put_made : IdBytes → ℕ → List Value → List Step
@@ -18,7 +19,7 @@ put_made e f (v ∷ vs) = Put e f None (Some v) ∷ []
 -- the values of a list, from the index on, which 32 bits hold
 abbrev pub inserts_made : IdBytes → ℕ → ℕ → List Value → List Step
 inserts_made e f at [] = []
-inserts_made e f at (v ∷ vs) = Ins e f at v ∷ inserts_made e f (min (at + 1) 4294967295) vs
+inserts_made e f at (v ∷ vs) = Ins e f at v ∷ inserts_made e f (min (at + 1) most_entries) vs
 
 -- the values of one attribute
 abbrev pub attr_made : Meta → IdBytes → DocAttr → List Step

@@ -1,6 +1,7 @@
 //! How many rows of a document stand in each place so far, from which new elements get their ranks.
 ghost use Rattle.std.specs.Prelude.{◌≡◌, ◌<◌, OnOk};
 ghost use Rattle.model_import.specs.Counts.{CountsAlso, counted};
+ghost use Rattle.model_import.specs.Names.{greatest_number};
 
 use emfjson_drafts::DocParent;
 use std::alloc::AllocError;
@@ -26,7 +27,7 @@ pub(crate) fn count_up(
     n: usize,
 ) -> Result<(), AllocError>
     requires before { n ≡ counted counts.old parent }
-    requires few { n < 18446744073709551615 }
+    requires few { n < greatest_number }
     ensures { OnOk result (CountsAlso counts.old parent counts.new) }
 {
     match parent {

@@ -5,7 +5,7 @@ ghost use Rattle.model_state.specs.Listing.{children};
 ghost use Rattle.model_state.specs.declared.step.Place.TheVariants.{Root, Inside};
 ghost use Rattle.model_state.specs.declared.step.Step.TheVariants.{New};
 ghost use Rattle.model_import.specs.Counts.{CountsAlso, counted};
-ghost use Rattle.model_import.specs.Names.{name_at};
+ghost use Rattle.model_import.specs.Names.{name_at, greatest_number};
 ghost use Rattle.edits.specs.Answers.{Answers};
 ghost use Rattle.model_import.specs.News.{element_made, has_room, news_made, place_of, rank_of, roots_after};
 
@@ -100,7 +100,7 @@ fn add_row(
     steps: &mut List<Step>,
 ) -> Result<(), EditFault>
     requires named { n < length names.now }
-    requires few { counted counts.old row.now.parent < 18446744073709551615 }
+    requires few { counted counts.old row.now.parent < greatest_number }
     ensures counts { OnOk result (CountsAlso counts.old row.now.parent counts.new) }
     ensures room { OnOk result (has_room roots.old (place_of names.now row.now.parent) ≡ true) }
     ensures roots { OnOk result (roots.new ≡ roots_after roots.old (place_of names.now row.now.parent) (name_at names.now n)) }

@@ -6,6 +6,7 @@ ghost use Rattle.edit_laws.specs.declared.fault.EditFault.TheVariants.{Bound, Me
 ghost use Rattle.model_state.specs.declared.step.Place.TheVariants.{Root};
 ghost use Rattle.model_state.specs.declared.step.Step.TheVariants.{New};
 ghost use Rattle.model_import.specs.Roots.{has_end, root_after, root_made, with_ranks};
+ghost use Rattle.model_state.specs.Ranks.{most_entries, rank_gap};
 
 use ecore_meta::List;
 use edit_laws::EditFault;
@@ -24,7 +25,7 @@ fn rank_after(list: &[Entry]) -> Option<u64>
 
 /// The entries, evenly spread.
 fn even_entries(alloc: Global, list: &[Entry]) -> Result<List<Entry>, AllocError>
-    requires { length list.now < 4294967295 }
+    requires { length list.now < most_entries }
     ensures { IfOk result (λ even. even ≡ with_ranks list.now (evened 1 list.now)) }
 {
     let mut even = List::new(alloc);
@@ -47,7 +48,7 @@ fn is_same(a: u64, b: u64) -> bool
 
 /// A step for each entry whose rank changes, where all are spread evenly.
 fn even_reranks(alloc: Global, list: &[Entry], steps: &mut List<Step>) -> Result<(), AllocError>
-    requires { length list.now < 4294967295 }
+    requires { length list.now < most_entries }
     ensures { OnOk result (steps.new ≡ steps.old ++ rerank_places list.now (evened 1 list.now)) }
 {
     let mut n: u64 = 1;
@@ -98,9 +99,9 @@ fn spread_root(
     e: &Id,
     class: u32,
 ) -> Result<(), AllocError>
-    requires { length roots.old < 4294967295 }
-    ensures roots { OnOk result (roots.new ≡ with_ranks roots.old (evened 1 roots.old) ++ record { rank = (length roots.old + 1) * 4294967296; id = e.now } ∷ []) }
-    ensures steps { OnOk result (steps.new ≡ (steps.old ++ rerank_places roots.old (evened 1 roots.old)) ++ New e.now class Root ((length roots.old + 1) * 4294967296) ∷ []) }
+    requires { length roots.old < most_entries }
+    ensures roots { OnOk result (roots.new ≡ with_ranks roots.old (evened 1 roots.old) ++ record { rank = (length roots.old + 1) * rank_gap; id = e.now } ∷ []) }
+    ensures steps { OnOk result (steps.new ≡ (steps.old ++ rerank_places roots.old (evened 1 roots.old)) ++ New e.now class Root ((length roots.old + 1) * rank_gap) ∷ []) }
 {
     let rank = (roots.len() as u64 + 1) * RANK_GAP;
     even_reranks(alloc, roots.as_slice(), steps)?;

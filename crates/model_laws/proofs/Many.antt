@@ -23,12 +23,13 @@ use Rattle.model_state.proofs.Orders.{attr_order}
 use Rattle.model_state.proofs.StepTests.{passed, pass, value_equality}
 use Rattle.finite_maps.proofs.Cases.{not_false, not_true, or_first, or_second}
 use Rattle.model_laws.proofs.Inserts.{remove-insert, insert-remove, length-insert, slice_get-insert, list_all-insert, list_any-insert, list_all-remove, list_any-remove, or_none}
+use Rattle.model_state.specs.Ranks.{most_entries}
 
 -- what a many-valued attribute's values meet
 pub record ManyOk (meta : Meta) (k : Kind) (upper : Option ℕ) (vs : List Value) : Type 0 where
   pub typed : list_all (many_fits meta k) vs ≡ true
   pub within : is_within (length vs) upper ≡ true
-  pub few : length vs ≤ 4294967295
+  pub few : length vs ≤ most_entries
   pub once : is_unique k ≡ true → is_distinct vs ≡ true
 
 pub within_none : (upper : Option ℕ) → is_within 0 upper ≡ true
@@ -227,7 +228,7 @@ module _ (meta : Meta) (m : State) (good : Good meta m) (e : IdBytes) (f : ℕ) 
         let ok : ManyOk meta (kind_of meta f) (upper_of meta f) (insert vs at v) = record {
           typed = list_all-insert (many_fits meta (kind_of meta f)) vs at v p.1.1.1.0 old.typed;
           within = subst (λ n. is_within n (upper_of meta f) ≡ true) (sym longer) (below_within (length vs) (upper_of meta f) p.1.1.1.1.1.1.0);
-          few = subst (λ n. n ≤ 4294967295) (sym longer) (lt_is (length vs) 4294967295 p.1.1.1.1.1.1.1.0);
+          few = subst (λ n. n ≤ most_entries) (sym longer) (lt_is (length vs) most_entries p.1.1.1.1.1.1.1.0);
           once = λ is. distinct-insert vs at v (lone (is_unique (kind_of meta f)) (list_any (value_eq v) vs) p.1.1.1.1.1.0 is) (old.once is);
         } in
         record {
@@ -264,7 +265,7 @@ module _ (meta : Meta) (m : State) (good : Good meta m) (e : IdBytes) (f : ℕ) 
         let p = passed (tests meta m (Del e f at v)) can in
         let old = from_entry meta (get m.kind e) f (get m.attr (e, f)) p.1.1.0 (good.attrs.typed e f) in
         let shorter = length-remove vs at del_in in
-        let few : suc (length (remove vs at)) ≤ 4294967295 = subst (λ n. n ≤ 4294967295) (sym shorter) old.few in
+        let few : suc (length (remove vs at)) ≤ most_entries = subst (λ n. n ≤ most_entries) (sym shorter) old.few in
         pass (tests meta (apply meta m (Del e f at v)) (Ins e f at v)) (
           p.0,
           (
@@ -280,7 +281,7 @@ module _ (meta : Meta) (m : State) (good : Good meta m) (e : IdBytes) (f : ℕ) 
                     (
                       ap (λ ws. is_below (length ws) (upper_of meta f)) del_now ∙ within_below (length (remove vs at)) (upper_of meta f) (subst (λ n. is_within n (upper_of meta f) ≡ true) (sym shorter) old.within),
                       (
-                        ap (λ ws. nat_lt (length ws) 4294967295) del_now ∙ is_lt (length (remove vs at)) 4294967295 few,
+                        ap (λ ws. nat_lt (length ws) most_entries) del_now ∙ is_lt (length (remove vs at)) most_entries few,
                         tt,
                       ),
                     ),
@@ -350,7 +351,7 @@ module _ (vs : List Value) (from to : ℕ) (v : Value) (here : slice_get vs from
   shifted_ok meta k upper old = record {
     typed = ap (list_all (many_fits meta k)) (shifted_is vs from to v here) ∙ list_all-insert (many_fits meta k) (remove vs from) to v (all_at (many_fits meta k) vs from v here old.typed) (list_all-remove (many_fits meta k) vs from old.typed);
     within = ap (λ n. is_within n upper) length-shifted ∙ old.within;
-    few = subst (λ n. n ≤ 4294967295) (sym length-shifted) old.few;
+    few = subst (λ n. n ≤ most_entries) (sym length-shifted) old.few;
     once = λ is. ap is_distinct (shifted_is vs from to v here) ∙ distinct-insert (remove vs from) to v (once_gone vs from v here (old.once is)) (distinct-remove vs from (old.once is));
   }
 

@@ -30,6 +30,7 @@ use Rattle.model_state.specs.Typing.{is_plain, is_many, is_unique, many_fits}
 use Rattle.model_laws.proofs.Exchange.{GoesByNeeds, has_first, has_second, or_cases}
 use Rattle.std.specs.FinMap.{FinMap}
 use Rattle.model_state.specs.Keys.{AttrKey, id_cmp}
+use Rattle.model_state.specs.Ranks.{most_entries}
 
 pub cell_own : (c : Cell) → cell_eq c c ≡ true
 cell_own (OfKind e) = text_equality.own e
@@ -298,7 +299,7 @@ ins_goes meta m n e f at v alike =
           ∷ (nat_le at (length (values_of (p.1.0 i))), BadStep)
           ∷ (not (is_unique (kind_of meta f) && list_any (value_eq v) (values_of (p.1.0 i))), There)
           ∷ (is_below (length (values_of (p.1.0 i))) (upper_of meta f), Bound)
-          ∷ (nat_lt (length (values_of (p.1.0 i))) 4294967295, Bound)
+          ∷ (nat_lt (length (values_of (p.1.0 i))) most_entries, Bound)
           ∷ []),
       λ i. record no_writes { attr = ((e, f), entry_of (insert (values_of (p.1.0 i)) at v)) ∷ [] },
     )

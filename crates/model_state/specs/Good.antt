@@ -14,6 +14,7 @@ use Rattle.model_state.specs.Keys.{IdBytes, id_cmp, attr_cmp, row_cmp}
 use Rattle.model_state.specs.Typing.{has_feature, kind_of, upper_of, row_upper, child_upper, opposite_of, is_concrete, contains_to, fits, value_eq, is_default}
 use Rattle.model_state.specs.State.{State, place_eq}
 use Rattle.model_state.specs.Steps.{class_has, may_link}
+use Rattle.model_state.specs.Ranks.{most_entries}
 pub use Rattle.model_state.specs.Chains.{IsChain}
 pub use Rattle.ecore_meta.specs.Sound.{Sound}
 
@@ -25,7 +26,7 @@ is_distinct (v ∷ vs) = not (list_any (value_eq v) vs) && is_distinct vs
 -- a list of values that an attribute of the kind may hold
 abbrev pub ValuesOk : Meta → Kind → Option ℕ → List Value → Type 0
 ValuesOk meta (Attr scalar default) upper (v ∷ []) = (fits meta scalar v ≡ true) × (is_default (Attr scalar default) v ≡ false)
-ValuesOk meta (AttrMany scalar unique) upper (v ∷ vs) = (list_all (fits meta scalar) (v ∷ vs) ≡ true) × (is_within (length (v ∷ vs)) upper ≡ true) × (length (v ∷ vs) ≤ 4294967295) × (cond unique (is_distinct (v ∷ vs)) true ≡ true)
+ValuesOk meta (AttrMany scalar unique) upper (v ∷ vs) = (list_all (fits meta scalar) (v ∷ vs) ≡ true) × (is_within (length (v ∷ vs)) upper ≡ true) × (length (v ∷ vs) ≤ most_entries) × (cond unique (is_distinct (v ∷ vs)) true ≡ true)
 ValuesOk meta k upper vs = ⊥
 
 -- an attribute's entry, by the class of its element

@@ -17,6 +17,7 @@ use Rattle.model_state.specs.declared.step.StepFault.TheVariants.{NotThere, Ther
 use Rattle.model_state.specs.Keys.{IdBytes, id_cmp}
 use Rattle.model_state.specs.Typing.{is_plain, is_many, is_unique, many_fits, upper_of, has_feature, kind_of, row_upper, child_upper, opposite_of, links, contains_to, is_concrete, is_default, attr_fits, is_attr, value_eq}
 use Rattle.model_state.specs.State.{State, place_eq, is_live, child_count, row_count, value_count, link_count, inner_count, Writes, no_writes, written}
+use Rattle.model_state.specs.Ranks.{most_entries}
 
 -- a test, and the fault where it fails
 abbrev pub Test : Type 0
@@ -169,7 +170,7 @@ tests meta m (Ins e f at v) =
     ∷ (nat_le at (length (values_of (get m.attr (e, f)))), BadStep)
     ∷ (not (is_unique (kind_of meta f) && list_any (value_eq v) (values_of (get m.attr (e, f)))), There)
     ∷ (is_below (length (values_of (get m.attr (e, f)))) (upper_of meta f), Bound)
-    ∷ (nat_lt (length (values_of (get m.attr (e, f)))) 4294967295, Bound)
+    ∷ (nat_lt (length (values_of (get m.attr (e, f)))) most_entries, Bound)
     ∷ []
 tests meta m (Del e f at v) =
     (is_live m e, NotThere)

@@ -13,6 +13,9 @@ use std::cmp::Ordering;
 use std::marker::Model;
 use thiserror::Error;
 
+/// The most bytes of an id.
+const MOST_ID_BYTES: usize = 128;
+
 /// The id of an element: 1 to 128 printable ASCII bytes without `"` and `\`, the first neither `/` nor `#`. So an id
 /// can stand in a path of emfjson. Contracts see its bytes, and ids stand in their order.
 #[derive(Debug, Drop)]
@@ -44,7 +47,7 @@ pub enum IdFault {
 fn is_byte_of_id(b: u8) -> bool
     ensures { result ≡ is_id_byte b }
 {
-    b >= 33 && b <= 126 && b != b'"' && b != b'\\'
+    b >= b'!' && b <= b'~' && b != b'"' && b != b'\\'
 }
 
 fn are_bytes_of_id(bytes: &[u8]) -> bool
@@ -65,7 +68,7 @@ fn begins_well(bytes: &[u8]) -> bool
 fn has_form(bytes: &[u8]) -> bool
     ensures { result ≡ is_id bytes.now }
 {
-    1 <= bytes.len() && bytes.len() <= 128 && are_bytes_of_id(bytes) && begins_well(bytes)
+    1 <= bytes.len() && bytes.len() <= MOST_ID_BYTES && are_bytes_of_id(bytes) && begins_well(bytes)
 }
 
 impl Id {

@@ -50,7 +50,7 @@ const METAMODEL: &str =
 fn metamodel(alloc: Global) -> Result<Metamodel, TimesFault>
     ensures { IfOk result Sound }
 {
-    if METAMODEL.len() >= 4_294_967_295 {
+    if METAMODEL.len() >= u32::MAX as usize {
         return Err(TimesFault::Metamodel);
     }
     let Ok(meta) = read_metamodel(alloc, METAMODEL) else {

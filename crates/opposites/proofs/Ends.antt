@@ -16,6 +16,7 @@ use Rattle.opposites.specs.Refusals.{IsFull, IsRefusal, edit_fault, enter_refusa
 use Rattle.edit_laws.specs.Rows.{Rows, reranks}
 use Rattle.edit_laws.specs.References.{holds_one, others_there}
 use Rattle.opposites.proofs.SpotLaws.{no_reranks, nothing_added}
+use Rattle.model_state.specs.Ranks.{rank_gap}
 
 -- where there is a rank after the last entry, the others keep theirs
 pub end_kept : (steps : List Step) (a : IdBytes) (f : ℕ) (xs : List Entry) (r : ℕ) → Some r ≡ rank_for (ranks_of xs) (length xs) → steps ≡ steps ++ reranks a f xs (end_spot xs).ranks
@@ -26,7 +27,7 @@ pub end_rank : (xs : List Entry) (r : ℕ) → Some r ≡ rank_for (ranks_of xs)
 end_rank xs r is = ap (λ o. (spot_by o xs (length xs)).rank) (sym is)
 
 -- ---- the opposite's list
-pub alone : (xs : List Entry) → xs ≡ [] → (end_spot xs).rank ≡ Some 4294967296
+pub alone : (xs : List Entry) → xs ≡ [] → (end_spot xs).rank ≡ Some rank_gap
 alone xs none = ap (λ ys. (end_spot ys).rank) none
 
 pub none_reranked : (b : IdBytes) (g : ℕ) (xs : List Entry) → xs ≡ [] → reranks b g xs (end_spot xs).ranks ≡ []

@@ -7,17 +7,17 @@ use Rattle.model_state.specs.declared.entry.Entry.{Entry}
 use Rattle.model_state.specs.declared.step.Step.{Step}
 use Rattle.model_state.specs.declared.step.Step.TheVariants.{RerankRow}
 use Rattle.model_state.specs.Keys.{IdBytes}
-use Rattle.model_state.specs.Ranks.{rank_between}
+use Rattle.model_state.specs.Ranks.{rank_between, most_entries, rank_gap}
 use Rattle.edit_laws.specs.Spot.{rank_for, ranks_of, evened, spot, spot_by}
 use Rattle.edit_laws.specs.Rows.{reranks}
 
-even_here : (n : ℕ) (xs : List Entry) (j : ℕ) → j < length xs → slice_get (evened n xs) j ≡ Some ((n + j) * 4294967296)
+even_here : (n : ℕ) (xs : List Entry) (j : ℕ) → j < length xs → slice_get (evened n xs) j ≡ Some ((n + j) * rank_gap)
 even_here n [] j h = absurd (omega (arith, h))
-even_here n (x ∷ xs) zero h = ap (λ k. Some (k * 4294967296)) (nothing n)
+even_here n (x ∷ xs) zero h = ap (λ k. Some (k * rank_gap)) (nothing n)
   where
     nothing : (n : ℕ) → n ≡ n + zero
     nothing n = omega arith
-even_here n (x ∷ xs) (suc j) h = even_here (n + 1) xs j (less j (length xs) h) ∙ ap (λ k. Some (k * 4294967296)) (moved n j)
+even_here n (x ∷ xs) (suc j) h = even_here (n + 1) xs j (less j (length xs) h) ∙ ap (λ k. Some (k * rank_gap)) (moved n j)
   where
     less : (j k : ℕ) → suc j < suc k → j < k
     less j k h = omega arith
@@ -36,10 +36,10 @@ even_past n (x ∷ xs) (suc j) h = even_past (n + 1) xs j (less j (length xs) h)
     less : (j k : ℕ) → suc k ≤ suc j → k ≤ j
     less j k h = omega arith
 
-even_at : (xs : List Entry) (k : ℕ) → slice_get (evened 1 xs) k ≡ cond (nat_lt k (length xs)) (Some ((k + 1) * 4294967296)) None
+even_at : (xs : List Entry) (k : ℕ) → slice_get (evened 1 xs) k ≡ cond (nat_lt k (length xs)) (Some ((k + 1) * rank_gap)) None
 even_at xs k =
-    elim (nat_lt k (length xs)) as (λ t. nat_lt k (length xs) ≡ t → slice_get (evened 1 xs) k ≡ cond t (Some ((k + 1) * 4294967296)) None) [
-      | true ↦ λ less. even_here 1 xs k (below k (length xs) less) ∙ ap (λ n. Some (n * 4294967296)) (turned k)
+    elim (nat_lt k (length xs)) as (λ t. nat_lt k (length xs) ≡ t → slice_get (evened 1 xs) k ≡ cond t (Some ((k + 1) * rank_gap)) None) [
+      | true ↦ λ less. even_here 1 xs k (below k (length xs) less) ∙ ap (λ n. Some (n * rank_gap)) (turned k)
       | false ↦ λ past. even_past 1 xs k (above k (length xs) past)
     ] refl
   where
@@ -52,9 +52,9 @@ even_at xs k =
     turned : (k : ℕ) → 1 + k ≡ k + 1
     turned k = omega arith
 
-even_before : (xs : List Entry) (k : ℕ) → k ≤ length xs → cond (nat_eq k 0) 0 (unwrap_or (slice_get (evened 1 xs) (k - 1)) 0) ≡ k * 4294967296
+even_before : (xs : List Entry) (k : ℕ) → k ≤ length xs → cond (nat_eq k 0) 0 (unwrap_or (slice_get (evened 1 xs) (k - 1)) 0) ≡ k * rank_gap
 even_before xs zero h = refl
-even_before xs (suc j) h = ap (λ b. cond b 0 (unwrap_or (slice_get (evened 1 xs) (suc j - 1)) 0)) (not_zero j) ∙ ap (λ i. unwrap_or (slice_get (evened 1 xs) i) 0) (less j) ∙ ap (λ o. unwrap_or o 0) (even_here 1 xs j (under j (length xs) h)) ∙ ap (λ n. n * 4294967296) (turned j)
+even_before xs (suc j) h = ap (λ b. cond b 0 (unwrap_or (slice_get (evened 1 xs) (suc j - 1)) 0)) (not_zero j) ∙ ap (λ i. unwrap_or (slice_get (evened 1 xs) i) 0) (less j) ∙ ap (λ o. unwrap_or o 0) (even_here 1 xs j (under j (length xs) h)) ∙ ap (λ n. n * rank_gap) (turned j)
   where
     less : (j : ℕ) → suc j - 1 ≡ j
     less j = omega arith
@@ -69,10 +69,10 @@ even_before xs (suc j) h = ap (λ b. cond b 0 (unwrap_or (slice_get (evened 1 xs
     turned j = omega arith
 
 -- the rank at an index of a list that is ranked evenly
-pub even_for : (xs : List Entry) (k : ℕ) → k ≤ length xs → rank_for (evened 1 xs) k ≡ rank_between (k * 4294967296) (cond (nat_lt k (length xs)) (Some ((k + 1) * 4294967296)) None)
-even_for xs k h = ap (λ lo. rank_between lo (slice_get (evened 1 xs) k)) (even_before xs k h) ∙ ap (rank_between (k * 4294967296)) (even_at xs k)
+pub even_for : (xs : List Entry) (k : ℕ) → k ≤ length xs → rank_for (evened 1 xs) k ≡ rank_between (k * rank_gap) (cond (nat_lt k (length xs)) (Some ((k + 1) * rank_gap)) None)
+even_for xs k h = ap (λ lo. rank_between lo (slice_get (evened 1 xs) k)) (even_before xs k h) ∙ ap (rank_between (k * rank_gap)) (even_at xs k)
 
-pub spot_anew : (xs : List Entry) (k : ℕ) → k ≤ length xs → rank_for (ranks_of xs) k ≡ None → nat_lt (length xs) 4294967295 ≡ true → (spot xs k).rank ≡ rank_between (k * 4294967296) (cond (nat_lt k (length xs)) (Some ((k + 1) * 4294967296)) None)
+pub spot_anew : (xs : List Entry) (k : ℕ) → k ≤ length xs → rank_for (ranks_of xs) k ≡ None → nat_lt (length xs) most_entries ≡ true → (spot xs k).rank ≡ rank_between (k * rank_gap) (cond (nat_lt k (length xs)) (Some ((k + 1) * rank_gap)) None)
 spot_anew xs k h none small = ap (λ o. (spot_by o xs k).rank) none ∙ ap (λ t. cond t (rank_for (evened 1 xs) k) None) small ∙ even_for xs k h
 
 -- where there is room the others keep their ranks
@@ -88,17 +88,17 @@ no_reranks a f [] = refl
 no_reranks a f (x ∷ xs) = ap (λ b. cond b (reranks a f xs (ranks_of xs)) (RerankRow a f x.id x.rank x.rank ∷ reranks a f xs (ranks_of xs))) (nat_equality.own x.rank) ∙ no_reranks a f xs
 
 -- one entry more
-pub reranks_last : (a : IdBytes) (f : ℕ) (n : ℕ) (xs : List Entry) (x : Entry) → reranks a f (xs ++ x ∷ []) (evened n (xs ++ x ∷ [])) ≡ reranks a f xs (evened n xs) ++ cond (nat_eq x.rank ((n + length xs) * 4294967296)) [] (RerankRow a f x.id x.rank ((n + length xs) * 4294967296) ∷ [])
-reranks_last a f n [] x = ap (λ r. cond (nat_eq x.rank r) [] (RerankRow a f x.id x.rank r ∷ [])) (ap (λ k. k * 4294967296) (nothing n))
+pub reranks_last : (a : IdBytes) (f : ℕ) (n : ℕ) (xs : List Entry) (x : Entry) → reranks a f (xs ++ x ∷ []) (evened n (xs ++ x ∷ [])) ≡ reranks a f xs (evened n xs) ++ cond (nat_eq x.rank ((n + length xs) * rank_gap)) [] (RerankRow a f x.id x.rank ((n + length xs) * rank_gap) ∷ [])
+reranks_last a f n [] x = ap (λ r. cond (nat_eq x.rank r) [] (RerankRow a f x.id x.rank r ∷ [])) (ap (λ k. k * rank_gap) (nothing n))
   where
     nothing : (n : ℕ) → n ≡ n + 0
     nothing n = omega arith
 reranks_last a f n (z ∷ zs) x =
-    let rest = reranks_last a f (n + 1) zs x ∙ ap (λ r. reranks a f zs (evened (n + 1) zs) ++ cond (nat_eq x.rank r) [] (RerankRow a f x.id x.rank r ∷ [])) (ap (λ k. k * 4294967296) (moved n (length zs))) in
-    elim (nat_eq z.rank (n * 4294967296)) as (λ b. cond b (reranks a f (zs ++ x ∷ []) (evened (n + 1) (zs ++ x ∷ []))) (RerankRow a f z.id z.rank (n * 4294967296) ∷ reranks a f (zs ++ x ∷ []) (evened (n + 1) (zs ++ x ∷ [])))
-    ≡ cond b (reranks a f zs (evened (n + 1) zs)) (RerankRow a f z.id z.rank (n * 4294967296) ∷ reranks a f zs (evened (n + 1) zs)) ++ cond (nat_eq x.rank ((n + length (z ∷ zs)) * 4294967296)) [] (RerankRow a f x.id x.rank ((n + length (z ∷ zs)) * 4294967296) ∷ [])) [
+    let rest = reranks_last a f (n + 1) zs x ∙ ap (λ r. reranks a f zs (evened (n + 1) zs) ++ cond (nat_eq x.rank r) [] (RerankRow a f x.id x.rank r ∷ [])) (ap (λ k. k * rank_gap) (moved n (length zs))) in
+    elim (nat_eq z.rank (n * rank_gap)) as (λ b. cond b (reranks a f (zs ++ x ∷ []) (evened (n + 1) (zs ++ x ∷ []))) (RerankRow a f z.id z.rank (n * rank_gap) ∷ reranks a f (zs ++ x ∷ []) (evened (n + 1) (zs ++ x ∷ [])))
+    ≡ cond b (reranks a f zs (evened (n + 1) zs)) (RerankRow a f z.id z.rank (n * rank_gap) ∷ reranks a f zs (evened (n + 1) zs)) ++ cond (nat_eq x.rank ((n + length (z ∷ zs)) * rank_gap)) [] (RerankRow a f x.id x.rank ((n + length (z ∷ zs)) * rank_gap) ∷ [])) [
       | true ↦ rest
-      | false ↦ ap (λ ss. RerankRow a f z.id z.rank (n * 4294967296) ∷ ss) rest
+      | false ↦ ap (λ ss. RerankRow a f z.id z.rank (n * rank_gap) ∷ ss) rest
     ]
   where
     moved : (n k : ℕ) → (n + 1) + k ≡ n + suc k

@@ -1,7 +1,7 @@
 //! The rank for a new entry of a list at an index, with the renumbering of the list where no rank is free.
 ghost use Rattle.std.specs.Prelude.{◌≡◌, ◌≤◌, ◌<◌, ◌*◌, ◌++◌, OnOk, IfSome, length, slice_get, is_some, not, unwrap_or, cond, nat_eq, nat_lt, ◌-◌, ◌+◌, Some, None, true};
 ghost use Rattle.std.specs.Option.{option_map};
-ghost use Rattle.model_state.specs.Ranks.{rank_between};
+ghost use Rattle.model_state.specs.Ranks.{rank_between, most_entries, rank_gap};
 ghost use Rattle.edit_laws.specs.Spot.{rank_for, ranks_of, evened, spot};
 ghost use Rattle.edit_laws.specs.Rows.{reranks};
 
@@ -62,9 +62,9 @@ fn rank_at(list: &[Entry], k: usize) -> Option<u64>
 
 /// The rank at index k of n entries that are evenly spread.
 fn even_rank(n: usize, k: usize) -> Option<u64>
-    requires small { n < 4294967295 }
+    requires small { n < most_entries }
     requires within { k ≤ n }
-    ensures { result ≡ rank_between (k * 4294967296) (cond (nat_lt k n) (Some ((k + 1) * 4294967296)) None) }
+    ensures { result ≡ rank_between (k * rank_gap) (cond (nat_lt k n) (Some ((k + 1) * rank_gap)) None) }
 {
     let before = (k as u64) * RANK_GAP;
     if k < n {
@@ -79,7 +79,7 @@ fn find_rank(list: &[Entry], k: usize) -> Option<(bool, u64)>
     requires { k ≤ length list.now }
     ensures rank { option_map (λ s. s.1) result ≡ (spot list.now k).rank }
     ensures reranks { IfSome result (λ s. s.0 ≡ not (is_some (rank_for (ranks_of list.now) k))) }
-    ensures small { IfSome result (λ s. s.0 ≡ true → length list.now < 4294967295) }
+    ensures small { IfSome result (λ s. s.0 ≡ true → length list.now < most_entries) }
 {
     match rank_within(rank_before(list, k), rank_at(list, k)) {
         Some(rank) => Some((false, rank)),
@@ -104,7 +104,7 @@ impl Opening {
         ensures index { IfSome result (λ o. o.index ≡ index) }
         ensures rank { option_map (λ o. o.rank) result ≡ (spot others index).rank }
         ensures reranks { IfSome result (λ o. o.reranks ≡ not (is_some (rank_for (ranks_of others) index))) }
-        ensures small { IfSome result (λ o. o.reranks ≡ true → length others < 4294967295) }
+        ensures small { IfSome result (λ o. o.reranks ≡ true → length others < most_entries) }
     {
         let (reranks, rank) = find_rank(others.as_slice(), index)?;
         Some(Opening {
@@ -124,7 +124,7 @@ fn even_reranks(
     list: &[Entry],
     steps: &mut List<Step>,
 ) -> Result<(), AllocError>
-    requires { length list.now < 4294967295 }
+    requires { length list.now < most_entries }
     ensures { OnOk result (steps.new ≡ steps.old ++ reranks a.now f list.now (evened 1 list.now)) }
 {
     for (i, x) in list.iter().enumerate() {
@@ -151,7 +151,7 @@ pub fn rerank(
     steps: &mut List<Step>,
 ) -> Result<(), AllocError>
     requires reranks { opening.now.reranks ≡ not (is_some (rank_for (ranks_of opening.now.others) opening.now.index)) }
-    requires small { opening.now.reranks ≡ true → length opening.now.others < 4294967295 }
+    requires small { opening.now.reranks ≡ true → length opening.now.others < most_entries }
     ensures { OnOk result (steps.new ≡ steps.old ++ reranks a.now f opening.now.others (spot opening.now.others opening.now.index).ranks) }
 {
     if opening.reranks {

@@ -7,6 +7,7 @@ ghost use Rattle.edit_laws.specs.Rows.{reranks};
 ghost use Rattle.edit_laws.specs.References.{reorder_made, stands_at, without_entry};
 ghost use Rattle.edit_laws.specs.Refusals.{reorder_refusal};
 ghost use Rattle.opposites.specs.Refusals.{IsReference, IsRefusal};
+ghost use Rattle.model_state.specs.Ranks.{most_entries};
 
 use crate::LinkFault;
 use crate::openings::{Opening, rerank};
@@ -49,7 +50,7 @@ fn reorder(
     here: &Opening,
 ) -> Result<List<Step>, AllocError>
     requires reranks { here.now.reranks ≡ not (is_some (rank_for (ranks_of here.now.others) here.now.index)) }
-    requires small { here.now.reranks ≡ true → length here.now.others < 4294967295 }
+    requires small { here.now.reranks ≡ true → length here.now.others < most_entries }
     ensures { IfOk result (λ s. s ≡ reranks a.now f here.now.others (spot here.now.others here.now.index).ranks ++ reranks a.now f (record { rank = old; id = b.now } ∷ []) (here.now.rank ∷ [])) }
 {
     let mut steps = List::new(alloc);

@@ -8,6 +8,7 @@ ghost use Rattle.edit_laws.specs.Rows.{link_step, unlinks};
 ghost use Rattle.edit_laws.specs.References.{holds_one, set_ref_made, displace, rank_there, reranks_there};
 ghost use Rattle.edit_laws.specs.Refusals.{first_refusal, set_ref_refusal};
 ghost use Rattle.opposites.specs.Refusals.{IsReference, IsRefusal, mirror_tests};
+ghost use Rattle.model_state.specs.Ranks.{rank_gap};
 
 use crate::LinkFault;
 use crate::link::link_step;
@@ -26,7 +27,7 @@ fn set_ref<L: Look>(
     f: u32,
     b: &Id,
 ) -> Result<List<Step>, LinkFault>
-    ensures made { IfOk result (λ s. s ≡ unlinks (L.state look.now).row (opposite_of meta.now f) a.now f (targets (L.state look.now).row a.now f) ++ (displace meta.now (L.state look.now).row (opposite_of meta.now f) f b.now ++ (reranks_there meta.now (L.state look.now).row (opposite_of meta.now f) b.now ++ link_step (opposite_of meta.now f) a.now f 4294967296 b.now (unwrap_or (rank_there meta.now (L.state look.now).row (opposite_of meta.now f) b.now) 0) ∷ []))) }
+    ensures made { IfOk result (λ s. s ≡ unlinks (L.state look.now).row (opposite_of meta.now f) a.now f (targets (L.state look.now).row a.now f) ++ (displace meta.now (L.state look.now).row (opposite_of meta.now f) f b.now ++ (reranks_there meta.now (L.state look.now).row (opposite_of meta.now f) b.now ++ link_step (opposite_of meta.now f) a.now f rank_gap b.now (unwrap_or (rank_there meta.now (L.state look.now).row (opposite_of meta.now f) b.now) 0) ∷ []))) }
     ensures taken { OnOk result (first_refusal (mirror_tests meta.now (L.state look.now) (opposite_of meta.now f) b.now) ≡ None) }
     ensures refused { IfErr result (λ e. IsRefusal (first_refusal (mirror_tests meta.now (L.state look.now) (opposite_of meta.now f) b.now)) e) }
 {

@@ -1,7 +1,7 @@
 -- Lists of frames that are out of a pool, each once.
 use Rattle.std.proofs.Common.{◌≡◌, ◌⊎◌, inl, inr, ℕ, ◌*◌, List, [], ◌∷◌, ◌++◌, length, refl, sym, ap, subst, ◌∙◌, arith, append_assoc, length-append}
 use Rattle.std.specs.Prelude.{Option, None, Some, unwrap_or}
-use Rattle.page_pool.specs.Frames.{Frames, frame_at, IsOut}
+use Rattle.page_pool.specs.Frames.{Frames, frame_at, IsOut, frame_size}
 use Rattle.page_pool.specs.Paged.{IsAmong, AreOut, joined}
 
 pub among_split : (k : ℕ) (fs gs : List ℕ) → IsAmong k (fs ++ gs) → IsAmong k fs ⊎ IsAmong k gs
@@ -75,10 +75,10 @@ out_apart ps (f ∷ fs) gs out k (inl is) g = out.1 (among_back f fs gs (subst (
 out_apart ps (f ∷ fs) gs out k (inr h) g = out_apart ps fs gs out.2 k h g
 
 -- the bytes of so many frames
-pub length-joined : (ps : Frames) (fs : List ℕ) → AreOut ps fs → length (joined ps fs) ≡ 4096 * length fs
+pub length-joined : (ps : Frames) (fs : List ℕ) → AreOut ps fs → length (joined ps fs) ≡ frame_size * length fs
 length-joined ps [] out = refl
 length-joined ps (f ∷ fs) out =
     let rest = length-joined ps fs out.2 in
     let both = length-append (unwrap_or (frame_at ps f) []) (joined ps fs) in
-    let one : length (unwrap_or (frame_at ps f) []) ≡ 4096 = ap (λ (o : Option (List ℕ)). length (unwrap_or o [])) out.0.is ∙ out.0.size in
+    let one : length (unwrap_or (frame_at ps f) []) ≡ frame_size = ap (λ (o : Option (List ℕ)). length (unwrap_or o [])) out.0.is ∙ out.0.size in
     omega (arith, rest, both, one)

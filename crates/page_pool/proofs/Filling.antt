@@ -2,13 +2,13 @@
 use Rattle.std.proofs.Common.{◌≡◌, inl, inr, ℕ, ◌+◌, ◌*◌, ◌<◌, ◌≤◌, List, [], ◌∷◌, ◌++◌, length, take, drop, refl, sym, ap, subst, ◌∙◌, arith, append_assoc, length-append, length-drop}
 use Rattle.std.specs.Prelude.{Option, None, Some, unwrap_or, IfSome}
 use Rattle.std.proofs.lemmas.List.{length-take, length-replicate, take-append-drop, take-take, drop-take, take_all, drop_all, take_at, append-nil}
-use Rattle.page_pool.specs.Frames.{Frames, frame_at, IsOut, zeros, overwritten, IsTaken, IsWritten}
+use Rattle.page_pool.specs.Frames.{Frames, frame_at, IsOut, zeros, overwritten, IsTaken, IsWritten, frame_size}
 use Rattle.page_pool.specs.Paged.{IsAmong, AreOut, AreFree, KeepsOthers, joined, frames_for, PagedState, HoldsBytes}
 use Rattle.page_pool.proofs.Among.{among_split, among_front, among_last, out_not_free, all_kept, joined_kept, joined_append, out_append, out_each}
 
-pub length-zeros : length zeros ≡ 4096
+pub length-zeros : length zeros ≡ frame_size
 unfolding zeros
-length-zeros = length-replicate {A = ℕ} 4096 0
+length-zeros = length-replicate {A = ℕ} frame_size 0
 
 -- a frame that was just taken is out
 pub taken_is_out : (old new : Frames) (k : ℕ) → IsTaken old new k → IsOut new k
@@ -20,8 +20,8 @@ pub record Filled (old new : Frames) (fs : List ℕ) (bytes : List ℕ) (i : ℕ
   pub fresh : AreFree old fs
   pub others : KeepsOthers old new fs
   pub padding : List ℕ
-  pub joins : joined new fs ≡ take (4096 * i) bytes ++ padding
-  pub full : 4096 * i ≤ length bytes → padding ≡ []
+  pub joins : joined new fs ≡ take (frame_size * i) bytes ++ padding
+  pub full : frame_size * i ≤ length bytes → padding ≡ []
 
 pub nothing_filled : (old new : Frames) (bytes : List ℕ) → ((k : ℕ) → frame_at new k ≡ frame_at old k) → Filled old new [] bytes 0
 nothing_filled old new bytes same = record {
@@ -37,14 +37,14 @@ pub take-plus : (n m : ℕ) (xs : List ℕ) → take (n + m) xs ≡ take n xs ++
 take-plus n m xs = sym (take-append-drop n (take (n + m) xs)) ∙ ap (λ (l : List ℕ). l ++ drop n (take (n + m) xs)) (take-take n (n + m) xs (omega arith)) ∙ ap (λ (l : List ℕ). take n xs ++ l) (drop-take n m xs)
 
 -- a piece of a byte string, and the zeros after it
-module _ (old mid one two : Frames) (fs : List ℕ) (f i : ℕ) (bytes piece : List ℕ) (so_far : Filled old mid fs bytes i) (taken : IsTaken mid one f) (written : IsWritten one two f (overwritten zeros 0 piece)) (piece_is : piece ≡ take 4096 (drop (4096 * i) bytes)) (before_end : 4096 * i < length bytes) where
+module _ (old mid one two : Frames) (fs : List ℕ) (f i : ℕ) (bytes piece : List ℕ) (so_far : Filled old mid fs bytes i) (taken : IsTaken mid one f) (written : IsWritten one two f (overwritten zeros 0 piece)) (piece_is : piece ≡ take frame_size (drop (frame_size * i) bytes)) (before_end : frame_size * i < length bytes) where
   abbrev rest : List ℕ
   rest = drop (0 + length piece) zeros
 
-  short : length piece ≤ 4096
-  short = let l = length-take 4096 (drop (4096 * i) bytes) in let p = ap length piece_is in omega (arith, l, p)
+  short : length piece ≤ frame_size
+  short = let l = length-take frame_size (drop (frame_size * i) bytes) in let p = ap length piece_is in omega (arith, l, p)
 
-  page_size : length (overwritten zeros 0 piece) ≡ 4096
+  page_size : length (overwritten zeros 0 piece) ≡ frame_size
   page_size = let a = length-append piece (drop (0 + length piece) zeros) in let d = length-drop (0 + length piece) zeros in let z = length-zeros in let s = short in omega (arith, a, d, z, s)
 
   is_out : IsOut two f
@@ -75,21 +75,21 @@ module _ (old mid one two : Frames) (fs : List ℕ) (f i : ℕ) (bytes piece : L
   others : (k : ℕ) → (IsAmong k (fs ++ f ∷ []) → ⊥) → frame_at two k ≡ frame_at old k
   others k other = apart k (λ is. other (subst (λ (j : ℕ). IsAmong j (fs ++ f ∷ [])) (sym is) (among_last f fs))) ∙ so_far.others k (λ h. other (among_front k fs (f ∷ []) h))
 
-  next : take (4096 * (i + 1)) bytes ≡ take (4096 * i) bytes ++ piece
-  next = let e : 4096 * (i + 1) ≡ 4096 * i + 4096 = omega arith in ap (λ (n : ℕ). take n bytes) e ∙ take-plus (4096 * i) 4096 bytes ∙ ap (λ (l : List ℕ). take (4096 * i) bytes ++ l) (sym piece_is)
+  next : take (frame_size * (i + 1)) bytes ≡ take (frame_size * i) bytes ++ piece
+  next = let e : frame_size * (i + 1) ≡ frame_size * i + frame_size = omega arith in ap (λ (n : ℕ). take n bytes) e ∙ take-plus (frame_size * i) frame_size bytes ∙ ap (λ (l : List ℕ). take (frame_size * i) bytes ++ l) (sym piece_is)
 
-  joins : joined two (fs ++ f ∷ []) ≡ take (4096 * (i + 1)) bytes ++ rest
+  joins : joined two (fs ++ f ∷ []) ≡ take (frame_size * (i + 1)) bytes ++ rest
   joins =
       joined_append two fs (f ∷ [])
-      ∙ ap (λ (l : List ℕ). l ++ joined two (f ∷ [])) (joined_kept mid two fs kept ∙ so_far.joins ∙ ap (λ (l : List ℕ). take (4096 * i) bytes ++ l) (so_far.full (omega (arith, before_end))) ∙ append-nil (take (4096 * i) bytes))
-      ∙ ap (λ (l : List ℕ). take (4096 * i) bytes ++ l) (append-nil (unwrap_or (frame_at two f) []) ∙ ap (λ (o : Option (List ℕ)). unwrap_or o []) written.changes.at)
-      ∙ sym (append_assoc (take (4096 * i) bytes) piece rest)
+      ∙ ap (λ (l : List ℕ). l ++ joined two (f ∷ [])) (joined_kept mid two fs kept ∙ so_far.joins ∙ ap (λ (l : List ℕ). take (frame_size * i) bytes ++ l) (so_far.full (omega (arith, before_end))) ∙ append-nil (take (frame_size * i) bytes))
+      ∙ ap (λ (l : List ℕ). take (frame_size * i) bytes ++ l) (append-nil (unwrap_or (frame_at two f) []) ∙ ap (λ (o : Option (List ℕ)). unwrap_or o []) written.changes.at)
+      ∙ sym (append_assoc (take (frame_size * i) bytes) piece rest)
       ∙ ap (λ (l : List ℕ). l ++ rest) (sym next)
 
-  full : 4096 * (i + 1) ≤ length bytes → rest ≡ []
+  full : frame_size * (i + 1) ≤ length bytes → rest ≡ []
   full h =
-      let l = length-take 4096 (drop (4096 * i) bytes) in
-      let d = length-drop (4096 * i) bytes in
+      let l = length-take frame_size (drop (frame_size * i) bytes) in
+      let d = length-drop (frame_size * i) bytes in
       let p = ap length piece_is in
       let z = length-zeros in
       drop_all (0 + length piece) zeros (omega (arith, l, d, p, z, h))
@@ -116,6 +116,6 @@ all_filled old new fs bytes n paged filled n_is count frames size = record {
   content_is =
       ap (λ (k : ℕ). take k (joined new paged.frames)) size
       ∙ ap (λ (l : List ℕ). take (length bytes) (joined new l)) frames
-      ∙ ap (λ (l : List ℕ). take (length bytes) l) (filled.joins ∙ ap (λ (l : List ℕ). l ++ filled.padding) (take_all (4096 * n) bytes (omega (arith, n_is))))
+      ∙ ap (λ (l : List ℕ). take (length bytes) l) (filled.joins ∙ ap (λ (l : List ℕ). l ++ filled.padding) (take_all (frame_size * n) bytes (omega (arith, n_is))))
       ∙ take_at bytes filled.padding (length bytes) refl;
 }

@@ -2,7 +2,7 @@
 use Rattle.std.proofs.Common.{◌≡◌, ◌≢◌, ℕ, zero, suc, ◌+◌, ◌<◌, List, [], ◌∷◌, ◌++◌, length, get_or, set, refl, sym, ap, subst, ◌∙◌, arith}
 use Rattle.std.specs.Prelude.{None, Some}
 use Rattle.std.proofs.lemmas.List.{length-set, length_push, get_or_push}
-use Rattle.page_pool.specs.Frames.{Frames, frame_at, out_of, free_of, Changes}
+use Rattle.page_pool.specs.Frames.{Frames, frame_at, out_of, free_of, Changes, pool_limit}
 use Rattle.page_pool.specs.Region.{IsSound}
 use Rattle.page_pool.proofs.Slots.{is_within, changed, filled, emptied, kept, longer, past_end}
 
@@ -36,7 +36,7 @@ in_front (y ∷ ys) x zero h = refl
 in_front (y ∷ ys) x (suc i) h = in_front ys x i (omega (arith, h))
 
 module _ (ps : Frames) (free : List ℕ) (capacity : ℕ) (sound : IsSound ps free capacity) where
-  pub sound_more : length ps < 8192 → length ps < capacity → IsSound (ps ++ None ∷ []) (free ++ length ps ∷ []) capacity
+  pub sound_more : length ps < pool_limit → length ps < capacity → IsSound (ps ++ None ∷ []) (free ++ length ps ∷ []) capacity
   sound_more few room = record {
     few = omega (arith, few, size);
     room = omega (arith, room, size);

@@ -2,7 +2,7 @@
 use Rattle.std.proofs.Common.{◌≡◌, ℕ, ◌<◌, List, [], ◌∷◌, ◌++◌, length, get_or, set, sym, ap, subst, ◌∙◌, arith}
 use Rattle.std.specs.Prelude.{Option, None, Some, IfSome}
 use Rattle.std.proofs.lemmas.List.{get_or_default}
-use Rattle.page_pool.specs.Frames.{Frames, frame_at, IsOut, Changes, IsTaken, IsGiven, IsWritten, overwritten, zeros}
+use Rattle.page_pool.specs.Frames.{Frames, frame_at, IsOut, Changes, IsTaken, IsGiven, IsWritten, overwritten, zeros, pool_limit}
 use Rattle.page_pool.specs.Region.{IsSound}
 use Rattle.page_pool.proofs.Slots.{counted, is_within, changed, filled, emptied, kept}
 use Rattle.page_pool.proofs.Soundness.{sound_more, sound_written, sound_given, sound_taken, last_within, last_free}
@@ -87,7 +87,7 @@ module _ (ps qs : Frames) (k j : ℕ) (view : qs ≡ ps) (same : j ≡ k) (out :
       (subst (λ (b : List ℕ). IsWritten ps (set qs j (Some new)) k b) over (is_written new))
 
 -- one more free frame
-pub one_more : (ps ps' : Frames) (free free' : List ℕ) (n cap cap' : ℕ) → IsSound ps free cap → ps' ≡ ps ++ None ∷ [] → free' ≡ free ++ n ∷ [] → n ≡ length ps → cap' ≡ cap → length ps < 8192 → length ps < cap → IsSound ps' free' cap'
+pub one_more : (ps ps' : Frames) (free free' : List ℕ) (n cap cap' : ℕ) → IsSound ps free cap → ps' ≡ ps ++ None ∷ [] → free' ≡ free ++ n ∷ [] → n ≡ length ps → cap' ≡ cap → length ps < pool_limit → length ps < cap → IsSound ps' free' cap'
 one_more ps ps' free free' n cap cap' sound is free_is n_is cap_is few room =
     subst (λ (l : Frames). IsSound l free' cap') (sym is) (subst (λ (l : List ℕ). IsSound (ps ++ None ∷ []) l cap') (sym (free_is ∙ ap (λ (i : ℕ). free ++ i ∷ []) n_is))
     (subst (λ (i : ℕ). IsSound (ps ++ None ∷ []) (free ++ length ps ∷ []) i) (sym cap_is) (sound_more ps free cap sound few room)))

@@ -1,6 +1,14 @@
 -- What contracts see of a pool of frames.
 use Rattle.std.specs.Prelude.{◌≡◌, ◌≢◌, ℕ, ◌+◌, List, [], ◌∷◌, ◌++◌, length, take, drop, replicate, slice_index_or, Option, None, Some}
 
+-- the bytes of a frame
+abbrev pub frame_size : ℕ
+frame_size = 4096
+
+-- the most frames of a pool
+abbrev pub pool_limit : ℕ
+pool_limit = 8192
+
 -- the frames of a pool, by their numbers: the bytes of each that is out, and nothing for each that is free
 abbrev pub Frames : Type 0
 Frames = List (Option (List ℕ))
@@ -21,15 +29,15 @@ free_of [] = 0
 free_of (None ∷ pool) = free_of pool + 1
 free_of (Some bytes ∷ pool) = free_of pool
 
--- the frame is out of the pool, with its 4,096 bytes
+-- the frame is out of the pool, with all its bytes
 pub record IsOut (pool : Frames) (k : ℕ) : Type 0 where
   pub bytes : List ℕ
   pub is : frame_at pool k ≡ Some bytes
-  pub size : length bytes ≡ 4096
+  pub size : length bytes ≡ frame_size
 
 -- the bytes of a frame that was just taken
 unfoldable pub zeros : List ℕ
-zeros = replicate 4096 0
+zeros = replicate frame_size 0
 
 -- the bytes with others written over them from an offset on
 abbrev pub overwritten : List ℕ → ℕ → List ℕ → List ℕ

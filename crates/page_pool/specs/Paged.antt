@@ -1,6 +1,6 @@
 -- Byte strings that lie in frames.
-use Rattle.std.specs.Prelude.{◌≡◌, ◌⊎◌, ℕ, ◌+◌, ◌/◌, List, [], ◌∷◌, ◌++◌, length, take, None, unwrap_or}
-use Rattle.page_pool.specs.Frames.{Frames, frame_at, IsOut}
+use Rattle.std.specs.Prelude.{◌≡◌, ◌⊎◌, ℕ, ◌+◌, ◌-◌, ◌/◌, List, [], ◌∷◌, ◌++◌, length, take, None, unwrap_or}
+use Rattle.page_pool.specs.Frames.{Frames, frame_at, IsOut, frame_size}
 
 -- the frame is one of these
 abbrev pub IsAmong : ℕ → List ℕ → Type 0
@@ -22,7 +22,7 @@ KeepsOthers old new frames = (k : ℕ) → ¬ IsAmong k frames → frame_at new 
 
 -- how many frames hold so many bytes
 abbrev pub frames_for : ℕ → ℕ
-frames_for size = (size + 4095) / 4096
+frames_for size = (size + (frame_size - 1)) / frame_size
 
 -- the bytes of these frames, one frame after another
 abbrev pub joined : Frames → List ℕ → List ℕ

@@ -1,6 +1,6 @@
 //! Byte strings in frames of a pool.
 ghost use Rattle.std.specs.Prelude.{ℕ, ◌≡◌, ◌+◌, ◌*◌, ◌<◌, ◌≤◌, ◌^◌, [], length, take, drop, IfOk, OnOk, OnErr};
-ghost use Rattle.page_pool.specs.Frames.{out_of, free_of, SameFrames};
+ghost use Rattle.page_pool.specs.Frames.{out_of, free_of, SameFrames, frame_size, pool_limit};
 ghost use Rattle.page_pool.specs.Paged.{AreOut, AreFree, KeepsOthers, frames_for, content, HoldsBytes};
 
 use crate::pool::{FRAME_SIZE, Frame, Pool};
@@ -30,14 +30,14 @@ pub fn count_frames(size: usize) -> usize
     requires { size < 2 ^ 63 }
     ensures { result ≡ frames_for size }
 {
-    (size + 4095) / FRAME_SIZE
+    (size + (FRAME_SIZE - 1)) / FRAME_SIZE
 }
 
 // The i-th piece of a byte string.
 fn piece_of(bytes: &[u8], i: usize) -> &[u8]
-    requires { 4096 * i ≤ length bytes.now }
-    ensures piece { result.now ≡ take 4096 (drop (4096 * i) bytes.now) }
-    ensures size { length result.now ≤ 4096 }
+    requires { frame_size * i ≤ length bytes.now }
+    ensures piece { result.now ≡ take frame_size (drop (frame_size * i) bytes.now) }
+    ensures size { length result.now ≤ frame_size }
 {
     let rest = &bytes[FRAME_SIZE * i..];
     if rest.len() < FRAME_SIZE {
@@ -110,7 +110,7 @@ impl PagedBytes {
 
     /// Writes bytes into frames that it takes from a pool. When out of memory the pool's frames are as before.
     pub fn store(alloc: Global, pool: &mut Pool, bytes: &[u8]) -> Result<PagedBytes, AllocError>
-        requires room { out_of pool.old + frames_for (length bytes.now) ≤ 8192 }
+        requires room { out_of pool.old + frames_for (length bytes.now) ≤ pool_limit }
         ensures holds { IfOk result (λ paged. HoldsBytes pool.new paged bytes.now) }
         ensures fresh { IfOk result (λ paged. AreFree pool.old paged.frames) }
         ensures others { IfOk result (λ paged. KeepsOthers pool.old pool.new paged.frames) }
@@ -145,7 +145,7 @@ impl PagedBytes {
     pub fn piece<'a>(&self, pool: &'a Pool, i: usize) -> &'a [u8]
         requires out { AreOut pool.now self.now.frames }
         requires index { i < length self.now.frames }
-        ensures piece { result.now ≡ take 4096 (drop (4096 * i) (content pool.now self.now)) }
+        ensures piece { result.now ≡ take frame_size (drop (frame_size * i) (content pool.now self.now)) }
     {
         let page = pool.bytes(&self.frames[i]);
         let left = self.size - FRAME_SIZE * i;

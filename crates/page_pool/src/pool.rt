@@ -1,6 +1,6 @@
 //! One region of frames: which of them are out, and the bytes of each that is.
 ghost use Rattle.std.specs.Prelude.{ℕ, ◌≡◌, ◌+◌, ◌<◌, ◌≤◌, ◌↔◌, max, [], length, Some, IfSome, IfNone, OnOk, OnErr, vec_len, vec_capacity, Err};
-ghost use Rattle.page_pool.specs.Frames.{frame_at, out_of, free_of, IsOut, SameFrames, IsTaken, IsGiven, IsWritten, overwritten, zeros};
+ghost use Rattle.page_pool.specs.Frames.{frame_at, out_of, free_of, IsOut, SameFrames, IsTaken, IsGiven, IsWritten, overwritten, zeros, frame_size, pool_limit};
 ghost use Rattle.page_pool.specs.Region.{IsSound};
 
 use crate::fault::PoolFault;
@@ -52,7 +52,7 @@ fn blank() -> [u8; FRAME_SIZE]
 
 // Writes over a part of a frame.
 fn overwrite(page: &mut [u8; FRAME_SIZE], at: usize, bytes: &[u8])
-    requires { at + length bytes.now ≤ 4096 }
+    requires { at + length bytes.now ≤ frame_size }
     ensures { page.new ≡ overwritten page.old at bytes.now }
 {
     page[at..at + bytes.len()].copy_from_slice(bytes);
@@ -61,7 +61,7 @@ fn overwrite(page: &mut [u8; FRAME_SIZE], at: usize, bytes: &[u8])
 // Adds free frames, for which there is room.
 fn lengthen(slots: &mut Vec<Option<[u8; FRAME_SIZE]>>, free: &mut Vec<u32>, more: usize)
     requires sound { IsSound slots.old.items free.old.items (vec_capacity free.old) }
-    requires few { vec_len slots.old + more ≤ 8192 }
+    requires few { vec_len slots.old + more ≤ pool_limit }
     requires slots { vec_len slots.old + more ≤ vec_capacity slots.old }
     requires free { vec_len slots.old + more ≤ vec_capacity free.old }
     ensures sound { IsSound slots.new.items free.new.items (vec_capacity free.new) }
@@ -95,7 +95,7 @@ impl Pool {
         ensures out { out_of self.new ≡ out_of self.old }
         ensures free { OnOk result (free_of self.new ≡ max (free_of self.old) count) }
         ensures err { OnErr result (self.new ≡ self.old) }
-        ensures full { (result ≡ Err PoolFault.Full) ↔ (8192 < out_of self.old + count) }
+        ensures full { (result ≡ Err PoolFault.Full) ↔ (pool_limit < out_of self.old + count) }
     {
         let free = self.free.len();
         let out = self.taken();
@@ -141,7 +141,7 @@ impl Pool {
     /// Writes bytes into a frame, from an offset on.
     pub fn write(&mut self, frame: &Frame, at: u32, bytes: &[u8])
         requires out { IsOut self.old frame.now }
-        requires range { at + length bytes.now ≤ 4096 }
+        requires range { at + length bytes.now ≤ frame_size }
         ensures written { IfSome (frame_at self.old frame.now) (λ old. IsWritten self.old self.new frame.now (overwritten old at bytes.now)) }
     {
         match &mut self.slots[frame.number as usize] {
@@ -154,7 +154,7 @@ impl Pool {
     pub fn bytes(&self, frame: &Frame) -> &[u8]
         requires out { IsOut self.now frame.now }
         ensures bytes { frame_at self.now frame.now ≡ Some result.now }
-        ensures size { length result.now ≡ 4096 }
+        ensures size { length result.now ≡ frame_size }
     {
         match &self.slots[frame.number as usize] {
             Some(page) => page,
@@ -172,7 +172,7 @@ impl Pool {
     /// How many frames are out.
     pub fn out(&self) -> u32
         ensures out { result ≡ out_of self.now }
-        ensures limit { result ≤ 8192 }
+        ensures limit { result ≤ pool_limit }
     {
         self.taken() as u32
     }
@@ -180,7 +180,7 @@ impl Pool {
     // How many frames are out, as a size.
     fn taken(&self) -> usize
         ensures taken { result ≡ out_of self.now }
-        ensures limit { result ≤ 8192 }
+        ensures limit { result ≤ pool_limit }
     {
         self.slots.len() - self.free.len()
     }

@@ -3,7 +3,7 @@ use Rattle.std.proofs.Common.{◌≡◌, ◌≢◌, inl, inr, ℕ, suc, ◌+◌,
 use Rattle.std.specs.Prelude.{IsTrue, map, All}
 use Rattle.std.proofs.lemmas.Bool.{cases_order}
 use Rattle.std.proofs.lemmas.List.{get_or-drop, get_or-take, get_or_append_left, take_at}
-use Rattle.commit_journal.specs.Journal.{StandsFor, ReadsTo, EndsAt, IsShort, IsNoHeader, header, record_of, records, four_bytes, MountedFrom}
+use Rattle.commit_journal.specs.Journal.{StandsFor, ReadsTo, EndsAt, IsShort, IsNoHeader, header, record_of, records, four_bytes, MountedFrom, open_gate}
 use Rattle.commit_journal.proofs.Ends.{length-header, length-record_of}
 use Rattle.commit_journal.proofs.Unique.{one_meaning, form_same, rest_same, behind_header, stuck_for_all}
 use Rattle.commit_journal.proofs.Mounting.{length-new_file}
@@ -26,7 +26,7 @@ rest_of : (forms : List (List ℕ)) (f : List ℕ) → All IsShort (f ∷ forms)
 rest_of forms f all k d low = all (suc k) d (omega arith)
 
 -- records that are read stand first in every reading that comes to a closed gate
-pub first_forms : (a b : List (List ℕ)) (s t : List ℕ) → records a ++ s ≡ records b ++ t → get_or t 0 0 ≢ 165 → All IsShort a → All IsShort b → (more : List (List ℕ)) × (b ≡ a ++ more)
+pub first_forms : (a b : List (List ℕ)) (s t : List ℕ) → records a ++ s ≡ records b ++ t → get_or t 0 0 ≢ open_gate → All IsShort a → All IsShort b → (more : List (List ℕ)) × (b ≡ a ++ more)
 first_forms [] b s t same closed short_a short_b = (b, refl)
 first_forms (f ∷ a) [] s t same closed short_a short_b = absurd (closed (sym (ap (λ (l : List ℕ). get_or l 0 0) same)))
 first_forms (f ∷ a) (h ∷ b) s t same closed short_a short_b =

@@ -13,6 +13,7 @@ use Rattle.edit_laws.specs.declared.fault.EditFault.TheVariants.{AlreadyThere, B
 use Rattle.edits.specs.declared.edit.Edit.{Edit}
 use Rattle.edits.specs.declared.edit.Edit.TheVariants.{Set, Unset, Add, Remove, Shift, Link, Unlink, Reorder}
 use Rattle.edits.specs.Edits.{Reading, Effect, set_effect, unset_effect, add_effect, remove_effect, shift_effect, link_effect, unlink_effect, reorder_effect}
+use Rattle.model_state.specs.Ranks.{most_entries}
 
 -- the effect of an edit on a feature of an element, by the feature's kind; another edit is refused
 unfoldable pub effect_on : Reading → Meta → State → IdBytes → Edit → ℕ → Kind → Result Effect EditFault
@@ -31,5 +32,5 @@ abbrev pub accepts : Bool → Option ℕ → List Value → Value → Result (Un
 accepts unique upper vs v =
     if unique && list_any (value_eq v) vs then Err AlreadyThere
     else if not (is_below (length vs) upper) then Err Bound
-    else if not (nat_lt (length vs) 4294967295) then Err Bound
+    else if not (nat_lt (length vs) most_entries) then Err Bound
     else Ok tt

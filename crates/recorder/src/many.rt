@@ -14,6 +14,7 @@ ghost use Rattle.model_state.specs.declared.step.Step.TheVariants.{Del, Ins};
 ghost use Rattle.edits.specs.Edits.{Clears, operation_of, add_effect, insert_effect, recording, recording_of, remove_effect, shift_effect};
 ghost use Rattle.recorder.specs.Features.{accepts};
 ghost use Rattle.edits.specs.Answers.{Answers};
+ghost use Rattle.model_state.specs.Ranks.{most_entries};
 
 use crate::feature::{Named, read};
 use crate::operation::{one_step, operation};
@@ -77,7 +78,7 @@ fn dels(
     values: &[Value],
     steps: &mut List<Step>,
 ) -> Result<(), AllocError>
-    requires { length values.now ≤ 4294967295 }
+    requires { length values.now ≤ most_entries }
     ensures { OnOk result (steps.new ≡ steps.old ++ dels e.now f 0 values.now) }
 {
     for at in (0..values.len()).rev() {

@@ -2,6 +2,7 @@
 ghost use Rattle.std.specs.Prelude.{◌≡◌, ◌<◌, All, None, OnOk, OnErr, Some, length, false};
 ghost use Rattle.history_tree.specs.Found.{branch_named, has_tag};
 ghost use Rattle.history_tree.specs.History.{head, with_branch, with_tag, with_version};
+ghost use Rattle.history_tree.specs.Room.{most_numbered};
 ghost use Rattle.plain_repository.specs.Commits.{committed, moved_onto, version_of};
 ghost use Rattle.repo_state.specs.Keeping.{plain_of};
 
@@ -15,9 +16,9 @@ use std::alloc::{AllocError, Global};
 fn make_room(history: &mut History) -> Result<(), AllocError>
     ensures same { history.new.history ≡ history.old.history }
     ensures room { OnOk result (0 < history.new.spare) }
-    ensures versions { OnOk result (length history.old.history.versions < 4294967295) }
-    ensures branches { OnOk result (length history.old.history.branches < 4294967295) }
-    ensures tags { OnOk result (length history.old.history.tags < 4294967295) }
+    ensures versions { OnOk result (length history.old.history.versions < most_numbered) }
+    ensures branches { OnOk result (length history.old.history.branches < most_numbered) }
+    ensures tags { OnOk result (length history.old.history.tags < most_numbered) }
 {
     if history.version_count() == u32::MAX
         || history.branch_count() == u32::MAX

@@ -3,6 +3,7 @@ ghost use Rattle.std.specs.Prelude.{◌≡◌, ◌≤◌, ◌<◌, ◌^◌, suc,
 ghost use Rattle.std.specs.Bool.{OnTrue, OnFalse};
 ghost use Rattle.std.specs.Option.{option_copied, option_map};
 ghost use Rattle.history_tree.specs.History.{no_history};
+ghost use Rattle.plain_repository.specs.Answers.{most_events};
 ghost use Rattle.plain_repository.specs.State.{empty, workspace_of};
 ghost use Rattle.plain_repository.specs.Orderly.{IsOrderly};
 ghost use Rattle.version_states.specs.Cached.{MayUse, Uses};
@@ -80,8 +81,8 @@ impl Repo {
 
     /// Whether the history has no room for an event.
     pub fn is_full(&self) -> bool
-        ensures full { OnTrue result (4294967295 ≤ self.now.events) }
-        ensures room { OnFalse result (self.now.events < 4294967295) }
+        ensures full { OnTrue result (most_events ≤ self.now.events) }
+        ensures room { OnFalse result (self.now.events < most_events) }
     {
         self.events == MOST_EVENTS
     }

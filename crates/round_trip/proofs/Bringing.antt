@@ -33,6 +33,7 @@ use Rattle.round_trip.proofs.BringingNames.{HasRow, before, child_few, child_sta
 use Rattle.round_trip.proofs.BringingRanks.{ranks_are}
 use Rattle.round_trip.proofs.BringingRows.{targets_same}
 use Rattle.round_trip.proofs.ListsInOrder.{children_shown}
+use Rattle.model_state.specs.Ranks.{most_entries}
 
 -- values that an attribute may hold are one or more
 record OneOrMore (vs : List Value) : Type 0 where
@@ -54,7 +55,7 @@ set_values : (o : Option (List Value)) (v : Value) (vs : List Value) → unwrap_
 set_values None v vs is = cc
 set_values (Some ws) v vs is = ap (λ xs. Some xs) is
 
-module _ (meta : Meta) (m : State) (good : Good meta m) (names : List IdBytes) (rows : List DocRow) (fit : DocumentFits meta rows) (tells : Describes m names rows) (few : length rows < 4294967295) where
+module _ (meta : Meta) (m : State) (good : Good meta m) (names : List IdBytes) (rows : List DocRow) (fit : DocumentFits meta rows) (tells : Describes m names rows) (few : length rows < most_entries) where
   differ : ids_differ names ≡ true
   differ = names_apart m names rows tells fit.ids_apart
 
@@ -128,7 +129,7 @@ module _ (meta : Meta) (m : State) (good : Good meta m) (names : List IdBytes) (
       ∙ ap (λ q. rank_of (before names rows q stands.row)) stands.there
       ∙ ap rank_of stands.behind)
     where
-      within : (n k : ℕ) → n ≤ k → k < 4294967295 → n ≤ 4294967295
+      within : (n k : ℕ) → n ≤ k → k < most_entries → n ≤ most_entries
       within n k h g = omega arith
 
   pub brought_alike : Alike (import_after nothing names rows) m

@@ -30,17 +30,18 @@ use Rattle.model_import.proofs.Ends.{after_kept, even_end, kept_end}
 use Rattle.model_import.proofs.Indexed.{at_less, drop_at, drop_less, drop_next, drop_none}
 use Rattle.round_trip.proofs.BringingMaps.{Within, none_within, set_grows, set_here, within_is, within_set}
 use Rattle.round_trip.proofs.BringingNames.{before, before_few, before_next, index_named, index_of, standing_before}
+use Rattle.model_state.specs.Ranks.{most_entries, rank_gap}
 
-rank_is : (k : ℕ) → k < 4294967295 → rank_of k ≡ (k + 1) * 4294967296
+rank_is : (k : ℕ) → k < most_entries → rank_of k ≡ (k + 1) * rank_gap
 rank_is k small = omega arith
 
 -- ---- entries that are spread evenly, and one more
-ranks_last : (n : ℕ) (xs : List Entry) (y : Entry) → ranks_of xs ≡ evened n xs → y.rank ≡ (n + length xs) * 4294967296 → ranks_of (xs ++ y ∷ []) ≡ evened n (xs ++ y ∷ [])
-ranks_last n [] y even is = ap (λ r. r ∷ []) (is ∙ ap (λ k. k * 4294967296) (none n))
+ranks_last : (n : ℕ) (xs : List Entry) (y : Entry) → ranks_of xs ≡ evened n xs → y.rank ≡ (n + length xs) * rank_gap → ranks_of (xs ++ y ∷ []) ≡ evened n (xs ++ y ∷ [])
+ranks_last n [] y even is = ap (λ r. r ∷ []) (is ∙ ap (λ k. k * rank_gap) (none n))
   where
     none : (n : ℕ) → n + 0 ≡ n
     none n = omega arith
-ranks_last n (x ∷ xs) y even is = λ i. first x.rank (n * 4294967296) (ranks_of xs) (evened (n + 1) xs) even i ∷ ranks_last (n + 1) xs y (second x.rank (n * 4294967296) (ranks_of xs) (evened (n + 1) xs) even) (is ∙ ap (λ k. k * 4294967296) (moved n (length xs))) i
+ranks_last n (x ∷ xs) y even is = λ i. first x.rank (n * rank_gap) (ranks_of xs) (evened (n + 1) xs) even i ∷ ranks_last (n + 1) xs y (second x.rank (n * rank_gap) (ranks_of xs) (evened (n + 1) xs) even) (is ∙ ap (λ k. k * rank_gap) (moved n (length xs))) i
   where
     first : (a b : ℕ) (us vs : List ℕ) → ◌≡◌ {A = List ℕ} (a ∷ us) (b ∷ vs) → a ≡ b
     first a b us vs h = cc
@@ -72,7 +73,7 @@ ranked_grow : (xs : List Entry) (prank : Ranks) (q : IdBytes) → is_some (get p
 ranked_grow [] prank q there = there
 ranked_grow (x ∷ xs) prank q there = ranked_grow xs (set prank x.id (Some x.rank)) q (set_grows id_order prank x.id x.rank q there)
 
-module _ (meta : Meta) (names : List IdBytes) (rows : List DocRow) (fit : DocumentFits meta rows) (as_many : length names ≡ length rows) (differ : ids_differ names ≡ true) (few : length rows < 4294967295) where
+module _ (meta : Meta) (names : List IdBytes) (rows : List DocRow) (fit : DocumentFits meta rows) (as_many : length names ≡ length rows) (differ : ids_differ names ≡ true) (few : length rows < most_entries) where
   -- the rank of the i-th row, by how many stand before it in its place
   abbrev pub rank_at_row : ℕ → Option ℕ
   rank_at_row i = option_map (λ (r : DocRow). rank_of (before names rows (place_of names r.parent) i)) (slice_get rows i)
@@ -112,8 +113,8 @@ module _ (meta : Meta) (names : List IdBytes) (rows : List DocRow) (fit : Docume
         let many = roots.many in
         let less = drop_less n rows r rest left in
         let most = before_few names rows Root n in
-        let small : length xs < 4294967295 = omega (arith, many, less, most, few) in
-        let rank = (length xs + 1) * 4294967296 in
+        let small : length xs < most_entries = omega (arith, many, less, most, few) in
+        let rank = (length xs + 1) * rank_gap in
         let free : rank_for (ranks_of xs) (length xs) ≡ Some rank = even_end xs roots.even small in
         let spot : end_spot xs ≡ record { ranks = ranks_of xs; rank = Some rank } = kept_end xs rank free in
         let told : rank_told e ≡ Some rank =
@@ -128,7 +129,7 @@ module _ (meta : Meta) (names : List IdBytes) (rows : List DocRow) (fit : Docume
         (subst (λ (s : Spot). Came (suc n) (xs ++ last ∷ []) e prank (set (ranked_places xs s.ranks prank) e s.rank)) (sym spot)
         record {
           roots = record {
-            even = ranks_last 1 xs last roots.even (ap (λ j. j * 4294967296) (turned (length xs)));
+            even = ranks_last 1 xs last roots.even (ap (λ j. j * rank_gap) (turned (length xs)));
             many = omega (arith, size, many, next);
             each = all_last (λ (x : Entry). rank_told x.id ≡ Some x.rank) xs last roots.each told;
           };
@@ -163,8 +164,8 @@ module _ (meta : Meta) (names : List IdBytes) (rows : List DocRow) (fit : Docume
       let many = roots.many in
       let less = drop_less n rows r rest left in
       let most = before_few names rows Root n in
-      let small : length xs < 4294967295 = omega (arith, many, less, most, few) in
-      ap (λ (s : Spot). is_some s.rank) (kept_end xs ((length xs + 1) * 4294967296) (even_end xs roots.even small))
+      let small : length xs < most_entries = omega (arith, many, less, most, few) in
+      ap (λ (s : Spot). is_some s.rank) (kept_end xs ((length xs + 1) * rank_gap) (even_end xs roots.even small))
   root_room n r rest left xs roots (Inside a f) = refl
 
   news_come : (rest : List DocRow) (n : ℕ) (xs : List Entry) (steps : List Step) → drop n rows ≡ rest → Roots n xs → (all : List Step) × (news_from names rows steps n xs rest ≡ Ok all)

@@ -33,6 +33,7 @@ use Rattle.model_import.proofs.Turns.{Each, Turn, each_both, each_map, found_fro
 use Rattle.round_trip.specs.Describes.{Describes}
 use Rattle.round_trip.proofs.BringingNames.{HasRow, live_row, row_small, told_at}
 use Rattle.round_trip.proofs.ListsInOrder.{any_id, any_index, targets_shown}
+use Rattle.model_state.specs.Ranks.{most_entries}
 
 -- ---- lists by index
 map_at : {X Y : Type 0} (h : X → Y) (xs : List X) (j : ℕ) (x : X) → slice_get xs j ≡ Some x → slice_get (map h xs) j ≡ Some (h x)
@@ -185,10 +186,10 @@ module _ (meta : Meta) (m : State) (good : Good meta m) (names : List IdBytes) (
           subst (λ ys. length ys ≤ length rows) (told ∙ ap (λ z. target_ids m z f) (sym row.named) ∙ is)
           (subst (λ n. n ≤ length rows) (sym (length_map (name_at names) (targets_at f row.r.refs))) (row_few row.row row.r row.is_row f))
 
-  pub targets_same : length rows < 4294967295 → (a : IdBytes) (f : ℕ) → entry_ids (targets (rows_from names 0 empty rows) a f) ≡ target_ids m a f
+  pub targets_same : length rows < most_entries → (a : IdBytes) (f : ℕ) → entry_ids (targets (rows_from names 0 empty rows) a f) ≡ target_ids m a f
   targets_same few a f =
       ap (λ row. entry_ids (targets row a f)) (rows_are names 0 empty rows)
       ∙ targets_shown m.row whole a f (λ q. both_so (is_some (get whole q)) (is_some (get m.row q)) (rows_inside q) (rows_cover q)) (within (length (target_ids m a f)) (length rows) (targets_few a f) few) (rows_ranked a f)
     where
-      within : (n k : ℕ) → n ≤ k → k < 4294967295 → n ≤ 4294967295
+      within : (n k : ℕ) → n ≤ k → k < most_entries → n ≤ most_entries
       within n k h g = omega arith

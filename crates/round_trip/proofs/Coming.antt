@@ -32,6 +32,7 @@ use Rattle.round_trip.proofs.Bringing.{tellings_are_shown}
 use Rattle.round_trip.proofs.BringingNames.{names_apart}
 use Rattle.round_trip.proofs.BringingRanks.{all_come}
 use Rattle.round_trip.proofs.ReadingTold.{texts_are_told}
+use Rattle.model_state.specs.Ranks.{most_entries}
 
 -- ids that are all given are those that the elements get
 given_names : (m : State) (all : List DocRow) (ws k : ℕ) (rest : List DocRow) (names : List IdBytes) → length names ≡ length rest
@@ -75,7 +76,7 @@ module _ (meta : Meta) (names : List IdBytes) (rows : List DocRow) (all : List S
       ∙ ap (λ (r : Result (List Step) EditFault). of_steps rows (and_then r (values_made meta names rows ++ links_made meta names rows))) come
 
 -- what rows that describe a model leave in the empty project is shown as that model
-comes : (meta : Meta) → IsMetamodel meta → (m : State) → Good meta m → (ws : ℕ) (names : List IdBytes) (rows : List DocRow) → doc_of meta (text meta m) ≡ Ok rows → Describes m names rows → length rows < 4294967295 → ComesBack meta ws (text meta m)
+comes : (meta : Meta) → IsMetamodel meta → (m : State) → Good meta m → (ws : ℕ) (names : List IdBytes) (rows : List DocRow) → doc_of meta (text meta m) ≡ Ok rows → Describes m names rows → length rows < most_entries → ComesBack meta ws (text meta m)
 comes meta promised m good ws names rows read tells few =
     let fit = documents_fit meta promised (text meta m) rows read in
     let differ = names_apart m names rows tells fit.ids_apart in
@@ -99,5 +100,5 @@ texts_come_back meta promised m good ids shallow short ws =
     let told = texts_are_told meta promised m good ids shallow in
     comes meta promised m good ws told.0 told.1 told.2 told.3 (fewer (length told.1) (length (text meta m)) told.4 short)
   where
-    fewer : (a b : ℕ) → a ≤ b → b < 2 ^ 32 - 1 → a < 4294967295
+    fewer : (a b : ℕ) → a ≤ b → b < 2 ^ 32 - 1 → a < most_entries
     fewer a b le lt = omega (arith, le, lt)

@@ -24,6 +24,7 @@ use Rattle.edit_laws.proofs.Lists.{all-in_order, tally-filter, targets_held}
 use Rattle.emfjson_text.specs.Tree.{entry_ids}
 use Rattle.model_import.specs.After.{Places}
 use Rattle.model_import.specs.News.{rank_of}
+use Rattle.model_state.specs.Ranks.{most_entries}
 
 -- ---- names by index
 -- a name that is in a list stands at an index
@@ -40,7 +41,7 @@ any_id e [] = refl
 any_id e (x ∷ xs) = ap (λ b. text_eq e x.id || b) (any_id e xs)
 
 -- ---- ranks that rise
-rank_less : (n k : ℕ) → n < k → k < 4294967295 → rank_of n < rank_of k
+rank_less : (n k : ℕ) → n < k → k < most_entries → rank_of n < rank_of k
 rank_less n k less small = omega arith
 
 module _ (rank : IdBytes → ℕ) where
@@ -66,24 +67,24 @@ module _ (rank : IdBytes → ℕ) where
   later : (x y : IdBytes) → rank x < rank y → is_lt (entry_cmp (entry_at y) (entry_at x)) ≡ false
   later x y less = ap (λ o. is_lt (ordering_then o (id_cmp y x))) (sym (nat_cmp_is (rank y) (rank x) Greater less))
 
-  behind : (x : IdBytes) (n k : ℕ) → n < k → (xs : List IdBytes) → k + length xs ≤ 4294967295 → rank x ≡ rank_of n → Ranked k xs → AllByRecursion (λ (y : Entry). is_lt (entry_cmp y (entry_at x)) ≡ false) (map entry_at xs)
+  behind : (x : IdBytes) (n k : ℕ) → n < k → (xs : List IdBytes) → k + length xs ≤ most_entries → rank x ≡ rank_of n → Ranked k xs → AllByRecursion (λ (y : Entry). is_lt (entry_cmp y (entry_at x)) ≡ false) (map entry_at xs)
   behind x n k less [] few here all = tt
   behind x n k less (y ∷ ys) few here all =
       let up = rank_less n k less (within k (length ys) few) in
       let there = all.0 in
       (later x y (omega (arith, up, here, there)), behind x n (suc k) (omega (arith, less)) ys (moved k (length ys) few) here all.1)
     where
-      within : (k n : ℕ) → k + suc n ≤ 4294967295 → k < 4294967295
+      within : (k n : ℕ) → k + suc n ≤ most_entries → k < most_entries
       within k n h = omega arith
 
-      moved : (k n : ℕ) → k + suc n ≤ 4294967295 → suc k + n ≤ 4294967295
+      moved : (k n : ℕ) → k + suc n ≤ most_entries → suc k + n ≤ most_entries
       moved k n h = omega arith
 
-  pub rises_ranked : (xs : List IdBytes) (k : ℕ) → k + length xs ≤ 4294967295 → Ranked k xs → Rises entry_cmp (map entry_at xs)
+  pub rises_ranked : (xs : List IdBytes) (k : ℕ) → k + length xs ≤ most_entries → Ranked k xs → Rises entry_cmp (map entry_at xs)
   rises_ranked [] k few all = tt
   rises_ranked (x ∷ xs) k few all = (behind x k (suc k) (omega arith) xs (moved k (length xs) few) all.0 all.1, rises_ranked xs (suc k) (moved k (length xs) few) all.1)
     where
-      moved : (k n : ℕ) → k + suc n ≤ 4294967295 → suc k + n ≤ 4294967295
+      moved : (k n : ℕ) → k + suc n ≤ most_entries → suc k + n ≤ most_entries
       moved k n h = omega arith
 
   -- ---- a list in order whose ranks are these
@@ -117,7 +118,7 @@ tally_children place prank p q =
     ∙ tally-map (λ (x : Entry). q x.id) (spot_of prank) (picked (λ (e : IdBytes × Place). place_eq p e.1) place)
 
 -- other ranks that are those of a new list show the same elements in the same order
-pub children_shown : (place : Places) (old new : Ranks) (p : Place) → length (entry_ids (children place old p)) ≤ 4294967295
+pub children_shown : (place : Places) (old new : Ranks) (p : Place) → length (entry_ids (children place old p)) ≤ most_entries
     → ((j : ℕ) (e : IdBytes) → slice_get (entry_ids (children place old p)) j ≡ Some e → rank_at new e ≡ rank_of j) → entry_ids (children place new p) ≡ entry_ids (children place old p)
 children_shown place old new p few each =
     let ns = entry_ids (children place old p) in
@@ -127,7 +128,7 @@ children_shown place old new p few each =
     (rises_ranked (rank_at new) ns 0 (few' (length ns) few) (ranked_from (rank_at new) ns 0 (λ j e is. each j e is ∙ ap rank_of (none j))))
     (λ q. tally_children place new p q ∙ sym (tally_children place old p q) ∙ sym (tally_ids q (children place old p)))
   where
-    few' : (n : ℕ) → n ≤ 4294967295 → 0 + n ≤ 4294967295
+    few' : (n : ℕ) → n ≤ most_entries → 0 + n ≤ most_entries
     few' n h = omega arith
 
     none : (j : ℕ) → j ≡ 0 + j
@@ -151,7 +152,7 @@ held_ranked row a f [] all = tt
 held_ranked row a f (x ∷ xs) all = (ap (λ o. unwrap_or o 0) (sym all.0), held_ranked row a f xs all.1)
 
 -- rows to the same targets with the ranks of a new list show them in the same order
-pub targets_shown : (old new : Rows) (a : IdBytes) (f : ℕ) → ((k : RowKey) → is_some (get new k) ≡ is_some (get old k)) → length (entry_ids (targets old a f)) ≤ 4294967295
+pub targets_shown : (old new : Rows) (a : IdBytes) (f : ℕ) → ((k : RowKey) → is_some (get new k) ≡ is_some (get old k)) → length (entry_ids (targets old a f)) ≤ most_entries
     → ((j : ℕ) (b : IdBytes) → slice_get (entry_ids (targets old a f)) j ≡ Some b → get new (a, f, b) ≡ Some (rank_of j)) → entry_ids (targets new a f) ≡ entry_ids (targets old a f)
 targets_shown old new a f alike few each =
     let ns = entry_ids (targets old a f) in
@@ -165,7 +166,7 @@ targets_shown old new a f alike few each =
     ∙ count_alike row_order (λ (e : RowKey × ℕ). is_of a f e.0 && q e.0.2) new old (λ k. same_passes (λ k. is_of a f k && q k.2) k (get new k) (get old k) (alike k))
     ∙ sym (tally_targets old a f q) ∙ sym (tally_ids q (targets old a f)))
   where
-    few' : (n : ℕ) → n ≤ 4294967295 → 0 + n ≤ 4294967295
+    few' : (n : ℕ) → n ≤ most_entries → 0 + n ≤ most_entries
     few' n h = omega arith
 
     none : (j : ℕ) → j ≡ 0 + j

@@ -34,13 +34,14 @@ use Rattle.round_trip.proofs.ReadingTrees.{AreOk, all_from}
 use Rattle.round_trip.proofs.WalksRows.{Come, forest, kind_attrs, kind_links, kind_rows, set_attr, set_links}
 use Rattle.round_trip.proofs.WalksSteps.{Walked, items_walk}
 use Rattle.round_trip.proofs.ReadingParts.{held_once, list_items, not_null, one_within, value_again, values_again}
+use Rattle.model_state.specs.Ranks.{most_entries}
 
 both : (a b : Bool) → a ≡ true → b ≡ true → a && b ≡ true
 both true true h k = refl
 both true false h k = cc
 both false b h k = cc
 
-few : (n : ℕ) → n ≤ 4294967295 → nat_le n 4294967295 ≡ true
+few : (n : ℕ) → n ≤ most_entries → nat_le n most_entries ≡ true
 few n h = grind (arith, nat_tests)
 
 -- ---- links
@@ -117,7 +118,7 @@ module _ (meta : Meta) (named : IsNamed meta) (m : State) (below : ℕ → Optio
   many_ok s unique [] at ok = (ap (λ xs. set_attr f xs) at, refl, λ n. refl)
   many_ok s unique (v ∷ vs) at ok = λ ids come.
       many_read meta f s unique (array (items_of (map (data_of meta s) (v ∷ vs)))) (v ∷ vs) true (map (data_of meta s) (v ∷ vs)) refl (sym (list_items (map (data_of meta s) (v ∷ vs))))
-      (values_again meta named s unique [] (v ∷ vs) (all_from (fits meta s) (v ∷ vs) ok.0) (held_once unique (v ∷ vs) ok.3)) (both (is_within (length (v ∷ vs)) (upper_of meta f)) (nat_le (length (v ∷ vs)) 4294967295) ok.1 (few (length (v ∷ vs)) ok.2))
+      (values_again meta named s unique [] (v ∷ vs) (all_from (fits meta s) (v ∷ vs) ok.0) (held_once unique (v ∷ vs) ok.3)) (both (is_within (length (v ∷ vs)) (upper_of meta f)) (nat_le (length (v ∷ vs)) most_entries) ok.1 (few (length (v ∷ vs)) ok.2))
       ∙ ap (λ xs. Ok (record { attrs = set_attr f xs; links = []; rows = [] })) (sym at)
 
   links_told : List IdBytes → Part

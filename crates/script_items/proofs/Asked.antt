@@ -12,7 +12,7 @@ use Rattle.std.proofs.lemmas.Str.Parse.{not_in_digits, parse_digits}
 use Rattle.std.proofs.lemmas.Str.Pattern.{IsSplitOnceResult, split_after}
 use denote.Ref.{Bor}
 use Rattle.script_items.proofs.Digits.{numerals}
-use Rattle.script_items.specs.Words.{AreNumbers, AskFor, is_numeral}
+use Rattle.script_items.specs.Words.{AreNumbers, AskFor, is_numeral, most_rounds}
 use Rattle.script_items.specs.declared.words.Request.{Request}
 use Rattle.script_items.specs.declared.words.Request.TheVariants.{Serve, Check, Generate}
 
@@ -84,7 +84,7 @@ cut_between word r cut seed count are = split_after 58 word (decimal seed) (deci
 pub same_count : (word : List ℕ) (m n : ℕ) → word ≡ decimal m → word ≡ decimal n → m < 2 ^ 64 → n < 2 ^ 64 → m ≡ n
 same_count word m n first second small fits = decimal_injective m n small fits (sym first ∙ second)
 
-pub numbers_are : (word first second : List ℕ) (seed count : ℕ) → word ≡ first ++ (58 ∷ second) → first ≡ decimal seed → second ≡ decimal count → seed < 2 ^ 64 → 1 ≤ count → count ≤ 10000 → AreNumbers word seed count
+pub numbers_are : (word first second : List ℕ) (seed count : ℕ) → word ≡ first ++ (58 ∷ second) → first ≡ decimal seed → second ≡ decimal count → seed < 2 ^ 64 → 1 ≤ count → count ≤ most_rounds → AreNumbers word seed count
 numbers_are word first second seed count is left right fits least most = record {
   word_is = is ∙ ap (λ (l : List ℕ). l ++ (58 ∷ second)) left ∙ ap (λ (l : List ℕ). decimal seed ++ (58 ∷ l)) right;
   seed_fits = fits;

@@ -22,6 +22,7 @@ use Rattle.script_items.specs.Generator.{without_block, edits, exchange, round, 
 use Rattle.script_items.proofs.Digits.{both}
 use Rattle.script_items.proofs.Graphic.{is_graphic, graphic_at, ascii}
 use Rattle.script_items.proofs.Plain.{IsPlain, letters_plain, rounds_plain}
+use Rattle.script_items.specs.Words.{most_rounds}
 
 -- a line of such bytes, a line feed, and more
 record IsCut (l r : List ℕ) : Type 0 where
@@ -166,8 +167,8 @@ plain_lines takes none (l ∷ ls) place all near =
 library_is : joined (take 19 (slice_split is_lf LIBRARY.now)) ≡ LIBRARY.now
 library_is = refl
 
-library_few : length LIBRARY.now ≤ 10000
-library_few = leb-true (length LIBRARY.now) 10000 refl
+library_few : length LIBRARY.now ≤ most_rounds
+library_few = leb-true (length LIBRARY.now) most_rounds refl
 
 library_shown : list_all is_block_line (take 19 (slice_split is_lf LIBRARY.now)) ≡ true
 library_shown = refl
@@ -200,10 +201,10 @@ all_behind seed count fits =
     (All-cons IsPlain (codes "update 2") (rounds seed count) four (rounds_plain seed count fits)))))
 
 -- the bytes of the script are a script of its items, where the first line alone takes a block
-script_is : (takes : List ℕ → Bool) → takes (codes "init") ≡ true → ((l : List ℕ) → IsPlain l → takes l ≡ false) → (seed count : ℕ) → count ≤ 10000
+script_is : (takes : List ℕ → Bool) → takes (codes "init") ≡ true → ((l : List ℕ) → IsPlain l → takes l ≡ false) → (seed count : ℕ) → count ≤ most_rounds
     → script_from takes 0 (script_bytes (generated seed count)) ≡ record { items = generated seed count; fault = None }
 script_is takes blocked none seed count most =
-    let size : length (joined (take 19 (slice_split is_lf LIBRARY.now))) ≤ 10000 = omega (arith, ap length library_is, library_few) in
+    let size : length (joined (take 19 (slice_split is_lf LIBRARY.now))) ≤ most_rounds = omega (arith, ap length library_is, library_few) in
     let many = size_of_rounds seed count in
     ap (λ (t : List ℕ). script_from takes 0 ((codes "init" ++ 10 ∷ []) ++ ((t ++ 46 ∷ 10 ∷ []) ++ script_bytes (map without_block (behind_it seed count))))) (sym library_is)
     ∙ block_item takes 0 (codes "init") (take 19 (slice_split is_lf LIBRARY.now)) (script_bytes (map without_block (behind_it seed count))) refl (omega arith) blocked library_shown (omega arith) (omega arith)
@@ -228,5 +229,5 @@ no_block : (l : List ℕ) → IsPlain l → takes_block l ≡ false
 no_block l p = subst (λ (x : List ℕ). takes_block x ≡ false) (sym p.line_is) (takes_none p.first p.rest p.other)
 
 -- the bytes of the script are a script of its items
-pub generated_script : (seed count : ℕ) → count ≤ 10000 → script (script_bytes (generated seed count)) ≡ record { items = generated seed count; fault = None }
+pub generated_script : (seed count : ℕ) → count ≤ most_rounds → script (script_bytes (generated seed count)) ≡ record { items = generated seed count; fault = None }
 generated_script seed count most = script_is takes_block begins no_block seed count most

@@ -18,9 +18,13 @@ opening = record { line = codes "init"; block = Some LIBRARY.now }
 abbrev pub workspace_in : ℕ → ℕ → ℕ
 workspace_in seed k = 1 + (k + seed % 2) % 2
 
+-- the most pages of a book
+abbrev pub most_pages : ℕ
+most_pages = 1000
+
 -- the number of pages of a round's book
 abbrev pub pages_in : ℕ → ℕ → ℕ
-pages_in seed k = 1 + (seed % 1000 * k) % 1000
+pages_in seed k = 1 + (seed % most_pages * k) % most_pages
 
 -- the line that makes a round's book
 abbrev pub create_text : ℕ → ℕ → List ℕ

@@ -6,12 +6,16 @@ use Rattle.std.specs.List.{list_all}
 use Rattle.script_items.specs.declared.words.Request.{Request}
 use Rattle.script_items.specs.declared.words.Request.TheVariants.{Serve, Check, Generate}
 
--- SEED:COUNT in decimal, without needless zeros: a seed of 64 bits, and a count of rounds from 1 to 10,000
+-- the most rounds of a script that is generated
+abbrev pub most_rounds : ℕ
+most_rounds = 10000
+
+-- SEED:COUNT in decimal, without needless zeros: a seed of 64 bits, and a count of rounds from 1 to the most
 pub record AreNumbers (word : List ℕ) (seed count : ℕ) : Type 0 where
   pub word_is : word ≡ decimal seed ++ 58 ∷ decimal count
   pub seed_fits : seed < 2 ^ 64
   pub least : 1 ≤ count
-  pub most : count ≤ 10000
+  pub most : count ≤ most_rounds
 
 -- the words ask for this: there are none, the one word is `--check`, or the two are `--generate` and SEED:COUNT
 abbrev pub AskFor : List (List ℕ) → Request → Type 0

@@ -3,11 +3,15 @@ ghost use Rattle.std.specs.Prelude.{◌≡◌, ◌++◌, ◌∷◌, [], ◌<◌,
 ghost use Rattle.std.specs.Fmt.{decimal};
 ghost use Rattle.script_items.specs.Generator.{without_block, opening, workspace_in, pages_in, create_text, title_text, pages_text, edits, exchange, round, generated, block_bytes, script_bytes};
 ghost use Rattle.script_items.specs.Items.{script};
+ghost use Rattle.script_items.specs.Words.{most_rounds};
 
 use crate::item::Item;
 use crate::line::push_count;
 use ecore_meta::{List, Text};
 use std::alloc::{AllocError, Global};
+
+/// The most pages of a book.
+const MOST_PAGES: u64 = 1000;
 
 /// The metamodel of the script: libraries with books, their writers, and shelves.
 const LIBRARY: &str =
@@ -65,7 +69,7 @@ fn workspace_in(seed: u64, k: u32) -> u64
 fn pages_in(seed: u64, k: u32) -> u64
     ensures { result ≡ pages_in seed k }
 {
-    1 + (seed % 1000 * k as u64) % 1000
+    1 + (seed % MOST_PAGES * k as u64) % MOST_PAGES
 }
 
 /// A line that takes no block, as an item at the end.
@@ -185,7 +189,7 @@ fn push_bytes(bytes: &mut Vec<u8>, item: &Item) -> Result<(), AllocError>
 pub fn generate(alloc: Global, seed: u64, count: u32) -> Result<Vec<u8>, AllocError>
     ensures bytes { IfOk result (λ bytes. bytes.items ≡ script_bytes (generated seed count)) }
     // As an input they are the script of the items that `--generate` answers.
-    ensures script { IfOk result (λ bytes. count ≤ 10000 → script bytes.items ≡ record { items = generated seed count; fault = None }) }
+    ensures script { IfOk result (λ bytes. count ≤ most_rounds → script bytes.items ≡ record { items = generated seed count; fault = None }) }
 {
     let items = generated(alloc, seed, count)?;
     let mut bytes = Vec::new(alloc);

@@ -2,7 +2,7 @@
 use Rattle.std.proofs.Common.{◌≡◌, ℕ, zero, suc, ◌+◌, ◌-◌, ◌<◌, ◌≤◌, [], ◌∷◌, ◌++◌, length, take, refl, sym, ap, subst, ◌∙◌, arith, length-append}
 use Rattle.std.specs.Prelude.{None, Some, slice_get}
 use Rattle.std.proofs.lemmas.List.{take-take, length-take, take_all}
-use Rattle.page_pool.specs.Frames.{Frames, out_of, free_of}
+use Rattle.page_pool.specs.Frames.{Frames, out_of, free_of, pool_limit}
 use Rattle.page_pool.specs.Paged.{PagedState, AreFree, KeepsOthers}
 use Rattle.state_cache.specs.Entries.{Entries, held, IsCached, Released, Keeps, Fits}
 use Rattle.state_cache.proofs.Listed.{same_some}
@@ -99,7 +99,7 @@ module _ (start now : Frames) (old left : Entries) (frames count most_entries mo
   others : out_of now ≡ (out_of start - frames) + length (held left)
   others = let n = no_more_than_out start (held old) out_start in let o = popping.released.outs in omega (arith, n, o, frames_is)
 
-  pub not_fits : (length left ≤ most_entries → count + needed ≤ most_frames → 8192 < out + needed) → ¬ Fits most_entries most_frames (out_of start - frames) needed (length left) (length (held left))
+  pub not_fits : (length left ≤ most_entries → count + needed ≤ most_frames → pool_limit < out + needed) → ¬ Fits most_entries most_frames (out_of start - frames) needed (length left) (length (held left))
   not_fits past fits =
       let o = others in
       let c = popping.counted in
@@ -109,8 +109,8 @@ module _ (start now : Frames) (old left : Entries) (frames count most_entries mo
       let h = past e (omega (arith, c, f)) in
       omega (arith, o, g, h, out_is)
 
-  pub fits_now : length left ≤ most_entries → count + needed ≤ most_frames → out + needed ≤ 8192 → Fits most_entries most_frames (out_of start - frames) needed (length left) count
+  pub fits_now : length left ≤ most_entries → count + needed ≤ most_frames → out + needed ≤ pool_limit → Fits most_entries most_frames (out_of start - frames) needed (length left) count
   fits_now few small enough = record { entries_fit = few; frames_fit = small; out_fits = let o = others in let c = popping.counted in omega (arith, o, c, enough, out_is) }
 
-  pub few_held : out ≤ 8192 → count ≤ 8192
+  pub few_held : out ≤ pool_limit → count ≤ pool_limit
   few_held limit = let n = no_more_than_out now (held left) popping.released.out in let c = popping.counted in omega (arith, n, c, limit, out_is)

@@ -3,10 +3,10 @@ use Rattle.std.proofs.Common.{◌≡◌, ◌⊎◌, inl, inr, ℕ, zero, suc, �
 use Rattle.std.specs.Prelude.{nat_eq, Option, None, Some}
 use Rattle.std.specs.Map.{remove_entry}
 use Rattle.std.proofs.lemmas.List.{length-take}
-use Rattle.page_pool.specs.Frames.{Frames, frame_at, out_of, free_of, SameFrames}
+use Rattle.page_pool.specs.Frames.{Frames, frame_at, out_of, free_of, SameFrames, pool_limit}
 use Rattle.page_pool.specs.Paged.{PagedState, IsAmong, AreFree, KeepsOthers, HoldsBytes, frames_for}
 use Rattle.page_pool.proofs.Among.{among_split, all_kept, out_append, out_each, out_not_free}
-use Rattle.state_cache.specs.Entries.{Entries, held, IsCached, IsFirst, KeepsApart, Released, Keeps, Fits, IsStored, IsYielded}
+use Rattle.state_cache.specs.Entries.{Entries, held, IsCached, IsFirst, KeepsApart, Released, Keeps, Fits, IsStored, IsYielded, most_entry_bytes, most_frames_held, most_held}
 use Rattle.state_cache.proofs.Listed.{stands_kept, length-held_remove}
 use Rattle.state_cache.proofs.Releasing.{no_more_than_out}
 use Rattle.state_cache.proofs.Popping.{length-held_take}
@@ -22,22 +22,22 @@ bare = record { frames = []; size = 0 }
 pub record Room (others needed version : ℕ) (removed kept : Entries) : Type 0 where
   pub rest : Entries
   pub is : kept ≡ (version, bare) ∷ rest
-  pub keeps : Keeps (λ entries frames. Fits 64 6144 others needed (entries + 1) frames) removed rest
-  pub fits : Fits 64 6144 others needed (length rest + 1) (length (held rest))
+  pub keeps : Keeps (λ entries frames. Fits most_held most_frames_held others needed (entries + 1) frames) removed rest
+  pub fits : Fits most_held most_frames_held others needed (length rest + 1) (length (held rest))
 
-fits_at : (others needed n m f g : ℕ) → n ≡ m → f ≡ g → Fits 64 6144 others needed n f → Fits 64 6144 others needed m g
-fits_at others needed n m f g same alike fits = subst (λ (k : ℕ). Fits 64 6144 others needed k g) same (subst (λ (k : ℕ). Fits 64 6144 others needed n k) alike fits)
+fits_at : (others needed n m f g : ℕ) → n ≡ m → f ≡ g → Fits most_held most_frames_held others needed n f → Fits most_held most_frames_held others needed m g
+fits_at others needed n m f g same alike fits = subst (λ (k : ℕ). Fits most_held most_frames_held others needed k g) same (subst (λ (k : ℕ). Fits most_held most_frames_held others needed n k) alike fits)
 
-pub room_of : (others needed version result : ℕ) (removed kept : Entries) → others ≤ 6144 → needed ≤ 2048 → Keeps (Fits 64 6144 others needed) ((version, bare) ∷ removed) kept → result ≡ length (held kept) → Fits 64 6144 others needed (length kept) result ⊎ (kept ≡ []) → Room others needed version removed kept
+pub room_of : (others needed version result : ℕ) (removed kept : Entries) → others ≤ most_frames_held → needed ≤ 2048 → Keeps (Fits most_held most_frames_held others needed) ((version, bare) ∷ removed) kept → result ≡ length (held kept) → Fits most_held most_frames_held others needed (length kept) result ⊎ (kept ≡ []) → Room others needed version removed kept
 room_of others needed version result removed kept few small keeps counted fits = at keeps.count keeps.first keeps.no_more
   where
-    one : Fits 64 6144 others needed 1 0
+    one : Fits most_held most_frames_held others needed 1 0
     one = record { entries_fit = omega arith; frames_fit = omega (arith, small); out_fits = omega (arith, few, small) }
 
     not_empty : (xs : Entries) (x : ℕ × PagedState) → kept ≡ x ∷ xs → kept ≡ [] → ⊥
     not_empty xs x is none = cc
 
-    at : (n : ℕ) → kept ≡ take n ((version, bare) ∷ removed) → (n < length ((version, bare) ∷ removed) → ¬ Fits 64 6144 others needed (suc n) (length (held (take (suc n) ((version, bare) ∷ removed))))) → Room others needed version removed kept
+    at : (n : ℕ) → kept ≡ take n ((version, bare) ∷ removed) → (n < length ((version, bare) ∷ removed) → ¬ Fits most_held most_frames_held others needed (suc n) (length (held (take (suc n) ((version, bare) ∷ removed))))) → Room others needed version removed kept
     at zero is more = absurd (more (omega arith) one)
     at (suc j) is more = record {
       rest = take j removed;
@@ -53,9 +53,9 @@ room_of others needed version result removed kept few small keeps counted fits =
       ];
     }
 
-module _ (p0 p1 p2 p3 : Frames) (old kept : Entries) (version needed frames result : ℕ) (cached : IsCached p0 old) (few : out_of p0 ≤ 6144 + length (held old)) (small : needed ≤ 2048) (same : SameFrames p0 p1) (out1 : out_of p1 ≡ out_of p0)
+module _ (p0 p1 p2 p3 : Frames) (old kept : Entries) (version needed frames result : ℕ) (cached : IsCached p0 old) (few : out_of p0 ≤ most_frames_held + length (held old)) (small : needed ≤ 2048) (same : SameFrames p0 p1) (out1 : out_of p1 ≡ out_of p0)
     (given : Released p1 p2 (held old) (held (remove_entry (nat_eq version) old))) (frames_is : frames ≡ length (held (remove_entry (nat_eq version) old)))
-    (evicted : Released p2 p3 (held (remove_entry (nat_eq version) old)) (held kept)) (keeps : Keeps (Fits 64 6144 (out_of p2 - frames) needed) ((version, bare) ∷ remove_entry (nat_eq version) old) kept) (counted : result ≡ length (held kept)) (fits : Fits 64 6144 (out_of p2 - frames) needed (length kept) result ⊎ (kept ≡ [])) where
+    (evicted : Released p2 p3 (held (remove_entry (nat_eq version) old)) (held kept)) (keeps : Keeps (Fits most_held most_frames_held (out_of p2 - frames) needed) ((version, bare) ∷ remove_entry (nat_eq version) old) kept) (counted : result ≡ length (held kept)) (fits : Fits most_held most_frames_held (out_of p2 - frames) needed (length kept) result ⊎ (kept ≡ [])) where
   abbrev removed : Entries
   removed = remove_entry (nat_eq version) old
 
@@ -68,7 +68,7 @@ module _ (p0 p1 p2 p3 : Frames) (old kept : Entries) (version needed frames resu
       let o = given.outs in
       omega (arith, n, o, out1, frames_is)
 
-  pub few_others : others ≤ 6144
+  pub few_others : others ≤ most_frames_held
   few_others = let o = others_is in omega (arith, o, few)
 
   pub room : Room others needed version removed kept
@@ -87,7 +87,7 @@ module _ (p0 p1 p2 p3 : Frames) (old kept : Entries) (version needed frames resu
       omega (arith, e, n, frames_is)
 
   -- the frames that were reserved are enough
-  pub enough : (possible out free : ℕ) → out ≡ out_of p0 → out ≤ 8192 → possible ≡ min needed (8192 - out) → possible ≤ free_of p1 → needed ≤ free_of p3
+  pub enough : (possible out free : ℕ) → out ≡ out_of p0 → out ≤ pool_limit → possible ≡ min needed (pool_limit - out) → possible ≤ free_of p1 → needed ≤ free_of p3
   enough possible out free is limit possible_is freed =
       let o = out_is in
       let f = room.fits.out_fits in
@@ -126,10 +126,10 @@ module _ (p0 p1 p2 p3 : Frames) (old kept : Entries) (version needed frames resu
     pub new_counted : length (held new) ≡ length (held room.rest) + needed
     new_counted = let a = length-append paged.frames (held room.rest) in let c = holds.count in omega (arith, a, c, needed_is)
 
-    pub new_few : length new ≤ 64
+    pub new_few : length new ≤ most_held
     new_few = let e = room.fits.entries_fit in omega (arith, e)
 
-    pub new_small : length (held new) ≤ 6144
+    pub new_small : length (held new) ≤ most_frames_held
     new_small = let c = new_counted in let f = room.fits.frames_fit in omega (arith, c, f)
 
     pub is_stored : IsStored p0 p4 version bytes old new
@@ -142,13 +142,13 @@ module _ (p0 p1 p2 p3 : Frames) (old kept : Entries) (version needed frames resu
       others = others;
       out_before = others_is;
       out_after = let o = out_is in let c = new_counted in omega (arith, o, c, outs, needed_is);
-      kept = subst (λ (n : ℕ). Keeps (λ e f. Fits 64 6144 others n (e + 1) f) removed room.rest) needed_is room.keeps;
-      room = subst (λ (n : ℕ). Fits 64 6144 others n (length room.rest + 1) (length (held room.rest))) needed_is room.fits;
+      kept = subst (λ (n : ℕ). Keeps (λ e f. Fits most_held most_frames_held others n (e + 1) f) removed room.rest) needed_is room.keeps;
+      room = subst (λ (n : ℕ). Fits most_held most_frames_held others n (length room.rest + 1) (length (held room.rest))) needed_is room.fits;
       same = stands_kept p0 p4 room.rest (λ k h. rest_kept k h ∙ evicted'.kept k h ∙ given.kept k (evicted'.within k h) ∙ same k);
     }
 
 -- what a yield leaves
-module _ (before after : Frames) (old new : Entries) (frames result needed : ℕ) (cached : IsCached before old) (few : length old ≤ 64) (small : frames ≤ 6144) (low : needed < 2 ^ 32) (frames_is : frames ≡ length (held old)) (released : Released before after (held old) (held new)) (counted : result ≡ length (held new)) (keeps : Keeps (Fits 64 8589934592 (out_of before - frames) needed) old new) (fits : Fits 64 8589934592 (out_of before - frames) needed (length new) result ⊎ (new ≡ [])) where
+module _ (before after : Frames) (old new : Entries) (frames result needed : ℕ) (cached : IsCached before old) (few : length old ≤ most_held) (small : frames ≤ most_frames_held) (low : needed < 2 ^ 32) (frames_is : frames ≡ length (held old)) (released : Released before after (held old) (held new)) (counted : result ≡ length (held new)) (keeps : Keeps (Fits most_held 8589934592 (out_of before - frames) needed) old new) (fits : Fits most_held 8589934592 (out_of before - frames) needed (length new) result ⊎ (new ≡ [])) where
   yields_before : out_of before ≡ (out_of before - frames) + length (held old)
   yields_before = let n = no_more_than_out before (held old) cached in omega (arith, n, frames_is)
 
@@ -179,20 +179,20 @@ module _ (before after : Frames) (old new : Entries) (frames result needed : ℕ
   pub yielded_apart : KeepsApart before after old new
   yielded_apart k now not_old is = (λ h. not_old (released.within k h), released.others k not_old ∙ is)
 
-  pub yielded_few : length new ≤ 64
+  pub yielded_few : length new ≤ most_held
   yielded_few = let l = length-take keeps.count old in let f = ap (λ (es : Entries). length es) keeps.first in omega (arith, l, f, few)
 
-  pub yielded_small : result ≤ 6144
+  pub yielded_small : result ≤ most_frames_held
   yielded_small = let l = length-held_take keeps.count old in let f = ap (λ (es : Entries). length (held es)) keeps.first in omega (arith, l, f, counted, small, frames_is)
 
 -- a store, call by call
-module _ (p0 p1 p2 p3 : Frames) (old0 old e2 e3 : Entries) (version needed count given result size : ℕ) (view : old ≡ old0) (cached : IsCached p0 old0) (few : out_of p0 ≤ 6144 + length (held old0)) (needed_is : needed ≡ frames_for size) (short : size ≤ 8388608) (same : SameFrames p0 p1) (out1 : out_of p1 ≡ out_of p0)
+module _ (p0 p1 p2 p3 : Frames) (old0 old e2 e3 : Entries) (version needed count given result size : ℕ) (view : old ≡ old0) (cached : IsCached p0 old0) (few : out_of p0 ≤ most_frames_held + length (held old0)) (needed_is : needed ≡ frames_for size) (short : size ≤ most_entry_bytes) (same : SameFrames p0 p1) (out1 : out_of p1 ≡ out_of p0)
     (counted : count ≡ length (held old)) (released : Released p1 p2 (held old) (held (remove_entry (nat_eq version) old))) (given_is : given + length (held (remove_entry (nat_eq version) old)) ≡ length (held old))
-    (e2_is : e2 ≡ (version, bare) ∷ remove_entry (nat_eq version) old) (evicted : Released p2 p3 (held e2) (held e3)) (keeps : Keeps (Fits 64 6144 (out_of p2 - (count - given)) needed) e2 e3) (result_is : result ≡ length (held e3)) (fits : Fits 64 6144 (out_of p2 - (count - given)) needed (length e3) result ⊎ (e3 ≡ [])) where
+    (e2_is : e2 ≡ (version, bare) ∷ remove_entry (nat_eq version) old) (evicted : Released p2 p3 (held e2) (held e3)) (keeps : Keeps (Fits most_held most_frames_held (out_of p2 - (count - given)) needed) e2 e3) (result_is : result ≡ length (held e3)) (fits : Fits most_held most_frames_held (out_of p2 - (count - given)) needed (length e3) result ⊎ (e3 ≡ [])) where
   pub cached_old : IsCached p0 old
   cached_old = subst (λ (es : Entries). IsCached p0 es) (sym view) cached
 
-  pub few_old : out_of p0 ≤ 6144 + length (held old)
+  pub few_old : out_of p0 ≤ most_frames_held + length (held old)
   few_old = let v = ap (λ (es : Entries). length (held es)) view in omega (arith, v, few)
 
   pub small : needed ≤ 2048
@@ -204,13 +204,13 @@ module _ (p0 p1 p2 p3 : Frames) (old0 old e2 e3 : Entries) (version needed count
   pub evicted_old : Released p2 p3 (held (remove_entry (nat_eq version) old)) (held e3)
   evicted_old = subst (λ (es : Entries). Released p2 p3 (held es) (held e3)) e2_is evicted
 
-  pub keeps_old : Keeps (Fits 64 6144 (out_of p2 - (count - given)) needed) ((version, bare) ∷ remove_entry (nat_eq version) old) e3
-  keeps_old = subst (λ (es : Entries). Keeps (Fits 64 6144 (out_of p2 - (count - given)) needed) es e3) e2_is keeps
+  pub keeps_old : Keeps (Fits most_held most_frames_held (out_of p2 - (count - given)) needed) ((version, bare) ∷ remove_entry (nat_eq version) old) e3
+  keeps_old = subst (λ (es : Entries). Keeps (Fits most_held most_frames_held (out_of p2 - (count - given)) needed) es e3) e2_is keeps
 
   abbrev pub store_room : Room (out_of p2 - (count - given)) needed version (remove_entry (nat_eq version) old) e3
   store_room = room p0 p1 p2 p3 old e3 version needed (count - given) result cached_old few_old small same out1 released left_is evicted_old keeps_old result_is fits
 
-  pub store_enough : (possible out : ℕ) → out ≡ out_of p0 → out ≤ 8192 → possible ≡ min needed (8192 - out) → possible ≤ free_of p1 → frames_for size ≤ free_of p3
+  pub store_enough : (possible out : ℕ) → out ≡ out_of p0 → out ≤ pool_limit → possible ≡ min needed (pool_limit - out) → possible ≤ free_of p1 → frames_for size ≤ free_of p3
   store_enough possible out is limit possible_is freed =
       let e = enough p0 p1 p2 p3 old e3 version needed (count - given) result cached_old few_old small same out1 released left_is evicted_old keeps_old result_is fits possible out 0 is limit possible_is freed in
       omega (arith, e, needed_is)
@@ -244,13 +244,13 @@ module _ (p0 p1 p2 p3 : Frames) (old0 old e2 e3 : Entries) (version needed count
         let r = ap (λ (es : Entries). length (held es)) store_room.is in
         omega (arith, n, f, r, result_is)
 
-    pub store_few : length new ≤ 64
+    pub store_few : length new ≤ most_held
     store_few =
         let n = new_few p0 p1 p2 p3 old e3 version needed (count - given) result cached_old few_old small same out1 released left_is evicted_old keeps_old result_is fits p4 bytes paged needs holds fresh apart outs in
         let f = ap (λ (es : Entries). length es) final in
         omega (arith, n, f)
 
-    pub store_small : result + needed ≤ 6144
+    pub store_small : result + needed ≤ most_frames_held
     store_small =
         let n = new_small p0 p1 p2 p3 old e3 version needed (count - given) result cached_old few_old small same out1 released left_is evicted_old keeps_old result_is fits p4 bytes paged needs holds fresh apart outs in
         let f = ap (λ (es : Entries). length (held es)) final in

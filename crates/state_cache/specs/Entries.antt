@@ -1,8 +1,20 @@
 -- What a cache and its pool stand for.
 use Rattle.std.specs.Prelude.{◌≡◌, ◌⊎◌, ℕ, ◌+◌, ◌<◌, ◌≤◌, suc, List, [], ◌∷◌, ◌++◌, length, take, nat_eq, None, Some}
 use Rattle.std.specs.Map.{remove_entry}
-use Rattle.page_pool.specs.Frames.{Frames, frame_at, out_of, free_of}
+use Rattle.page_pool.specs.Frames.{Frames, frame_at, out_of, free_of, pool_limit}
 use Rattle.page_pool.specs.Paged.{PagedState, IsAmong, AreOut, content, frames_for}
+
+-- the most entries of a cache
+abbrev pub most_held : ℕ
+most_held = 64
+
+-- the most frames that its entries hold
+abbrev pub most_frames_held : ℕ
+most_frames_held = 6144
+
+-- the most bytes of an entry
+abbrev pub most_entry_bytes : ℕ
+most_entry_bytes = 8388608
 
 -- what contracts see of a cache: its versions and where their bytes lie, the most recently used first
 abbrev pub Entries : Type 0
@@ -41,7 +53,7 @@ pub record Keeps (fits : ℕ → ℕ → Type 0) (old new : Entries) : Type 0 wh
 pub record Fits (most_entries most_frames others needed entries frames : ℕ) : Type 0 where
   pub entries_fit : entries ≤ most_entries
   pub frames_fit : frames + needed ≤ most_frames
-  pub out_fits : others + frames + needed ≤ 8192
+  pub out_fits : others + frames + needed ≤ pool_limit
 
 -- an entry with these bytes stands first, and of the other ones as many as there is room for
 pub record IsStored (before after : Frames) (version : ℕ) (bytes : List ℕ) (old new : Entries) : Type 0 where
@@ -53,8 +65,8 @@ pub record IsStored (before after : Frames) (version : ℕ) (bytes : List ℕ) (
   pub others : ℕ
   pub out_before : out_of before ≡ others + length (held old)
   pub out_after : out_of after ≡ others + length (held new)
-  pub kept : Keeps (λ entries frames. Fits 64 6144 others (frames_for (length bytes)) (entries + 1) frames) (remove_entry (nat_eq version) old) rest
-  pub room : Fits 64 6144 others (frames_for (length bytes)) (length rest + 1) (length (held rest))
+  pub kept : Keeps (λ entries frames. Fits most_held most_frames_held others (frames_for (length bytes)) (entries + 1) frames) (remove_entry (nat_eq version) old) rest
+  pub room : Fits most_held most_frames_held others (frames_for (length bytes)) (length rest + 1) (length (held rest))
   pub same : stands after rest ≡ stands before rest
 
 -- entries are evicted, those that were used least recently first, until so many more frames can be out or none is left
@@ -62,8 +74,8 @@ pub record IsYielded (before after : Frames) (needed : ℕ) (old new : Entries) 
   pub others : ℕ
   pub out_before : out_of before ≡ others + length (held old)
   pub out_after : out_of after ≡ others + length (held new)
-  pub kept : Keeps (λ entries frames. others + frames + needed ≤ 8192) old new
-  pub enough : (out_of after + needed ≤ 8192) ⊎ (new ≡ [])
+  pub kept : Keeps (λ entries frames. others + frames + needed ≤ pool_limit) old new
+  pub enough : (out_of after + needed ≤ pool_limit) ⊎ (new ≡ [])
   pub same : stands after new ≡ stands before new
 
 -- the frames that the cache holds are all that are out of the pool
@@ -73,10 +85,10 @@ pub record HoldsAll (pool : Frames) (entries : Entries) : Type 0 where
 
 -- what holds of a cache's fields
 pub record IsWithin (entries : Entries) (most count : ℕ) : Type 0 where
-  pub most_is : most ≡ 65
+  pub most_is : most ≡ most_held + 1
   pub counted : count ≡ length (held entries)
-  pub few : length entries ≤ 64
-  pub small : count ≤ 6144
+  pub few : length entries ≤ most_held
+  pub small : count ≤ most_frames_held
 
 -- some frames of a list were given back, and those left are out as they were
 pub record Released (before after : Frames) (all left : List ℕ) : Type 0 where

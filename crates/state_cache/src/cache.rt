@@ -3,15 +3,24 @@ ghost use Rattle.std.specs.Prelude.{◌≡◌, ◌⊎◌, ◌+◌, ◌-◌, ◌<
 ghost use Rattle.std.specs.Bool.{OnTrue, OnFalse};
 ghost use Rattle.std.specs.Map.{lookup, remove_entry};
 ghost use Rattle.lru.specs.LruCache.{promoted, lru_cache};
-ghost use Rattle.page_pool.specs.Frames.{out_of, free_of, SameFrames};
+ghost use Rattle.page_pool.specs.Frames.{out_of, free_of, SameFrames, pool_limit};
 ghost use Rattle.page_pool.specs.Paged.{AreOut};
-ghost use Rattle.state_cache.specs.Entries.{held, stands, IsCached, IsFirst, KeepsApart, IsStored, IsYielded, IsWithin, Released, Keeps, Fits};
+ghost use Rattle.state_cache.specs.Entries.{held, stands, IsCached, IsFirst, KeepsApart, IsStored, IsYielded, IsWithin, Released, Keeps, Fits, most_entry_bytes, most_frames_held};
 
 use lru::LruCache;
 use page_pool::{POOL_LIMIT, PagedBytes, Pool, Room, count_frames};
 use std::alloc::{AllocError, Global};
 use std::marker::Model;
 use std::num::NonZeroUsize;
+
+/// The most entries of a cache.
+const MOST_HELD: usize = 64;
+
+/// The most frames that its entries hold.
+const MOST_FRAMES_HELD: usize = 6144;
+
+/// More frames than any cache holds.
+const ANY_FRAMES: usize = 1 << 33;
 
 /// The most bytes of an entry.
 pub const ENTRY_LIMIT: usize = 8_388_608;
@@ -47,8 +56,8 @@ struct Limits {
 // Whether entries with so many frames are within the limits.
 fn is_within(limits: Limits, entries: usize, count: usize, out: u32) -> bool
     requires small { count + limits.needed < 2 ^ 63 }
-    ensures yes { OnTrue result ((entries ≤ limits.entries) × (count + limits.needed ≤ limits.frames) × (out + limits.needed ≤ 8192)) }
-    ensures no { OnFalse result (entries ≤ limits.entries → count + limits.needed ≤ limits.frames → 8192 < out + limits.needed) }
+    ensures yes { OnTrue result ((entries ≤ limits.entries) × (count + limits.needed ≤ limits.frames) × (out + limits.needed ≤ pool_limit)) }
+    ensures no { OnFalse result (entries ≤ limits.entries → count + limits.needed ≤ limits.frames → pool_limit < out + limits.needed) }
 {
     entries <= limits.entries
         && count + limits.needed <= limits.frames
@@ -127,7 +136,7 @@ impl Cache {
         ensures { IfOk result (λ cache. cache ≡ []) }
     {
         // One more than the entries that stay: a new one stands among the others until there is room for it.
-        let most = NonZeroUsize::MIN.saturating_add(64);
+        let most = NonZeroUsize::MIN.saturating_add(MOST_HELD);
         let entries = LruCache::new(alloc, most)?;
         Ok(Cache {
             alloc,
@@ -159,9 +168,9 @@ impl Cache {
     /// are too long.
     pub fn store(&mut self, pool: &mut Pool, version: u32, bytes: &[u8]) -> Result<bool, AllocError>
         requires out { IsCached pool.old self.old }
-        requires others { out_of pool.old ≤ 6144 + length (held self.old) }
+        requires others { out_of pool.old ≤ most_frames_held + length (held self.old) }
         ensures stored { IfOk result (λ stored. OnTrue stored (IsStored pool.old pool.new version bytes.now self.old self.new)) }
-        ensures long { IfOk result (λ stored. (stored ≡ false) ↔ (8388608 < length bytes.now)) }
+        ensures long { IfOk result (λ stored. (stored ≡ false) ↔ (most_entry_bytes < length bytes.now)) }
         ensures none { IfOk result (λ stored. OnFalse stored ((self.new ≡ self.old) × (pool.new ≡ pool.old))) }
         ensures out { IsCached pool.new self.new }
         ensures apart { KeepsApart pool.old pool.new self.old self.new }
@@ -181,8 +190,8 @@ impl Cache {
         }
         let given = put_empty(self.alloc, &mut self.entries, pool, version)?;
         let limits = Limits {
-            entries: 64,
-            frames: 6144,
+            entries: MOST_HELD,
+            frames: MOST_FRAMES_HELD,
             needed,
         };
         let left = evict(&mut self.entries, pool, self.count - given, limits);
@@ -201,8 +210,8 @@ impl Cache {
         ensures apart { KeepsApart pool.old pool.new self.old self.new }
     {
         let limits = Limits {
-            entries: 64,
-            frames: 1 << 33,
+            entries: MOST_HELD,
+            frames: ANY_FRAMES,
             needed: count as usize,
         };
         self.count = evict(&mut self.entries, pool, self.count, limits);

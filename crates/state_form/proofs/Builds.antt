@@ -29,6 +29,7 @@ use Rattle.state_steps.specs.Whole.{birth, births, put_first, inserts, filled, a
 use Rattle.state_steps.proofs.Everyone.{all_live}
 use Rattle.state_form.specs.Spelled.{Each, IsClassed, AreValues, IsRow, IsSpelled}
 use Rattle.state_form.proofs.Keeps.{both}
+use Rattle.model_state.specs.Ranks.{most_entries}
 
 chosen : (b : Bool) (xs ys : List Step) → (b ≡ true → AllByRecursion IsStep xs) → (b ≡ false → AllByRecursion IsStep ys) → AllByRecursion IsStep (cond b xs ys)
 chosen true xs ys first second = first refl
@@ -58,12 +59,12 @@ put_given s None is = tt
 put_given s (Some []) is = tt
 put_given s (Some (v ∷ vs)) is = ((is.0, (is.1.0, (tt, is.1.1.0))), tt)
 
-inserts_given : (e : IdBytes) (f n : ℕ) (vs : List Value) → n + length vs ≤ 4294967295 → IsIdText e → IsU32 f → AllByRecursion IsValue vs → AllByRecursion IsStep (inserts e f n vs)
+inserts_given : (e : IdBytes) (f n : ℕ) (vs : List Value) → n + length vs ≤ most_entries → IsIdText e → IsU32 f → AllByRecursion IsValue vs → AllByRecursion IsStep (inserts e f n vs)
 inserts_given e f n [] few id small all = tt
 inserts_given e f n (v ∷ vs) few id small all = ((id, (small, (omega (arith, few), all.0))), inserts_given e f (n + 1) vs (omega (arith, few)) id small all.1)
 
 -- an attribute has not too many values for their numbers
-few_values : (meta : Meta) (k : Kind) (upper : Option ℕ) (vs : List Value) → ValuesOk meta k upper vs → length vs ≤ 4294967295
+few_values : (meta : Meta) (k : Kind) (upper : Option ℕ) (vs : List Value) → ValuesOk meta k upper vs → length vs ≤ most_entries
 few_values meta (Attr scalar default) upper [] ok = absurd ok
 few_values meta (Attr scalar default) upper (v ∷ []) ok = omega arith
 few_values meta (Attr scalar default) upper (v ∷ w ∷ vs) ok = absurd ok
@@ -75,7 +76,7 @@ few_values meta (Contains target opposite) upper vs ok = absurd ok
 few_values meta (Container target opposite) upper vs ok = absurd ok
 few_values meta Skip upper vs ok = absurd ok
 
-few : (meta : Meta) (c : Option ℕ) (f : ℕ) (vs : List Value) → AttrOk meta c f (Some vs) → length vs ≤ 4294967295
+few : (meta : Meta) (c : Option ℕ) (f : ℕ) (vs : List Value) → AttrOk meta c f (Some vs) → length vs ≤ most_entries
 few meta None f vs ok = absurd ok
 few meta (Some c) f vs ok = few_values meta (kind_of meta f) (upper_of meta f) vs ok.1
 

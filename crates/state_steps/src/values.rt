@@ -5,6 +5,7 @@ ghost use Rattle.model_state.specs.Good.{Good};
 ghost use Rattle.model_state.specs.declared.step.Step.TheVariants.{Ins, Put};
 ghost use Rattle.edit_laws.specs.Attributes.{single_value};
 ghost use Rattle.state_steps.specs.Whole.{put_first, inserts, filled, all_filled};
+ghost use Rattle.model_state.specs.Ranks.{most_entries};
 
 use containment::Slot;
 use ecore_meta::{List, Metamodel, Value};
@@ -57,7 +58,7 @@ fn inserts(
     values: &[Value],
     steps: &mut List<Step>,
 ) -> Result<(), AllocError>
-    requires { length values.now ≤ 4294967295 }
+    requires { length values.now ≤ most_entries }
     ensures { OnOk result (steps.new ≡ steps.old ++ inserts e.now f 0 values.now) }
 {
     for at in 0..values.len() {

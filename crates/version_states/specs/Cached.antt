@@ -5,7 +5,7 @@ use Rattle.state_form.specs.Form.{IsStateForm, state_size}
 use Rattle.history_tree.specs.History.{History}
 use Rattle.history_tree.specs.States.{state_of}
 use Rattle.page_pool.specs.Frames.{Frames, out_of}
-use Rattle.state_cache.specs.Entries.{Entries, IsCached, IsFirst, KeepsApart, held}
+use Rattle.state_cache.specs.Entries.{Entries, IsCached, IsFirst, KeepsApart, held, most_entry_bytes, most_frames_held}
 
 -- ---- what entries are
 -- the entry is of a version that is there, and has its state
@@ -21,7 +21,7 @@ AreForms (Some meta) h entries = All (IsVersionForm meta h) entries
 -- the frames that the cache holds are out of the pool, each once, and not too many others are
 pub record MayUse (pool : Frames) (cache : Entries) : Type 0 where
   pub out : IsCached pool cache
-  pub room : out_of pool ≤ 6144 + length (held cache)
+  pub room : out_of pool ≤ most_frames_held + length (held cache)
 
 -- What a call leaves of a pool and a cache. The frames that the cache holds are out, each once. Each frame that is out elsewhere
 -- stays so, with its bytes, and their number stays.
@@ -32,4 +32,4 @@ pub record Uses (before after : Frames) (old new : Entries) : Type 0 where
 
 -- the version's entry stands first, where its state has not too many bytes
 abbrev pub LeavesFirst : Meta → History → ℕ → Entries → Type 0
-LeavesFirst meta h v cache = state_size meta (state_of meta h v) ≤ 8388608 → IsFirst v cache
+LeavesFirst meta h v cache = state_size meta (state_of meta h v) ≤ most_entry_bytes → IsFirst v cache

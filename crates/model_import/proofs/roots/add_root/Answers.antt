@@ -8,6 +8,7 @@ use Rattle.edit_laws.specs.Places.{rerank_places}
 use Rattle.edit_laws.specs.Spot.{evened, rank_for, ranks_of}
 use Rattle.model_import.proofs.Ends.{after_kept, made_kept, after_new, made_new, room_new}
 use Rattle.model_import.proofs.roots.add_root.Goals as goal
+use Rattle.model_state.specs.Ranks.{most_entries, rank_gap}
 
 pub returns-in-Ok-clause-roots : goal.returns-in-Ok-clause-roots
 returns-in-Ok-clause-roots c =
@@ -22,20 +23,20 @@ returns-in-Ok-clause-steps c =
 pub returns-in-Ok-spread_root-clause-room : goal.returns-in-Ok-spread_root-clause-room
 returns-in-Ok-spread_root-clause-room c =
     let none : rank_for (ranks_of c.args.roots.now) (length c.args.roots.now) ≡ None = ap (λ (ys : List Entry). rank_for (ranks_of ys) (length ys)) (sym c.as_slice.ensures) ∙ sym c.rank_after.ensures ∙ c.in-None.is in
-    let small : length c.args.roots.now < 4294967295 = omega (arith, c.len.ensures, c.if-len-ge-MOST_ENTRIES.false) in
+    let small : length c.args.roots.now < most_entries = omega (arith, c.len.ensures, c.if-len-ge-MOST_ENTRIES.false) in
     room_new c.args.roots.now none small
 
 pub returns-in-Ok-spread_root-clause-roots : goal.returns-in-Ok-spread_root-clause-roots
 returns-in-Ok-spread_root-clause-roots c =
     let none : rank_for (ranks_of c.args.roots.now) (length c.args.roots.now) ≡ None = ap (λ (ys : List Entry). rank_for (ranks_of ys) (length ys)) (sym c.as_slice.ensures) ∙ sym c.rank_after.ensures ∙ c.in-None.is in
-    let small : length c.args.roots.now < 4294967295 = omega (arith, c.len.ensures, c.if-len-ge-MOST_ENTRIES.false) in
+    let small : length c.args.roots.now < most_entries = omega (arith, c.len.ensures, c.if-len-ge-MOST_ENTRIES.false) in
     c.in-Ok-spread_root.ensures.roots ∙ after_new c.args.roots.now c.args.e.now none small
 
 pub returns-in-Ok-spread_root-clause-steps : goal.returns-in-Ok-spread_root-clause-steps
 returns-in-Ok-spread_root-clause-steps c =
     let xs = c.args.roots.now in
     let none : rank_for (ranks_of xs) (length xs) ≡ None = ap (λ (ys : List Entry). rank_for (ranks_of ys) (length ys)) (sym c.as_slice.ensures) ∙ sym c.rank_after.ensures ∙ c.in-None.is in
-    let small : length xs < 4294967295 = omega (arith, c.len.ensures, c.if-len-ge-MOST_ENTRIES.false) in
+    let small : length xs < most_entries = omega (arith, c.len.ensures, c.if-len-ge-MOST_ENTRIES.false) in
     c.in-Ok-spread_root.ensures.steps
-    ∙ append_assoc c.args.steps.now (rerank_places xs (evened 1 xs)) (New c.args.e.now c.args.class Root ((length xs + 1) * 4294967296) ∷ [])
+    ∙ append_assoc c.args.steps.now (rerank_places xs (evened 1 xs)) (New c.args.e.now c.args.class Root ((length xs + 1) * rank_gap) ∷ [])
     ∙ ap (λ (ss : List Step). c.args.steps.now ++ ss) (made_new xs c.args.e.now c.args.class none small)

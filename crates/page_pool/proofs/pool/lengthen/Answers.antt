@@ -1,5 +1,5 @@
 use Rattle.std.proofs.Common.{◌≡◌, ◌<◌, length, ap, ◌∙◌, arith, vec_capacity}
-use Rattle.page_pool.specs.Frames.{Frames, frame_at, out_of, free_of}
+use Rattle.page_pool.specs.Frames.{Frames, frame_at, out_of, free_of, pool_limit}
 use Rattle.page_pool.proofs.Slots.{counted, longer}
 use Rattle.page_pool.proofs.Steps.{one_more}
 use Rattle.page_pool.proofs.pool.lengthen.Goals as goal
@@ -12,7 +12,7 @@ loop-preserved c =
     let i = c.loop.invariant in
     let is = c.push_reserved.ensures.items in
     let more = longer c.loop.slots.items in
-    let few : length c.loop.slots.items < 8192 = omega (arith, i.size) in
+    let few : length c.loop.slots.items < pool_limit = omega (arith, i.size) in
     let room : length c.loop.slots.items < vec_capacity c.loop.free = omega (arith, i.size, i.free_capacity) in
     let number : c.len-number.result ≡ length c.loop.slots.items = omega arith in
     let added = ap (λ (l : Frames). free_of l) is ∙ more.2 in
