@@ -19,65 +19,65 @@ fn copy_entry(alloc: Global, entry: &Option<Value>) -> Result<Option<Value>, All
     }
 }
 
-/// One step for two that set one attribute, rank one reference or rank one element.
-fn join_steps(alloc: Global, s: &Step, t: &Step) -> Result<Option<Step>, AllocError>
-    ensures { IfOk result (λ o. o ≡ joined s.now t.now) }
+/// Whether two steps are one step.
+fn steps_join(s: &Step, t: &Step) -> bool
+    ensures { result ≡ is_some (joined s.now t.now) }
 {
     match s {
-        Step::Put { e, f, old, .. } => match t {
-            Step::Put {
-                e: x,
-                f: g,
-                new,
-                ..
-            } => {
-                if e == x && f == g {
-                    Ok(Some(Step::Put {
-                        e: e.copy(alloc)?,
-                        f: *f,
-                        old: copy_entry(alloc, old)?,
-                        new: copy_entry(alloc, new)?,
-                    }))
-                } else {
-                    Ok(None)
-                }
-            }
-            _ => Ok(None),
+        Step::Put { e, f, .. } => match t {
+            Step::Put { e: x, f: g, .. } => e == x && f == g,
+            _ => false,
         },
-        Step::RerankRow { a, f, b, old, .. } => match t {
+        Step::RerankRow { a, f, b, .. } => match t {
             Step::RerankRow {
                 a: x,
                 f: g,
                 b: y,
-                new,
                 ..
-            } => {
-                if a == x && f == g && b == y {
-                    Ok(Some(Step::RerankRow {
-                        a: a.copy(alloc)?,
-                        f: *f,
-                        b: b.copy(alloc)?,
-                        old: *old,
-                        new: *new,
-                    }))
-                } else {
-                    Ok(None)
-                }
-            }
+            } => a == x && f == g && b == y,
+            _ => false,
+        },
+        Step::RerankPlace { e, .. } => match t {
+            Step::RerankPlace { e: x, .. } => e == x,
+            _ => false,
+        },
+        _ => false,
+    }
+}
+
+/// One step for two that set one attribute, rank one reference or rank one element.
+fn join_steps(alloc: Global, s: &Step, t: &Step) -> Result<Option<Step>, AllocError>
+    ensures { IfOk result (λ o. o ≡ joined s.now t.now) }
+{
+    if !steps_join(s, t) {
+        return Ok(None);
+    }
+    match s {
+        Step::Put { e, f, old, .. } => match t {
+            Step::Put { new, .. } => Ok(Some(Step::Put {
+                e: e.copy(alloc)?,
+                f: *f,
+                old: copy_entry(alloc, old)?,
+                new: copy_entry(alloc, new)?,
+            })),
+            _ => Ok(None),
+        },
+        Step::RerankRow { a, f, b, old, .. } => match t {
+            Step::RerankRow { new, .. } => Ok(Some(Step::RerankRow {
+                a: a.copy(alloc)?,
+                f: *f,
+                b: b.copy(alloc)?,
+                old: *old,
+                new: *new,
+            })),
             _ => Ok(None),
         },
         Step::RerankPlace { e, old, .. } => match t {
-            Step::RerankPlace { e: x, new, .. } => {
-                if e == x {
-                    Ok(Some(Step::RerankPlace {
-                        e: e.copy(alloc)?,
-                        old: *old,
-                        new: *new,
-                    }))
-                } else {
-                    Ok(None)
-                }
-            }
+            Step::RerankPlace { new, .. } => Ok(Some(Step::RerankPlace {
+                e: e.copy(alloc)?,
+                old: *old,
+                new: *new,
+            })),
             _ => Ok(None),
         },
         _ => Ok(None),
@@ -110,32 +110,6 @@ fn join(alloc: Global, a: &Operation, b: &Operation) -> Result<Option<Operation>
             _ => Ok(None),
         },
         _ => Ok(None),
-    }
-}
-
-/// Whether two steps are one step.
-fn steps_join(s: &Step, t: &Step) -> bool
-    ensures { result ≡ is_some (joined s.now t.now) }
-{
-    match s {
-        Step::Put { e, f, .. } => match t {
-            Step::Put { e: x, f: g, .. } => e == x && f == g,
-            _ => false,
-        },
-        Step::RerankRow { a, f, b, .. } => match t {
-            Step::RerankRow {
-                a: x,
-                f: g,
-                b: y,
-                ..
-            } => a == x && f == g && b == y,
-            _ => false,
-        },
-        Step::RerankPlace { e, .. } => match t {
-            Step::RerankPlace { e: x, .. } => e == x,
-            _ => false,
-        },
-        _ => false,
     }
 }
 

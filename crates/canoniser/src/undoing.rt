@@ -1,6 +1,7 @@
 //! Whether steps take each other back.
 ghost use Rattle.std.specs.Prelude.{◌≡◌};
 ghost use Rattle.finite_maps.specs.Equal.{option_eq, list_eq, text_eq};
+ghost use Rattle.model_state.specs.declared.step.Step.TheVariants.{Put, Ins, Del, Shift, Link, Unlink, RerankRow, New, Gone, Move, RerankPlace};
 ghost use Rattle.model_state.specs.Typing.{value_eq};
 ghost use Rattle.model_state.specs.Steps.{rev, rev_all};
 ghost use Rattle.model_state.specs.Packages.{steps_of};
@@ -8,7 +9,7 @@ ghost use Rattle.step_pairs.specs.Joins.{step_eq, steps_eq};
 ghost use Rattle.tidy_laws.specs.Rules.{takes_back};
 
 use ecore_meta::{List, Value};
-use model_state::{Id, Operation, Step, is_same_value};
+use model_state::{Id, Operation, Place, Step, is_same_value};
 
 fn is_same_entry(x: &Option<Value>, y: &Option<Value>) -> bool
     ensures { result ≡ option_eq value_eq x.now y.now }
@@ -31,105 +32,213 @@ fn are_same_ids(xs: &List<Id>, ys: &List<Id>) -> bool
     xs.as_slice() == ys.as_slice()
 }
 
+/// Whether a step's reversal sets the attribute from one entry to the other.
+fn undoes_put(e: &Id, f: u32, old: &Option<Value>, new: &Option<Value>, t: &Step) -> bool
+    ensures { result ≡ step_eq (Put e.now f old.now new.now) (rev t.now) }
+{
+    match t {
+        Step::Put {
+            e: x,
+            f: g,
+            old: was,
+            new: is,
+        } => e == x && f == *g && is_same_entry(old, is) && is_same_entry(new, was),
+        _ => false,
+    }
+}
+
+/// Whether a step's reversal inserts the value there.
+fn undoes_ins(e: &Id, f: u32, at: u32, v: &Value, t: &Step) -> bool
+    ensures { result ≡ step_eq (Ins e.now f at v.now) (rev t.now) }
+{
+    match t {
+        Step::Del {
+            e: x,
+            f: g,
+            at: place,
+            v: w,
+        } => e == x && f == *g && at == *place && is_same_value(v, w),
+        _ => false,
+    }
+}
+
+/// Whether a step's reversal takes the value away from there.
+fn undoes_del(e: &Id, f: u32, at: u32, v: &Value, t: &Step) -> bool
+    ensures { result ≡ step_eq (Del e.now f at v.now) (rev t.now) }
+{
+    match t {
+        Step::Ins {
+            e: x,
+            f: g,
+            at: place,
+            v: w,
+        } => e == x && f == *g && at == *place && is_same_value(v, w),
+        _ => false,
+    }
+}
+
+/// Whether a step's reversal moves the value from one index to the other.
+fn undoes_shift(e: &Id, f: u32, from: u32, to: u32, t: &Step) -> bool
+    ensures { result ≡ step_eq (Shift e.now f from to) (rev t.now) }
+{
+    match t {
+        Step::Shift {
+            e: x,
+            f: g,
+            from: back,
+            to: forth,
+        } => e == x && f == *g && from == *forth && to == *back,
+        _ => false,
+    }
+}
+
+/// Whether a step's reversal makes the link with these ranks.
+fn undoes_link(a: &Id, f: u32, ra: u64, b: &Id, rb: &Option<u64>, t: &Step) -> bool
+    ensures { result ≡ step_eq (Link a.now f ra b.now rb.now) (rev t.now) }
+{
+    match t {
+        Step::Unlink {
+            a: x,
+            f: g,
+            ra: ranked,
+            b: y,
+            rb: mirrored,
+        } => a == x && f == *g && ra == *ranked && b == y && rb == mirrored,
+        _ => false,
+    }
+}
+
+/// Whether a step's reversal takes the link with these ranks away.
+fn undoes_unlink(a: &Id, f: u32, ra: u64, b: &Id, rb: &Option<u64>, t: &Step) -> bool
+    ensures { result ≡ step_eq (Unlink a.now f ra b.now rb.now) (rev t.now) }
+{
+    match t {
+        Step::Link {
+            a: x,
+            f: g,
+            ra: ranked,
+            b: y,
+            rb: mirrored,
+        } => a == x && f == *g && ra == *ranked && b == y && rb == mirrored,
+        _ => false,
+    }
+}
+
+/// Whether a step's reversal gives the link the other rank.
+fn undoes_rerank(a: &Id, f: u32, b: &Id, old: u64, new: u64, t: &Step) -> bool
+    ensures { result ≡ step_eq (RerankRow a.now f b.now old new) (rev t.now) }
+{
+    match t {
+        Step::RerankRow {
+            a: x,
+            f: g,
+            b: y,
+            old: was,
+            new: is,
+        } => a == x && f == *g && b == y && old == *is && new == *was,
+        _ => false,
+    }
+}
+
+/// Whether a step's reversal makes the element there.
+fn undoes_new(e: &Id, class: u32, place: &Place, rank: u64, t: &Step) -> bool
+    ensures { result ≡ step_eq (New e.now class place.now rank) (rev t.now) }
+{
+    match t {
+        Step::Gone {
+            e: x,
+            class: kind,
+            place: spot,
+            rank: ranked,
+        } => e == x && class == *kind && place.is_same(spot) && rank == *ranked,
+        _ => false,
+    }
+}
+
+/// Whether a step's reversal takes the element away from there.
+fn undoes_gone(e: &Id, class: u32, place: &Place, rank: u64, t: &Step) -> bool
+    ensures { result ≡ step_eq (Gone e.now class place.now rank) (rev t.now) }
+{
+    match t {
+        Step::New {
+            e: x,
+            class: kind,
+            place: spot,
+            rank: ranked,
+        } => e == x && class == *kind && place.is_same(spot) && rank == *ranked,
+        _ => false,
+    }
+}
+
+/// Whether a step's reversal moves the element from one place to another: each with its rank and the elements above.
+fn undoes_move(
+    e: &Id,
+    from: (&Place, u64, &List<Id>),
+    to: (&Place, u64, &List<Id>),
+    t: &Step,
+) -> bool
+    ensures { result ≡ step_eq (Move e.now from.0.now from.1 to.0.now to.1 from.2.now to.2.now) (rev t.now) }
+{
+    match t {
+        Step::Move {
+            e: x,
+            from: back,
+            from_rank: back_rank,
+            to: forth,
+            to_rank: forth_rank,
+            above_from: above_back,
+            above_to: above_forth,
+        } => {
+            e == x
+                && from.0.is_same(forth)
+                && from.1 == *forth_rank
+                && to.0.is_same(back)
+                && to.1 == *back_rank
+                && are_same_ids(from.2, above_forth)
+                && are_same_ids(to.2, above_back)
+        }
+        _ => false,
+    }
+}
+
+/// Whether a step's reversal gives the element the other rank.
+fn undoes_rerank_place(e: &Id, old: u64, new: u64, t: &Step) -> bool
+    ensures { result ≡ step_eq (RerankPlace e.now old new) (rev t.now) }
+{
+    match t {
+        Step::RerankPlace {
+            e: x,
+            old: was,
+            new: is,
+        } => e == x && old == *is && new == *was,
+        _ => false,
+    }
+}
+
 /// Whether a step is the reversal of another.
 fn undoes(s: &Step, t: &Step) -> bool
     ensures { result ≡ step_eq s.now (rev t.now) }
 {
     match s {
-        Step::Put { e, f, old, new } => match t {
-            Step::Put {
-                e: x,
-                f: g,
-                old: was,
-                new: is,
-            } => e == x && f == g && is_same_entry(old, is) && is_same_entry(new, was),
-            _ => false,
-        },
-        Step::Ins { e, f, at, v } => match t {
-            Step::Del {
-                e: x,
-                f: g,
-                at: place,
-                v: w,
-            } => e == x && f == g && at == place && is_same_value(v, w),
-            _ => false,
-        },
-        Step::Del { e, f, at, v } => match t {
-            Step::Ins {
-                e: x,
-                f: g,
-                at: place,
-                v: w,
-            } => e == x && f == g && at == place && is_same_value(v, w),
-            _ => false,
-        },
-        Step::Shift { e, f, from, to } => match t {
-            Step::Shift {
-                e: x,
-                f: g,
-                from: back,
-                to: forth,
-            } => e == x && f == g && from == forth && to == back,
-            _ => false,
-        },
-        Step::Link { a, f, ra, b, rb } => match t {
-            Step::Unlink {
-                a: x,
-                f: g,
-                ra: ranked,
-                b: y,
-                rb: mirrored,
-            } => a == x && f == g && ra == ranked && b == y && rb == mirrored,
-            _ => false,
-        },
-        Step::Unlink { a, f, ra, b, rb } => match t {
-            Step::Link {
-                a: x,
-                f: g,
-                ra: ranked,
-                b: y,
-                rb: mirrored,
-            } => a == x && f == g && ra == ranked && b == y && rb == mirrored,
-            _ => false,
-        },
-        Step::RerankRow { a, f, b, old, new } => match t {
-            Step::RerankRow {
-                a: x,
-                f: g,
-                b: y,
-                old: was,
-                new: is,
-            } => a == x && f == g && b == y && old == is && new == was,
-            _ => false,
-        },
+        Step::Put { e, f, old, new } => undoes_put(e, *f, old, new, t),
+        Step::Ins { e, f, at, v } => undoes_ins(e, *f, *at, v, t),
+        Step::Del { e, f, at, v } => undoes_del(e, *f, *at, v, t),
+        Step::Shift { e, f, from, to } => undoes_shift(e, *f, *from, *to, t),
+        Step::Link { a, f, ra, b, rb } => undoes_link(a, *f, *ra, b, rb, t),
+        Step::Unlink { a, f, ra, b, rb } => undoes_unlink(a, *f, *ra, b, rb, t),
+        Step::RerankRow { a, f, b, old, new } => undoes_rerank(a, *f, b, *old, *new, t),
         Step::New {
             e,
             class,
             place,
             rank,
-        } => match t {
-            Step::Gone {
-                e: x,
-                class: kind,
-                place: spot,
-                rank: ranked,
-            } => e == x && class == kind && place.is_same(spot) && rank == ranked,
-            _ => false,
-        },
+        } => undoes_new(e, *class, place, *rank, t),
         Step::Gone {
             e,
             class,
             place,
             rank,
-        } => match t {
-            Step::New {
-                e: x,
-                class: kind,
-                place: spot,
-                rank: ranked,
-            } => e == x && class == kind && place.is_same(spot) && rank == ranked,
-            _ => false,
-        },
+        } => undoes_gone(e, *class, place, *rank, t),
         Step::Move {
             e,
             from,
@@ -138,34 +247,12 @@ fn undoes(s: &Step, t: &Step) -> bool
             to_rank,
             above_from,
             above_to,
-        } => match t {
-            Step::Move {
-                e: x,
-                from: back,
-                from_rank: back_rank,
-                to: forth,
-                to_rank: forth_rank,
-                above_from: above_back,
-                above_to: above_forth,
-            } => {
-                e == x
-                    && from.is_same(forth)
-                    && from_rank == forth_rank
-                    && to.is_same(back)
-                    && to_rank == back_rank
-                    && are_same_ids(above_from, above_forth)
-                    && are_same_ids(above_to, above_back)
-            }
-            _ => false,
+        } => {
+            let from = (from, *from_rank, above_from);
+            let to = (to, *to_rank, above_to);
+            undoes_move(e, from, to, t)
         },
-        Step::RerankPlace { e, old, new } => match t {
-            Step::RerankPlace {
-                e: x,
-                old: was,
-                new: is,
-            } => e == x && old == is && new == was,
-            _ => false,
-        },
+        Step::RerankPlace { e, old, new } => undoes_rerank_place(e, *old, *new, t),
     }
 }
 

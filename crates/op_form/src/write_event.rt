@@ -1,6 +1,6 @@
 //! Packages and events, as bytes.
-ghost use Rattle.byte_form.specs.Fields.{u32_encoding};
-ghost use Rattle.std.specs.Prelude.{◌≡◌, ◌++◌, ◌∷◌, IfOk, OnOk, All};
+ghost use Rattle.byte_form.specs.Fields.{text_encoding, u32_encoding};
+ghost use Rattle.std.specs.Prelude.{◌≡◌, ◌<◌, ◌^◌, ◌++◌, ◌∷◌, IfOk, OnOk, All, length};
 ghost use Rattle.op_form.specs.Lists.{items_encoding, list_encoding};
 ghost use Rattle.op_form.specs.Steps.{step_encoding};
 ghost use Rattle.op_form.specs.Packages.{kind_encoding, operation_encoding, package_encoding};
@@ -123,35 +123,19 @@ fn put_event(form: &mut Form, event: &Event) -> Result<(), AllocError>
             form.put_u32(*ws)?;
             put_package(form, package)
         }
-        Event::Begin { ws, name } => {
-            form.put_u8(4)?;
-            form.put_u32(*ws)?;
-            form.put_text(name.as_str())
-        }
+        Event::Begin { ws, name } => put_with_text(form, 4, *ws, name.as_str()),
         Event::End { ws } => put_of_workspace(form, 5, *ws),
         Event::Undo { ws } => put_of_workspace(form, 6, *ws),
         Event::Discard { ws } => put_of_workspace(form, 7, *ws),
         Event::Tidy { ws } => put_of_workspace(form, 8, *ws),
-        Event::Commit { ws, message } => {
-            form.put_u8(9)?;
-            form.put_u32(*ws)?;
-            form.put_text(message.as_str())
-        }
-        Event::Branch { ws, name } => {
-            form.put_u8(10)?;
-            form.put_u32(*ws)?;
-            form.put_text(name.as_str())
-        }
+        Event::Commit { ws, message } => put_with_text(form, 9, *ws, message.as_str()),
+        Event::Branch { ws, name } => put_with_text(form, 10, *ws, name.as_str()),
         Event::Tag { name, version } => {
             form.put_u8(11)?;
             form.put_text(name.as_str())?;
             form.put_u32(*version)
         }
-        Event::Update { ws, choices } => {
-            form.put_u8(12)?;
-            form.put_u32(*ws)?;
-            form.put_text(choices.as_str())
-        }
+        Event::Update { ws, choices } => put_with_text(form, 12, *ws, choices.as_str()),
         Event::Merge {
             ws,
             branch,
@@ -164,6 +148,16 @@ fn put_event(form: &mut Form, event: &Event) -> Result<(), AllocError>
         }
         Event::Drop { ws } => put_of_workspace(form, 14, *ws),
     }
+}
+
+/// An event that is its kind's byte, a workspace's number and a text.
+fn put_with_text(form: &mut Form, kind: u8, ws: u32, text: &str) -> Result<(), AllocError>
+    requires { length text.now < 2 ^ 32 }
+    ensures { OnOk result (form.new ≡ form.old ++ kind ∷ (u32_encoding ws ++ text_encoding text.now)) }
+{
+    form.put_u8(kind)?;
+    form.put_u32(ws)?;
+    form.put_text(text)
 }
 
 /// An event that is its kind's byte and a workspace's number.

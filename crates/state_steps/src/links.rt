@@ -31,7 +31,7 @@ fn rank_back<L: Look>(look: &L, opposite: Option<u32>, a: &Id, b: &Id) -> u64
 }
 
 /// The link of a row and its mirror, as they are given.
-fn link(alloc: Global, a: &Id, f: u32, ra: u64, b: &Id, rb: Option<u64>) -> Result<Step, AllocError>
+fn new_link(alloc: Global, a: &Id, f: u32, ra: u64, b: &Id, rb: Option<u64>) -> Result<Step, AllocError>
     ensures { IfOk result (λ s. s ≡ Link a.now f ra b.now rb) }
 {
     let a = a.copy(alloc)?;
@@ -52,12 +52,12 @@ fn link_step(
     ensures { IfOk result (λ s. s ≡ link_step opposite a.now f ra b.now rb) }
 {
     match opposite {
-        None => link(alloc, a, f, ra, b, None),
+        None => new_link(alloc, a, f, ra, b, None),
         Some(g) => {
             if g < f {
-                link(alloc, b, g, rb, a, Some(ra))
+                new_link(alloc, b, g, rb, a, Some(ra))
             } else {
-                link(alloc, a, f, ra, b, Some(rb))
+                new_link(alloc, a, f, ra, b, Some(rb))
             }
         }
     }

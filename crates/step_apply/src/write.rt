@@ -38,7 +38,7 @@ fn put_place(
 }
 
 /// Gives the row from an element to another by a feature its rank.
-fn put_row(
+fn set_rank(
     rows: &mut Rows,
     alloc: Global,
     a: &Id,
@@ -65,8 +65,8 @@ fn put_pair(
     ensures ok { OnOk result (rows.new ≡ set (set rows.old key.now (Some rank)) (key.now.2, g, key.now.0) (Some back)) }
     ensures err { OnErr result (rows.new ≡ rows.old) }
 {
-    put_row(rows, alloc, &key.0, key.1, &key.2, rank)?;
-    match put_row(rows, alloc, &key.2, g, &key.0, back) {
+    set_rank(rows, alloc, &key.0, key.1, &key.2, rank)?;
+    match set_rank(rows, alloc, &key.2, g, &key.0, back) {
         Ok(()) => Ok(()),
         Err(error) => {
             rows.drop_at(key);
@@ -128,7 +128,7 @@ impl Write for Plain {
         rb: Option<u64>,
     ) -> Result<(), AllocError> {
         match opposite {
-            None => put_row(&mut self.rows, self.alloc, a, f, b, ra),
+            None => set_rank(&mut self.rows, self.alloc, a, f, b, ra),
             Some(g) => {
                 let Some(rank) = rb else {
                     return Err(AllocError);
@@ -156,7 +156,7 @@ impl Write for Plain {
     }
 
     fn rerank_row(&mut self, a: &Id, f: u32, b: &Id, rank: u64) -> Result<(), AllocError> {
-        put_row(&mut self.rows, self.alloc, a, f, b, rank)
+        set_rank(&mut self.rows, self.alloc, a, f, b, rank)
     }
 
     fn stand(&mut self, e: &Id, from: &Place, to: &Place, rank: u64) -> Result<(), AllocError> {

@@ -8,5 +8,5 @@ use Rattle.step_apply.proofs.write.put_pair.Goals as goal
 pub returns-in-Err-clause-err : goal.returns-in-Err-clause-err
 returns-in-Err-clause-err c =
     c.drop_at.ensures
-    ∙ ap (λ m. set m c.args.key.now None) (c.in-Err.ensures.err ∙ c.in_ok-put_row.ensures.ok)
+    ∙ ap (λ m. set m c.args.key.now None) (c.in-Err.ensures.err ∙ c.in_ok-set_rank.ensures.ok)
     ∙ set_back row_order c.args.rows.now c.args.key.now None (Some c.args.rank) c.requires
