@@ -1,5 +1,5 @@
 -- Which documents can be numbered.
-use Rattle.std.specs.Prelude.{◌<◌, [], ◌∷◌, length, Bool, false, nat_lt, not, ◌&&◌}
+use Rattle.std.specs.Prelude.{ℕ, ◌<◌, [], ◌∷◌, length, Bool, false, nat_lt, not, ◌&&◌}
 use Rattle.std.specs.List.{list_any}
 use Rattle.ecore_drafts.specs.Document.{ClassifierRows, feature_total}
 use Rattle.ecore_drafts.specs.declared.rows.ClassifierRow.{ClassifierRow}
