@@ -4,7 +4,8 @@ ghost use Rattle.std.specs.Int.{w32, w64};
 ghost use Rattle.byte_form.specs.Fields.{byte_at, number_at, text_at, u32_encoding, u64_encoding, text_encoding};
 ghost use Rattle.byte_form.specs.Laws.{IsReadAgain, IsSpelledSo, NoneBeginsAnother, IsBelow, IsShortText, byte_encoding};
 
-/// The laws of the fields: what is spelled is read again, whatever follows it; what is read was spelled so; no spelling begins another.
+/// The laws of the fields: what is encoded is decoded again, whatever follows it; what is decoded was encoded so; no
+/// encoding begins another.
 pub fn law_of_fields()
     ensures bytes_again { IsReadAgain (IsBelow 256) byte_encoding byte_at }
     ensures bytes_spelled { IsSpelledSo (IsBelow 256) byte_encoding byte_at }

@@ -19,7 +19,7 @@ fn copy_entry(alloc: Global, entry: &Option<Value>) -> Result<Option<Value>, All
     }
 }
 
-/// Whether two steps are one step.
+/// Whether one step can stand for the two.
 fn steps_join(s: &Step, t: &Step) -> bool
     ensures { result ≡ is_some (joined s.now t.now) }
 {

@@ -17,8 +17,8 @@ pub(crate) struct Found {
 }
 
 /// The rule that applies to the operation of the place and the nearest earlier one, with no operation between them that
-/// interferes. A rule applies only to operations that touch, and two that touch without one interfere; so the last that touches
-/// decides.
+/// interferes. A rule applies only to operations that touch. Two that touch and to which no rule applies interfere; so
+/// the last that touches decides.
 pub(crate) fn nearest(
     alloc: Global,
     list: &[Operation],

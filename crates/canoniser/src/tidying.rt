@@ -26,7 +26,7 @@ pub fn tidy(alloc: Global, package: &Package, meta: &Metamodel) -> Result<Packag
     Ok(List::from_vec(tidied))
 }
 
-/// Whether tidying leaves the package as it is, which `law_of_tidy` says of no other. It tidies a copy, and takes the time of that.
+/// Whether tidying leaves the package as it is. It tidies a copy, unless an operation is to be cut.
 pub fn is_tidy(alloc: Global, package: &Package, meta: &Metamodel) -> Result<bool, AllocError>
     ensures { IfOk result (λ b. b ≡ is_tidy meta.now «package».now) }
 {

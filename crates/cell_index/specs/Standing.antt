@@ -47,7 +47,7 @@ Rise low high (x ∷ xs) = (low ≤ x) × Rise x high xs
 abbrev pub Rising : List (Vec ℕ Global) → ℕ → Type 0
 Rising table high = (s : ℕ) → Rise 0 high (list_at table s)
 
--- as many lists, each with what it had but for the place
+-- as many lists, still rising, each with what it had; the place alone may be gone
 pub record Without (old new : List (Vec ℕ Global)) (k : ℕ) : Type 0 where
   pub size : length new ≡ length old
   pub kept : (s j : ℕ) → (j ≡ k → ⊥) → Contains (list_at old s) j → Contains (list_at new s) j

@@ -36,7 +36,8 @@ fn mark_cells(flags: &mut Vec<bool>, table: &[Vec<u64>], cells: &[Cell])
     }
 }
 
-/// The operations, of as many as are said, that may interfere with the one of the print: one that doesn't stand here doesn't.
+/// A flag for each of the first `size` operations of the index. One without its flag doesn't interfere with that of the
+/// print.
 pub fn near(
     alloc: Global,
     index: &CellIndex,
@@ -55,7 +56,7 @@ pub fn near(
     Ok(flags)
 }
 
-/// Whether the two interfere, which those that aren't near don't.
+/// Whether the two interfere. `is_near` is the flag that `near` gave; without it no cells are compared.
 pub fn interferes_near(is_near: bool, a: &Print, b: &Print) -> bool
     requires { is_near ≡ false → cells_interfere (cells a.now.writes) (cells a.now.reads) (cells b.now.writes) (cells b.now.reads) ≡ false }
     ensures { result ≡ cells_interfere (cells a.now.writes) (cells a.now.reads) (cells b.now.writes) (cells b.now.reads) }

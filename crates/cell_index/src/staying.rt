@@ -42,7 +42,7 @@ fn drop_last(list: &mut Vec<u64>, place: u64)
     }
 }
 
-/// Takes the place out of the list of the slot.
+/// Takes the place out of the list of the slot, where it is the last there.
 fn drop_place(table: &mut Vec<Vec<u64>>, slot: usize, place: u64)
     requires { slot < length table.old.items }
     ensures { Without table.old.items table.new.items place }
@@ -50,7 +50,7 @@ fn drop_place(table: &mut Vec<Vec<u64>>, slot: usize, place: u64)
     drop_last(&mut table[slot], place);
 }
 
-/// Takes the place out of the lists of the cells.
+/// Takes the place out of those of the cells' lists where it is the last.
 fn drop_cells(table: &mut Vec<Vec<u64>>, cells: &[Cell], place: u64)
     requires { 0 < length table.old.items }
     ensures { Without table.old.items table.new.items place }

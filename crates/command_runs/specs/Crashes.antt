@@ -15,7 +15,7 @@ pub record IsAmong {E : Type 0} (stands : List ℕ → List E → Type 0) (first
 abbrev pub IsRunning : {E : Type 0} → (List ℕ → List E → Type 0) → List E → List E → (ℕ → ℕ) → List ℕ → Disk → List ℕ → Type 0
 IsRunning stands first made least before disk said = CrashLeaves (IsAmong stands first made (least (length said - length before))) disk
 
--- the same from the end of the first sync on: until then the disk is that of the entry, and nothing is printed
+-- the same; or the disk is still that of the entry, with what it held unsynced, and nothing is printed
 abbrev pub IsOpenedRunning : {E : Type 0} → Disk → (List ℕ → List E → Type 0) → List E → List E → (ℕ → ℕ) → List ℕ → Disk → List ℕ → Type 0
 IsOpenedRunning entry stands first made least before disk said = ((disk ≡ entry) × (said ≡ before)) ⊎ IsRunning stands first made least before disk said
 

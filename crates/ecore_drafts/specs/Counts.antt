@@ -5,7 +5,7 @@ use Rattle.ecore_drafts.specs.Document.{ClassifierRows, feature_total}
 use Rattle.ecore_drafts.specs.declared.rows.ClassifierRow.{ClassifierRow}
 use Rattle.ecore_drafts.specs.declared.rows.ClassifierRow.TheVariants.{Class, Enum, Plain}
 
--- so many of one sort that they can't be numbered with 32 bits: 2^32 - 1
+-- the rows of one sort that are numbered are fewer than this: 2^32 - 1
 abbrev pub too_many : ℕ
 too_many = 4294967295
 

@@ -30,7 +30,8 @@ pub enum Scalar {
 /// What a feature holds. Classes are named by their numbers, opposites by the numbers of features.
 #[derive(PartialEq, Drop)]
 pub enum Kind {
-    /// At most one value; a text has no default of its own.
+    /// At most one value. The default is the declared one, else that of the type; a text without a declared one has
+    /// none.
     Attr {
         scalar: Scalar,
         default: Option<Value>,

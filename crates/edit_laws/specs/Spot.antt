@@ -11,7 +11,7 @@ ranks_of xs = map (λ x. x.rank) xs
 abbrev pub rank_for : List ℕ → ℕ → Option ℕ
 rank_for rs k = rank_between (cond (nat_eq k 0) 0 (unwrap_or (slice_get rs (k - 1)) 0)) (slice_get rs k)
 
--- a rank for each entry, evenly spread by 2^32, the first at n times that
+-- a rank for each entry, evenly spread by rank_gap, the first at n times that
 abbrev pub evened : ℕ → List Entry → List ℕ
 evened n [] = []
 evened n (x ∷ xs) = (n * rank_gap) ∷ evened (n + 1) xs

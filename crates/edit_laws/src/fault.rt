@@ -35,7 +35,7 @@ pub enum EditFault {
     /// The class of the target, or of the element that is put inside another, isn't the feature's type or below it.
     #[error("a wrong type")]
     WrongType,
-    /// A list or place would get an entry more and is at its upper bound or has 4,294,967,295 values. Or it is to be
+    /// A list or place would get an entry more and is at its upper bound or has `MOST_ENTRIES` values. Or it is to be
     /// renumbered and is too long for it. An entry that the edit itself displaces isn't counted.
     #[error("the list is full")]
     Bound,

@@ -39,9 +39,9 @@ pub fn law_of_many_value_edits()
 {}
 
 /// An entry stands where it was asked for. In a list by rank and then by id, one with the rank of the spot at an index
-/// stands at that index. The others stand as they did, renumbered or not. So a target that is linked or reordered
-/// stands at its index, and its source last in the opposite's list. A new element stands last in its place, and one
-/// that moves at its index. Each other list is as it was, without what the edit takes away.
+/// stands at that index. The others stand as they did, renumbered or not. So a target that is linked stands at its
+/// index, and its source last in the opposite's list. One that is reordered stands at its index. A new element stands
+/// last in its place, and one that moves at its index. Each other list is as it was, without what the edit takes away.
 pub fn law_of_standing()
     ensures spot { SpotStands }
     ensures link { LinkStands }

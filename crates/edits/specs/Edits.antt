@@ -167,8 +167,8 @@ unset_effect e f (Bounded target opposite) = Ok (Forgets e f)
 unset_effect e f (Free target opposite) = Ok (Forgets e f)
 unset_effect e f kind = Err WrongKind
 
--- There is a value, which is not held yet where each is held once. There is room for it under the upper bound and under 2^32
--- values.
+-- There is a value, which is not held yet where each is held once. There is room for it under the upper bound, and fewer than
+-- most_entries values are there.
 abbrev pub insert_effect : IdBytes → ℕ → Bool → Option ℕ → List Value → ℕ → Option Value → Result Effect EditFault
 insert_effect e f unique upper vs k None = Err BadValue
 insert_effect e f unique upper vs k (Some v) =

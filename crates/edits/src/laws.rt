@@ -3,7 +3,8 @@ ghost use Rattle.edits.specs.Laws.{EditsIdle, EditsKeepGood, EditsMeet, EditsSta
 
 /// The steps that are recorded of an edit lead to the model that the edit is to leave. There are none exactly where it
 /// changes nothing. That model is good: a reference and its opposite stand together, and each list is within its bound.
-/// In it an entry stands where the edit asked for it, and what the edit doesn't name is as it was.
+/// In it an entry that is created, moved, set, linked or reordered stands where the edit asked. The other places or
+/// lists of targets are as they were, without what the edit takes away.
 pub fn law_of_edits()
     ensures meets { EditsMeet }
     ensures idle { EditsIdle }

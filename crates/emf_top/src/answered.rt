@@ -24,7 +24,7 @@ pub(crate) enum SessionFault {
     SayFault,
     /// The file stands for no list of events; `at` is the offset, in bytes from 0.
     Damaged { at: u64 },
-    /// Nothing has changed.
+    /// No memory was left. No event was added; a file that was too short for a store may now have its header.
     Memory,
 }
 

@@ -43,7 +43,8 @@ pub enum Status {
     Damaged { at: u64 },
     /// No memory was left.
     Memory,
-    /// The input is no script: the number of the fault, 1 to 5, and its offset, in bytes from 0.
+    /// The input is no script. 1: a line is too long; 2: a block is too long; 3: a byte is no UTF-8; 4: the input ends
+    /// in a block; 5: the input is too long. The offset is in bytes from 0.
     Input { fault: u32, at: u64 },
 }
 
@@ -104,8 +105,7 @@ pub fn run<H: Host>(alloc: Global, words: &[String], host: &mut H) -> Status
     ensures part { (request : Request) (first : List Event) → StandsForEvents (disk_now (H.told host.old)).now first → AskFor (map string_bytes words.now) request
         → Throughout (H.told host.old) (H.told host.new) (λ _ said. AddsPart (said_now (H.told host.old)) (replies (task_of request (played play empty first) (H.told host.old).left).answers) said) }
     // At each moment whatever a crash leaves stands for the first events and some of the new ones, none in part. All
-    // whose reply is begun are among them. Until the first sync has succeeded the disk is that of the entry, and
-    // nothing is printed.
+    // whose reply is begun are among them. Or the disk is still that of the entry, and nothing is printed.
     ensures moments { (request : Request) (first : List Event) → StandsForEvents (disk_now (H.told host.old)).now first → AskFor (map string_bytes words.now) request
         → Throughout (H.told host.old) (H.told host.new) (IsOpenedRunning (disk_now (H.told host.old)) StandsForEvents first (events (task_of request (played play empty first) (H.told host.old).left).answers)
         (answered (task_of request (played play empty first) (H.told host.old).left).answers) (said_now (H.told host.old))) }

@@ -35,7 +35,8 @@ fn unless_lacking(error: &io::Error) -> Option<()> {
     }
 }
 
-/// Makes sure that the folder keeps the name of a new file. A folder that can't be opened to be read, or be synced, is left as it is.
+/// Makes sure that the folder keeps the name of a new file. A folder that can't be opened to be read, or whose system
+/// has no such sync, is left as it is. Any other failure of the sync is a fault.
 fn sync_folder<R: Files<File = File>>(rt: &R) -> Option<()> {
     let mut how = OpenOptions::new();
     how.read(true);
@@ -84,7 +85,7 @@ impl Store {
 
 /// The file `emfstore.journal` in the working folder, and the standard streams. The first call that needs the file
 /// opens it, and makes it where it is missing. It takes its lock for as long as the host lives. A call fails where the
-/// file can't be opened, or another program has the lock. It reports nothing.
+/// file can't be opened, or another program has the lock. It reports its counts of faults alone.
 #[derive(Drop)]
 pub struct FileHost<'a, R: Files<File = File> + Input + Print> {
     rt: &'a R,

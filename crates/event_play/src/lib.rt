@@ -1,4 +1,4 @@
-//! Which events are made of those that could be, and what is made of them.
+//! Whether an event could be made at a point, and its playing; the same of an event's bytes.
 #![tactic(auto)]
 
 mod merged;

@@ -8,9 +8,9 @@ pub fn law_of_writes()
     ensures whole { StatesAreTheirCells }
 {}
 
-/// Whether a step of an operation can be taken, and what it does, go by the cells of the operation alone. Take two
-/// states that are the same for the operation. In both it meets the same fault or none, writes the same, and leaves
-/// states that are the same for it.
+/// Whether a step of an operation can be taken, and what it does, go by two things. They are the operation's cells, and
+/// all that hangs on an element whose class it writes. Take two states that are the same for the operation. In both it
+/// meets the same fault or none, writes the same, and leaves states that are the same for it.
 pub fn law_of_reads()
     ensures { StepGoesByCells }
 {}

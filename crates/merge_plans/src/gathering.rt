@@ -30,7 +30,7 @@ pub fn copy_operations(alloc: Global, operations: &[Operation]) -> Result<Packag
     Ok(out)
 }
 
-/// The versions on the path of the last one that come after another, in the order of the path.
+/// The versions on the path of `last` that come after `v`, in the order of the path.
 pub fn path_after(
     alloc: Global,
     history: &History,
@@ -51,7 +51,7 @@ pub fn path_after(
     Ok(after)
 }
 
-/// Copies of the operations of these versions, one version after another.
+/// Copies of the operations of the versions on the path of `last` that come after `v`, one version after another.
 pub fn operations_after(
     alloc: Global,
     history: &History,

@@ -53,6 +53,6 @@ row_incoming e = record { source = e.0.0; feature = e.0.1; rank = e.1 }
 abbrev pub incoming : FinMap row_cmp ℕ → IdBytes → List Incoming
 incoming row b = map row_incoming (picked (λ e. text_eq b e.0.2) row)
 
--- the live elements, in the order of their bytes
+-- the ids of the live elements, in the order of their bytes
 abbrev pub ids : State → List IdBytes
 ids m = keys m.kind

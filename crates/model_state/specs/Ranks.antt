@@ -5,11 +5,11 @@ use Rattle.std.specs.Prelude.{ℕ, ◌+◌, ◌-◌, ◌/◌, Option, None, Some
 abbrev pub rank_gap : ℕ
 rank_gap = 4294967296
 
--- the most entries of a list: of values of an attribute, of targets of a reference, of elements in a place
+-- the most values of an attribute; a list of references or a place with so many other entries isn't renumbered
 abbrev pub most_entries : ℕ
 most_entries = 4294967295
 
--- midway, None where no number lies strictly between; without a next one 2^32 further, None where that passes 64 bits
+-- midway, None where no number lies strictly between; without a next one rank_gap further, None where that passes 64 bits
 abbrev pub rank_between : ℕ → Option ℕ → Option ℕ
 rank_between lo None = cond (nat_lt (lo + rank_gap) (2 ^ 64)) (Some (lo + rank_gap)) None
 rank_between lo (Some hi) = cond (nat_lt (hi - lo) 2) None (Some (lo + (hi - lo) / 2))

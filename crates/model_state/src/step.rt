@@ -23,7 +23,8 @@ pub struct Placed {
     pub rank: u64,
 }
 
-/// A change of one entry of a model. Each step names what was there before, so that it can be undone.
+/// A change of a model: of an attribute's values, of a reference with its opposite, or of an element. Each step names
+/// what its reversal needs.
 #[derive(Debug, Drop)]
 pub enum Step {
     /// A single attribute gets another value; none stands for one that isn't set.
@@ -123,10 +124,10 @@ pub enum StepFault {
     /// What is there isn't what the step says was there before.
     #[error("something else is there")]
     OldDiffers,
-    /// A list is at its upper bound.
+    /// A list is at its upper bound, or an attribute has `MOST_ENTRIES` values.
     #[error("the list is full")]
     Bound,
-    /// The metamodel doesn't allow it, whatever the state.
+    /// The metamodel doesn't allow the class, feature or value for the classes of these elements.
     #[error("a wrong type")]
     WrongType,
     /// The containers aren't those recorded, or the element would stand inside itself.
@@ -135,7 +136,8 @@ pub enum StepFault {
     /// The element still holds something, or something names it.
     #[error("not empty")]
     NotEmpty,
-    /// The step changes nothing, names a place past a list's end, or sets a default.
+    /// The step changes nothing, names a place past a list's end, or has a default as its old or new value. Or the
+    /// mirror's rank is given without an opposite, is missing beside one, or the opposite has the lesser number.
     #[error("a step of a wrong form")]
     BadStep,
     #[error("out of memory")]

@@ -1,11 +1,11 @@
--- The spellings of events: a byte for the kind, and the fields in their order.
+-- The encodings of events: a byte for the kind, and the fields in their order.
 use Rattle.std.specs.Prelude.{ℕ, List, ◌∷◌, ◌++◌}
 use Rattle.byte_form.specs.Fields.{text_encoding, u32_encoding}
 use Rattle.op_form.specs.declared.event.Event.{Event}
 use Rattle.op_form.specs.declared.event.Event.TheVariants.{Init, Checkout, Edit, Begin, End, Undo, Discard, Tidy, Commit, Branch, Tag, Update, Merge, Drop}
 use Rattle.op_form.specs.Packages.{package_encoding}
 
--- the spelling of an event
+-- the encoding of an event
 unfoldable pub event_encoding : Event → List ℕ
 event_encoding (Init text) = 1 ∷ text_encoding text
 event_encoding (Checkout version branch) = 2 ∷ (u32_encoding version ++ u32_encoding branch)

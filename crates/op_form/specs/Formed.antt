@@ -47,19 +47,19 @@ IsList Is xs = (length xs < 2 ^ 32) × All Is xs
 abbrev pub IsSomeList : {X : Type 0} → (X → Type 0) → List X → Type 0
 IsSomeList Is xs = (1 ≤ length xs) × (length xs < 2 ^ 32) × All Is xs
 
--- a value that has a spelling
+-- a value that has an encoding
 abbrev pub IsValue : Value → Type 0
 IsValue (Text t) = IsShortText t
 IsValue (Flag b) = Unit {0}
 IsValue (Whole z) = FitsSigned w64 z
 IsValue (Literal n) = IsU32 n
 
--- a place that has a spelling
+-- a place that has an encoding
 abbrev pub IsPlace : Place → Type 0
 IsPlace Root = Unit {0}
 IsPlace (Inside parent feature) = IsIdText parent × IsU32 feature
 
--- a step that has a spelling
+-- a step that has an encoding
 abbrev pub IsStep : Step → Type 0
 IsStep (Put e f old new) = IsIdText e × (IsU32 f × (IsGiven IsValue old × IsGiven IsValue new))
 IsStep (Ins e f at v) = IsIdText e × (IsU32 f × (IsU32 at × IsValue v))
@@ -74,16 +74,16 @@ IsStep (Move e from from_rank to to_rank above_from above_to) =
     IsIdText e × (IsPlace from × (IsU64 from_rank × (IsPlace to × (IsU64 to_rank × (IsList IsIdText above_from × IsList IsIdText above_to)))))
 IsStep (RerankPlace e old new) = IsIdText e × (IsU64 old × IsU64 new)
 
--- an operation that has a spelling
+-- an operation that has an encoding
 abbrev pub IsOperation : Operation → Type 0
 IsOperation (Simple kind steps) = Unit {0} × IsSomeList IsStep steps
 IsOperation (Composite name steps) = IsNameText name × IsSomeList IsStep steps
 
--- a package that has a spelling
+-- a package that has an encoding
 abbrev pub IsPackage : List Operation → Type 0
 IsPackage operations = IsList IsOperation operations
 
--- an event that has a spelling
+-- an event that has an encoding
 abbrev pub IsEvent : Event → Type 0
 IsEvent (Init text) = IsShortText text
 IsEvent (Checkout version branch) = IsU32 version × IsU32 branch
@@ -131,19 +131,19 @@ is_list test xs = is_u32 (length xs) && list_all test xs
 abbrev pub is_some_list : {X : Type 0} → (X → Bool) → List X → Bool
 is_some_list test xs = nat_le 1 (length xs) && is_u32 (length xs) && list_all test xs
 
--- is there a spelling of the value
+-- is there an encoding of the value
 unfoldable pub is_value : Value → Bool
 is_value (Text t) = is_short_text t
 is_value (Flag b) = true
 is_value (Whole z) = is_i64 z
 is_value (Literal n) = is_u32 n
 
--- is there a spelling of the place
+-- is there an encoding of the place
 unfoldable pub is_place : Place → Bool
 is_place Root = true
 is_place (Inside parent feature) = is_id parent && is_u32 feature
 
--- is there a spelling of the step
+-- is there an encoding of the step
 unfoldable pub is_step : Step → Bool
 is_step (Put e f old new) = is_id e && is_u32 f && is_given is_value old && is_given is_value new
 is_step (Ins e f at v) = is_id e && is_u32 f && is_u32 at && is_value v
@@ -167,7 +167,7 @@ is_operation (Composite name steps) = is_name name && is_some_list is_step steps
 unfoldable pub is_package : List Operation → Bool
 is_package operations = is_list is_operation operations
 
--- is there a spelling of the event
+-- is there an encoding of the event
 unfoldable pub is_event : Event → Bool
 is_event (Init text) = is_short_text text
 is_event (Checkout version branch) = is_u32 version && is_u32 branch

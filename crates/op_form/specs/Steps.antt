@@ -1,4 +1,4 @@
--- The spellings of steps: a kind's byte from 1 to 11, and the step's fields in their order.
+-- The encodings of steps: a kind's byte from 1 to 11, and the step's fields in their order.
 use Rattle.std.specs.Prelude.{ℕ, List, ◌∷◌, ◌++◌}
 use Rattle.byte_form.specs.Fields.{text_encoding, u32_encoding, u64_encoding}
 use Rattle.model_state.specs.declared.step.Step.{Step}
@@ -6,7 +6,7 @@ use Rattle.model_state.specs.declared.step.Step.TheVariants.{Put, Ins, Del, Shif
 use Rattle.op_form.specs.Lists.{option_encoding, list_encoding}
 use Rattle.op_form.specs.Values.{value_encoding, place_encoding}
 
--- the spelling of a step
+-- the encoding of a step
 unfoldable pub step_encoding : Step → List ℕ
 step_encoding (Put e f old new) = 1 ∷ (text_encoding e ++ (u32_encoding f ++ (option_encoding value_encoding old ++ option_encoding value_encoding new)))
 step_encoding (Ins e f at v) = 2 ∷ (text_encoding e ++ (u32_encoding f ++ (u32_encoding at ++ value_encoding v)))

@@ -1,4 +1,4 @@
-//! Whether an event has a spelling. Lengths and names are looked at. What a type says of its values is known without a
+//! Whether an event has an encoding. Lengths and names are looked at. What a type says of its values is known without a
 //! look, and the tests of it are always true. Such are the range of a number, the form of an id, and that a text is
 //! UTF-8.
 ghost use Rattle.std.specs.Prelude.{◌≡◌, ◌&&◌, IsTrue};

@@ -1,4 +1,4 @@
-//! Operations, packages and events written as bytes, with one spelling each, and the reversal of packages.
+//! Operations, packages and events written as bytes, with one encoding each, and the reversal of packages.
 #![tactic(auto)]
 
 mod event;

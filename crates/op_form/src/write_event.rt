@@ -14,7 +14,7 @@ use ecore_meta::List;
 use model_state::{OpKind, Operation, Package, Step};
 use std::alloc::{AllocError, Global};
 
-/// The spelling of a package.
+/// The encoding of a package.
 pub fn encode(alloc: Global, package: &Package) -> Result<Vec<u8>, AllocError>
     requires spelled { IsPackage «package».now }
     ensures form { IfOk result (λ bytes. bytes.items ≡ package_encoding «package».now) }
@@ -24,7 +24,7 @@ pub fn encode(alloc: Global, package: &Package) -> Result<Vec<u8>, AllocError>
     Ok(form.into_bytes())
 }
 
-/// The spelling of an event.
+/// The encoding of an event.
 pub fn encode_event(alloc: Global, event: &Event) -> Result<Vec<u8>, AllocError>
     requires spelled { IsEvent event.now }
     ensures form { IfOk result (λ bytes. bytes.items ≡ event_encoding event.now) }

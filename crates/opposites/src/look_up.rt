@@ -1,4 +1,4 @@
-//! The rank of a reference and that of its opposite, looked up in a model.
+//! The rank of the mirror of a reference, looked up in a model.
 ghost use Rattle.std.specs.Prelude.{◌≡◌};
 ghost use Rattle.edit_laws.specs.Rows.{mirror_rank};
 

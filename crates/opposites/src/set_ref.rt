@@ -45,7 +45,7 @@ fn set_ref<L: Look>(
 ///
 /// The old target is unlinked, and so is the source that an opposite of upper bound 1 displaces. An opposite of a
 /// greater one is renumbered where there is no room at its end. Then the two are linked, the target with the rank
-/// `2^32`. Refused with WrongType before Bound.
+/// `RANK_GAP`. Refused with WrongType before Bound.
 pub fn set_ref_steps<L: Look>(
     alloc: Global,
     look: &L,

@@ -1,7 +1,7 @@
 -- What contracts see of a pool of frames.
 use Rattle.std.specs.Prelude.{◌≡◌, ◌≢◌, ℕ, ◌+◌, List, [], ◌∷◌, ◌++◌, length, take, drop, replicate, slice_index_or, Option, None, Some}
 
--- the bytes of a frame
+-- how many bytes a frame has
 abbrev pub frame_size : ℕ
 frame_size = 4096
 

@@ -7,7 +7,7 @@ use crate::fault::PoolFault;
 use std::alloc::Global;
 use std::marker::Model;
 
-/// The bytes of a frame.
+/// How many bytes a frame has.
 pub const FRAME_SIZE: usize = 4096;
 
 /// The most frames of a pool.

@@ -17,7 +17,7 @@ pub record Composite : Type 0 where
   pub steps : List Step
 
 -- A workspace: its branch, and the version that it stands at, its base. Then the operations recorded in it, in their order, and
--- the composite that is open, where one is. Last the versions that were merged into it since the base.
+-- the composite that is open, where one is. Last the versions that were merged into it and that no commit has listed yet.
 pub record Workspace : Type 0 where
   pub branch : ℕ
   pub base : ℕ

@@ -34,8 +34,8 @@ pub fn law_of_versions()
     ensures whole { HistoriesAreWhole }
 {}
 
-/// The law of growth: no event changes a version, a version's state, a tag, or a branch's name and start. The base of each
-/// workspace is on the path of its branch's head.
+/// The law of growth: no event that could be made changes a version, a version's state, a tag, or a branch's name and
+/// start. The base of each workspace is on the path of its branch's head.
 pub fn law_of_growth()
     ensures grows { HistoryOnlyGrows }
     ensures states { StatesStay }
@@ -61,8 +61,8 @@ pub fn law_of_events()
     ensures change { EventsChange }
 {}
 
-/// The law of replies: the last line of a reply begins with `ok` or `no`. No data line begins so but those of `validate`, which
-/// begin with ids. So where a reply ends is known by its lines.
+/// The law of replies: the last line of a reply begins with `ok` or `no`. No data line begins so but those of
+/// `validate`, which begin with ids. So where a reply ends is known by its lines, but for `validate`.
 pub fn law_of_replies()
     ensures last { LastLinesLook }
     ensures lines { DataLinesAreApart }
@@ -75,7 +75,8 @@ pub fn law_of_commits()
     ensures models { CommitsKeepModels }
 {}
 
-/// The law of undoing: an operation that is recorded and undone leaves the workspace as it was.
+/// The law of undoing: an operation that is recorded where no composite is open, and undone, leaves the workspace as it
+/// was.
 pub fn law_of_undoing()
     ensures back { UndoGivesBack }
 {}

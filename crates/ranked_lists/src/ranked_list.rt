@@ -20,10 +20,10 @@ const FEW: usize = 16;
 
 /// Elements with their ranks, which contracts see as a finite map.
 ///
-/// A list begins in one vector, by rank and then by id. From its 17th entry on, and for good, it stands in a hash table
-/// by id. It stands in an ordered set too, by rank and then by id. Then to find an element costs a look-up by hash. To
-/// put it in, to take it out and to find the last costs a logarithm more. To find the entry at an index costs as many
-/// steps as entries lie between it and the nearer end. To list costs a copy of each entry.
+/// A list begins in one vector, by rank and then by id. Once it has more than `FEW` entries, and for good, it stands in
+/// a hash table by id. It stands in an ordered set too, by rank and then by id. Then to find an element costs a look-up
+/// by hash. To put it in, to take it out and to find the last costs a logarithm more. To find the entry at an index
+/// costs as many steps as entries lie between it and the nearer end. To list costs a copy of each entry.
 #[derive(Drop)]
 pub struct RankedList {
     few: Vec<Entry>,

@@ -39,7 +39,7 @@ fn has_room(meta: &Metamodel, f: u32, n: usize) -> bool
     is_below_bound(n, upper_of(meta, f))
 }
 
-/// How many values a many-valued attribute has: fewer than 2^32.
+/// How many values a many-valued attribute has: at most `MOST_ENTRIES`.
 fn count<L: Look>(look: &L, meta: &Metamodel, e: &Id, f: u32) -> u32
     requires good { Good meta.now (L.state look.now) }
     requires many { is_many (kind_of meta.now f) ≡ true }

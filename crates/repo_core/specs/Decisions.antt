@@ -29,6 +29,6 @@ abbrev pub CanMakeIt : State → Option Made → Type 0
 CanMakeIt state None = Unit {0}
 CanMakeIt state (Some made) = CanMake state made
 
--- the text of a block is shorter than the texts that a metamodel is read from may be
+-- the text of a block is short enough for a metamodel to be read from it
 abbrev pub IsShortBlock : Option (List ℕ) → Type 0
 IsShortBlock block = IfSome block (λ text. length text < 2 ^ 32 - 1)

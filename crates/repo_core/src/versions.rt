@@ -14,7 +14,7 @@ use std::alloc::{AllocError, Global};
 use version_states::state_at;
 use working_model::Working;
 
-/// The state of a version. Its entry then stands first in the cache.
+/// The state of a version. Where its bytes are few enough for an entry, that stands first in the cache then.
 pub(crate) fn version_state(
     alloc: Global,
     cache: &mut Cache,

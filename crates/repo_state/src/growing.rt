@@ -12,7 +12,8 @@ use ecore_meta::Text;
 use history_tree::History;
 use std::alloc::{AllocError, Global};
 
-/// Makes room for a version, a branch and a tag. None is made where all numbers of 32 bits are used up, for which no memory is large enough.
+/// Makes room for a version, a branch and a tag. Where 4,294,967,295 of a sort are there it answers out of memory. No
+/// store gets there, as it has at most so many events.
 fn make_room(history: &mut History) -> Result<(), AllocError>
     ensures same { history.new.history ≡ history.old.history }
     ensures room { OnOk result (0 < history.new.spare) }

@@ -184,8 +184,8 @@ fn push_bytes(bytes: &mut Vec<u8>, item: &Item) -> Result<(), AllocError>
     bytes.extend_from_slice(b".\n")
 }
 
-/// A script that fills an empty store, whatever the seed. Two workspaces make `count` books in turn, and after each
-/// fourth one takes what the other committed and commits its own.
+/// A script that fills an empty store, whatever the seed. Two workspaces make `count` books in turn. After each fourth
+/// book each takes what the other committed, and commits its own.
 pub fn generate(alloc: Global, seed: u64, count: u32) -> Result<Vec<u8>, AllocError>
     ensures bytes { IfOk result (λ bytes. bytes.items ≡ script_bytes (generated seed count)) }
     // As an input they are the script of the items that `--generate` answers.

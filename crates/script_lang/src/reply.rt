@@ -53,7 +53,7 @@ pub enum Refusal {
     NoEntry,
     /// 22: the element would stand inside itself.
     WouldCycle,
-    /// 23: the workspace has no local operation.
+    /// 23: no operation is recorded, and for a commit no version is pending either.
     NothingLocal,
     /// 24: the workspace's base is not its branch's head.
     Stale { base: u32, head: u32 },
@@ -75,7 +75,8 @@ pub enum Refusal {
     NotOnPath,
     /// 33: as many events stand in the history as it can hold.
     HistoryFull,
-    /// 34: the event's record would be longer than a record may be.
+    /// 34: the event's record would be longer than a record may be. Or, for `package`, a list of the version's
+    /// operations has too many items to have bytes.
     TooLarge,
     /// 35: the event's record would pass the journal's limit.
     JournalFull,

@@ -2,7 +2,7 @@
 ghost use Rattle.state_form.specs.Laws.{NothingIsSpelled, StepsKeepSpelled, PackagesKeepSpelled, WholeStepsAreSpelled, WholeIsSpelled, WholeLeads, StepsTakeBytes};
 
 /// States that spelled steps and packages lead to are spelled. The package that builds such a state is spelled where it
-/// has fewer than 2^32 steps. It leads to the state, and a package has a byte for each step.
+/// has fewer than 2^32 steps. It leads to the state. A package has at least one byte for each step.
 pub fn law_of_spelled_states()
     ensures start { NothingIsSpelled }
     ensures steps { StepsKeepSpelled }

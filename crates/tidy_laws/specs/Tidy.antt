@@ -52,12 +52,12 @@ pub record Normal (meta : Meta) (p : List Operation) : Type 0 where
   pub alone : EachAlone p
   pub settled : NoRule meta p
 
--- no rule applies to b and one of the operations before it, which stand nearest first
+-- no rule applies to b and one of those before it, nearest first, up to the first that interferes with b
 abbrev pub Unmet : Meta → Operation → List Operation → Type 0
 Unmet meta b [] = Unit {0}
 Unmet meta b (a ∷ before) = (met a b ≡ None) × (interferes meta b a ≡ false → Unmet meta b before)
 
--- no rule applies to any two of the operations, which stand nearest first
+-- so for each of the operations, which stand nearest first
 abbrev pub Settled : Meta → List Operation → Type 0
 Settled meta [] = Unit {0}
 Settled meta (b ∷ before) = Unmet meta b before × Settled meta before

@@ -75,7 +75,8 @@ pub fn follow(
     Ok(())
 }
 
-/// The model before an operation, whose steps were the last taken; none when out of memory.
+/// The model before an operation, whose steps were the last taken. None when out of memory, or where a step can't be
+/// taken back.
 pub fn take_back(
     alloc: Global,
     meta: &Metamodel,
@@ -172,7 +173,8 @@ fn build_state(
     }
 }
 
-/// The state of a version whose operations can be taken. The cache keeps it, and its entry then stands first.
+/// The state of a version whose operations can be taken. Where its bytes are few enough for an entry the cache keeps
+/// it, and its entry then stands first.
 pub fn state_at(
     alloc: Global,
     cache: &mut Cache,

@@ -94,8 +94,8 @@ impl Working {
         Ok(())
     }
 
-    /// The first id of a workspace that no live element has, as `edits` has it. The search begins where it ended the last time, unless the workspace
-    /// is another one, or an element was deleted since.
+    /// The first id of a workspace that no live element has. The search begins where it ended the last time, if that
+    /// was for this workspace and no replay deleted an element or failed since. Else it begins at 1.
     pub fn fresh_id(&mut self, alloc: Global, ws: u32) -> Result<Id, AllocError>
         ensures id { IfOk result (λ id. id ≡ fresh_id self.old ws) }
         ensures form { OnOk result (is_id (fresh_id self.old ws) ≡ true) }

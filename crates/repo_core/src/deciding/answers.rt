@@ -128,7 +128,7 @@ fn form_of(alloc: Global, repo: &Repo, event: &Event) -> Result<Vec<u8>, Option<
     if repo.is_full() {
         return Err(Some(Refusal::HistoryFull));
     }
-    // Such an event has a text or a list of 2^32 items, for which no memory is large enough.
+    // Such an event has a text of 2^32 bytes or a list of 2^32 items. No command makes one.
     if !has_encoding(event) {
         return Err(None);
     }
