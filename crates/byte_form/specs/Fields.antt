@@ -1,4 +1,4 @@
--- Fields: how each is spelled, and how the first of some bytes is read, with the fault of one that can't be read.
+-- Fields: how each is encoded, and how the first of some bytes is read, with the fault of one that can't be read.
 use Rattle.std.specs.Prelude.{◌≡◌, ℕ, ◌+◌, List, [], ◌∷◌, ◌++◌, length, take, drop, Result, Ok, Err, nat_lt, if◌then◌else◌}
 use Rattle.std.specs.Int.{Width, w32, w64, byte_len, from_be_bytes, to_be_bytes}
 use Rattle.std.specs.Str.{is_utf8}
@@ -12,7 +12,7 @@ abbrev pub ◌>>=◌ : {A B E : Type 0} → Result A E → (A → Result B E) �
 (Ok x) >>= f = f x
 (Err e) >>= f = Err e
 
--- the spelling of a number in four bytes, the most significant first
+-- the encoding of a number in four bytes, the most significant first
 unfoldable pub u32_encoding : ℕ → List ℕ
 u32_encoding n = to_be_bytes w32 n
 
@@ -20,7 +20,7 @@ u32_encoding n = to_be_bytes w32 n
 unfoldable pub u64_encoding : ℕ → List ℕ
 u64_encoding n = to_be_bytes w64 n
 
--- the spelling of a text: the count of its bytes in four bytes, and the bytes
+-- the encoding of a text: the count of its bytes in four bytes, and the bytes
 unfoldable pub text_encoding : List ℕ → List ℕ
 text_encoding text = u32_encoding (length text) ++ text
 

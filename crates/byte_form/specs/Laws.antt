@@ -1,4 +1,4 @@
--- Each value has one spelling: what is spelled is read again, whatever follows it, and what is read was spelled so.
+-- Each value has one encoding: what is encoded is read again, whatever follows it, and what is read was encoded so.
 use Rattle.std.specs.Prelude.{◌≡◌, ℕ, ◌+◌, ◌^◌, ◌<◌, List, [], ◌∷◌, ◌++◌, length, slice_index, Result, Ok}
 use Rattle.std.specs.Str.{IsUtf8}
 use Rattle.byte_form.specs.Rest.{Rest}
@@ -7,11 +7,11 @@ use Rattle.byte_form.specs.Rest.{Rest}
 abbrev pub at : List ℕ → ℕ → Rest
 at bytes place = record { bytes = bytes; place = place }
 
--- the spelling of each value of the kind is read as the value, whatever stands after it
+-- the encoding of each value of the kind is read as the value, whatever stands after it
 abbrev pub IsReadAgain : {X E : Type 0} → (X → Type 0) → (X → List ℕ) → (Rest → Result (X × Rest) E) → Type 0
 IsReadAgain Is form read = (x : _) → Is x → (rest : List ℕ) (place : ℕ) → read (at (form x ++ rest) place) ≡ Ok (x, at rest (place + length (form x)))
 
--- the bytes began with the spelling of a value of the kind
+-- the bytes began with the encoding of a value of the kind
 pub record StoodThere {X : Type 0} (Is : X → Type 0) (form : X → List ℕ) (before after : Rest) (x : X) : Type 0 where
   pub is : Is x
   pub bytes : before.bytes ≡ form x ++ after.bytes
@@ -21,11 +21,11 @@ pub record StoodThere {X : Type 0} (Is : X → Type 0) (form : X → List ℕ) (
 abbrev pub AreBytes : List ℕ → Type 0
 AreBytes bytes = (i : ℕ) → slice_index bytes i < 256
 
--- what is read of bytes was spelled so
+-- what is read of bytes was encoded so
 abbrev pub IsSpelledSo : {X E : Type 0} → (X → Type 0) → (X → List ℕ) → (Rest → Result (X × Rest) E) → Type 0
 IsSpelledSo Is form read = (before : Rest) → AreBytes before.bytes → (x : _) (after : Rest) → read before ≡ Ok (x, after) → StoodThere Is form before after x
 
--- no spelling begins another
+-- no encoding begins another
 abbrev pub NoneBeginsAnother : {X : Type 0} → (X → Type 0) → (X → List ℕ) → Type 0
 NoneBeginsAnother Is form = (x y : _) → Is x → Is y → (rest more : List ℕ) → form x ++ rest ≡ form y ++ more → x ≡ y
 
@@ -33,7 +33,7 @@ NoneBeginsAnother Is form = (x y : _) → Is x → Is y → (rest more : List �
 abbrev pub IsBelow : ℕ → ℕ → Type 0
 IsBelow limit n = n < limit
 
--- a byte is its own spelling
+-- a byte is its own encoding
 abbrev pub byte_encoding : ℕ → List ℕ
 byte_encoding n = n ∷ []
 

@@ -1,4 +1,4 @@
-//! Fields of bytes: numbers most significant byte first, and texts after their length. Each value has one spelling, and no spelling begins another.
+//! Fields of bytes: numbers most significant byte first, and texts after their length. Each value has one encoding, and no encoding begins another.
 #![tactic(auto)]
 
 mod form;

@@ -9,38 +9,38 @@ use Rattle.op_reading.specs.Events.{event_at, whole_of}
 use Rattle.op_form.specs.Events.{event_encoding}
 use Rattle.op_form.specs.Formed.{is_event, IsPackage, IsEvent}
 
--- the spelling of each value is read as it
+-- the encoding of each value is read as it
 abbrev pub AreReadAgain : {X : Type 0} → (X → Type 0) → (X → List ℕ) → (List ℕ → Result X FormFault) → Type 0
 AreReadAgain Is form read = (x : _) → Is x → read (form x) ≡ Ok x
 
--- bytes that are read as a value are its spelling
+-- bytes that are read as a value are its encoding
 abbrev pub AreSpelledSo : {X : Type 0} → (X → Type 0) → (X → List ℕ) → (List ℕ → Result X FormFault) → Type 0
 AreSpelledSo Is form read = (bytes : List ℕ) → AreBytes bytes → (x : _) → read bytes ≡ Ok x → Is x × (bytes ≡ form x)
 
--- the spelling of each package is read as it
+-- the encoding of each package is read as it
 abbrev pub PackagesAreReadAgain : Type 0
 PackagesAreReadAgain = AreReadAgain IsPackage package_encoding (whole_of package_at)
 
--- bytes that are read as a package are its spelling
+-- bytes that are read as a package are its encoding
 abbrev pub PackagesAreSpelledSo : Type 0
 PackagesAreSpelledSo = AreSpelledSo IsPackage package_encoding (whole_of package_at)
 
--- no package's spelling begins that of another
+-- no package's encoding begins that of another
 abbrev pub NoPackageBeginsAnother : Type 0
 NoPackageBeginsAnother = NoneBeginsAnother IsPackage package_encoding
 
--- the spelling of each event is read as it
+-- the encoding of each event is read as it
 abbrev pub EventsAreReadAgain : Type 0
 EventsAreReadAgain = AreReadAgain IsEvent event_encoding (whole_of event_at)
 
--- bytes that are read as an event are its spelling
+-- bytes that are read as an event are its encoding
 abbrev pub EventsAreSpelledSo : Type 0
 EventsAreSpelledSo = AreSpelledSo IsEvent event_encoding (whole_of event_at)
 
--- no event's spelling begins that of another
+-- no event's encoding begins that of another
 abbrev pub NoEventBeginsAnother : Type 0
 NoEventBeginsAnother = NoneBeginsAnother IsEvent event_encoding
 
--- the test of events holds of just those that have a spelling
+-- the test of events holds of just those that have an encoding
 abbrev pub EventsAreTested : Type 0
 EventsAreTested = (e : Event) → (IsTrue (is_event e) ↔ IsEvent e)

@@ -6,7 +6,7 @@ use thiserror::Error;
 /// Why bytes were not read.
 #[derive(Clone, Copy, Debug, PartialEq, Eq, Error)]
 pub enum FormFault {
-    /// No value is spelled there: the offset is that of the first field that can't be read, or of the first byte left over.
+    /// No value is encoded there: the offset is that of the first field that can't be read, or of the first byte left over.
     #[error("no form at {at}")]
     NotForm { at: u64 },
     /// The allocator had no memory for what was read.

@@ -1,8 +1,8 @@
 //! The laws of the encodings, as a function without a body whose contract they are.
 ghost use Rattle.op_reading.specs.Laws.{PackagesAreReadAgain, PackagesAreSpelledSo, NoPackageBeginsAnother, EventsAreReadAgain, EventsAreSpelledSo, NoEventBeginsAnother, EventsAreTested};
 
-/// The laws of the encodings. What is spelled is read again, what is read was spelled so, and no spelling begins
-/// another. The test of `has_encoding` holds of just the events that have a spelling.
+/// The laws of the encodings. What is encoded is read again, what is read was encoded so, and no encoding begins
+/// another. The test of `has_encoding` holds of just the events that have an encoding.
 pub fn law_of_encodings()
     ensures packages_again { PackagesAreReadAgain }
     ensures packages_spelled { PackagesAreSpelledSo }

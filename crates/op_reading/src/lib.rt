@@ -1,4 +1,4 @@
-//! Packages and events read from bytes: what was spelled is read again, and what is read was spelled so.
+//! Packages and events read from bytes: what was encoded is read again, and what is read was encoded so.
 #![tactic(auto)]
 
 mod fault;

@@ -14,7 +14,7 @@ pub fn law_of_order()
 
 /// The law of working models: the steps recorded in each workspace lead one by one from the state of its base to its
 /// working model. It is good, and its elements have ids of the form of ids. Each id, number and value that steps name of it
-/// has a spelling. And what holds of every metamodel holds of the one that is there after any events that could be made.
+/// has an encoding. And what holds of every metamodel holds of the one that is there after any events that could be made.
 pub fn law_of_working_models()
     ensures defined { ModelsAreDefined }
     ensures good { OfModels Good }
@@ -25,7 +25,7 @@ pub fn law_of_working_models()
 
 /// The law of versions: the operations on the path of each version lead one by one from the empty project to its
 /// state. It is good, and its elements have ids of the form of ids. Each id, number and value that steps name of it has a
-/// spelling. And each number in the history names something.
+/// encoding. And each number in the history names something.
 pub fn law_of_versions()
     ensures defined { VersionsAreDefined }
     ensures good { OfVersions Good }

@@ -17,7 +17,7 @@ use Rattle.state_form.specs.Spelled.{IsSpelled}
 abbrev pub NothingIsSpelled : Type 0
 NothingIsSpelled = (meta : Meta) → IsSpelled meta nothing
 
--- steps that have a spelling lead from a spelled state to one
+-- steps that have an encoding lead from a spelled state to one
 abbrev pub StepsKeepSpelled : Type 0
 StepsKeepSpelled = (meta : Meta) → Sound meta → (m n : State) → IsSpelled meta m → (steps : List Step) → All IsStep steps → fold meta m steps ≡ Some n → IsSpelled meta n
 
@@ -25,7 +25,7 @@ StepsKeepSpelled = (meta : Meta) → Sound meta → (m n : State) → IsSpelled 
 abbrev pub PackagesKeepSpelled : Type 0
 PackagesKeepSpelled = (meta : Meta) → Sound meta → (m n : State) → IsSpelled meta m → (operations : List Operation) → IsPackage operations → fold_package meta m operations ≡ Some n → IsSpelled meta n
 
--- each step that builds a spelled state has a spelling
+-- each step that builds a spelled state has an encoding
 abbrev pub WholeStepsAreSpelled : Type 0
 WholeStepsAreSpelled = (meta : Meta) (m : State) → Good meta m → IsSpelled meta m → All IsStep (as_steps meta m)
 

@@ -1,4 +1,4 @@
--- States of which each id, number and value that steps name has a spelling.
+-- States of which each id, number and value that steps name has an encoding.
 use Rattle.std.specs.Prelude.{◌≡◌, ℕ, true, List}
 use Rattle.std.specs.FinMap.{FinMap, get}
 use Rattle.std.specs.List.{AllByRecursion}
@@ -23,7 +23,7 @@ IsClassed e class = IsIdText e × IsU32 class
 abbrev pub AreValues : AttrKey → List Value → Type 0
 AreValues k values = IsIdText k.0 × (IsU32 k.1 × AllByRecursion IsValue values)
 
--- a reference that has no opposite, or one of a greater number, has a spelling; a pair's steps name that one alone
+-- a reference that has no opposite, or one of a greater number, has an encoding; a pair's steps name that one alone
 abbrev pub LeadsSpelled : Meta → ℕ → Type 0
 LeadsSpelled meta f = is_less f (opposite_of meta f) ≡ true → IsU32 f
 
