@@ -10,7 +10,8 @@ use model_laws::replay;
 use model_state::{ApplyFault, Step, StepFault};
 
 impl Graph {
-    /// Takes all the steps, or none where one can't be taken. This takes a copy of the model.
+    /// Takes all the steps, or none where one can't be taken. This takes a copy of the model; where that finds no memory the
+    /// place in the error is 0.
     pub fn apply_all(&mut self, meta: &Metamodel, steps: &[Step]) -> Result<(), ApplyFault>
         requires sound { Sound meta.now }
         requires good { Good meta.now self.old }
