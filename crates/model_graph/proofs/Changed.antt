@@ -19,9 +19,9 @@ use Rattle.graph_parts.specs.Parts.{ListKey, list_key_cmp}
 use Rattle.model_graph.specs.Seen.{Elements, by_feature, by_target, nodes_state, placed_at}
 use Rattle.graph_parts.proofs.ListLaws.{list_key_order}
 
--- a node taken out for a while and put back changed
-pub rewritten : (m one two : Elements) (e : IdBytes) (bare n : Node) → one ≡ set m e (Some bare) → two ≡ set one e (Some n) → two ≡ set m e (Some n)
-rewritten m one two e bare n first second = second ∙ ap (λ x. set x e (Some n)) first ∙ set_twice id_order m e (Some bare) (Some n)
+-- a node changed twice is as it was changed last
+pub rewritten : (m one two : Elements) (e : IdBytes) (k n : Node) → one ≡ set m e (Some k) → two ≡ set one e (Some n) → two ≡ set m e (Some n)
+rewritten m one two e k n first second = second ∙ ap (λ x. set x e (Some n)) first ∙ set_twice id_order m e (Some k) (Some n)
 
 pub some_is : {A : Type 0} (o : Option A) (x : A) → o ≡ Some x → IsSome o
 some_is o x h = search (rules, h)

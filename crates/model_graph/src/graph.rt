@@ -48,14 +48,14 @@ impl Model for Graph {
 }
 
 /// Gives a reference to an element the rank that it had before it was put in, or takes it out where it was new.
-fn restore_into(alloc: Global, nodes: &mut Nodes<Node>, b: &Id, key: &(Id, u32), old: Option<u64>)
+fn restore_into(nodes: &mut Nodes<Node>, b: &Id, key: &(Id, u32), old: Option<u64>)
     requires live { IsSome (get nodes.old b.now) }
     requires there { is_some (inner (λ n. n.into) (get nodes.old b.now) key.now) ≡ true }
     ensures { Rewrites nodes.old nodes.new b.now (λ n. record n { into = set n.into key.now old }) }
 {
     match old {
-        None => drop_into(alloc, nodes, b, key),
-        Some(rank) => rewrite_into(alloc, nodes, b, key, rank),
+        None => drop_into(nodes, b, key),
+        Some(rank) => rewrite_into(nodes, b, key, rank),
     }
 }
 
@@ -149,11 +149,11 @@ impl Graph {
         let own = (a.copy(self.alloc)?, f);
         let key = (a.copy(self.alloc)?, f);
         let old = rank_into(&self.nodes, b, &key);
-        put_into(self.alloc, &mut self.nodes, b, own, rank)?;
+        put_into(&mut self.nodes, b, own, rank)?;
         match put_out(self.alloc, &mut self.nodes, a, f, target, rank) {
             Ok(()) => Ok(()),
             Err(error) => {
-                restore_into(self.alloc, &mut self.nodes, b, &key, old);
+                restore_into(&mut self.nodes, b, &key, old);
                 Err(error)
             }
         }
@@ -166,7 +166,7 @@ impl Graph {
         requires key { key.now ≡ (a.now, f) }
         ensures { self.new ≡ record self.old { row = set self.old.row (a.now, f, b.now) None } }
     {
-        drop_into(self.alloc, &mut self.nodes, b, key);
-        drop_out(self.alloc, &mut self.nodes, a, f, b);
+        drop_into(&mut self.nodes, b, key);
+        drop_out(&mut self.nodes, a, f, b);
     }
 }

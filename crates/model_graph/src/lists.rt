@@ -30,20 +30,14 @@ pub fn list_in(
 }
 
 /// Takes an element out of the list of a place.
-pub fn list_out(
-    alloc: Global,
-    roots: &mut RankedList,
-    nodes: &mut Nodes<Node>,
-    place: &Place,
-    e: &Id,
-)
+pub fn list_out(roots: &mut RankedList, nodes: &mut Nodes<Node>, place: &Place, e: &Id)
     requires { IsPlaceThere nodes.old place.now }
     ensures { IsListWritten place.now e.now None roots.old nodes.old roots.new nodes.new }
 {
     match place {
         Place::Root => roots.drop_at(e),
         Place::Inside { parent, feature } => {
-            drop_inside(alloc, nodes, parent, *feature, e);
+            drop_inside(nodes, parent, *feature, e);
         }
     }
 }

@@ -66,16 +66,16 @@ impl Write for Graph {
     }
 
     fn take_out(&mut self, e: &Id, place: &Place) {
-        list_out(self.alloc, &mut self.roots, &mut self.nodes, place, e);
+        list_out(&mut self.roots, &mut self.nodes, place, e);
         drop(self.nodes.drop_at(e));
     }
 
     fn put_values(&mut self, e: &Id, f: u32, values: List<Value>) -> Result<(), AllocError> {
         if values.len() == 0 {
-            drop_attr(self.alloc, &mut self.nodes, e, f);
+            drop_attr(&mut self.nodes, e, f);
             return Ok(());
         }
-        put_attr(self.alloc, &mut self.nodes, e, f, values)
+        put_attr(&mut self.nodes, e, f, values)
     }
 
     fn join(
@@ -133,8 +133,8 @@ impl Write for Graph {
             rank,
         };
         list_in(self.alloc, &mut self.roots, &mut self.nodes, to, id, rank)?;
-        list_out(self.alloc, &mut self.roots, &mut self.nodes, from, e);
-        write_placed(self.alloc, &mut self.nodes, e, placed);
+        list_out(&mut self.roots, &mut self.nodes, from, e);
+        write_placed(&mut self.nodes, e, placed);
         Ok(())
     }
 
@@ -152,7 +152,7 @@ impl Write for Graph {
             id,
             rank,
         )?;
-        write_placed(self.alloc, &mut self.nodes, e, Placed { place, rank });
+        write_placed(&mut self.nodes, e, Placed { place, rank });
         Ok(())
     }
 }

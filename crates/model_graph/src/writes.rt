@@ -7,25 +7,12 @@ ghost use Rattle.model_graph.specs.Seen.{Rewrites};
 
 use ecore_meta::{List, Value};
 use graph_parts::Node;
-use model_state::{Id, Place, Placed};
+use model_state::{Id, Placed};
 use nodes::Nodes;
 use std::alloc::{AllocError, Global};
 
-/// An element that stands for another while that one is changed. It takes no memory.
-fn hollow(alloc: Global) -> Node {
-    Node::bare(
-        alloc,
-        0,
-        Placed {
-            place: Place::Root,
-            rank: 0,
-        },
-    )
-}
-
 /// Writes the values of an attribute of the element.
 pub fn put_attr(
-    alloc: Global,
     nodes: &mut Nodes<Node>,
     e: &Id,
     f: u32,
@@ -35,20 +22,15 @@ pub fn put_attr(
     ensures ok { OnOk result (Rewrites nodes.old nodes.new e.now (λ n. record n { attrs = set n.attrs f (Some values) })) }
     ensures err { OnErr result (nodes.new ≡ nodes.old) }
 {
-    let mut node = nodes.swap(e, hollow(alloc));
-    let done = node.attrs.put(f, values);
-    drop(nodes.swap(e, node));
-    done
+    nodes.find_mut(e).attrs.put(f, values)
 }
 
 /// Takes the values of an attribute of the element away.
-pub fn drop_attr(alloc: Global, nodes: &mut Nodes<Node>, e: &Id, f: u32)
+pub fn drop_attr(nodes: &mut Nodes<Node>, e: &Id, f: u32)
     requires { IsSome (get nodes.old e.now) }
     ensures { Rewrites nodes.old nodes.new e.now (λ n. record n { attrs = set n.attrs f None }) }
 {
-    let mut node = nodes.swap(e, hollow(alloc));
-    node.attrs.drop_at(f);
-    drop(nodes.swap(e, node));
+    nodes.find_mut(e).attrs.drop_at(f);
 }
 
 /// Gives a reference out of the element its rank.
@@ -64,25 +46,19 @@ pub fn put_out(
     ensures ok { OnOk result (Rewrites nodes.old nodes.new e.now (λ n. record n { out = set n.out (f, x) (Some rank) })) }
     ensures err { OnErr result (nodes.new ≡ nodes.old) }
 {
-    let mut node = nodes.swap(e, hollow(alloc));
-    let done = node.out.put(alloc, f, x, rank);
-    drop(nodes.swap(e, node));
-    done
+    nodes.find_mut(e).out.put(alloc, f, x, rank)
 }
 
 /// Takes a reference out of the element away.
-pub fn drop_out(alloc: Global, nodes: &mut Nodes<Node>, e: &Id, f: u32, x: &Id)
+pub fn drop_out(nodes: &mut Nodes<Node>, e: &Id, f: u32, x: &Id)
     requires { IsSome (get nodes.old e.now) }
     ensures { Rewrites nodes.old nodes.new e.now (λ n. record n { out = set n.out (f, x.now) None }) }
 {
-    let mut node = nodes.swap(e, hollow(alloc));
-    node.out.drop_at(f, x);
-    drop(nodes.swap(e, node));
+    nodes.find_mut(e).out.drop_at(f, x);
 }
 
 /// Gives a reference to the element its rank.
 pub fn put_into(
-    alloc: Global,
     nodes: &mut Nodes<Node>,
     e: &Id,
     key: (Id, u32),
@@ -92,31 +68,24 @@ pub fn put_into(
     ensures ok { OnOk result (Rewrites nodes.old nodes.new e.now (λ n. record n { into = set n.into key (Some rank) })) }
     ensures err { OnErr result (nodes.new ≡ nodes.old) }
 {
-    let mut node = nodes.swap(e, hollow(alloc));
-    let done = node.into.put(key, rank);
-    drop(nodes.swap(e, node));
-    done
+    nodes.find_mut(e).into.put(key, rank)
 }
 
 /// Gives a reference to the element, one that is there, another rank.
-pub fn rewrite_into(alloc: Global, nodes: &mut Nodes<Node>, e: &Id, key: &(Id, u32), rank: u64)
+pub fn rewrite_into(nodes: &mut Nodes<Node>, e: &Id, key: &(Id, u32), rank: u64)
     requires live { IsSome (get nodes.old e.now) }
     requires there { is_some (inner (λ n. n.into) (get nodes.old e.now) key.now) ≡ true }
     ensures { Rewrites nodes.old nodes.new e.now (λ n. record n { into = set n.into key.now (Some rank) }) }
 {
-    let mut node = nodes.swap(e, hollow(alloc));
-    node.into.rewrite(key, rank);
-    drop(nodes.swap(e, node));
+    nodes.find_mut(e).into.rewrite(key, rank);
 }
 
 /// Takes a reference to the element away.
-pub fn drop_into(alloc: Global, nodes: &mut Nodes<Node>, e: &Id, key: &(Id, u32))
+pub fn drop_into(nodes: &mut Nodes<Node>, e: &Id, key: &(Id, u32))
     requires { IsSome (get nodes.old e.now) }
     ensures { Rewrites nodes.old nodes.new e.now (λ n. record n { into = set n.into key.now None }) }
 {
-    let mut node = nodes.swap(e, hollow(alloc));
-    node.into.drop_at(key);
-    drop(nodes.swap(e, node));
+    nodes.find_mut(e).into.drop_at(key);
 }
 
 /// Gives an element inside the element its rank there.
@@ -132,28 +101,21 @@ pub fn put_inside(
     ensures ok { OnOk result (Rewrites nodes.old nodes.new e.now (λ n. record n { inside = set n.inside (f, x) (Some rank) })) }
     ensures err { OnErr result (nodes.new ≡ nodes.old) }
 {
-    let mut node = nodes.swap(e, hollow(alloc));
-    let done = node.inside.put(alloc, f, x, rank);
-    drop(nodes.swap(e, node));
-    done
+    nodes.find_mut(e).inside.put(alloc, f, x, rank)
 }
 
 /// Takes an element inside the element out of its list.
-pub fn drop_inside(alloc: Global, nodes: &mut Nodes<Node>, e: &Id, f: u32, x: &Id)
+pub fn drop_inside(nodes: &mut Nodes<Node>, e: &Id, f: u32, x: &Id)
     requires { IsSome (get nodes.old e.now) }
     ensures { Rewrites nodes.old nodes.new e.now (λ n. record n { inside = set n.inside (f, x.now) None }) }
 {
-    let mut node = nodes.swap(e, hollow(alloc));
-    node.inside.drop_at(f, x);
-    drop(nodes.swap(e, node));
+    nodes.find_mut(e).inside.drop_at(f, x);
 }
 
 /// Writes where the element stands.
-pub fn write_placed(alloc: Global, nodes: &mut Nodes<Node>, e: &Id, placed: Placed)
+pub fn write_placed(nodes: &mut Nodes<Node>, e: &Id, placed: Placed)
     requires { IsSome (get nodes.old e.now) }
     ensures { Rewrites nodes.old nodes.new e.now (λ n. record n { placed = placed }) }
 {
-    let mut node = nodes.swap(e, hollow(alloc));
-    node.placed = placed;
-    drop(nodes.swap(e, node));
+    nodes.find_mut(e).placed = placed;
 }

@@ -1,6 +1,6 @@
 -- A table from texts answers as the one from ids.
 use Rattle.std.proofs.Common.{◌≡◌, ℕ, cond, List, [], ◌∷◌, refl, sym, ap, ◌∙◌}
-use Rattle.std.specs.Prelude.{String, string_bytes, string_eq, Option, None, Some}
+use Rattle.std.specs.Prelude.{String, string_bytes, string_eq, Option, Some}
 use Rattle.std.specs.Map.{lookup}
 use Rattle.std.specs.HashMap.{HashMap, UpdatesBy}
 use Rattle.std.specs.Str.{bytes_eq}

@@ -6,9 +6,10 @@ use Rattle.std.specs.List.{list_any}
 use Rattle.std.specs.Map.{lookup}
 use Rattle.std.specs.Ordering.{eq_by_cmp}
 use Rattle.std.specs.Cmp.Lexicographic.{texts_ties, nat_list_eq_equiv}
-use Rattle.std.specs.FinMap.{FinMap, get}
+use Rattle.std.specs.FinMap.{get}
 use Rattle.slab.specs.Slab as slab
 use Rattle.slab.specs.Slab.{Slab}
+use Rattle.slab.proofs.SlabLemmas.{Updates-with_value}
 use Rattle.finite_maps.specs.Equal.{text_eq}
 use Rattle.finite_maps.specs.Maps.{set}
 use Rattle.finite_maps.proofs.EqualLaws.{text_equality}
@@ -118,18 +119,39 @@ one_number a b h = cc
 one_value : {A : Type 0} (x y : A) → Some x ≡ Some y → x ≡ y
 one_value x y h = cc
 
+pub contains : {A : Type 0} (o : Option A) (x : A) → o ≡ Some x → IsSome o
+contains o x h = search (rules, h)
+
+first_of : {A B : Type 0} (x y : A × B) → Some x ≡ Some y → x.0 ≡ y.0
+first_of x y h = ap (λ p. p.0) (one_value x y h)
+
 module _ {T : Type 0} (es : List (IdBytes × ℕ)) (s : Slab (IdBytes × T)) (k : IdBytes) (tied : IsTied es s) where
   -- the other ids lead to other slots
   other_slot : (at : ℕ) → lookup (text_eq k) es ≡ Some at → (q : IdBytes) (i : ℕ) → text_eq q k ≡ false → lookup (text_eq q) es ≡ Some i → i ≢ at
   other_slot at is q i differ there one = other_key q k differ (apart es s tied k q at is (there ∙ ap Some one))
 
-  -- another node for an id
-  module _ (t : Slab (IdBytes × T)) (at : ℕ) (node : T) (is : lookup (text_eq k) es ≡ Some at) (here : slab.get t at ≡ Some (k, node)) (others : (i : ℕ) → i ≢ at → slab.get t i ≡ slab.get s i) where
-    pub swapped : table es t ≡ set (table es s) k (Some node)
-    swapped = changed es es s t k (Some node) tied (λ q d. refl) (λ i there. (node, subst (λ x. slab.get t x ≡ Some (k, node)) (one_number at i (sym is ∙ there)) here)) (ap (in_slot t) is ∙ ap (option_map (λ x. x.1)) here) (λ q i d there. others i (other_slot at is q i d there))
+  -- another value in the slot of an id
+  module _ (at : ℕ) (slot : IdBytes × T) (w : T) (is : lookup (text_eq k) es ≡ Some at) (holds : slab.get s at ≡ Some slot) where
+    abbrev after : Slab (IdBytes × T)
+    after = slab.with_value s at (slot.0, w)
 
-    pub swapped_tied : IsTied es t
-    swapped_tied = still_tied es es s t k (Some node) tied (λ q d. refl) (λ i there. (node, subst (λ x. slab.get t x ≡ Some (k, node)) (one_number at i (sym is ∙ there)) here)) (ap (in_slot t) is ∙ ap (option_map (λ x. x.1)) here) (λ q i d there. others i (other_slot at is q i d there))
+    step : slab.Updates s after at (Some (slot.0, w))
+    step = Updates-with_value s at (slot.0, w) (contains (slab.get s at) slot holds)
+
+    here : slab.get after at ≡ Some (k, w)
+    here = let p = tied k at is in step.changed ∙ ap (λ x. Some (x, w)) (first_of slot (k, p.0) (sym holds ∙ p.1))
+
+    leads_here : (i : ℕ) → lookup (text_eq k) es ≡ Some i → (x : T) × (slab.get after i ≡ Some (k, x))
+    leads_here i there = (w, subst (λ x. slab.get after x ≡ Some (k, w)) (one_number at i (sym is ∙ there)) here)
+
+    leads_else : (q : IdBytes) (i : ℕ) → text_eq q k ≡ false → lookup (text_eq q) es ≡ Some i → slab.get after i ≡ slab.get s i
+    leads_else q i d there = step.others i (other_slot at is q i d there)
+
+    pub written : table es after ≡ set (table es s) k (Some w)
+    written = changed es es s after k (Some w) tied (λ q d. refl) leads_here (ap (in_slot after) is ∙ ap (option_map (λ x. x.1)) here) leads_else
+
+    pub written_tied : IsTied es after
+    written_tied = still_tied es es s after k (Some w) tied (λ q d. refl) leads_here (ap (in_slot after) is ∙ ap (option_map (λ x. x.1)) here) leads_else
 
   -- an id that is new
   module _ (fs : List (IdBytes × ℕ)) (t : Slab (IdBytes × T)) (at : ℕ) (node : T)
@@ -170,17 +192,3 @@ module _ {T : Type 0} (es : List (IdBytes × ℕ)) (s : Slab (IdBytes × T)) (k 
 
     pub removed_tied : IsTied fs t
     removed_tied = still_tied es fs s t k None tied kept_ids (λ i there. absurd (some_none i (sym no_id ∙ there))) (ap (in_slot t) no_id) (λ q i d there. others i (other_slot at is q i d there))
-
--- ---- slots
-pub contains : {A : Type 0} (o : Option A) (x : A) → o ≡ Some x → IsSome o
-contains o x h = search (rules, h)
-
-pub first_of : {A B : Type 0} (x y : A × B) → Some x ≡ Some y → x.0 ≡ y.0
-first_of x y h = ap (λ p. p.0) (one_value x y h)
-
-module _ {T : Type 0} (s mid t : Slab (IdBytes × T)) (at key : ℕ) (k id : IdBytes) (node : T) (out : slab.Updates s mid at None) (back : slab.Updates mid t key (Some (id, node))) (same : key ≡ at) (is : id ≡ k) where
-  pub put_back_here : slab.get t at ≡ Some (k, node)
-  put_back_here = ap (slab.get t) (sym same) ∙ back.changed ∙ ap (λ x. Some (x, node)) is
-
-  pub put_back_others : (i : ℕ) → i ≢ at → slab.get t i ≡ slab.get s i
-  put_back_others i differ = back.others i (λ e. differ (e ∙ same)) ∙ out.others i differ

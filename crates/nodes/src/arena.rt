@@ -1,4 +1,5 @@
 //! The table of ids and the slots that it leads to, which contracts see as one finite map.
+ghost use Rattle.std.specs.Borrow.{sem};
 ghost use Rattle.std.specs.Prelude.{◌≡◌, Some, None, OnOk, OnErr, IfOk, IsSome, map, string_eq};
 ghost use Rattle.std.specs.Option.{option_copied};
 ghost use Rattle.std.specs.FinMap.{get, empty, keys};
@@ -65,6 +66,8 @@ fn ids_of<T>(
 }
 
 impl<T> Nodes<T> {
+    ghost use Rattle.nodes.specs.Lends.{lends_value};
+
     /// No values.
     pub fn new(alloc: Global) -> Nodes<T>
         ensures { result ≡ empty }
@@ -89,19 +92,17 @@ impl<T> Nodes<T> {
         }
     }
 
-    /// Puts another value in place of the one of an id, which it gives back. This takes no memory.
-    pub fn swap(&mut self, e: &Id, value: T) -> T
+    /// The value of an id, to be changed in place.
+    pub fn find_mut(&mut self, e: &Id) -> &mut T
         requires { IsSome (get self.old e.now) }
-        ensures was { get self.old e.now ≡ Some result }
-        ensures now { self.new ≡ set self.old e.now (Some value) }
+        ensures* writes_back { sem 𝓛 (lends_value T.row self.entry e.now result) }
+        ensures value { get self.old e.now ≡ Some result.now }
     {
         let at = match self.ids.get(e.as_str()) {
             Some(at) => *at,
             None => unreachable!(),
         };
-        let (id, was) = self.slots.remove(at);
-        self.slots.insert_reserved((id, value));
-        was
+        &mut self.slots[at].1
     }
 
     /// The ids, in the order of their bytes.

@@ -1,15 +1,11 @@
--- the node is put back changed
-use Rattle.std.proofs.Common.{ap, ◌∙◌}
+-- the node is changed
+use Rattle.std.proofs.Common.{ap}
 use Rattle.std.specs.Prelude.{Some}
 use Rattle.finite_maps.specs.Maps.{set}
 use Rattle.graph_parts.specs.declared.element.Node.{Node}
-use Rattle.model_graph.proofs.Changed.{rewritten, there}
 use Rattle.model_graph.proofs.writes.drop_inside.Goals as goal
-
-pub swap-requires : goal.swap-requires
-swap-requires c = there c.args.nodes.now c.swap-node.new.self c.args.e.now c.hollow.result c.swap-node.ensures.now
 
 pub returns : goal.returns
 returns c =
-    let n : Node = c.swap-node.result in
-    (n, c.swap-node.ensures.was, rewritten c.args.nodes.now c.swap-node.new.self c.swap.new.self c.args.e.now c.hollow.result _ c.swap-node.ensures.now c.swap.ensures.now ∙ ap (λ x. set c.args.nodes.now c.args.e.now (Some (record n { inside = x }))) c.drop_at.ensures)
+    let n : Node = c.find_mut.result.now in
+    (n, c.find_mut.ensures.value, ap (λ x. set c.args.nodes.now c.args.e.now (Some (record n { inside = x }))) c.drop_at.ensures)

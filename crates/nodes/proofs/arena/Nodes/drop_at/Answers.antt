@@ -1,13 +1,13 @@
 -- an id taken out with its slot
-use Rattle.std.proofs.Common.{◌≡◌, ◌≢◌, ℕ, cond, refl, sym, ap, subst, ◌∙◌}
-use Rattle.std.specs.Prelude.{Option, None, Some, IsSome}
-use Rattle.std.specs.Option.{option_map, option_copied}
+use Rattle.std.proofs.Common.{◌≡◌, sym, ap, subst, ◌∙◌}
+use Rattle.std.specs.Prelude.{None, Some, IsSome}
+use Rattle.std.specs.Option.{option_map}
 use Rattle.std.specs.Map.{lookup}
 use Rattle.std.specs.FinMap.{get}
 use Rattle.slab.specs.Slab as slab
 use Rattle.finite_maps.specs.Equal.{text_eq}
 use Rattle.finite_maps.specs.Maps.{set}
-use Rattle.nodes.specs.Tied.{named, in_slot, IsTied, table}
+use Rattle.nodes.specs.Tied.{named}
 use Rattle.nodes.proofs.Named.{lookup-text, updates-text}
 use Rattle.nodes.proofs.Slots.{found, present, removed, removed_tied, contains}
 use Rattle.nodes.proofs.arena.Nodes.drop_at.Goals as goal

@@ -1,14 +1,10 @@
 -- what is found is the node of the slot
-use Rattle.std.proofs.Common.{◌≡◌, ℕ, cond, refl, sym, ap, subst, ◌∙◌}
-use Rattle.std.specs.Prelude.{Option, None, Some, IsSome}
+use Rattle.std.proofs.Common.{sym, ap, ◌∙◌}
+use Rattle.std.specs.Prelude.{None, Some}
 use Rattle.std.specs.Option.{option_map, option_copied}
-use Rattle.std.specs.Map.{lookup}
 use Rattle.std.specs.FinMap.{get}
-use Rattle.slab.specs.Slab as slab
-use Rattle.finite_maps.specs.Equal.{text_eq}
-use Rattle.finite_maps.specs.Maps.{set}
-use Rattle.nodes.specs.Tied.{named, in_slot, IsTied, table}
-use Rattle.nodes.proofs.Named.{lookup-text, updates-text}
+use Rattle.nodes.specs.Tied.{named}
+use Rattle.nodes.proofs.Named.{lookup-text}
 use Rattle.nodes.proofs.Slots.{found}
 use Rattle.nodes.proofs.arena.Nodes.find.Goals as goal
 
