@@ -4,7 +4,6 @@ ghost use Rattle.finite_maps.specs.Equal.{option_eq, list_eq, text_eq};
 ghost use Rattle.model_state.specs.declared.step.Step.TheVariants.{Put, Ins, Del, Shift, Link, Unlink, RerankRow, New, Gone, Move, RerankPlace};
 ghost use Rattle.model_state.specs.Typing.{value_eq};
 ghost use Rattle.model_state.specs.Steps.{rev, rev_all};
-ghost use Rattle.model_state.specs.Packages.{steps_of};
 ghost use Rattle.step_pairs.specs.Joins.{step_eq, steps_eq};
 ghost use Rattle.tidy_laws.specs.Rules.{takes_back};
 
@@ -256,15 +255,6 @@ fn undoes(s: &Step, t: &Step) -> bool
     }
 }
 
-fn steps_of(op: &Operation) -> &[Step]
-    ensures { result.now ≡ steps_of op.now }
-{
-    match op {
-        Operation::Simple { steps, .. } => steps.as_slice(),
-        Operation::Composite { steps, .. } => steps.as_slice(),
-    }
-}
-
 fn undo_all(later: &[Step], earlier: &[Step]) -> bool
     ensures { result ≡ steps_eq later.now (rev_all earlier.now) }
 {
@@ -283,5 +273,5 @@ fn undo_all(later: &[Step], earlier: &[Step]) -> bool
 pub(crate) fn takes_back(b: &Operation, a: &Operation) -> bool
     ensures { result ≡ takes_back b.now a.now }
 {
-    undo_all(steps_of(b), steps_of(a))
+    undo_all(b.steps(), a.steps())
 }
