@@ -25,4 +25,5 @@ pub use laws::{
 pub use moves::move_steps;
 pub use place::{is_containment, is_place};
 pub use spots::Spot;
+pub use values::dels;
 pub use walk::subtree;

@@ -1,6 +1,6 @@
 //! The recording of `add`, `remove`, `shift` and `unset` of many-valued attributes.
-ghost use Rattle.std.specs.Prelude.{◌≡◌, ◌≤◌, ◌<◌, ◌∷◌, ◌++◌, IfOk, OnOk, [], None, Some, length, true, unwrap_or};
-ghost use Rattle.std.specs.List.{list_all, list_any};
+ghost use Rattle.std.specs.Prelude.{◌≡◌, ◌<◌, ◌∷◌, IfOk, [], None, Some, length, true, unwrap_or};
+ghost use Rattle.std.specs.List.{list_all};
 ghost use Rattle.finite_maps.specs.Equal.{list_eq};
 ghost use Rattle.finite_maps.specs.Maps.{is_below};
 ghost use Rattle.ecore_meta.specs.Typing.{upper_of};
@@ -8,29 +8,24 @@ ghost use Rattle.model_state.specs.Good.{Good};
 ghost use Rattle.model_state.specs.Lists.{shifted};
 ghost use Rattle.model_state.specs.Typing.{is_many, kind_of, value_eq};
 ghost use Rattle.emfjson_io.specs.Values.{value_of};
-ghost use Rattle.edit_laws.specs.ManyValues.{dels, values_in};
+ghost use Rattle.edit_laws.specs.ManyValues.{values_in};
 ghost use Rattle.model_state.specs.declared.operation.OpKind.TheVariants.{ManyAttribute};
 ghost use Rattle.model_state.specs.declared.step.Step.TheVariants.{Del, Ins};
 ghost use Rattle.edits.specs.Edits.{Clears, operation_of, add_effect, insert_effect, recording, recording_of, remove_effect, shift_effect};
 ghost use Rattle.recorder.specs.Features.{accepts};
 ghost use Rattle.edits.specs.Answers.{Answers};
-ghost use Rattle.model_state.specs.Ranks.{most_entries};
 
 use crate::feature::{Named, read};
 use crate::operation::{one_step, operation};
+use containment::dels;
 use ecore_meta::{Kind, List, Metamodel, Text, Value};
 use edit_laws::EditFault;
 use edits::Recorded;
 use model_state::{
-    Id, Look, MOST_ENTRIES, OpKind, Step, is_below_bound, is_many, is_same_value, upper_of,
+    Id, Look, MOST_ENTRIES, OpKind, Step, contains, is_below_bound, is_many, is_same_value,
+    upper_of,
 };
 use std::alloc::{AllocError, Global};
-
-fn contains(values: &[Value], v: &Value) -> bool
-    ensures { result ≡ list_any (value_eq v.now) values.now }
-{
-    values.iter().any(|x| is_same_value(v, x))
-}
 
 /// Whether a list of n values has room for one more under the upper bound.
 fn has_room(meta: &Metamodel, f: u32, n: usize) -> bool
@@ -68,23 +63,6 @@ fn del(alloc: Global, e: &Id, f: u32, at: u32, v: &Value) -> Result<Step, AllocE
     let e = e.copy(alloc)?;
     let v = v.copy(alloc)?;
     Ok(Step::Del { e, f, at, v })
-}
-
-/// A step for each of the values, the last first.
-fn dels(
-    alloc: Global,
-    e: &Id,
-    f: u32,
-    values: &[Value],
-    steps: &mut List<Step>,
-) -> Result<(), AllocError>
-    requires { length values.now ≤ most_entries }
-    ensures { OnOk result (steps.new ≡ steps.old ++ dels e.now f 0 values.now) }
-{
-    for at in (0..values.len()).rev() {
-        steps.push(del(alloc, e, f, at as u32, &values[at])?)?;
-    }
-    Ok(())
 }
 
 /// Records that all values of a many-valued attribute are removed.
