@@ -2,7 +2,7 @@
 ghost use Rattle.std.specs.Prelude.{◌≡◌};
 ghost use Rattle.finite_maps.specs.Maps.{is_below};
 ghost use Rattle.model_state.specs.Steps.{has_room, may_move, may_stand};
-ghost use Rattle.model_state.specs.Typing.{child_upper, contains_kind, kind_of};
+ghost use Rattle.model_state.specs.Typing.{child_upper, is_containment, kind_of};
 ghost use Rattle.containment.specs.Refusals.{is_place};
 
 use ecore_meta::{Kind, Metamodel};
@@ -10,7 +10,7 @@ use model_state::{Look, Place, child_upper, class_has, is_below_bound, may_conta
 
 /// Whether the feature is a containment.
 pub fn is_containment(meta: &Metamodel, f: u32) -> bool
-    ensures { result ≡ contains_kind (kind_of meta.now f) }
+    ensures { result ≡ is_containment (kind_of meta.now f) }
 {
     if f < meta.feature_count() {
         match &meta.feature(f).kind {

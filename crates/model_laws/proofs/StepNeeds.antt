@@ -13,7 +13,7 @@ use Rattle.model_state.specs.declared.step.Place.TheVariants.{Root, Inside}
 use Rattle.model_state.specs.declared.step.Step.TheVariants.{Put, Ins, Del, Shift, Link, Unlink, RerankRow, New, Gone, Move, RerankPlace}
 use Rattle.model_state.specs.declared.step.StepFault.TheVariants.{NotThere, There, OldDiffers, Bound, WrongType, Chain, NotEmpty, BadStep}
 use Rattle.model_state.specs.Keys.{IdBytes, RowKey}
-use Rattle.model_state.specs.Typing.{kind_of, is_attr, value_eq, opposite_of, row_upper, upper_of, contains_kind, is_concrete, contains_to}
+use Rattle.model_state.specs.Typing.{kind_of, is_attr, value_eq, opposite_of, row_upper, upper_of, is_containment, is_concrete, contains_to}
 use Rattle.model_state.specs.State.{State, place_eq, row_count, child_count, value_count, link_count, inner_count, is_inside}
 use Rattle.model_state.specs.Steps.{first_fault, fault, writes, class_has, value_fits, not_default, single, may_link, mirror_given, mirror_room, mirror_at, place_live, has_room}
 use Rattle.model_laws.specs.Cells.{Cell, OfKind, OfPlace, OfRank, OfAttr, OfRow, OfWhole, About, is_bounded, cell_eq, has, stands_in, stands_inside, side, mirror_side, place_list, Agree, AgreeAt, needs}
@@ -141,7 +141,7 @@ unlink_goes meta m n a f ra b rb alike =
 -- room in a place, where its list has a cell
 place_room_at : (meta : Meta) (m n : State) (a : IdBytes) (f : ℕ) → AllAgree meta m n (place_list meta (Inside a f)) → has_room meta m (Inside a f) ≡ has_room meta n (Inside a f)
 place_room_at meta m n a f h =
-    elim (contains_kind (kind_of meta f)) as (λ t. contains_kind (kind_of meta f) ≡ t → AllAgree meta m n (elim (t && is_some (upper_of meta f)) [ true ↦ OfWhole a f ∷ [] | false ↦ [] ])
+    elim (is_containment (kind_of meta f)) as (λ t. is_containment (kind_of meta f) ≡ t → AllAgree meta m n (elim (t && is_some (upper_of meta f)) [ true ↦ OfWhole a f ∷ [] | false ↦ [] ])
     → is_below (child_count m (Inside a f)) (cond t (upper_of meta f) None) ≡ is_below (child_count n (Inside a f)) (cond t (upper_of meta f) None)) [
       | true ↦ λ is g. elim (upper_of meta f) as (λ o. upper_of meta f ≡ o → AllAgree meta m n (elim (is_some o) [ true ↦ OfWhole a f ∷ [] | false ↦ [] ]) → is_below (child_count m (Inside a f)) o ≡ is_below (child_count n (Inside a f)) o) [
         | None ↦ λ _ _. refl

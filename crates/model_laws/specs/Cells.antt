@@ -10,7 +10,7 @@ use Rattle.model_state.specs.declared.step.Place.TheVariants.{Root, Inside}
 use Rattle.model_state.specs.declared.step.Step.{Step}
 use Rattle.model_state.specs.declared.step.Step.TheVariants.{Put, Ins, Del, Shift, Link, Unlink, RerankRow, New, Gone, Move, RerankPlace}
 use Rattle.model_state.specs.Keys.{IdBytes}
-use Rattle.model_state.specs.Typing.{bounded_kind, contains_kind, kind_of, upper_of, opposite_of}
+use Rattle.model_state.specs.Typing.{bounded_kind, is_containment, kind_of, upper_of, opposite_of}
 use Rattle.model_state.specs.State.{State, place_eq, is_inside}
 
 -- OfKind, OfPlace, OfRank, OfAttr, OfRow, OfWhole are cells; About e is all that hangs on e
@@ -29,7 +29,7 @@ is_bounded meta f = bounded_kind (kind_of meta f)
 
 -- a containment with a finite upper bound
 abbrev pub is_finite : Meta → ℕ → Bool
-is_finite meta f = contains_kind (kind_of meta f) && is_some (upper_of meta f)
+is_finite meta f = is_containment (kind_of meta f) && is_some (upper_of meta f)
 
 -- equal cells
 abbrev pub cell_eq : Cell → Cell → Bool

@@ -8,12 +8,12 @@ ghost use Rattle.model_state.specs.Good.{Good};
 ghost use Rattle.model_state.specs.Lists.{shifted};
 ghost use Rattle.model_state.specs.Typing.{is_many, kind_of, value_eq};
 ghost use Rattle.emfjson_io.specs.Values.{value_of};
-ghost use Rattle.edit_laws.specs.ManyValues.{values_in};
 ghost use Rattle.model_state.specs.declared.operation.OpKind.TheVariants.{ManyAttribute};
 ghost use Rattle.model_state.specs.declared.step.Step.TheVariants.{Del, Ins};
 ghost use Rattle.edits.specs.Edits.{Clears, operation_of, add_effect, insert_effect, recording, recording_of, remove_effect, shift_effect};
 ghost use Rattle.recorder.specs.Features.{accepts};
 ghost use Rattle.edits.specs.Answers.{Answers};
+ghost use Rattle.model_state.specs.Listing.{values_at};
 
 use crate::feature::{Named, read};
 use crate::operation::{one_step, operation};
@@ -38,7 +38,7 @@ fn has_room(meta: &Metamodel, f: u32, n: usize) -> bool
 fn count<L: Look>(look: &L, meta: &Metamodel, e: &Id, f: u32) -> u32
     requires good { Good meta.now (L.state look.now) }
     requires many { is_many (kind_of meta.now f) ≡ true }
-    ensures { result ≡ length (values_in (L.state look.now) e.now f) }
+    ensures { result ≡ length (values_at (L.state look.now) e.now f) }
 {
     // Only the contract needs it.
     let _meta = meta;
@@ -95,7 +95,7 @@ fn takes<L: Look>(
     unique: bool,
     value: &Value,
 ) -> Result<(), EditFault>
-    ensures { result ≡ accepts unique (upper_of meta.now named.now.feature) (values_in (L.state look.now) named.now.id named.now.feature) value.now }
+    ensures { result ≡ accepts unique (upper_of meta.now named.now.feature) (values_at (L.state look.now) named.now.id named.now.feature) value.now }
 {
     let values = look.attr(&named.id, named.feature);
     if unique && contains(values, value) {
@@ -126,7 +126,7 @@ fn add_value<L: Look>(
     at: u32,
     value: Value,
 ) -> Result<Recorded, EditFault>
-    ensures { Answers result (recording_of meta.now (L.state look.now) (insert_effect named.now.id named.now.feature unique (upper_of meta.now named.now.feature) (values_in (L.state look.now) named.now.id named.now.feature) at (Some value))) }
+    ensures { Answers result (recording_of meta.now (L.state look.now) (insert_effect named.now.id named.now.feature unique (upper_of meta.now named.now.feature) (values_at (L.state look.now) named.now.id named.now.feature) at (Some value))) }
 {
     takes(look, meta, named, unique, &value)?;
     let step = ins(alloc, &named.id, named.feature, at, value)?;
