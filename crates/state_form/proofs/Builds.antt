@@ -21,7 +21,7 @@ use Rattle.model_state.specs.Typing.{is_plain, is_attr, kind_of, opposite_of, up
 use Rattle.edit_laws.specs.Attributes.{single_value}
 use Rattle.edit_laws.specs.Rows.{Rows, link_step, mirror_rank}
 use Rattle.edit_laws.proofs.Lists.{targets_held}
-use Rattle.containment.specs.Deletes.{slots_of, is_attribute}
+use Rattle.containment.specs.Deletes.{slots_of, holds_values}
 use Rattle.containment.proofs.ElementsGone.{AllLive}
 use Rattle.op_form.specs.Formed.{IsU32, IsU64, IsIdText, IsGiven, IsValue, IsPlace, IsStep}
 use Rattle.state_steps.specs.Whole.{birth, births, put_first, inserts, filled, all_filled, is_less, leads, linked, all_linked, elements_of, as_steps}
@@ -150,7 +150,7 @@ module _ (meta : Meta) (m : State) (good : Good meta m) (spelled : IsSpelled met
   pub whole_given : AllByRecursion IsStep (as_steps meta m)
   whole_given =
       let xs : List IdBytes = elements_of meta m in
-      let values : List Step = all_filled meta m (slots_of meta m is_attribute xs) in
+      let values : List Step = all_filled meta m (slots_of meta m holds_values xs) in
       let rows : List Step = all_linked meta m.row (slots_of meta m is_plain xs) in
       both IsStep (births m xs) (values ++ rows) (births_given xs (all_live meta m good xs (λ y h. h)))
-      (both IsStep values rows (all_filled_given (slots_of meta m is_attribute xs)) (all_links_given meta m.row spelled.rows (slots_of meta m is_plain xs)))
+      (both IsStep values rows (all_filled_given (slots_of meta m holds_values xs)) (all_links_given meta m.row spelled.rows (slots_of meta m is_plain xs)))
