@@ -168,15 +168,19 @@ unset_effect e f (Bounded target opposite) = Ok (Forgets e f)
 unset_effect e f (Free target opposite) = Ok (Forgets e f)
 unset_effect e f kind = Err WrongKind
 
--- There is a value, which is not held yet where each is held once. There is room for it under the upper bound and under 2^32
--- values.
-abbrev pub insert_effect : IdBytes → ℕ → Bool → Option ℕ → List Value → ℕ → Option Value → Result Effect EditFault
-insert_effect e f unique upper vs k None = Err BadValue
-insert_effect e f unique upper vs k (Some v) =
+-- What is given, where a list of values takes one more: it is not held yet where each is held once, and there is room for it under
+-- the upper bound and under 2^32 values.
+abbrev pub accepts : {T : Type 0} → Bool → Option ℕ → List Value → Value → T → Result T EditFault
+accepts unique upper vs v given =
     if unique && list_any (value_eq v) vs then Err AlreadyThere
     else if not (is_below (length vs) upper) then Err Bound
     else if not (nat_lt (length vs) most_entries) then Err Bound
-    else Ok (Inserts e f k v)
+    else Ok given
+
+-- there is a value, which the list takes
+abbrev pub insert_effect : IdBytes → ℕ → Bool → Option ℕ → List Value → ℕ → Option Value → Result Effect EditFault
+insert_effect e f unique upper vs k None = Err BadValue
+insert_effect e f unique upper vs k (Some v) = accepts unique upper vs v (Inserts e f k v)
 
 -- the feature is a many-valued attribute, the index is one of its values or their end, and the text is a value of its type
 abbrev pub add_effect : Reading → Meta → State → IdBytes → ℕ → Kind → Option ℕ → List ℕ → Result Effect EditFault

@@ -10,8 +10,7 @@ ghost use Rattle.model_state.specs.Typing.{is_many, kind_of, value_eq};
 ghost use Rattle.emfjson_io.specs.Values.{value_of};
 ghost use Rattle.model_state.specs.declared.operation.OpKind.TheVariants.{ManyAttribute};
 ghost use Rattle.model_state.specs.declared.step.Step.TheVariants.{Del, Ins};
-ghost use Rattle.edits.specs.Edits.{Clears, operation_of, add_effect, insert_effect, recording, recording_of, remove_effect, shift_effect};
-ghost use Rattle.recorder.specs.Features.{accepts};
+ghost use Rattle.edits.specs.Edits.{Clears, accepts, operation_of, add_effect, insert_effect, recording, recording_of, remove_effect, shift_effect};
 ghost use Rattle.edits.specs.Answers.{Answers};
 ghost use Rattle.model_state.specs.Listing.{values_at};
 
@@ -95,7 +94,7 @@ fn takes<L: Look>(
     unique: bool,
     value: &Value,
 ) -> Result<(), EditFault>
-    ensures { result ≡ accepts unique (upper_of meta.now named.now.feature) (values_at (L.state look.now) named.now.id named.now.feature) value.now }
+    ensures { result ≡ accepts unique (upper_of meta.now named.now.feature) (values_at (L.state look.now) named.now.id named.now.feature) value.now tt }
 {
     let values = look.attr(&named.id, named.feature);
     if unique && contains(values, value) {
