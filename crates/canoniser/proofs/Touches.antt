@@ -14,7 +14,7 @@ use Rattle.model_state.specs.declared.operation.Operation.{Operation}
 use Rattle.model_state.specs.declared.operation.Operation.TheVariants.{Simple}
 use Rattle.model_state.specs.Packages.{steps_of}
 use Rattle.model_state.specs.Steps.{rev, rev_all}
-use Rattle.model_laws.specs.Cells.{Cell, OfKind, OfPlace, OfRank, OfAttr, OfRow, OfWhole, About, cell_eq, has, side, place_list, parent_kind, step_writes, step_reads, writes_all, reads_all}
+use Rattle.model_laws.specs.Cells.{Cell, OfKind, OfPlace, OfRank, OfAttr, OfRow, OfWhole, About, cell_eq, has, side, place_list, parents_of, step_writes, step_reads, writes_all, reads_all}
 use Rattle.model_laws.proofs.Exchange.{has_append}
 use Rattle.footprint.specs.Interference.{op_writes, op_reads, interferes}
 use Rattle.footprint.proofs.Pairs.{keep_apart, interferes_not}
@@ -123,9 +123,9 @@ rev_reads (RerankRow a f b old new) c = refl
 rev_reads (New e class place rank) c = refl
 rev_reads (Gone e class place rank) c = refl
 rev_reads (Move e from from_rank to to_rank above_from above_to) c =
-    has_append (map OfKind (e ∷ (parent_kind to ++ parent_kind from))) (map OfPlace (above_to ++ above_from)) c
-    ∙ (λ i. (cell_eq c (OfKind e) || maps_either OfKind (parent_kind to) (parent_kind from) c i) || maps_either OfPlace above_to above_from c i)
-    ∙ sym (has_append (map OfKind (e ∷ (parent_kind from ++ parent_kind to))) (map OfPlace (above_from ++ above_to)) c)
+    has_append (map OfKind (e ∷ (parents_of to ++ parents_of from))) (map OfPlace (above_to ++ above_from)) c
+    ∙ (λ i. (cell_eq c (OfKind e) || maps_either OfKind (parents_of to) (parents_of from) c i) || maps_either OfPlace above_to above_from c i)
+    ∙ sym (has_append (map OfKind (e ∷ (parents_of from ++ parents_of to))) (map OfPlace (above_from ++ above_to)) c)
 rev_reads (RerankPlace e old new) c = refl
 
 last_writes : (meta : Meta) (s : Step) (c : Cell) → has (writes_all meta (s ∷ [])) c ≡ has (step_writes meta s) c

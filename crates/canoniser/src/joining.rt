@@ -6,18 +6,9 @@ ghost use Rattle.tidy_laws.specs.Rules.{joined_op, met};
 ghost use Rattle.canoniser.specs.Meetings.{list_of};
 
 use crate::undoing::takes_back;
-use ecore_meta::{List, Value};
-use model_state::{OpKind, Operation, Step};
+use ecore_meta::List;
+use model_state::{OpKind, Operation, Step, copy_value};
 use std::alloc::{AllocError, Global};
-
-fn copy_entry(alloc: Global, entry: &Option<Value>) -> Result<Option<Value>, AllocError>
-    ensures { IfOk result (λ e. e ≡ entry.now) }
-{
-    match entry {
-        None => Ok(None),
-        Some(v) => Ok(Some(v.copy(alloc)?)),
-    }
-}
 
 /// Whether one step can stand for the two.
 fn steps_join(s: &Step, t: &Step) -> bool
@@ -57,8 +48,8 @@ fn join_steps(alloc: Global, s: &Step, t: &Step) -> Result<Option<Step>, AllocEr
             Step::Put { new, .. } => Ok(Some(Step::Put {
                 e: e.copy(alloc)?,
                 f: *f,
-                old: copy_entry(alloc, old)?,
-                new: copy_entry(alloc, new)?,
+                old: copy_value(alloc, old)?,
+                new: copy_value(alloc, new)?,
             })),
             _ => Ok(None),
         },

@@ -1,30 +1,13 @@
 //! Whether steps take each other back.
 ghost use Rattle.std.specs.Prelude.{◌≡◌};
-ghost use Rattle.finite_maps.specs.Equal.{option_eq, list_eq, text_eq};
+ghost use Rattle.finite_maps.specs.Equal.{list_eq, text_eq};
 ghost use Rattle.model_state.specs.declared.step.Step.TheVariants.{Put, Ins, Del, Shift, Link, Unlink, RerankRow, New, Gone, Move, RerankPlace};
-ghost use Rattle.model_state.specs.Typing.{value_eq};
 ghost use Rattle.model_state.specs.Steps.{rev, rev_all};
-ghost use Rattle.model_state.specs.Packages.{steps_of};
 ghost use Rattle.step_pairs.specs.Joins.{step_eq, steps_eq};
 ghost use Rattle.tidy_laws.specs.Rules.{takes_back};
 
 use ecore_meta::{List, Value};
-use model_state::{Id, Operation, Place, Step, is_same_value};
-
-fn is_same_entry(x: &Option<Value>, y: &Option<Value>) -> bool
-    ensures { result ≡ option_eq value_eq x.now y.now }
-{
-    match x {
-        None => match y {
-            None => true,
-            Some(_) => false,
-        },
-        Some(v) => match y {
-            None => false,
-            Some(w) => is_same_value(v, w),
-        },
-    }
-}
+use model_state::{Id, Operation, Place, Step, is_same_option, is_same_value};
 
 fn are_same_ids(xs: &List<Id>, ys: &List<Id>) -> bool
     ensures { result ≡ list_eq text_eq xs.now ys.now }
@@ -42,7 +25,7 @@ fn undoes_put(e: &Id, f: u32, old: &Option<Value>, new: &Option<Value>, t: &Step
             f: g,
             old: was,
             new: is,
-        } => e == x && f == *g && is_same_entry(old, is) && is_same_entry(new, was),
+        } => e == x && f == *g && is_same_option(old, is) && is_same_option(new, was),
         _ => false,
     }
 }
@@ -256,15 +239,6 @@ fn undoes(s: &Step, t: &Step) -> bool
     }
 }
 
-fn steps_of(op: &Operation) -> &[Step]
-    ensures { result.now ≡ steps_of op.now }
-{
-    match op {
-        Operation::Simple { steps, .. } => steps.as_slice(),
-        Operation::Composite { steps, .. } => steps.as_slice(),
-    }
-}
-
 fn undo_all(later: &[Step], earlier: &[Step]) -> bool
     ensures { result ≡ steps_eq later.now (rev_all earlier.now) }
 {
@@ -283,5 +257,5 @@ fn undo_all(later: &[Step], earlier: &[Step]) -> bool
 pub(crate) fn takes_back(b: &Operation, a: &Operation) -> bool
     ensures { result ≡ takes_back b.now a.now }
 {
-    undo_all(steps_of(b), steps_of(a))
+    undo_all(b.steps(), a.steps())
 }

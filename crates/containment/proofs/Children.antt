@@ -17,15 +17,16 @@ use Rattle.model_state.specs.Keys.{IdBytes, id_cmp}
 use Rattle.model_state.specs.Listing.{children, entry_cmp}
 use Rattle.model_state.specs.State.{State, place_eq}
 use Rattle.model_state.specs.Steps.{class_has}
-use Rattle.model_state.specs.Typing.{kind_of, contains_kind, contains_to}
+use Rattle.model_state.specs.Typing.{kind_of, is_containment, contains_to}
 use Rattle.model_state.specs.Good.{Good, PlaceOk}
 use Rattle.model_state.proofs.Orders.{id_order}
 use Rattle.model_state.proofs.StepTests.{place_equality}
 use Rattle.edit_laws.proofs.Lists.{Apart, apart_from, any-in_order, any-map, all-in_order, entries_held, picked_has}
 use Rattle.edit_laws.proofs.Creates.{spot_of, one_child}
-use Rattle.containment.specs.Subtree.{children_by, features_of, ids_of, is_among, numbers}
+use Rattle.containment.specs.Subtree.{children_by, features_of, is_among, numbers}
 use Rattle.containment.proofs.Members.{In, Distinct, in_left, in_right, in_either, kept_in, distinct_join, distinct_filter, numbers_distinct, numbers_have, within_list, among_in}
 use Rattle.containment.proofs.Trees.{AllInside, HasChildren}
+use Rattle.edit_laws.specs.Standing.{ids_of}
 
 -- ---- features by number
 pub features_distinct : (meta : Meta) (p : Kind → Bool) (c : Option ℕ) → Distinct (features_of meta p c)
@@ -118,7 +119,7 @@ by_all m s c f [] h is = absurd h
 by_all m s c f (g ∷ fs) (inl e) is = in_left c (ids_of (children m.place m.prank (Inside s g))) (children_by m s fs) (children_have m (Inside s g) c (is ∙ ap (λ k. Some (Inside s k)) e))
 by_all m s c f (g ∷ fs) (inr l) is = in_right c (ids_of (children m.place m.prank (Inside s g))) (children_by m s fs) (by_all m s c f fs l is)
 
-contains_some : (meta : Meta) (k : Kind) (d : ℕ) → contains_to meta k d ≡ true → contains_kind k ≡ true
+contains_some : (meta : Meta) (k : Kind) (d : ℕ) → contains_to meta k d ≡ true → is_containment k ≡ true
 contains_some meta (Contains t o) d h = refl
 contains_some meta (Attr s v) d h = cc
 contains_some meta (AttrMany s u) d h = cc
@@ -128,7 +129,7 @@ contains_some meta (Container t o) d h = cc
 contains_some meta Skip d h = cc
 
 -- a place that stands is a containment of its parent's class
-pub stands_in : (meta : Meta) (kind : FinMap id_cmp ℕ) (c : Option ℕ) (a : IdBytes) (f : ℕ) (r : Option ℕ) → PlaceOk meta kind c (Some (Inside a f)) r → (class_has meta (get kind a) f ≡ true) × (contains_kind (kind_of meta f) ≡ true)
+pub stands_in : (meta : Meta) (kind : FinMap id_cmp ℕ) (c : Option ℕ) (a : IdBytes) (f : ℕ) (r : Option ℕ) → PlaceOk meta kind c (Some (Inside a f)) r → (class_has meta (get kind a) f ≡ true) × (is_containment (kind_of meta f) ≡ true)
 stands_in meta kind None a f None ok = absurd ok
 stands_in meta kind None a f (Some r) ok = absurd ok
 stands_in meta kind (Some c) a f None ok = absurd ok
@@ -136,9 +137,9 @@ stands_in meta kind (Some c) a f (Some r) ok = (ok.1.0, contains_some meta (kind
 
 pub has_children : (meta : Meta) (m : State) (good : Good meta m) → HasChildren meta m
 has_children meta m good = record {
-  inside = λ s. by_inside m s (features_of meta contains_kind (get m.kind s));
-  distinct = λ s. by_once meta m good s (features_of meta contains_kind (get m.kind s)) (features_distinct meta contains_kind (get m.kind s));
+  inside = λ s. by_inside m s (features_of meta is_containment (get m.kind s));
+  distinct = λ s. by_once meta m good s (features_of meta is_containment (get m.kind s)) (features_distinct meta is_containment (get m.kind s));
   all = λ s c f is.
       let ok = stands_in meta m.kind (get m.kind c) s f (get m.prank c) (subst (λ o. PlaceOk meta m.kind (get m.kind c) o (get m.prank c)) is (good.places.stands c)) in
-      by_all m s c f (features_of meta contains_kind (get m.kind s)) (feature_listed meta contains_kind (get m.kind s) f refl ok.0 ok.1) is;
+      by_all m s c f (features_of meta is_containment (get m.kind s)) (feature_listed meta is_containment (get m.kind s) f refl ok.0 ok.1) is;
 }

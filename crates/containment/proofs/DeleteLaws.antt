@@ -19,7 +19,7 @@ use Rattle.model_laws.proofs.Runs.{fold_append}
 use Rattle.edit_laws.specs.Rows.{Rows}
 use Rattle.edit_laws.proofs.Clears.{Leads}
 use Rattle.edit_laws.proofs.Creates.{placed_live}
-use Rattle.containment.specs.Deletes.{removal_after, removal_made, gone_made, incoming_made, is_attribute, is_touched, outgoing_made, slots_of, values_made}
+use Rattle.containment.specs.Deletes.{removal_after, removal_made, gone_made, incoming_made, holds_values, is_touched, outgoing_made, slots_of, values_made}
 use Rattle.containment.specs.Subtree.{is_among, subtree_of}
 use Rattle.containment.proofs.Forests.{IsSubtree}
 use Rattle.containment.proofs.Levels.{in_order, subtree_is}
@@ -119,9 +119,9 @@ module _ (meta : Meta) (m : State) (good : Good meta m) (e : IdBytes) (xs : List
         (incoming_leads meta sound m.row references xs (no_opposites meta sound m good xs) xs [] (record m { row = row_out }) part_out.good none_done
         (fresh_from sound xs [] (λ y h. in_among y xs h) (λ y h none. none) (distinct_from xs order)))
 
-    part_values : fold meta (record m { row = row_left }) (values_made meta m (slots_of meta m is_attribute xs)) ≡ Some (record m { row = row_left; attr = attr_left })
+    part_values : fold meta (record m { row = row_left }) (values_made meta m (slots_of meta m holds_values xs)) ≡ Some (record m { row = row_left; attr = attr_left })
     part_values =
-        values_lead meta sound m (slots_of meta m is_attribute xs) (record m { row = row_left }) part_in.good (attributes meta m good xs) (slots_distinct meta m is_attribute xs (distinct_from xs order)) (kept_all meta sound m (slots_of meta m is_attribute xs))
+        values_lead meta sound m (slots_of meta m holds_values xs) (record m { row = row_left }) part_in.good (attributes meta m good xs) (slots_distinct meta m holds_values xs (distinct_from xs order)) (kept_all meta sound m (slots_of meta m holds_values xs))
         ∙ ap (λ (attr : Attrs). Some (record m { row = row_left; attr = attr })) (values_left meta m good xs)
 
     gone_in : {X : Type 0} (b : Bool) (o : Option X) (v : X) → cond b None o ≡ Some v → b ≡ true → ⊥
@@ -150,7 +150,7 @@ module _ (meta : Meta) (m : State) (good : Good meta m) (e : IdBytes) (xs : List
     delete_leads_to =
         fold_append meta m (record m { row = row_out }) (outgoing_made meta m.row [] references) _ part_out.run
         ∙ fold_append meta (record m { row = row_out }) (record m { row = row_left }) (incoming_made meta m.row references xs) _ part_in.run
-        ∙ fold_append meta (record m { row = row_left }) (record m { row = row_left; attr = attr_left }) (values_made meta m (slots_of meta m is_attribute xs)) (gone_made m xs) part_values
+        ∙ fold_append meta (record m { row = row_left }) (record m { row = row_left; attr = attr_left }) (values_made meta m (slots_of meta m holds_values xs)) (gone_made m xs) part_values
         ∙ part_gone
 
 pub delete_leads : DeleteLeads

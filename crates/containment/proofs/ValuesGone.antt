@@ -27,7 +27,7 @@ use Rattle.edit_laws.specs.Attributes.{single_value, put_made}
 use Rattle.edit_laws.specs.ManyValues.{clear_made, dels}
 use Rattle.edit_laws.proofs.AttributeEdits.{put_meets}
 use Rattle.edit_laws.proofs.ManyEdits.{clear_meets}
-use Rattle.containment.specs.Deletes.{emptied_made, values_made, is_attribute, slots_of}
+use Rattle.containment.specs.Deletes.{emptied_made, values_made, holds_values, slots_of}
 use Rattle.containment.specs.Subtree.{is_among, numbers}
 use Rattle.containment.proofs.Members.{In, Distinct, in_filter, among_in, in_among}
 use Rattle.containment.proofs.Children.{feature_listed}
@@ -47,7 +47,7 @@ keys_apart s t differ = not_so (eq_by_cmp attr_cmp t s) (λ tied. differ (sym (s
 -- attributes of their elements' classes
 abbrev pub Attributes : Meta → FinMap id_cmp ℕ → List AttrKey → Type 0
 Attributes meta kind [] = Unit {0}
-Attributes meta kind (s ∷ ss) = (class_has meta (get kind s.0) s.1 ≡ true) × (is_attribute (kind_of meta s.1) ≡ true) × Attributes meta kind ss
+Attributes meta kind (s ∷ ss) = (class_has meta (get kind s.0) s.1 ≡ true) × (holds_values (kind_of meta s.1) ≡ true) × Attributes meta kind ss
 
 or_right : (b c : Bool) → b || c ≡ true → b ≡ false → c ≡ true
 or_right true c h g = cc
@@ -71,7 +71,7 @@ module _ (meta : Meta) (sound : Sound meta) (m : State) where
   kept_all [] = tt
   kept_all (s ∷ ss) = (refl, kept_all ss)
 
-  one_empty : (n : State) → Good meta n → (s : AttrKey) → class_has meta (get n.kind s.0) s.1 ≡ true → is_attribute (kind_of meta s.1) ≡ true → get n.attr s ≡ get m.attr s → fold meta n (emptied_made meta m s) ≡ Some (record n { attr = set n.attr s None })
+  one_empty : (n : State) → Good meta n → (s : AttrKey) → class_has meta (get n.kind s.0) s.1 ≡ true → holds_values (kind_of meta s.1) ≡ true → get n.attr s ≡ get m.attr s → fold meta n (emptied_made meta m s) ≡ Some (record n { attr = set n.attr s None })
   one_empty n good s has is kept =
       elim (is_attr (kind_of meta s.1)) as (λ b. is_attr (kind_of meta s.1) ≡ b → fold meta n (cond b (put_made m s.0 s.1 None) (clear_made m s.0 s.1)) ≡ Some (record n { attr = set n.attr s None })) [
         | true ↦ λ single. ap (fold meta n) (put_same single) ∙ put_meets meta n good s.0 s.1 None (has, single) refl refl
@@ -103,7 +103,7 @@ emptied_other : (ss : List AttrKey) (attr : Attrs) (k : AttrKey) → (In k ss �
 emptied_other [] attr k far = refl
 emptied_other (s ∷ ss) attr k far = emptied_other ss (set attr s None) k (λ h. far (inr h)) ∙ get-set_other attr_order attr s None k (keys_apart s k (λ e. far (inl (sym e))))
 
-value_kind : (meta : Meta) (k : Kind) (upper : Option ℕ) (vs : List Value) → ValuesOk meta k upper vs → is_attribute k ≡ true
+value_kind : (meta : Meta) (k : Kind) (upper : Option ℕ) (vs : List Value) → ValuesOk meta k upper vs → holds_values k ≡ true
 value_kind meta (Attr scalar default) upper vs ok = refl
 value_kind meta (AttrMany scalar unique) upper vs ok = refl
 value_kind meta (Bounded t o) upper vs ok = absurd ok
@@ -112,13 +112,13 @@ value_kind meta (Contains t o) upper vs ok = absurd ok
 value_kind meta (Container t o) upper vs ok = absurd ok
 value_kind meta Skip upper vs ok = absurd ok
 
-entry_kind : (meta : Meta) (c : Option ℕ) (f : ℕ) (vs : List Value) → AttrOk meta c f (Some vs) → (class_has meta c f ≡ true) × (is_attribute (kind_of meta f) ≡ true)
+entry_kind : (meta : Meta) (c : Option ℕ) (f : ℕ) (vs : List Value) → AttrOk meta c f (Some vs) → (class_has meta c f ≡ true) × (holds_values (kind_of meta f) ≡ true)
 entry_kind meta None f vs ok = absurd ok
 entry_kind meta (Some c) f vs ok = (ok.0, value_kind meta (kind_of meta f) (upper_of meta f) vs ok.1)
 
 module _ (meta : Meta) (m : State) (good : Good meta m) (xs : List IdBytes) where
   abbrev slots : List AttrKey
-  slots = slots_of meta m is_attribute xs
+  slots = slots_of meta m holds_values xs
 
   and_pair : (a b : Bool) → a && b ≡ true → (a ≡ true) × (b ≡ true)
   and_pair true b h = (refl, h)
@@ -127,8 +127,8 @@ module _ (meta : Meta) (m : State) (good : Good meta m) (xs : List IdBytes) wher
   all_attributes : (ss : List AttrKey) → ((s : AttrKey) → In s ss → In s slots) → Attributes meta m.kind ss
   all_attributes [] h = tt
   all_attributes (s ∷ ss) h =
-      let listed = (in_slots meta m is_attribute s xs (h s (inl refl))).1 in
-      let is = and_pair _ _ (in_filter (λ f. class_has meta (get m.kind s.0) f && is_attribute (kind_of meta f)) s.1 (numbers (length meta.features)) listed).1 in
+      let listed = (in_slots meta m holds_values s xs (h s (inl refl))).1 in
+      let is = and_pair _ _ (in_filter (λ f. class_has meta (get m.kind s.0) f && holds_values (kind_of meta f)) s.1 (numbers (length meta.features)) listed).1 in
       (is.0, is.1, all_attributes ss (λ t l. h t (inr l)))
 
   pub attributes : Attributes meta m.kind slots
@@ -139,7 +139,7 @@ module _ (meta : Meta) (m : State) (good : Good meta m) (xs : List IdBytes) wher
   values_left = same attr_order _ _ (λ k.
       elim (is_among xs k.0) as (λ b. is_among xs k.0 ≡ b → get (emptied slots m.attr) k ≡ cond b None (get m.attr k)) [
         | true ↦ λ one. here k one (get m.attr k) refl
-        | false ↦ λ none. emptied_other slots m.attr k (λ h. true_false (is_among xs k.0) (in_among k.0 xs (in_slots meta m is_attribute k xs h).0) none)
+        | false ↦ λ none. emptied_other slots m.attr k (λ h. true_false (is_among xs k.0) (in_among k.0 xs (in_slots meta m holds_values k xs h).0) none)
       ] refl
       ∙ sym (get-without attr_order (λ (k : AttrKey). is_among xs k.0) m.attr k))
     where
@@ -147,4 +147,4 @@ module _ (meta : Meta) (m : State) (good : Good meta m) (xs : List IdBytes) wher
       here k one None is = emptied_none slots m.attr k is
       here k one (Some vs) is =
           let ok = entry_kind meta (get m.kind k.0) k.1 vs (subst (λ o. AttrOk meta (get m.kind k.0) k.1 o) is (good.attrs.typed k.0 k.1)) in
-          emptied_here slots m.attr k (slot_in meta m is_attribute k.0 k.1 xs (among_in k.0 xs one) (feature_listed meta is_attribute (get m.kind k.0) k.1 refl ok.0 ok.1))
+          emptied_here slots m.attr k (slot_in meta m holds_values k.0 k.1 xs (among_in k.0 xs one) (feature_listed meta holds_values (get m.kind k.0) k.1 refl ok.0 ok.1))

@@ -8,8 +8,9 @@ use Rattle.model_state.specs.declared.step.Place.TheVariants.{Inside}
 use Rattle.model_state.specs.Keys.{IdBytes}
 use Rattle.model_state.specs.Listing.{children}
 use Rattle.model_state.specs.State.{State}
-use Rattle.containment.specs.Subtree.{children_by, children_of, ids_of, numbers}
+use Rattle.containment.specs.Subtree.{children_by, children_of, numbers}
 use Rattle.containment.proofs.Forests.{IsForest}
+use Rattle.edit_laws.specs.Standing.{ids_of}
 
 -- ---- the features below a number, and that number
 one_more : (n : ℕ) → numbers (n + 1) ≡ numbers n ++ n ∷ []

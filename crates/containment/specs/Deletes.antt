@@ -54,8 +54,8 @@ incoming_made meta row slots (x ∷ xs) = map (incoming_unlink meta row x) (inco
 
 -- ---- the values
 -- an attribute, single or many-valued
-abbrev pub is_attribute : Kind → Bool
-is_attribute k = is_attr k || is_many k
+abbrev pub holds_values : Kind → Bool
+holds_values k = is_attr k || is_many k
 
 -- a single attribute is unset; of a many-valued one each value is removed, the last first
 abbrev pub emptied_made : Meta → State → AttrKey → List Step
@@ -84,7 +84,7 @@ removal_made meta m xs =
     let references = slots_of meta m is_plain xs in
     outgoing_made meta m.row [] references
     ++ (incoming_made meta m.row references xs
-    ++ (values_made meta m (slots_of meta m is_attribute xs)
+    ++ (values_made meta m (slots_of meta m holds_values xs)
     ++ gone_made m xs))
 
 -- all maps without the elements; a row stays where both its ends stay

@@ -8,7 +8,7 @@ use Rattle.model_state.specs.declared.step.Place.TheVariants.{Root, Inside}
 use Rattle.model_state.specs.Keys.{IdBytes}
 use Rattle.model_state.specs.State.{State, place_eq}
 use Rattle.model_state.specs.Steps.{class_has, may_move, may_stand, has_room}
-use Rattle.model_state.specs.Typing.{kind_of, contains_kind}
+use Rattle.model_state.specs.Typing.{kind_of, is_containment}
 use Rattle.model_state.specs.Listing.{children}
 use Rattle.edit_laws.specs.Spot.{spot, end_spot}
 use Rattle.edit_laws.specs.References.{stands_at, without_entry}
@@ -28,7 +28,7 @@ IsRefusal first e = (e ≡ Memory) ⊎ (first ≡ Some e)
 -- the root, or a containment of a live element
 abbrev pub is_place : Meta → State → Place → Bool
 is_place meta m Root = true
-is_place meta m (Inside a f) = class_has meta (get m.kind a) f && contains_kind (kind_of meta f)
+is_place meta m (Inside a f) = class_has meta (get m.kind a) f && is_containment (kind_of meta f)
 
 -- the place is such a one
 abbrev pub IsPlace : Meta → State → Place → Type 0

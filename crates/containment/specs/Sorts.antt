@@ -4,9 +4,9 @@ use Rattle.ecore_meta.specs.declared.meta.Kind.{Kind}
 use Rattle.model_state.specs.Typing.{is_plain}
 use Rattle.containment.specs.declared.features.Sort.{Sort}
 use Rattle.containment.specs.declared.features.Sort.TheVariants.{Reference, Attribute}
-use Rattle.containment.specs.Deletes.{is_attribute}
+use Rattle.containment.specs.Deletes.{holds_values}
 
 -- the kind is of the sort
 abbrev pub passes : Sort → Kind → Bool
 passes Reference k = is_plain k
-passes Attribute k = is_attribute k
+passes Attribute k = holds_values k

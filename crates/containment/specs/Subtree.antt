@@ -1,17 +1,17 @@
 -- An element with all that it contains, in order.
-use Rattle.std.specs.Prelude.{ℕ, zero, suc, Bool, ◌&&◌, List, [], ◌∷◌, ◌++◌, length, map, Option}
+use Rattle.std.specs.Prelude.{ℕ, zero, suc, Bool, ◌&&◌, List, [], ◌∷◌, ◌++◌, length, Option}
 use Rattle.std.specs.List.{filter, list_any}
 use Rattle.std.specs.FinMap.{get}
 use Rattle.finite_maps.specs.Equal.{text_eq}
 use Rattle.ecore_meta.specs.Meta.{Meta}
 use Rattle.ecore_meta.specs.declared.meta.Kind.{Kind}
-use Rattle.model_state.specs.declared.entry.Entry.{Entry}
 use Rattle.model_state.specs.declared.step.Place.TheVariants.{Inside}
 use Rattle.model_state.specs.Keys.{IdBytes}
 use Rattle.model_state.specs.Listing.{children, ids}
 use Rattle.model_state.specs.State.{State}
 use Rattle.model_state.specs.Steps.{class_has}
-use Rattle.model_state.specs.Typing.{kind_of, contains_kind}
+use Rattle.model_state.specs.Typing.{kind_of, is_containment}
+use Rattle.edit_laws.specs.Standing.{ids_of}
 
 -- the numbers below n
 abbrev pub numbers : ℕ → List ℕ
@@ -22,10 +22,6 @@ numbers (suc n) = numbers n ++ n ∷ []
 abbrev pub features_of : Meta → (Kind → Bool) → Option ℕ → List ℕ
 features_of meta p c = filter (λ f. class_has meta c f && p (kind_of meta f)) (numbers (length meta.features))
 
--- the ids of entries
-abbrev pub ids_of : List Entry → List IdBytes
-ids_of xs = map (λ (x : Entry). x.id) xs
-
 -- the children of some features of an element, feature by feature
 abbrev pub children_by : State → IdBytes → List ℕ → List IdBytes
 children_by m e [] = []
@@ -33,7 +29,7 @@ children_by m e (f ∷ fs) = ids_of (children m.place m.prank (Inside e f)) ++ c
 
 -- the children of an element: those of its containments, by number
 abbrev pub children_of : Meta → State → IdBytes → List IdBytes
-children_of meta m e = children_by m e (features_of meta contains_kind (get m.kind e))
+children_of meta m e = children_by m e (features_of meta is_containment (get m.kind e))
 
 -- what a function gives of each item, one after another
 abbrev pub each : (IdBytes → List IdBytes) → List IdBytes → List IdBytes

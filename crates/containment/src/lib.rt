@@ -23,6 +23,7 @@ pub use laws::{
     law_of_containers, law_of_creations, law_of_deletions, law_of_moves, law_of_subtrees,
 };
 pub use moves::move_steps;
-pub use place::{is_containment, is_place};
+pub use place::is_containment;
 pub use spots::Spot;
+pub use values::dels;
 pub use walk::subtree;

@@ -1,16 +1,16 @@
-//! The tests of a place: whether it is one, whether it takes a class, and whether its upper bound lets one more in.
+//! The tests of a place: whether its feature is a containment, whether it takes a class, and whether its upper bound
+//! lets one more in.
 ghost use Rattle.std.specs.Prelude.{◌≡◌};
 ghost use Rattle.finite_maps.specs.Maps.{is_below};
 ghost use Rattle.model_state.specs.Steps.{has_room, may_move, may_stand};
-ghost use Rattle.model_state.specs.Typing.{child_upper, contains_kind, kind_of};
-ghost use Rattle.containment.specs.Refusals.{is_place};
+ghost use Rattle.model_state.specs.Typing.{child_upper, is_containment, kind_of};
 
 use ecore_meta::{Kind, Metamodel};
 use model_state::{Look, Place, child_upper, class_has, is_below_bound, may_contain};
 
 /// Whether the feature is a containment.
 pub fn is_containment(meta: &Metamodel, f: u32) -> bool
-    ensures { result ≡ contains_kind (kind_of meta.now f) }
+    ensures { result ≡ is_containment (kind_of meta.now f) }
 {
     if f < meta.feature_count() {
         match &meta.feature(f).kind {
@@ -19,18 +19,6 @@ pub fn is_containment(meta: &Metamodel, f: u32) -> bool
         }
     } else {
         false
-    }
-}
-
-/// Whether the place is the root, or a containment of a live element's class.
-pub fn is_place<L: Look>(look: &L, meta: &Metamodel, place: &Place) -> bool
-    ensures { result ≡ is_place meta.now (L.state look.now) place.now }
-{
-    match place {
-        Place::Root => true,
-        Place::Inside { parent, feature } => {
-            class_has(meta, look.class(parent), *feature) && is_containment(meta, *feature)
-        }
     }
 }
 

@@ -33,7 +33,7 @@ fn unset<L: Look>(
 }
 
 /// A step for each of the values, the last first.
-fn dels(
+pub fn dels(
     alloc: Global,
     e: &Id,
     f: u32,

@@ -3,7 +3,8 @@ ghost use Rattle.std.specs.Prelude.{◌≡◌, ◌++◌, IfOk, OnOk, reverse};
 ghost use Rattle.model_state.specs.Good.{Good};
 ghost use Rattle.model_state.specs.Listing.{children};
 ghost use Rattle.model_state.specs.declared.step.Place.TheVariants.{Inside};
-ghost use Rattle.containment.specs.Subtree.{children_of, ids_of, subtree_of};
+ghost use Rattle.containment.specs.Subtree.{children_of, subtree_of};
+ghost use Rattle.edit_laws.specs.Standing.{ids_of};
 
 use crate::place::is_containment;
 use ecore_meta::{List, Metamodel};

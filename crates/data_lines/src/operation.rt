@@ -2,7 +2,6 @@
 ghost use Rattle.std.specs.Prelude.{◌≡◌, ◌++◌, ◌∷◌, [], IfOk, OnOk, codes, map};
 ghost use Rattle.data_lines.specs.Lines.{kind_word, kind_words, open_lines, operation_line, operation_lines, after_spaces, step_line};
 ghost use Rattle.data_lines.specs.Typed.{AreTyped, IsTypedPackage};
-ghost use Rattle.model_state.specs.Packages.{steps_of};
 
 use crate::line::Line;
 use crate::step::step_line;
@@ -24,7 +23,7 @@ pub fn operation_lines(
     let mut lines = List::new(alloc);
     for (n, operation) in package.iter().enumerate() {
         lines.push(operation_line(alloc, n as u64 + 1, operation)?)?;
-        push_steps(alloc, &mut lines, steps_of(operation), meta)?;
+        push_steps(alloc, &mut lines, operation.steps(), meta)?;
     }
     Ok(lines)
 }
@@ -54,16 +53,6 @@ fn open_line(alloc: Global, name: &Text) -> Result<Text, AllocError>
     line.push("open")?;
     line.push_word(name.as_str())?;
     line.into_text()
-}
-
-/// The steps of an operation, simple or composite.
-pub(crate) fn steps_of(operation: &Operation) -> &[Step]
-    ensures { result.now ≡ steps_of operation.now }
-{
-    match operation {
-        Operation::Simple { steps, .. } => steps.as_slice(),
-        Operation::Composite { steps, .. } => steps.as_slice(),
-    }
 }
 
 fn push_steps(

@@ -24,7 +24,8 @@ use Rattle.model_laws.proofs.Births.{has_class}
 use Rattle.model_laws.proofs.Runs.{fold_more, fold_append}
 use Rattle.model_laws.proofs.Inserts.{insert-remove}
 use Rattle.model_laws.proofs.Many.{whole, part, from_entry}
-use Rattle.edit_laws.specs.ManyValues.{IsMany, MayInsert, values_in, with_values, insert_after, insert_made, remove_after, remove_made, shift_after, shift_made, clear_after, clear_made, dels}
+use Rattle.edit_laws.specs.ManyValues.{IsMany, MayInsert, with_values, insert_after, insert_made, remove_after, remove_made, shift_after, shift_made, clear_after, clear_made, dels}
+use Rattle.model_state.specs.Listing.{values_at}
 
 pub value_test : IsEquality (option_eq value_eq)
 value_test = option_equality value_eq value_equality
@@ -60,26 +61,26 @@ passes_at p (y ∷ ys) zero x is all = ap p (same x y (sym is)) ∙ and_first (p
     same x y e = cc
 passes_at p (y ∷ ys) (suc k) x is all = passes_at p ys k x is (and_second (p y) _ all)
 
-del_can : (meta : Meta) (m : State) (e : IdBytes) (f : ℕ) (k : ℕ) (v : Value) → IsMany meta m e f → many_fits meta (kind_of meta f) v ≡ true → nat_lt k (length (values_in m e f)) ≡ true → slice_get (values_in m e f) k ≡ Some v → Can meta m (Del e f k v)
+del_can : (meta : Meta) (m : State) (e : IdBytes) (f : ℕ) (k : ℕ) (v : Value) → IsMany meta m e f → many_fits meta (kind_of meta f) v ≡ true → nat_lt k (length (values_at m e f)) ≡ true → slice_get (values_at m e f) k ≡ Some v → Can meta m (Del e f k v)
 del_can meta m e f k v many fits less is =
     pass (tests meta m (Del e f k v)) (has_class meta (get m.kind e) f many.0, (many.0, (many.1, (fits, (less, (ap (λ o. option_eq value_eq o (Some v)) is ∙ value_test.own (Some v), tt))))))
 
-fits_at : (meta : Meta) (m : State) → Good meta m → (e : IdBytes) (f : ℕ) (k : ℕ) (v : Value) → IsMany meta m e f → slice_get (values_in m e f) k ≡ Some v → many_fits meta (kind_of meta f) v ≡ true
-fits_at meta m good e f k v many is = passes_at (many_fits meta (kind_of meta f)) (values_in m e f) k v is (from_entry meta (get m.kind e) f (get m.attr (e, f)) many.1 (good.attrs.typed e f)).typed
+fits_at : (meta : Meta) (m : State) → Good meta m → (e : IdBytes) (f : ℕ) (k : ℕ) (v : Value) → IsMany meta m e f → slice_get (values_at m e f) k ≡ Some v → many_fits meta (kind_of meta f) v ≡ true
+fits_at meta m good e f k v many is = passes_at (many_fits meta (kind_of meta f)) (values_at m e f) k v is (from_entry meta (get m.kind e) f (get m.attr (e, f)) many.1 (good.attrs.typed e f)).typed
 
-pub remove_meets : (meta : Meta) (m : State) → Good meta m → (e : IdBytes) (f : ℕ) (k : ℕ) → IsMany meta m e f → nat_lt k (length (values_in m e f)) ≡ true → fold meta m (remove_made m e f k) ≡ Some (remove_after m e f k)
+pub remove_meets : (meta : Meta) (m : State) → Good meta m → (e : IdBytes) (f : ℕ) (k : ℕ) → IsMany meta m e f → nat_lt k (length (values_at m e f)) ≡ true → fold meta m (remove_made m e f k) ≡ Some (remove_after m e f k)
 remove_meets meta m good e f k many less =
-    let found = at_place (values_in m e f) k less in
+    let found = at_place (values_at m e f) k less in
     ap (λ (o : Option Value). fold meta m (option_map_or (λ v. Del e f k v ∷ []) o [])) found.1
     ∙ fold_more meta m (Del e f k found.0) [] (del_can meta m e f k found.0 many (fits_at meta m good e f k found.0 many found.1) less found.1)
 
 -- ---- the values of an attribute
 -- those that it is given
-pub values_now : (m : State) (e : IdBytes) (f : ℕ) (vs : List Value) → values_in (with_values m e f vs) e f ≡ vs
+pub values_now : (m : State) (e : IdBytes) (f : ℕ) (vs : List Value) → values_at (with_values m e f vs) e f ≡ vs
 values_now m e f vs = ap values_of (get-set_same attr_order m.attr (e, f) (entry_of vs)) ∙ part vs
 
 -- the values that an attribute has already
-pub with_same : (meta : Meta) (m : State) → Good meta m → (e : IdBytes) (f : ℕ) (vs : List Value) → vs ≡ values_in m e f → with_values m e f vs ≡ m
+pub with_same : (meta : Meta) (m : State) → Good meta m → (e : IdBytes) (f : ℕ) (vs : List Value) → vs ≡ values_at m e f → with_values m e f vs ≡ m
 with_same meta m good e f vs same =
     ap (λ attr. record m { attr = attr })
     (set_here attr_order m.attr (e, f) (entry_of vs) (sym (ap entry_of same ∙ whole meta (get m.kind e) f (get m.attr (e, f)) (good.attrs.typed e f))))
@@ -94,10 +95,10 @@ shifted_own vs from to less same =
     let found = at_place vs from less in
     ap (shifted vs from) (sym same) ∙ shifted_is vs from from found.0 found.1 ∙ insert-remove vs from found.0 found.1
 
-pub shift_meets : (meta : Meta) (m : State) → Good meta m → (e : IdBytes) (f : ℕ) (from to : ℕ) → IsMany meta m e f → nat_lt from (length (values_in m e f)) ≡ true → nat_lt to (length (values_in m e f)) ≡ true
+pub shift_meets : (meta : Meta) (m : State) → Good meta m → (e : IdBytes) (f : ℕ) (from to : ℕ) → IsMany meta m e f → nat_lt from (length (values_at m e f)) ≡ true → nat_lt to (length (values_at m e f)) ≡ true
     → fold meta m (shift_made m e f from to) ≡ Some (shift_after m e f from to)
 shift_meets meta m good e f from to many from_in to_in =
-    let vs = values_in m e f in
+    let vs = values_at m e f in
     elim (list_eq value_eq (shifted vs from to) vs) as (λ t. list_eq value_eq (shifted vs from to) vs ≡ t → fold meta m (cond t [] (Shift e f from to ∷ [])) ≡ Some (shift_after m e f from to)) [
       | true ↦ λ equal. ap Some (sym (with_same meta m good e f (shifted vs from to) (values_test.exact (shifted vs from to) vs equal)))
       | false ↦ λ differ.
@@ -149,9 +150,9 @@ module _ (meta : Meta) (m : State) (e : IdBytes) (f : ℕ) (many : IsMany meta m
       let rest : fold meta (with_values m e f (front ++ v ∷ vs)) (dels e f (n + 1) vs) ≡ Some (with_values m e f more) =
       ap (λ ws. fold meta (with_values m e f ws) (dels e f (n + 1) vs)) (sym (append_one front v vs))
       ∙ dels_lead more vs (n + 1) (length_one front v ∙ ap (λ k. k + 1) long) (and_second (many_fits meta (kind_of meta f) v) _ fit) in
-      let less : nat_lt n (length (values_in (with_values m e f more) e f)) ≡ true = ap (λ ws. nat_lt n (length ws)) now ∙ ap (λ k. nat_lt k (length more)) (sym long) ∙ last_in front v in
-      let here : slice_get (values_in (with_values m e f more) e f) n ≡ Some v = ap (λ ws. slice_get ws n) now ∙ ap (slice_get more) (sym long) ∙ last_at front v in
-      let left : remove (values_in (with_values m e f more) e f) n ≡ front = ap (λ ws. remove ws n) now ∙ ap (remove more) (sym long) ∙ last_goes front v in
+      let less : nat_lt n (length (values_at (with_values m e f more) e f)) ≡ true = ap (λ ws. nat_lt n (length ws)) now ∙ ap (λ k. nat_lt k (length more)) (sym long) ∙ last_in front v in
+      let here : slice_get (values_at (with_values m e f more) e f) n ≡ Some v = ap (λ ws. slice_get ws n) now ∙ ap (slice_get more) (sym long) ∙ last_at front v in
+      let left : remove (values_at (with_values m e f more) e f) n ≡ front = ap (λ ws. remove ws n) now ∙ ap (remove more) (sym long) ∙ last_goes front v in
       fold_append meta (with_values m e f (front ++ v ∷ vs)) (with_values m e f more) (dels e f (n + 1) vs) (Del e f n v ∷ []) rest
       ∙ fold_more meta (with_values m e f more) (Del e f n v) [] (del_can meta (with_values m e f more) e f n v many (and_first (many_fits meta (kind_of meta f) v) _ fit) less here)
       ∙ ap (λ ws. Some (with_values (with_values m e f more) e f ws)) left
@@ -159,5 +160,5 @@ module _ (meta : Meta) (m : State) (e : IdBytes) (f : ℕ) (many : IsMany meta m
 
 pub clear_meets : (meta : Meta) (m : State) → Good meta m → (e : IdBytes) (f : ℕ) → IsMany meta m e f → fold meta m (clear_made m e f) ≡ Some (clear_after m e f)
 clear_meets meta m good e f many =
-    ap (λ n. fold meta n (clear_made m e f)) (sym (with_same meta m good e f (values_in m e f) refl))
-    ∙ dels_lead meta m e f many [] (values_in m e f) 0 refl (from_entry meta (get m.kind e) f (get m.attr (e, f)) many.1 (good.attrs.typed e f)).typed
+    ap (λ n. fold meta n (clear_made m e f)) (sym (with_same meta m good e f (values_at m e f) refl))
+    ∙ dels_lead meta m e f many [] (values_at m e f) 0 refl (from_entry meta (get m.kind e) f (get m.attr (e, f)) many.1 (good.attrs.typed e f)).typed

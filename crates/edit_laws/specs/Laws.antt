@@ -11,11 +11,11 @@ use Rattle.edit_laws.specs.Places.{MayCreate, create_after, create_made, MayMove
 use Rattle.ecore_meta.specs.declared.meta.Value.{Value}
 use Rattle.model_state.specs.Typing.{attr_fits, kind_of, opposite_of}
 use Rattle.model_state.specs.Keys.{RowKey}
-use Rattle.model_state.specs.Listing.{children, targets}
+use Rattle.model_state.specs.Listing.{children, targets, values_at}
 use Rattle.edit_laws.specs.Rows.{is_row_or_mirror}
 use Rattle.edit_laws.specs.Standing.{StandsAt, Joined, Placed, is_displaced, is_list}
 use Rattle.edit_laws.specs.Attributes.{IsAttribute, set_attr_after, set_attr_made, put_after, put_made}
-use Rattle.edit_laws.specs.ManyValues.{IsMany, MayInsert, values_in, insert_after, insert_made, remove_after, remove_made, shift_after, shift_made, clear_after, clear_made}
+use Rattle.edit_laws.specs.ManyValues.{IsMany, MayInsert, insert_after, insert_made, remove_after, remove_made, shift_after, shift_made, clear_after, clear_made}
 use Rattle.edit_laws.specs.References.{MaySet, MayLink, MayReorder, without_entry, set_ref_after, set_ref_made, link_after, link_made, unlink_after, unlink_made, unset_after, unset_made, reorder_after, reorder_made}
 
 -- a reference is set: the rows are those that it is to leave, and all else is as it was
@@ -80,12 +80,12 @@ InsertMeets = (meta : Meta) (m : State) (e : IdBytes) (f : ℕ) (k : ℕ) (v : V
 
 -- a value is removed
 abbrev pub RemoveMeets : Type 0
-RemoveMeets = (meta : Meta) (m : State) → Good meta m → (e : IdBytes) (f : ℕ) (k : ℕ) → IsMany meta m e f → nat_lt k (length (values_in m e f)) ≡ true
+RemoveMeets = (meta : Meta) (m : State) → Good meta m → (e : IdBytes) (f : ℕ) (k : ℕ) → IsMany meta m e f → nat_lt k (length (values_at m e f)) ≡ true
     → fold meta m (remove_made m e f k) ≡ Some (remove_after m e f k)
 
 -- a value changes its place
 abbrev pub ShiftMeets : Type 0
-ShiftMeets = (meta : Meta) (m : State) → Good meta m → (e : IdBytes) (f : ℕ) (from to : ℕ) → IsMany meta m e f → nat_lt from (length (values_in m e f)) ≡ true → nat_lt to (length (values_in m e f)) ≡ true
+ShiftMeets = (meta : Meta) (m : State) → Good meta m → (e : IdBytes) (f : ℕ) (from to : ℕ) → IsMany meta m e f → nat_lt from (length (values_at m e f)) ≡ true → nat_lt to (length (values_at m e f)) ≡ true
     → fold meta m (shift_made m e f from to) ≡ Some (shift_after m e f from to)
 
 -- all values are removed

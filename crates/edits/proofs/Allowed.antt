@@ -5,13 +5,13 @@ use Rattle.std.specs.FinMap.{get}
 use Rattle.ecore_meta.specs.Meta.{Meta}
 use Rattle.model_state.specs.declared.step.Place.{Place}
 use Rattle.model_state.specs.Keys.{IdBytes}
-use Rattle.model_state.specs.Listing.{targets}
+use Rattle.model_state.specs.Listing.{targets, values_at}
 use Rattle.model_state.specs.State.{State, is_live}
 use Rattle.model_state.specs.Steps.{value_fits, not_default}
 use Rattle.edit_laws.specs.declared.fault.EditFault.{EditFault}
 use Rattle.edit_laws.specs.References.{MaySet, MayLink, MayReorder}
 use Rattle.edit_laws.specs.Attributes.{IsAttribute}
-use Rattle.edit_laws.specs.ManyValues.{IsMany, MayInsert, values_in}
+use Rattle.edit_laws.specs.ManyValues.{IsMany, MayInsert}
 use Rattle.edit_laws.specs.Places.{MayCreate}
 use Rattle.containment.specs.Refusals.{IsPlace, move_refusal}
 use Rattle.containment.specs.Containers.{containers_of}
@@ -31,8 +31,8 @@ Allowed meta m (Deletes e) = is_live m e ≡ true
 Allowed meta m (Puts e f v) = IsAttribute meta m e f × (value_fits meta f v ≡ true) × (not_default meta f v ≡ true)
 Allowed meta m (Clears e f) = IsMany meta m e f
 Allowed meta m (Inserts e f k v) = MayInsert meta m e f k v
-Allowed meta m (Removes e f k) = IsMany meta m e f × (nat_lt k (length (values_in m e f)) ≡ true)
-Allowed meta m (Shifts e f from to) = IsMany meta m e f × (nat_lt from (length (values_in m e f)) ≡ true) × (nat_lt to (length (values_in m e f)) ≡ true)
+Allowed meta m (Removes e f k) = IsMany meta m e f × (nat_lt k (length (values_at m e f)) ≡ true)
+Allowed meta m (Shifts e f from to) = IsMany meta m e f × (nat_lt from (length (values_at m e f)) ≡ true) × (nat_lt to (length (values_at m e f)) ≡ true)
 Allowed meta m (Refers a f b) = MaySet meta m a f b
 Allowed meta m (Forgets a f) = Unit {0}
 Allowed meta m (Links a f b k) = MayLink meta m a f b k × (nat_le k (length (targets m.row a f)) ≡ true)

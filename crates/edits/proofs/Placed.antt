@@ -10,7 +10,7 @@ use Rattle.model_state.specs.Ident.{is_id}
 use Rattle.model_state.specs.Keys.{IdBytes}
 use Rattle.model_state.specs.State.{State, is_live}
 use Rattle.model_state.specs.Steps.{fold, class_has, place_live}
-use Rattle.model_state.specs.Typing.{kind_of, is_concrete, contains_kind}
+use Rattle.model_state.specs.Typing.{kind_of, is_concrete, is_containment}
 use Rattle.model_state.specs.Good.{Good, Sound}
 use Rattle.edit_laws.specs.declared.fault.EditFault.{EditFault}
 use Rattle.edit_laws.specs.Places.{MayCreate}
@@ -38,7 +38,7 @@ same_place x y h = cc
 inside_is : (meta : Meta) (m : State) (a : IdBytes) (r : Result ℕ EditFault) → ((f : ℕ) → r ≡ Ok f → class_has meta (get m.kind a) f ≡ true) → (p : Place) → place_inside meta a r ≡ Ok p → IsPlace meta m p
 inside_is meta m a (Err e) held p h = cc
 inside_is meta m a (Ok f) held p h =
-    let contains = passed (contains_kind (kind_of meta f)) _ _ p h in
+    let contains = passed (is_containment (kind_of meta f)) _ _ p h in
     subst (IsPlace meta m) (same_place (places.Inside a f) p contains.1) (and_both _ _ (held f refl) contains.0)
 
 pub place_is : (meta : Meta) (m : State) (to : Destination) (p : Place) → place_at meta m to ≡ Ok p → IsPlace meta m p

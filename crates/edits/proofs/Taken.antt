@@ -20,7 +20,7 @@ use Rattle.model_state.specs.declared.entry.Entry.{Entry}
 use Rattle.model_state.specs.declared.step.Place.TheVariants.{Root}
 use Rattle.model_state.specs.Ident.{is_id}
 use Rattle.model_state.specs.Keys.{IdBytes}
-use Rattle.model_state.specs.Listing.{children}
+use Rattle.model_state.specs.Listing.{children, values_at}
 use Rattle.model_state.specs.State.{State, is_live}
 use Rattle.model_state.specs.Steps.{fold, class_has, value_fits, not_default}
 use Rattle.model_state.specs.Typing.{value_eq, kind_of, upper_of, is_concrete, is_attr, is_many, is_unique, attr_fits, many_fits}
@@ -34,7 +34,7 @@ use Rattle.edit_laws.specs.Refusals.{set_ref_refusal, link_index, link_refusal, 
 use Rattle.edit_laws.specs.Spot.{rank_for, ranks_of, spot_by}
 use Rattle.edit_laws.specs.Places.{MayCreate}
 use Rattle.edit_laws.specs.Attributes.{IsAttribute, taken}
-use Rattle.edit_laws.specs.ManyValues.{IsMany, MayInsert, values_in}
+use Rattle.edit_laws.specs.ManyValues.{IsMany, MayInsert}
 use Rattle.edits.specs.FreshIds.{id_or_fresh}
 use Rattle.edits.specs.Edits.{Reading, Effect, Creates, Moves, Deletes, Puts, Clears, Inserts, Removes, Shifts, Refers, Forgets, Links, Unlinks, Reorders, class_at, feature_at, put_effect, unless_refused, target_in, refer_effect, set_effect, unset_effect, insert_effect, add_effect, remove_effect, shift_effect, is_listed, link_effect, unlink_effect, reorder_effect, of_feature, effect_of, made, after}
 use Rattle.containment.proofs.DeleteLaws.{delete_leads}
@@ -92,11 +92,11 @@ module _ (meta : Meta) (m : State) (e : IdBytes) (f : ℕ) (has : class_has meta
   unset_allowed (Free target opposite) is h = allowed_as meta m (Forgets e f) effect h tt
   unset_allowed k is h = cc
 
-  insert_allowed : (scalar : Scalar) (unique : Bool) → kind_of meta f ≡ AttrMany scalar unique → (k : ℕ) → nat_le k (length (values_in m e f)) ≡ true → (o : Option Value) → ((v : Value) → o ≡ Some v → fits meta scalar v ≡ true)
-      → insert_effect e f unique (upper_of meta f) (values_in m e f) k o ≡ Ok effect → Allowed meta m effect
+  insert_allowed : (scalar : Scalar) (unique : Bool) → kind_of meta f ≡ AttrMany scalar unique → (k : ℕ) → nat_le k (length (values_at m e f)) ≡ true → (o : Option Value) → ((v : Value) → o ≡ Some v → fits meta scalar v ≡ true)
+      → insert_effect e f unique (upper_of meta f) (values_at m e f) k o ≡ Ok effect → Allowed meta m effect
   insert_allowed scalar unique is k within None fit h = cc
   insert_allowed scalar unique is k within (Some v) fit h =
-      let vs = values_in m e f in
+      let vs = values_at m e f in
       let once = missed (unique && list_any (value_eq v) vs) _ _ effect h in
       let room = passed (is_below (length vs) (upper_of meta f)) _ _ effect once.1 in
       let few = passed (nat_lt (length vs) most_entries) _ _ effect room.1 in
@@ -111,21 +111,21 @@ module _ (meta : Meta) (m : State) (e : IdBytes) (f : ℕ) (has : class_has meta
 
   add_allowed : (reading : Reading) → IsTyped meta reading → (at : Option ℕ) (text : List ℕ) (k : Kind) → kind_of meta f ≡ k → add_effect reading meta m e f k at text ≡ Ok effect → Allowed meta m effect
   add_allowed reading typed at text (AttrMany scalar unique) is h =
-      let k = unwrap_or at (length (values_in m e f)) in
-      let within = passed (nat_le k (length (values_in m e f))) _ _ effect h in
+      let k = unwrap_or at (length (values_at m e f)) in
+      let within = passed (nat_le k (length (values_at m e f))) _ _ effect h in
       insert_allowed scalar unique is k within.0 (reading scalar text) (typed scalar text) within.1
   add_allowed reading typed at text k is h = cc
 
   remove_allowed : (i : ℕ) (k : Kind) → kind_of meta f ≡ k → remove_effect m e f k i ≡ Ok effect → Allowed meta m effect
   remove_allowed i (AttrMany scalar unique) is h =
-      let within = passed (nat_lt i (length (values_in m e f))) _ _ effect h in
+      let within = passed (nat_lt i (length (values_at m e f))) _ _ effect h in
       allowed_as meta m (Removes e f i) effect within.1 ((has, ap is_many is), within.0)
   remove_allowed i k is h = cc
 
   shift_allowed : (from to : ℕ) (k : Kind) → kind_of meta f ≡ k → shift_effect m e f k from to ≡ Ok effect → Allowed meta m effect
   shift_allowed from to (AttrMany scalar unique) is h =
-      let within = passed (nat_lt from (length (values_in m e f))) _ _ effect h in
-      let within_to = passed (nat_lt to (length (values_in m e f))) _ _ effect within.1 in
+      let within = passed (nat_lt from (length (values_at m e f))) _ _ effect h in
+      let within_to = passed (nat_lt to (length (values_at m e f))) _ _ effect within.1 in
       allowed_as meta m (Shifts e f from to) effect within_to.1 ((has, ap is_many is), within.0, within_to.0)
   shift_allowed from to k is h = cc
 

@@ -23,7 +23,7 @@ use Rattle.model_laws.proofs.Runs.{same_state}
 use Rattle.edit_laws.specs.Attributes.{single_value}
 use Rattle.edit_laws.specs.Rows.{Rows}
 use Rattle.edit_laws.specs.References.{set_ref_after, link_after, unlink_after, unset_after, reorder_after}
-use Rattle.edit_laws.specs.ManyValues.{values_in, with_values, dels}
+use Rattle.edit_laws.specs.ManyValues.{with_values, dels}
 use Rattle.edits.specs.Edits.{Effect, Creates, Moves, Deletes, Puts, Clears, Inserts, Removes, Shifts, Refers, Forgets, Links, Unlinks, Reorders, made, after}
 use Rattle.edits.specs.Laws.{EditsIdle}
 use Rattle.edit_laws.proofs.Idle.{set_ref_still, link_still, unlink_still, unset_still, reorder_still}
@@ -33,6 +33,7 @@ use Rattle.containment.specs.Containers.{containers_of}
 use Rattle.edits.proofs.Allowed.{Allowed}
 use Rattle.edits.proofs.Stays.{move_still, deleted}
 use Rattle.edits.proofs.Taken.{allowed, made_leads}
+use Rattle.model_state.specs.Listing.{values_at}
 
 -- a run of no step changes nothing
 nothing_made : (meta : Meta) (m n : State) (ss : List Step) → fold meta m ss ≡ Some n → ss ≡ [] → n ≡ m
@@ -43,8 +44,8 @@ held_single None = refl
 held_single (Some v) = refl
 
 -- values that change nothing are those that are there
-same_values : (m : State) (e : IdBytes) (f : ℕ) (vs : List Value) → with_values m e f vs ≡ m → vs ≡ values_in m e f
-same_values m e f vs same = sym (values_now m e f vs) ∙ ap (λ (x : State). values_in x e f) same
+same_values : (m : State) (e : IdBytes) (f : ℕ) (vs : List Value) → with_values m e f vs ≡ m → vs ≡ values_at m e f
+same_values m e f vs same = sym (values_now m e f vs) ∙ ap (λ (x : State). values_at x e f) same
 
 longer : (vs : List Value) (k : ℕ) (v : Value) → nat_le k (length vs) ≡ true → insert vs k v ≡ vs → ⊥
 longer vs k v within same = omega (arith, length-insert vs k v (le k (length vs) within), ap length same)
@@ -74,10 +75,10 @@ still meta sound m good (Puts e f v) may same =
     let equal : option_eq value_eq (single_value (get m.attr (e, f))) v ≡ true = ap (λ o. option_eq value_eq (single_value o) v) here ∙ ap (λ o. option_eq value_eq o v) (held_single v) ∙ value_test.own v in
     ap (λ b. cond {A = List Step} b [] (Put e f (single_value (get m.attr (e, f))) v ∷ [])) equal
 still meta sound m good (Clears e f) may same = ap (dels e f 0) (sym (same_values m e f [] same))
-still meta sound m good (Inserts e f k v) may same = absurd (longer (values_in m e f) k v may.within (same_values m e f (insert (values_in m e f) k v) same))
-still meta sound m good (Removes e f k) may same = absurd (shorter (values_in m e f) k may.1 (same_values m e f (remove (values_in m e f) k) same))
+still meta sound m good (Inserts e f k v) may same = absurd (longer (values_at m e f) k v may.within (same_values m e f (insert (values_at m e f) k v) same))
+still meta sound m good (Removes e f k) may same = absurd (shorter (values_at m e f) k may.1 (same_values m e f (remove (values_at m e f) k) same))
 still meta sound m good (Shifts e f from to) may same =
-    let vs = values_in m e f in
+    let vs = values_at m e f in
     let equal : list_eq value_eq (shifted vs from to) vs ≡ true = ap (λ ws. list_eq value_eq ws vs) (same_values m e f (shifted vs from to) same) ∙ values_test.own vs in
     ap (λ b. cond {A = List Step} b [] (Shift e f from to ∷ [])) equal
 still meta sound m good (Refers a f b) may same = set_ref_still meta sound m a f b (same_rows m (set_ref_after meta a f b m.row) same)

@@ -20,7 +20,7 @@ use Rattle.model_state.specs.declared.step.Step.{Step}
 use Rattle.model_state.specs.Ident.{is_id}
 use Rattle.model_state.specs.Keys.{IdBytes}
 use Rattle.model_state.specs.State.{State, is_live}
-use Rattle.model_state.specs.Typing.{value_eq, kind_of, upper_of, is_concrete, is_plain, contains_kind}
+use Rattle.model_state.specs.Typing.{value_eq, kind_of, upper_of, is_concrete, is_plain, is_containment}
 use Rattle.edits.specs.declared.edit.Edit.{Edit}
 use Rattle.edits.specs.declared.edit.Edit.TheVariants.{Create, Delete, Set, Unset, Add, Remove, Shift, Link, Unlink, Reorder, Move}
 use Rattle.edits.specs.declared.edit.Destination.{Destination}
@@ -32,7 +32,7 @@ use Rattle.edit_laws.specs.References.{holds_one, set_ref_after, set_ref_made, l
 use Rattle.edit_laws.specs.Refusals.{set_ref_refusal, link_index, link_refusal, unlink_refusal, reorder_refusal}
 use Rattle.edit_laws.specs.Places.{create_after, create_made}
 use Rattle.edit_laws.specs.Attributes.{taken, put_after, put_made}
-use Rattle.edit_laws.specs.ManyValues.{values_in, insert_after, insert_made, remove_after, remove_made, shift_after, shift_made, clear_after, clear_made}
+use Rattle.edit_laws.specs.ManyValues.{insert_after, insert_made, remove_after, remove_made, shift_after, shift_made, clear_after, clear_made}
 use Rattle.containment.specs.declared.fault.MoveFault.{MoveFault}
 use Rattle.containment.specs.EditFaults.{edit_fault}
 use Rattle.containment.specs.Refusals.{create_refusal, move_refusal, place_of}
@@ -41,6 +41,7 @@ use Rattle.containment.specs.Deletes.{delete_after, delete_made}
 use Rattle.edits.specs.FreshIds.{id_or_fresh}
 use Rattle.containment.specs.Containers.{containers_of}
 use Rattle.model_state.specs.Ranks.{most_entries}
+use Rattle.model_state.specs.Listing.{values_at}
 
 -- which value of a type a text is, where it is one
 abbrev pub Reading : Type 0
@@ -88,7 +89,7 @@ feature_at meta (Some class) name = ok_or (feature_named meta class name) NoFeat
 -- the containment of an element, where the feature is one
 abbrev pub place_inside : Meta → IdBytes → Result ℕ EditFault → Result Place EditFault
 place_inside meta a (Err fault) = Err fault
-place_inside meta a (Ok f) = if not (contains_kind (kind_of meta f)) then Err WrongKind else Ok (places.Inside a f)
+place_inside meta a (Ok f) = if not (is_containment (kind_of meta f)) then Err WrongKind else Ok (places.Inside a f)
 
 -- the place where an element is to stand, or why there is none
 abbrev pub place_at : Meta → State → Destination → Result Place EditFault
@@ -167,20 +168,24 @@ unset_effect e f (Bounded target opposite) = Ok (Forgets e f)
 unset_effect e f (Free target opposite) = Ok (Forgets e f)
 unset_effect e f kind = Err WrongKind
 
--- There is a value, which is not held yet where each is held once. There is room for it under the upper bound, and fewer than
--- most_entries values are there.
-abbrev pub insert_effect : IdBytes → ℕ → Bool → Option ℕ → List Value → ℕ → Option Value → Result Effect EditFault
-insert_effect e f unique upper vs k None = Err BadValue
-insert_effect e f unique upper vs k (Some v) =
+-- What is given, where a list of values takes one more: it is not held yet where each is held once. There is room for it under the
+-- upper bound, and fewer than most_entries values are there.
+abbrev pub accepts : {T : Type 0} → Bool → Option ℕ → List Value → Value → T → Result T EditFault
+accepts unique upper vs v given =
     if unique && list_any (value_eq v) vs then Err AlreadyThere
     else if not (is_below (length vs) upper) then Err Bound
     else if not (nat_lt (length vs) most_entries) then Err Bound
-    else Ok (Inserts e f k v)
+    else Ok given
+
+-- there is a value, which the list takes
+abbrev pub insert_effect : IdBytes → ℕ → Bool → Option ℕ → List Value → ℕ → Option Value → Result Effect EditFault
+insert_effect e f unique upper vs k None = Err BadValue
+insert_effect e f unique upper vs k (Some v) = accepts unique upper vs v (Inserts e f k v)
 
 -- the feature is a many-valued attribute, the index is one of its values or their end, and the text is a value of its type
 abbrev pub add_effect : Reading → Meta → State → IdBytes → ℕ → Kind → Option ℕ → List ℕ → Result Effect EditFault
 add_effect reading meta m e f (AttrMany scalar unique) at text =
-    let vs = values_in m e f in
+    let vs = values_at m e f in
     let k = unwrap_or at (length vs) in
     if not (nat_le k (length vs)) then Err NoEntry
     else insert_effect e f unique (upper_of meta f) vs k (reading scalar text)
@@ -188,14 +193,14 @@ add_effect reading meta m e f kind at text = Err WrongKind
 
 -- the feature is a many-valued attribute, and the index that of a value
 abbrev pub remove_effect : State → IdBytes → ℕ → Kind → ℕ → Result Effect EditFault
-remove_effect m e f (AttrMany scalar unique) k = if not (nat_lt k (length (values_in m e f))) then Err NoEntry else Ok (Removes e f k)
+remove_effect m e f (AttrMany scalar unique) k = if not (nat_lt k (length (values_at m e f))) then Err NoEntry else Ok (Removes e f k)
 remove_effect m e f kind k = Err WrongKind
 
 -- the feature is a many-valued attribute, and both indices those of values
 abbrev pub shift_effect : State → IdBytes → ℕ → Kind → ℕ → ℕ → Result Effect EditFault
 shift_effect m e f (AttrMany scalar unique) from to =
-    if not (nat_lt from (length (values_in m e f))) then Err NoEntry
-    else if not (nat_lt to (length (values_in m e f))) then Err NoEntry
+    if not (nat_lt from (length (values_at m e f))) then Err NoEntry
+    else if not (nat_lt to (length (values_at m e f))) then Err NoEntry
     else Ok (Shifts e f from to)
 shift_effect m e f kind from to = Err WrongKind
 

@@ -12,7 +12,7 @@ use Rattle.ecore_meta.specs.Meta.{Meta, feature_named, name_at}
 use Rattle.ecore_meta.specs.declared.meta.Kind.{Kind}
 use Rattle.ecore_meta.specs.declared.meta.Kind.TheVariants.{Contains}
 use Rattle.ecore_meta.specs.Names.{Name}
-use Rattle.model_state.specs.Typing.{child_upper, contains_kind, kind_of, upper_of}
+use Rattle.model_state.specs.Typing.{child_upper, is_containment, kind_of, upper_of}
 use Rattle.emfjson_drafts.specs.declared.doc.DocParent.{DocParent}
 use Rattle.emfjson_drafts.specs.declared.draft.Draft.{Draft}
 use Rattle.finite_maps.specs.Maps.{is_within}
@@ -139,7 +139,7 @@ module _ (meta : Meta) where
   -- the bound of a containment is that of its children
   contains_upper : (f target : ℕ) (opposite : Option ℕ) (n : ℕ) → kind_of meta f ≡ Contains target opposite → is_within n (upper_of meta f) ≡ true → is_within n (child_upper meta f) ≡ true
   contains_upper f target opposite n kind within =
-      ap (λ (k : Kind). is_within n (cond (contains_kind k) (upper_of meta f) None)) kind ∙ within
+      ap (λ (k : Kind). is_within n (cond (is_containment k) (upper_of meta f) None)) kind ∙ within
 
   named_is : (c : ℕ) (k : Name) (f : ℕ) → feature_named meta c k ≡ Some f → name_at meta.features f ≡ k
   named_is c k f named = (bytes_eq-Decides (name_at meta.features f) k).0 (named_has meta c k f named).1

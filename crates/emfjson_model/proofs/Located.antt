@@ -5,7 +5,7 @@ use Rattle.std.specs.List.{slice_split}
 use Rattle.ecore_meta.specs.Meta.{Meta, feature_named}
 use Rattle.ecore_json.specs.References.{after_prefix}
 use Rattle.ecore_meta.specs.Names.{Name}
-use Rattle.model_state.specs.Typing.{contains_kind, kind_of, upper_of}
+use Rattle.model_state.specs.Typing.{is_containment, kind_of, upper_of}
 use Rattle.emfjson_drafts.specs.declared.doc.DocParent.{DocParent}
 use Rattle.emfjson_drafts.specs.declared.draft.Draft.{Draft}
 use Rattle.ecore_meta.specs.Typing.{is_one}
@@ -55,7 +55,7 @@ module _ (meta : Meta) (rows : List Draft) where
 
   by_row : (p : ℕ) (f : Option ℕ) (index : Option Name) (m : ℕ) → child_by meta rows p f index ≡ Some m → IsRow rows m
   by_row p None index m h = cc
-  by_row p (Some f) index m h = by_test (contains_kind (kind_of meta f)) h
+  by_row p (Some f) index m h = by_test (is_containment (kind_of meta f)) h
     where
       by_test : (b : Bool) → cond b (option_and_then (child_at rows (Some (record { row = p; feature = f }))) (index_of (is_one (upper_of meta f)) index)) None ≡ Some m → IsRow rows m
       by_test true h = children_row (Some (record { row = p; feature = f })) (index_of (is_one (upper_of meta f)) index) m h

@@ -6,7 +6,7 @@ use Rattle.std.specs.Str.Parse.{digits_value}
 use Rattle.ecore_meta.specs.Meta.{Meta, feature_named, features_of}
 use Rattle.ecore_json.specs.References.{after_prefix}
 use Rattle.ecore_meta.specs.Names.{Name}
-use Rattle.model_state.specs.Typing.{contains_kind, is_plain, kind_of, plain_to, upper_of}
+use Rattle.model_state.specs.Typing.{is_containment, is_plain, kind_of, plain_to, upper_of}
 use Rattle.emfjson_model.specs.declared.doc.DocRefs.{DocRefs}
 use Rattle.emfjson_drafts.specs.declared.draft.Draft.{Draft}
 use Rattle.emfjson_drafts.specs.declared.draft.Links.{Links}
@@ -31,7 +31,7 @@ index_of false (Some t) = number_of t
 abbrev pub child_by : Meta → List Draft → ℕ → Option ℕ → Option Name → Option ℕ
 child_by meta rows p None index = None
 child_by meta rows p (Some f) index =
-    cond (contains_kind (kind_of meta f)) (option_and_then (child_at rows (Some (record { row = p; feature = f }))) (index_of (is_one (upper_of meta f)) index)) None
+    cond (is_containment (kind_of meta f)) (option_and_then (child_at rows (Some (record { row = p; feature = f }))) (index_of (is_one (upper_of meta f)) index)) None
 
 -- the child that the parts of a step name: a feature, and after the dot an index
 abbrev pub child_named : Meta → List Draft → ℕ → List Name → Option ℕ

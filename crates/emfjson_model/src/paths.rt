@@ -2,7 +2,7 @@
 ghost use Rattle.std.specs.Prelude.{◌≡◌, ◌==◌, IfOk, map, option_and_then, option_map};
 ghost use Rattle.std.specs.List.{list_all, slice_split};
 ghost use Rattle.std.specs.Char.{is_ascii_digit};
-ghost use Rattle.model_state.specs.Typing.{contains_kind, kind_of};
+ghost use Rattle.model_state.specs.Typing.{is_containment, kind_of};
 ghost use Rattle.emfjson_model.specs.References.{along, along_parts, child_by, child_named, index_of, located, located_bare, number_of, root_at, step_from};
 
 use ecore_meta::{Kind, Metamodel};
@@ -40,7 +40,7 @@ fn index_of(single: bool, text: Option<&str>) -> Option<u32>
 }
 
 fn is_containment(meta: &Metamodel, f: u32) -> bool
-    ensures { result ≡ contains_kind (kind_of meta.now f) }
+    ensures { result ≡ is_containment (kind_of meta.now f) }
 {
     match meta.get_feature(f) {
         None => false,

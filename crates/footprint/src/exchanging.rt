@@ -2,7 +2,7 @@
 ghost use Rattle.std.specs.Prelude.{◌≡◌, ◌∷◌, [], false, OnOk, Some};
 ghost use Rattle.model_state.specs.State.{State};
 ghost use Rattle.model_state.specs.Good.{Good, Sound};
-ghost use Rattle.model_state.specs.Packages.{steps_of, fold_package};
+ghost use Rattle.model_state.specs.Packages.{fold_package};
 ghost use Rattle.model_state.specs.Steps.{fold};
 ghost use Rattle.footprint.specs.Interference.{interferes};
 
@@ -10,15 +10,6 @@ use ecore_meta::Metamodel;
 use model_laws::replay;
 use model_state::{Change, Operation, Step};
 use std::alloc::AllocError;
-
-fn steps_of(op: &Operation) -> &[Step]
-    ensures { result.now ≡ steps_of op.now }
-{
-    match op {
-        Operation::Simple { steps, .. } => steps.as_slice(),
-        Operation::Composite { steps, .. } => steps.as_slice(),
-    }
-}
 
 /// Takes the steps, which can be taken.
 fn take_steps<M: Change>(model: &mut M, meta: &Metamodel, steps: &[Step]) -> Result<(), AllocError>
@@ -49,7 +40,7 @@ pub fn exchange<M: Change>(
     ensures swapped { OnOk result (fold_package meta.now (M.state model.old) (second.now ∷ first.now ∷ []) ≡ Some (M.state model.new)) }
     ensures good { Good meta.now (M.state model.new) }
 {
-    take_steps(model, meta, steps_of(second))?;
-    take_steps(model, meta, steps_of(first))?;
+    take_steps(model, meta, second.steps())?;
+    take_steps(model, meta, first.steps())?;
     Ok(())
 }

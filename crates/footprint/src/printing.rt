@@ -2,7 +2,7 @@
 ghost use Rattle.std.specs.Prelude.{◌≡◌, ◌++◌, ◌∷◌, [], IfOk, OnOk, map};
 ghost use Rattle.model_state.specs.Packages.{steps_of};
 ghost use Rattle.model_state.specs.Typing.{opposite_of};
-ghost use Rattle.model_laws.specs.Cells.{OfKind, OfPlace, OfRank, is_bounded, is_finite, side, mirror_side, place_list, parent_kind, step_writes, kinds_read, others_read, step_reads, writes_all, reads_all};
+ghost use Rattle.model_laws.specs.Cells.{OfKind, OfPlace, OfRank, is_bounded, is_finite, side, mirror_side, place_list, parents_of, step_writes, kinds_read, others_read, step_reads, writes_all, reads_all};
 ghost use Rattle.footprint.specs.Interference.{op_writes, op_reads};
 ghost use Rattle.footprint.specs.Prints.{seen, cells, shown, printed};
 
@@ -159,7 +159,7 @@ fn put_kind(alloc: Global, list: &mut List<Cell>, e: &Id) -> Result<(), AllocErr
 }
 
 fn put_parent(alloc: Global, list: &mut List<Cell>, place: &Place) -> Result<(), AllocError>
-    ensures { OnOk result (cells list.new ≡ cells list.old ++ map OfKind (parent_kind place.now)) }
+    ensures { OnOk result (cells list.new ≡ cells list.old ++ map OfKind (parents_of place.now)) }
 {
     match place {
         Place::Root => Ok(()),
@@ -190,7 +190,7 @@ fn put_kinds_of_move(
     from: &Place,
     to: &Place,
 ) -> Result<(), AllocError>
-    ensures { OnOk result (cells list.new ≡ cells list.old ++ map OfKind (e.now ∷ (parent_kind from.now ++ parent_kind to.now))) }
+    ensures { OnOk result (cells list.new ≡ cells list.old ++ map OfKind (e.now ∷ (parents_of from.now ++ parents_of to.now))) }
 {
     put_kind(alloc, list, e)?;
     put_parent(alloc, list, from)?;

@@ -7,5 +7,5 @@ use Rattle.merge_choices.specs.declared.fault.ChoiceFault.TheVariants.{BadChoice
 
 -- BadChoice has both numbers, which differ; out of memory comes only where they are equal
 abbrev pub IsChoiceFault : List Bucket → List Side → ChoiceFault → Type 0
-IsChoiceFault rows letters (BadChoice want got) = (want ≡ length rows) × (got ≡ length letters) × (length letters ≢ length rows)
-IsChoiceFault rows letters Memory = length letters ≡ length rows
+IsChoiceFault bs sides (BadChoice want got) = (want ≡ length bs) × (got ≡ length sides) × (length sides ≢ length bs)
+IsChoiceFault bs sides Memory = length sides ≡ length bs

@@ -3,7 +3,7 @@ ghost use Rattle.std.specs.Prelude.{◌≡◌, length, IfOk};
 ghost use Rattle.bucket_laws.specs.Parts.{is_in};
 ghost use Rattle.merge_laws.specs.Merge.{drops_theirs, drops_mine};
 ghost use Rattle.merge_choices.specs.Flags.{AreFlags, Flagged};
-ghost use Rattle.merge_choices.specs.RowDrops.{row_theirs, row_mine};
+ghost use Rattle.merge_choices.specs.BucketDrops.{bucket_theirs, bucket_mine};
 
 use footprint::Bucket;
 use merge_laws::Side;
@@ -21,7 +21,7 @@ fn flag_places(flags: &mut Vec<bool>, places: &[u64])
 }
 
 fn flag_theirs(flags: &mut Vec<bool>, bucket: &Bucket, side: Side)
-    ensures { Flagged flags.old.items flags.new.items (row_theirs bucket.now side) }
+    ensures { Flagged flags.old.items flags.new.items (bucket_theirs bucket.now side) }
 {
     match side {
         Side::Mine => flag_places(flags, bucket.theirs.as_slice()),
@@ -30,7 +30,7 @@ fn flag_theirs(flags: &mut Vec<bool>, bucket: &Bucket, side: Side)
 }
 
 fn flag_mine(flags: &mut Vec<bool>, bucket: &Bucket, side: Side)
-    ensures { Flagged flags.old.items flags.new.items (row_mine bucket.now side) }
+    ensures { Flagged flags.old.items flags.new.items (bucket_mine bucket.now side) }
 {
     match side {
         Side::Mine => {}
@@ -38,36 +38,36 @@ fn flag_mine(flags: &mut Vec<bool>, bucket: &Bucket, side: Side)
     }
 }
 
-/// Flags for as many places of theirs, set where the letters drop the operation.
+/// Flags for as many places of theirs, set where the sides drop the operation.
 pub(crate) fn theirs_dropped(
     alloc: Global,
     buckets: &[Bucket],
-    letters: &[Side],
+    sides: &[Side],
     size: usize,
 ) -> Result<Vec<bool>, AllocError>
-    requires { length letters.now ≡ length buckets.now }
-    ensures { IfOk result (λ flags. AreFlags flags.items size (drops_theirs buckets.now letters.now)) }
+    requires { length sides.now ≡ length buckets.now }
+    ensures { IfOk result (λ flags. AreFlags flags.items size (drops_theirs buckets.now sides.now)) }
 {
     let mut flags = vec![in alloc; false; size]?;
     for k in 0..buckets.len() {
-        flag_theirs(&mut flags, &buckets[k], letters[k]);
+        flag_theirs(&mut flags, &buckets[k], sides[k]);
     }
     Ok(flags)
 }
 
-/// Flags for as many places of mine, set where the letters drop the operation.
+/// Flags for as many places of mine, set where the sides drop the operation.
 pub(crate) fn mine_dropped(
     alloc: Global,
     buckets: &[Bucket],
-    letters: &[Side],
+    sides: &[Side],
     size: usize,
 ) -> Result<Vec<bool>, AllocError>
-    requires { length letters.now ≡ length buckets.now }
-    ensures { IfOk result (λ flags. AreFlags flags.items size (drops_mine buckets.now letters.now)) }
+    requires { length sides.now ≡ length buckets.now }
+    ensures { IfOk result (λ flags. AreFlags flags.items size (drops_mine buckets.now sides.now)) }
 {
     let mut flags = vec![in alloc; false; size]?;
     for k in 0..buckets.len() {
-        flag_mine(&mut flags, &buckets[k], letters[k]);
+        flag_mine(&mut flags, &buckets[k], sides[k]);
     }
     Ok(flags)
 }

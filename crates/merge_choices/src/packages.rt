@@ -18,13 +18,13 @@ fn update_list(
     theirs: &Package,
     mine: &Package,
     buckets: &[Bucket],
-    letters: &[Side],
+    sides: &[Side],
 ) -> Result<Package, AllocError>
-    requires { length letters.now ≡ length buckets.now }
-    ensures { IfOk result (λ p. p ≡ update_list theirs.now mine.now buckets.now letters.now) }
+    requires { length sides.now ≡ length buckets.now }
+    ensures { IfOk result (λ p. p ≡ update_list theirs.now mine.now buckets.now sides.now) }
 {
-    let drops_theirs = theirs_dropped(alloc, buckets, letters, theirs.len())?;
-    let drops_mine = mine_dropped(alloc, buckets, letters, mine.len())?;
+    let drops_theirs = theirs_dropped(alloc, buckets, sides, theirs.len())?;
+    let drops_mine = mine_dropped(alloc, buckets, sides, mine.len())?;
     let list = list_after(
         alloc,
         &drops_theirs,
@@ -40,13 +40,13 @@ fn merge_list(
     theirs: &Package,
     mine: &Package,
     buckets: &[Bucket],
-    letters: &[Side],
+    sides: &[Side],
 ) -> Result<Package, AllocError>
-    requires { length letters.now ≡ length buckets.now }
-    ensures { IfOk result (λ p. p ≡ merge_list theirs.now mine.now buckets.now letters.now) }
+    requires { length sides.now ≡ length buckets.now }
+    ensures { IfOk result (λ p. p ≡ merge_list theirs.now mine.now buckets.now sides.now) }
 {
-    let drops_theirs = theirs_dropped(alloc, buckets, letters, theirs.len())?;
-    let drops_mine = mine_dropped(alloc, buckets, letters, mine.len())?;
+    let drops_theirs = theirs_dropped(alloc, buckets, sides, theirs.len())?;
+    let drops_mine = mine_dropped(alloc, buckets, sides, mine.len())?;
     let list = list_after(
         alloc,
         &drops_mine,

@@ -13,43 +13,43 @@ use Rattle.merge_laws.specs.declared.side.Side.TheVariants.{Mine, Theirs}
 use Rattle.merge_laws.specs.Merge.{drops_theirs, drops_mine, dropped, kept}
 use Rattle.merge_laws.proofs.Gather.{kept_dropped, kept_kept}
 
-same_theirs : (bs : List Bucket) (letters : List Side) (i j : ℕ) → SameTheirs bs i j → drops_theirs bs letters i ≡ drops_theirs bs letters j
-same_theirs [] letters i j h = refl
+same_theirs : (bs : List Bucket) (sides : List Side) (i j : ℕ) → SameTheirs bs i j → drops_theirs bs sides i ≡ drops_theirs bs sides j
+same_theirs [] sides i j h = refl
 same_theirs (b ∷ bs) [] i j h = refl
-same_theirs (b ∷ bs) (Mine ∷ letters) i j h = λ t. h.0 t || same_theirs bs letters i j h.1 t
-same_theirs (b ∷ bs) (Theirs ∷ letters) i j h = same_theirs bs letters i j h.1
+same_theirs (b ∷ bs) (Mine ∷ sides) i j h = λ t. h.0 t || same_theirs bs sides i j h.1 t
+same_theirs (b ∷ bs) (Theirs ∷ sides) i j h = same_theirs bs sides i j h.1
 
-same_mine : (bs : List Bucket) (letters : List Side) (i j : ℕ) → SameMine bs i j → drops_mine bs letters i ≡ drops_mine bs letters j
-same_mine [] letters i j h = refl
+same_mine : (bs : List Bucket) (sides : List Side) (i j : ℕ) → SameMine bs i j → drops_mine bs sides i ≡ drops_mine bs sides j
+same_mine [] sides i j h = refl
 same_mine (b ∷ bs) [] i j h = refl
-same_mine (b ∷ bs) (Theirs ∷ letters) i j h = λ t. h.0 t || same_mine bs letters i j h.1 t
-same_mine (b ∷ bs) (Mine ∷ letters) i j h = same_mine bs letters i j h.1
+same_mine (b ∷ bs) (Theirs ∷ sides) i j h = λ t. h.0 t || same_mine bs sides i j h.1 t
+same_mine (b ∷ bs) (Mine ∷ sides) i j h = same_mine bs sides i j h.1
 
 suc_same : (a b : ℕ) → suc a ≡ suc b → a ≡ b
 suc_same a b h = cc
 
 -- of a pair in one bucket, one is dropped
-one_dropped : (bs : List Bucket) (letters : List Side) (i k : ℕ) → length letters ≡ length bs → shares bs i k ≡ true → drops_theirs bs letters i ≡ false → drops_mine bs letters k ≡ false → ⊥
-one_dropped [] letters i k is both h g = true_false false both refl
+one_dropped : (bs : List Bucket) (sides : List Side) (i k : ℕ) → length sides ≡ length bs → shares bs i k ≡ true → drops_theirs bs sides i ≡ false → drops_mine bs sides k ≡ false → ⊥
+one_dropped [] sides i k is both h g = true_false false both refl
 one_dropped (b ∷ bs) [] i k is both h g = cc
-one_dropped (b ∷ bs) (Mine ∷ letters) i k is both h g =
+one_dropped (b ∷ bs) (Mine ∷ sides) i k is both h g =
     or_cases (is_in i b.theirs && is_in k b.mine) (shares bs i k) both
-    (λ here. true_false _ (and_first (is_in i b.theirs) (is_in k b.mine) here) (or_first (is_in i b.theirs) (drops_theirs bs letters i) h))
-    (λ later. one_dropped bs letters i k (suc_same (length letters) (length bs) is) later (or_second (is_in i b.theirs) (drops_theirs bs letters i) h) g)
-one_dropped (b ∷ bs) (Theirs ∷ letters) i k is both h g =
+    (λ here. true_false _ (and_first (is_in i b.theirs) (is_in k b.mine) here) (or_first (is_in i b.theirs) (drops_theirs bs sides i) h))
+    (λ later. one_dropped bs sides i k (suc_same (length sides) (length bs) is) later (or_second (is_in i b.theirs) (drops_theirs bs sides i) h) g)
+one_dropped (b ∷ bs) (Theirs ∷ sides) i k is both h g =
     or_cases (is_in i b.theirs && is_in k b.mine) (shares bs i k) both
-    (λ here. true_false _ (and_second (is_in i b.theirs) (is_in k b.mine) here) (or_first (is_in k b.mine) (drops_mine bs letters k) g))
-    (λ later. one_dropped bs letters i k (suc_same (length letters) (length bs) is) later h (or_second (is_in k b.mine) (drops_mine bs letters k) g))
+    (λ here. true_false _ (and_second (is_in i b.theirs) (is_in k b.mine) here) (or_first (is_in k b.mine) (drops_mine bs sides k) g))
+    (λ later. one_dropped bs sides i k (suc_same (length sides) (length bs) is) later h (or_second (is_in k b.mine) (drops_mine bs sides k) g))
 
-module _ (meta : Meta) (theirs mine : List Operation) (bs : List Bucket) (parts : Parts meta theirs mine bs) (letters : List Side) (is : length letters ≡ length bs) where
-  pub theirs_apart : NoPair meta (kept (drops_theirs bs letters) theirs) (dropped (drops_theirs bs letters) theirs)
-  theirs_apart = kept_dropped meta (drops_theirs bs letters) (drops_theirs bs letters) theirs theirs (λ i k a b at there h g.
-      not_so (interferes meta a b) (λ meet. true_false _ g (sym (same_theirs bs letters i k (parts.among_theirs i k a b at there meet)) ∙ h)))
+module _ (meta : Meta) (theirs mine : List Operation) (bs : List Bucket) (parts : Parts meta theirs mine bs) (sides : List Side) (is : length sides ≡ length bs) where
+  pub theirs_apart : NoPair meta (kept (drops_theirs bs sides) theirs) (dropped (drops_theirs bs sides) theirs)
+  theirs_apart = kept_dropped meta (drops_theirs bs sides) (drops_theirs bs sides) theirs theirs (λ i k a b at there h g.
+      not_so (interferes meta a b) (λ meet. true_false _ g (sym (same_theirs bs sides i k (parts.among_theirs i k a b at there meet)) ∙ h)))
 
-  pub mine_apart : NoPair meta (kept (drops_mine bs letters) mine) (dropped (drops_mine bs letters) mine)
-  mine_apart = kept_dropped meta (drops_mine bs letters) (drops_mine bs letters) mine mine (λ i k a b at there h g.
-      not_so (interferes meta a b) (λ meet. true_false _ g (sym (same_mine bs letters i k (parts.among_mine i k a b at there meet)) ∙ h)))
+  pub mine_apart : NoPair meta (kept (drops_mine bs sides) mine) (dropped (drops_mine bs sides) mine)
+  mine_apart = kept_dropped meta (drops_mine bs sides) (drops_mine bs sides) mine mine (λ i k a b at there h g.
+      not_so (interferes meta a b) (λ meet. true_false _ g (sym (same_mine bs sides i k (parts.among_mine i k a b at there meet)) ∙ h)))
 
-  pub kept_apart : NoPair meta (kept (drops_theirs bs letters) theirs) (kept (drops_mine bs letters) mine)
-  kept_apart = kept_kept meta (drops_theirs bs letters) (drops_mine bs letters) theirs mine (λ i k a b at there h g.
-      not_so (interferes meta a b) (λ meet. one_dropped bs letters i k is (parts.across i k a b at there meet) h g))
+  pub kept_apart : NoPair meta (kept (drops_theirs bs sides) theirs) (kept (drops_mine bs sides) mine)
+  kept_apart = kept_kept meta (drops_theirs bs sides) (drops_mine bs sides) theirs mine (λ i k a b at there h g.
+      not_so (interferes meta a b) (λ meet. one_dropped bs sides i k is (parts.across i k a b at there meet) h g))

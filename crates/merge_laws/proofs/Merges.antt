@@ -19,27 +19,27 @@ use Rattle.tidy_laws.proofs.Whole.{tidy_keeps_effect}
 use Rattle.merge_laws.proofs.Gather.{gather}
 use Rattle.merge_laws.proofs.Choices.{theirs_apart, mine_apart, kept_apart}
 
-module _ (meta : Meta) (sound : Sound meta) (base head work : State) (good : Good meta base) (theirs mine : List Operation) (after_theirs : Leads meta base theirs head) (after_mine : Leads meta base mine work) (bs : List Bucket) (parts : Parts meta theirs mine bs) (letters : List Side) (is : length letters ≡ length bs) where
+module _ (meta : Meta) (sound : Sound meta) (base head work : State) (good : Good meta base) (theirs mine : List Operation) (after_theirs : Leads meta base theirs head) (after_mine : Leads meta base mine work) (bs : List Bucket) (parts : Parts meta theirs mine bs) (sides : List Side) (is : length sides ≡ length bs) where
   keep_t : List Operation
-  keep_t = kept (drops_theirs bs letters) theirs
+  keep_t = kept (drops_theirs bs sides) theirs
 
   drop_t : List Operation
-  drop_t = dropped (drops_theirs bs letters) theirs
+  drop_t = dropped (drops_theirs bs sides) theirs
 
   keep_m : List Operation
-  keep_m = kept (drops_mine bs letters) mine
+  keep_m = kept (drops_mine bs sides) mine
 
   drop_m : List Operation
-  drop_m = dropped (drops_mine bs letters) mine
+  drop_m = dropped (drops_mine bs sides) mine
 
   -- what is kept of theirs leads to a state, from which what is dropped leads to the head
   kept_theirs_lead : (k : State) × Leads meta base keep_t k × Leads meta k drop_t head
   unfolding keep_t drop_t
-  kept_theirs_lead = cut meta base head keep_t drop_t (gather meta sound (drops_theirs bs letters) theirs base head good (theirs_apart meta theirs mine bs parts letters is) after_theirs)
+  kept_theirs_lead = cut meta base head keep_t drop_t (gather meta sound (drops_theirs bs sides) theirs base head good (theirs_apart meta theirs mine bs parts sides is) after_theirs)
 
   kept_mine_lead : (k : State) × Leads meta base keep_m k × Leads meta k drop_m work
   unfolding keep_m drop_m
-  kept_mine_lead = cut meta base work keep_m drop_m (gather meta sound (drops_mine bs letters) mine base work good (mine_apart meta theirs mine bs parts letters is) after_mine)
+  kept_mine_lead = cut meta base work keep_m drop_m (gather meta sound (drops_mine bs sides) mine base work good (mine_apart meta theirs mine bs parts sides is) after_mine)
 
   -- from there both sides lead to one state
   both_lead : (n : State) × Leads meta base (keep_t ++ keep_m) n × Leads meta kept_theirs_lead.0 keep_m n × Leads meta kept_mine_lead.0 keep_t n
@@ -47,7 +47,7 @@ module _ (meta : Meta) (sound : Sound meta) (base head work : State) (good : Goo
   both_lead =
       let t = kept_theirs_lead in
       let m = kept_mine_lead in
-      let s = packages_side_by_side meta sound keep_t keep_m base t.0 m.0 good (kept_apart meta theirs mine bs parts letters is) t.1 m.1 in
+      let s = packages_side_by_side meta sound keep_t keep_m base t.0 m.0 good (kept_apart meta theirs mine bs parts sides is) t.1 m.1 in
       let c = cut meta base s.0 keep_t keep_m s.1 in
       let d = cut meta base s.0 keep_m keep_t s.2 in (
         s.0,
@@ -56,7 +56,7 @@ module _ (meta : Meta) (sound : Sound meta) (base head work : State) (good : Goo
         subst (λ k. Leads meta k keep_t s.0) (one_end meta base keep_m d.0 m.0 d.1 m.1) d.2,
       )
 
-  pub update_leads : (n : State) × (fold_package meta head (update_list theirs mine bs letters) ≡ Some n) × (merged meta base theirs mine bs letters ≡ Some n)
+  pub update_leads : (n : State) × (fold_package meta head (update_list theirs mine bs sides) ≡ Some n) × (merged meta base theirs mine bs sides ≡ Some n)
   unfolding keep_t drop_t keep_m
   update_leads =
       let t = kept_theirs_lead in
@@ -64,7 +64,7 @@ module _ (meta : Meta) (sound : Sound meta) (base head work : State) (good : Goo
       let back = package_undone meta sound t.0 head (packages_keep meta sound base t.0 good keep_t t.1) drop_t t.2 in
       (b.0, join meta head t.0 b.0 (rev_package drop_t) keep_m back b.2, b.1)
 
-  pub merge_leads : (n : State) × (fold_package meta work (merge_list theirs mine bs letters) ≡ Some n) × (merged meta base theirs mine bs letters ≡ Some n)
+  pub merge_leads : (n : State) × (fold_package meta work (merge_list theirs mine bs sides) ≡ Some n) × (merged meta base theirs mine bs sides ≡ Some n)
   unfolding keep_t keep_m drop_m
   merge_leads =
       let m = kept_mine_lead in
@@ -73,12 +73,12 @@ module _ (meta : Meta) (sound : Sound meta) (base head work : State) (good : Goo
       (b.0, join meta work m.0 b.0 (rev_package drop_m) keep_t back b.3, b.1)
 
 pub update_gives_merged : UpdateGivesMerged
-update_gives_merged meta sound base head work good theirs mine t m letters is =
-    update_leads meta sound base head work good theirs mine t m (buckets meta theirs mine) (buckets_are_parts meta theirs mine) letters is
+update_gives_merged meta sound base head work good theirs mine t m sides is =
+    update_leads meta sound base head work good theirs mine t m (buckets meta theirs mine) (buckets_are_parts meta theirs mine) sides is
 
 pub merge_gives_merged : MergeGivesMerged
-merge_gives_merged meta sound base head work good theirs mine t m letters is =
-    merge_leads meta sound base head work good theirs mine t m (buckets meta theirs mine) (buckets_are_parts meta theirs mine) letters is
+merge_gives_merged meta sound base head work good theirs mine t m sides is =
+    merge_leads meta sound base head work good theirs mine t m (buckets meta theirs mine) (buckets_are_parts meta theirs mine) sides is
 
 pub revert_takes_out : RevertTakesOut
 revert_takes_out meta sound start m good before taken later none h =
@@ -96,6 +96,6 @@ mine_leads meta sound common met base work good taken since local is_met is_base
     (join meta common base work since local is_base is_work))
 
 pub merge_leads_to_merged : MergeLeadsToMerged
-merge_leads_to_merged meta sound common met base head work good taken since local theirs is_met is_base is_work is_head letters is =
+merge_leads_to_merged meta sound common met base head work good taken since local theirs is_met is_base is_work is_head sides is =
     merge_gives_merged meta sound met head work (packages_keep meta sound common met good taken is_met) theirs (tidy meta (rev_package taken ++ (since ++ local))) is_head
-    (mine_leads meta sound common met base work good taken since local is_met is_base is_work) letters is
+    (mine_leads meta sound common met base work good taken since local is_met is_base is_work) sides is

@@ -11,17 +11,17 @@ use Rattle.merge_laws.specs.declared.side.Side.TheVariants.{Mine, Theirs}
 
 -- the place of theirs is in a bucket that keeps mine
 abbrev pub drops_theirs : List Bucket → List Side → ℕ → Bool
-drops_theirs [] letters i = false
+drops_theirs [] sides i = false
 drops_theirs (b ∷ bs) [] i = false
-drops_theirs (b ∷ bs) (Mine ∷ letters) i = is_in i b.theirs || drops_theirs bs letters i
-drops_theirs (b ∷ bs) (Theirs ∷ letters) i = drops_theirs bs letters i
+drops_theirs (b ∷ bs) (Mine ∷ sides) i = is_in i b.theirs || drops_theirs bs sides i
+drops_theirs (b ∷ bs) (Theirs ∷ sides) i = drops_theirs bs sides i
 
 -- the place of mine is in a bucket that keeps theirs
 abbrev pub drops_mine : List Bucket → List Side → ℕ → Bool
-drops_mine [] letters k = false
+drops_mine [] sides k = false
 drops_mine (b ∷ bs) [] k = false
-drops_mine (b ∷ bs) (Theirs ∷ letters) k = is_in k b.mine || drops_mine bs letters k
-drops_mine (b ∷ bs) (Mine ∷ letters) k = drops_mine bs letters k
+drops_mine (b ∷ bs) (Theirs ∷ sides) k = is_in k b.mine || drops_mine bs sides k
+drops_mine (b ∷ bs) (Mine ∷ sides) k = drops_mine bs sides k
 
 -- the operations at the places that pass the test
 abbrev pub dropped : (ℕ → Bool) → List Operation → List Operation
@@ -35,12 +35,12 @@ kept p (o ∷ os) = cond (p 0) (kept (λ i. p (suc i)) os) (o ∷ kept (λ i. p 
 
 -- the model that the choices mean, from the state where both begin
 abbrev pub merged : Meta → State → List Operation → List Operation → List Bucket → List Side → Option State
-merged meta base theirs mine bs letters = fold_package meta base (kept (drops_theirs bs letters) theirs ++ kept (drops_mine bs letters) mine)
+merged meta base theirs mine bs sides = fold_package meta base (kept (drops_theirs bs sides) theirs ++ kept (drops_mine bs sides) mine)
 
 -- what an update makes the local list, after theirs
 abbrev pub update_list : List Operation → List Operation → List Bucket → List Side → List Operation
-update_list theirs mine bs letters = rev_package (dropped (drops_theirs bs letters) theirs) ++ kept (drops_mine bs letters) mine
+update_list theirs mine bs sides = rev_package (dropped (drops_theirs bs sides) theirs) ++ kept (drops_mine bs sides) mine
 
 -- what a merge appends to the local list, after mine
 abbrev pub merge_list : List Operation → List Operation → List Bucket → List Side → List Operation
-merge_list theirs mine bs letters = rev_package (dropped (drops_mine bs letters) mine) ++ kept (drops_theirs bs letters) theirs
+merge_list theirs mine bs sides = rev_package (dropped (drops_mine bs sides) mine) ++ kept (drops_theirs bs sides) theirs

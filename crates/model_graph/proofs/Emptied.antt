@@ -20,7 +20,7 @@ use Rattle.model_state.proofs.Orders.{id_order, nat_order, attr_order, row_order
 use Rattle.model_state.proofs.StepTests.{place_equality}
 use Rattle.graph_parts.specs.declared.element.Node.{Node}
 use Rattle.ranked_lists.specs.Ranks.{Ranks, stood}
-use Rattle.model_graph.specs.Seen.{Elements, nodes_state, placed_at, IsHoused, IsMirrored, bare_part}
+use Rattle.model_graph.specs.Seen.{Elements, nodes_state, placed_at, IsHoused, IsAtBothEnds, bare_part}
 use Rattle.model_graph.proofs.Changed.{attr_of, row_of, place_of}
 use Rattle.graph_parts.proofs.ListLaws.{list_key_order}
 
@@ -50,7 +50,7 @@ no_values m e =
     (attr_of m k.0 k.1 ∙ ap (λ z. inner (λ (n : Node). n.attrs) (get m z) k.1) (sym (text_equality.exact e k.0 same)) ∙ part_none nat_order (λ (n : Node). n.attrs) (get m e) bare k.1)))
     (λ full. let x = part_some nat_order (λ (n : Node). n.attrs) (get m e) full in ((e, x.0), x.1, attr_of m e x.0 ∙ x.2, text_equality.own e))
 
-module _ (m : Elements) (mirror : IsMirrored m) (e : IdBytes) where
+module _ (m : Elements) (mirror : IsAtBothEnds m) (e : IdBytes) where
   out_none : bare_part (λ (n : Node). n.out) (get m e) ≡ true → (f : ℕ) (b : IdBytes) → get (nodes_state m).row (e, f, b) ≡ None
   out_none bare f b = row_of m e f b ∙ part_none list_key_order (λ (n : Node). n.out) (get m e) bare (f, b)
 

@@ -22,7 +22,7 @@ use Rattle.model_state.proofs.StepTests.{place_equality}
 use Rattle.graph_parts.specs.declared.element.Node.{Node}
 use Rattle.ranked_lists.specs.Ranks.{Ranks, stood}
 use Rattle.graph_parts.specs.Parts.{ListKey, list_key_cmp}
-use Rattle.model_graph.specs.Seen.{Elements, nodes_state, placed_at, standing, IsHoused, IsMirrored, IsPlaceThere, Rewrites, IsListWritten}
+use Rattle.model_graph.specs.Seen.{Elements, nodes_state, placed_at, standing, IsHoused, IsAtBothEnds, IsPlaceThere, Rewrites, IsListWritten}
 use Rattle.model_graph.proofs.Changed.{kept, hit, part_hit, same_class, same_place, same_prank, same_attr, same_row, out_written, some_is}
 use Rattle.graph_parts.proofs.ListLaws.{list_key_order}
 
@@ -43,7 +43,7 @@ alike_state m n a =
     let row = same_row m n a.out in
     λ i. record { kind = kind i; place = place i; prank = prank i; attr = attr i; row = row i }
 
-pub mirrored_by : (m n : Elements) → IsMirrored m → ((x : IdBytes) (l : AttrKey) → inner (λ (n : Node). n.into) (get n x) l ≡ inner (λ (n : Node). n.into) (get m x) l) → ((x : IdBytes) (l : ListKey) → inner (λ (n : Node). n.out) (get n x) l ≡ inner (λ (n : Node). n.out) (get m x) l) → IsMirrored n
+pub mirrored_by : (m n : Elements) → IsAtBothEnds m → ((x : IdBytes) (l : AttrKey) → inner (λ (n : Node). n.into) (get n x) l ≡ inner (λ (n : Node). n.into) (get m x) l) → ((x : IdBytes) (l : ListKey) → inner (λ (n : Node). n.out) (get n x) l ≡ inner (λ (n : Node). n.out) (get m x) l) → IsAtBothEnds n
 mirrored_by m n mirror into out a b f = into b (a, f) ∙ mirror a b f ∙ sym (out a (f, b))
 
 pub alike_there : (m n : Elements) → Alike m n → (x : IdBytes) → IsSome (get m x) → IsSome (get n x)
@@ -255,7 +255,7 @@ both_hit false true false v o = refl
 both_hit false false z v o = refl
 
 module _ (m one two : Elements) (a b : IdBytes) (f : ℕ) (v : Option ℕ) (into : Rewrites m one b (λ (n : Node). record n { into = set n.into (a, f) v })) (out : Rewrites one two a (λ (n : Node). record n { out = set n.out (f, b) v })) where
-  pub mirrored_set : IsMirrored m → IsMirrored two
+  pub mirrored_set : IsAtBothEnds m → IsAtBothEnds two
   mirrored_set mirror p q g =
       let k = into.0 in
       let k' : Node = record k { into = set k.into (a, f) v } in

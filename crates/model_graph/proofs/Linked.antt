@@ -12,7 +12,7 @@ use Rattle.model_state.specs.State.{State, is_live}
 use Rattle.model_state.proofs.Orders.{id_order, attr_order}
 use Rattle.graph_parts.specs.declared.element.Node.{Node}
 use Rattle.ranked_lists.specs.Ranks.{Ranks, stood}
-use Rattle.model_graph.specs.Seen.{Elements, nodes_state, IsHoused, IsMirrored, Rewrites}
+use Rattle.model_graph.specs.Seen.{Elements, nodes_state, IsHoused, IsAtBothEnds, Rewrites}
 use Rattle.model_graph.proofs.Changed.{rewritten, live_node, live_after}
 use Rattle.model_graph.proofs.Housed.{mirrored_set, placed_linked, standing_linked, housed_by}
 
@@ -37,7 +37,7 @@ into_there m one b k rank w =
     ∙ ap is_some (get-set_same attr_order n.into k (Some rank))
 
 pub linked : (r : Ranks) (m one two : Elements) (a b : IdBytes) (f : ℕ) (v : Option ℕ) → Rewrites m one b (λ (n : Node). record n { into = set n.into (a, f) v }) → Rewrites one two a (λ (n : Node). record n { out = set n.out (f, b) v })
-    → IsMirrored m × IsHoused r m → IsMirrored two × IsHoused r two
+    → IsAtBothEnds m × IsHoused r m → IsAtBothEnds two × IsHoused r two
 linked r m one two a b f v into out good =
     (mirrored_set m one two a b f v into out good.0, housed_by r m two good.1 (placed_linked m one two a b f v into out) (standing_linked m one two a b f v into out r))
 
@@ -55,12 +55,12 @@ row_back m one two b k v old was into back =
     one_node : (x y : Node) → Some x ≡ Some y → x ≡ y
     one_node x y h = cc
 
-pub start_good : (r : Ranks) (m : Elements) → r ≡ empty → m ≡ empty → IsMirrored m × IsHoused r m
+pub start_good : (r : Ranks) (m : Elements) → r ≡ empty → m ≡ empty → IsAtBothEnds m × IsHoused r m
 start_good r m bare none =
-    subst (λ (t : Elements). IsMirrored t × IsHoused r t) (sym none)
-    (subst (λ (t : Ranks). IsMirrored empty × IsHoused t empty) (sym bare) (mirror, housed))
+    subst (λ (t : Elements). IsAtBothEnds t × IsHoused r t) (sym none)
+    (subst (λ (t : Ranks). IsAtBothEnds empty × IsHoused t empty) (sym bare) (mirror, housed))
   where
-    mirror : IsMirrored empty
+    mirror : IsAtBothEnds empty
     mirror a b f = ap (λ o. inner (λ (n : Node). n.into) o (a, f)) (get-empty id_cmp b) ∙ sym (ap (λ o. inner (λ (n : Node). n.out) o (f, b)) (get-empty id_cmp a))
 
     housed : IsHoused empty empty

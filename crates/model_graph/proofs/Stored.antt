@@ -19,7 +19,7 @@ use Rattle.model_state.proofs.StepTests.{place_equality}
 use Rattle.graph_parts.specs.declared.element.Node.{Node}
 use Rattle.ranked_lists.specs.Ranks.{Ranks, stood}
 use Rattle.graph_parts.specs.Parts.{ListKey, list_key_cmp}
-use Rattle.model_graph.specs.Seen.{Elements, nodes_state, IsMirrored, IsHoused, IsPlaceThere, Rewrites, IsListWritten, bare_part}
+use Rattle.model_graph.specs.Seen.{Elements, nodes_state, IsAtBothEnds, IsHoused, IsPlaceThere, Rewrites, IsListWritten, bare_part}
 use Rattle.model_graph.proofs.Changed.{kept, attr_written, placed_written, made, gone, some_is, no_node, live_after}
 use Rattle.model_graph.proofs.Emptied.{no_values, no_rows, no_children, part_none}
 use Rattle.graph_parts.proofs.ListLaws.{list_key_order}
@@ -29,7 +29,7 @@ use Rattle.model_graph.proofs.Looked.{read_class, read_place, read_row, read_int
 
 -- what is kept beside each element agrees
 abbrev pub AreKept : Ranks → Elements → Type 0
-AreKept r m = IsMirrored m × IsHoused r m
+AreKept r m = IsAtBothEnds m × IsHoused r m
 
 pub node_of : (o : Option Node) → IsSome o → (n : Node) × (o ≡ Some n)
 node_of None h = cc
@@ -59,7 +59,7 @@ stands_at m s e n p is at stands = one_place n.placed.place p (read_place m s is
     one_place : (p q : Place) → Some p ≡ Some q → p ≡ q
     one_place p q h = cc
 
-alike_kept : (m n : Elements) → Alike m n → IsMirrored m → IsMirrored n
+alike_kept : (m n : Elements) → Alike m n → IsAtBothEnds m → IsAtBothEnds n
 alike_kept m n a mirror = mirrored_by m n mirror a.into a.out
 
 -- ---- an element taken out
@@ -207,7 +207,7 @@ source_live m s a b f view there =
     some_out None h = cc
     some_out (Some n) h = refl
 
-pub target_live : (m : Elements) (s : State) (a b : IdBytes) (f : ℕ) → IsMirrored m → nodes_state m ≡ s → is_some (get s.row (a, f, b)) ≡ true → is_live s b ≡ true
+pub target_live : (m : Elements) (s : State) (a b : IdBytes) (f : ℕ) → IsAtBothEnds m → nodes_state m ≡ s → is_some (get s.row (a, f, b)) ≡ true → is_live s b ≡ true
 target_live m s a b f mirror view there =
     ap is_some (sym (read_class m s view b (get m b) refl)) ∙ some_into (get m b) (ap is_some (read_into m s view mirror b (get m b) refl a f) ∙ there)
   where

@@ -50,8 +50,8 @@ abbrev pub IsHoused : Ranks → Elements → Type 0
 IsHoused roots m = (p : Place) (x : IdBytes) → standing roots m p x ≡ stood p (placed_at m x)
 
 -- a reference stands at its target as at its source, with the same rank
-abbrev pub IsMirrored : Elements → Type 0
-IsMirrored m = (a b : IdBytes) (f : ℕ) → inner (λ (n : Node). n.into) (get m b) (a, f) ≡ inner (λ (n : Node). n.out) (get m a) (f, b)
+abbrev pub IsAtBothEnds : Elements → Type 0
+IsAtBothEnds m = (a b : IdBytes) (f : ℕ) → inner (λ (n : Node). n.into) (get m b) (a, f) ≡ inner (λ (n : Node). n.out) (get m a) (f, b)
 
 -- the node of the id is as h makes it, and the others stay
 abbrev pub Rewrites : Elements → Elements → IdBytes → (Node → Node) → Type 0

@@ -36,7 +36,7 @@ pub struct Graph {
 impl Model for Graph {
     ghost use Rattle.model_state.specs.State.{State};
     ghost use Rattle.model_graph.specs.StateCode.{state_code};
-    ghost use Rattle.model_graph.specs.Seen.{nodes_state, IsMirrored, IsHoused};
+    ghost use Rattle.model_graph.specs.Seen.{nodes_state, IsAtBothEnds, IsHoused};
 
     ghost Value = { State };
 
@@ -44,7 +44,7 @@ impl Model for Graph {
 
     ghost view = { λ a. nodes_state a.nodes };
 
-    ghost invariant = { λ a. IsMirrored a.nodes × IsHoused a.roots a.nodes };
+    ghost invariant = { λ a. IsAtBothEnds a.nodes × IsHoused a.roots a.nodes };
 }
 
 /// Gives a reference to an element the rank that it had before it was put in, or takes it out where it was new.

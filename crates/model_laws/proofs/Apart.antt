@@ -12,7 +12,7 @@ use Rattle.std.specs.Prelude.{Option, None}
 use Rattle.model_state.specs.Keys.{IdBytes}
 use Rattle.model_state.specs.Steps.{fold}
 use Rattle.model_laws.specs.Laws.{ExchangeHolds, SideBySide}
-use Rattle.model_laws.specs.Cells.{Cell, OfKind, OfPlace, OfRow, OfWhole, About, cell_eq, side, mirror_side, place_list, is_bounded, is_finite, parent_kind, has, step_writes, step_reads, kinds_read, kinds_written, others_read, needs, may_change, needs_all, may_change_all, writes_all, reads_all, AreDisjoint}
+use Rattle.model_laws.specs.Cells.{Cell, OfKind, OfPlace, OfRow, OfWhole, About, cell_eq, side, mirror_side, place_list, is_bounded, is_finite, parents_of, has, step_writes, step_reads, kinds_read, kinds_written, others_read, needs, may_change, needs_all, may_change_all, writes_all, reads_all, AreDisjoint}
 use Rattle.finite_maps.proofs.Cases.{not_so, true_false}
 use Rattle.model_laws.proofs.Exchange.{IsReal, real_apart, has_append, has_first, has_second, or_cases, exchange, run_leaves, run_goes}
 use Rattle.model_laws.proofs.Runs.{steps_keep_good, same_state}
@@ -72,7 +72,7 @@ no_about_read (New x class Root rank) e = refl
 no_about_read (New x class (Inside a f) rank) e = refl
 no_about_read (Gone x class Root rank) e = refl
 no_about_read (Gone x class (Inside a f) rank) e = refl
-no_about_read (Move x from from_rank to to_rank above_from above_to) e = has_append (map OfKind (x ∷ (parent_kind from ++ parent_kind to))) (map OfPlace (above_from ++ above_to)) (About e) ∙ ap (λ t. t || has (map OfPlace (above_from ++ above_to)) (About e)) (no_kind (x ∷ (parent_kind from ++ parent_kind to)) e) ∙ no_place_cell (above_from ++ above_to) e
+no_about_read (Move x from from_rank to to_rank above_from above_to) e = has_append (map OfKind (x ∷ (parents_of from ++ parents_of to))) (map OfPlace (above_from ++ above_to)) (About e) ∙ ap (λ t. t || has (map OfPlace (above_from ++ above_to)) (About e)) (no_kind (x ∷ (parents_of from ++ parents_of to)) e) ∙ no_place_cell (above_from ++ above_to) e
 no_about_read s e = refl
 
 no_about_side : (meta : Meta) (a : IdBytes) (f : ℕ) (b : IdBytes) (e : IdBytes) → cell_eq (About e) (side meta a f b) ≡ false

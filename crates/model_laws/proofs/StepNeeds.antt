@@ -13,13 +13,13 @@ use Rattle.model_state.specs.declared.step.Place.TheVariants.{Root, Inside}
 use Rattle.model_state.specs.declared.step.Step.TheVariants.{Put, Ins, Del, Shift, Link, Unlink, RerankRow, New, Gone, Move, RerankPlace}
 use Rattle.model_state.specs.declared.step.StepFault.TheVariants.{NotThere, There, OldDiffers, Bound, WrongType, Chain, NotEmpty, BadStep}
 use Rattle.model_state.specs.Keys.{IdBytes, RowKey}
-use Rattle.model_state.specs.Typing.{kind_of, is_attr, value_eq, opposite_of, row_upper, upper_of, contains_kind, is_concrete, contains_to}
+use Rattle.model_state.specs.Typing.{kind_of, is_attr, value_eq, opposite_of, row_upper, upper_of, is_containment, is_concrete, contains_to}
 use Rattle.model_state.specs.State.{State, place_eq, row_count, child_count, value_count, link_count, inner_count, is_inside}
 use Rattle.model_state.specs.Steps.{first_fault, fault, writes, class_has, value_fits, not_default, single, may_link, mirror_given, mirror_room, mirror_at, place_live, has_room}
 use Rattle.model_laws.specs.Cells.{Cell, OfKind, OfPlace, OfRank, OfAttr, OfRow, OfWhole, About, is_bounded, cell_eq, has, stands_in, stands_inside, side, mirror_side, place_list, Agree, AgreeAt, needs}
 use Rattle.model_state.proofs.Orders.{id_order, attr_order, row_order}
 use Rattle.model_state.specs.Good.{Good, PlaceOk}
-use Rattle.model_laws.specs.Cells.{step_reads, parent_kind}
+use Rattle.model_laws.specs.Cells.{step_reads, parents_of}
 use Rattle.model_state.specs.Steps.{chain_is, may_move}
 use Rattle.std.specs.List.{list_any, insert, remove}
 use Rattle.std.proofs.Common.{nat_le, nat_lt, length}
@@ -141,7 +141,7 @@ unlink_goes meta m n a f ra b rb alike =
 -- room in a place, where its list has a cell
 place_room_at : (meta : Meta) (m n : State) (a : IdBytes) (f : ℕ) → AllAgree meta m n (place_list meta (Inside a f)) → has_room meta m (Inside a f) ≡ has_room meta n (Inside a f)
 place_room_at meta m n a f h =
-    elim (contains_kind (kind_of meta f)) as (λ t. contains_kind (kind_of meta f) ≡ t → AllAgree meta m n (elim (t && is_some (upper_of meta f)) [ true ↦ OfWhole a f ∷ [] | false ↦ [] ])
+    elim (is_containment (kind_of meta f)) as (λ t. is_containment (kind_of meta f) ≡ t → AllAgree meta m n (elim (t && is_some (upper_of meta f)) [ true ↦ OfWhole a f ∷ [] | false ↦ [] ])
     → is_below (child_count m (Inside a f)) (cond t (upper_of meta f) None) ≡ is_below (child_count n (Inside a f)) (cond t (upper_of meta f) None)) [
       | true ↦ λ is g. elim (upper_of meta f) as (λ o. upper_of meta f ≡ o → AllAgree meta m n (elim (is_some o) [ true ↦ OfWhole a f ∷ [] | false ↦ [] ]) → is_below (child_count m (Inside a f)) o ≡ is_below (child_count n (Inside a f)) o) [
         | None ↦ λ _ _. refl
@@ -231,7 +231,7 @@ chain_alike p q (Some (Inside a f)) (x ∷ xs) h =
     ap (λ t. text_eq x a && t) (ap (λ o. chain_is p o xs) (h x (at_first (OfPlace x) (map OfPlace xs))) ∙ chain_alike p q (get q x) xs (λ y g. h y (further (OfPlace x) (OfPlace y) (map OfPlace xs) g)))
 
 -- a place is live, and may hold, by the class of its parent
-parent_in : (a : IdBytes) (f : ℕ) (xs : List IdBytes) → has (map OfKind (parent_kind (Inside a f) ++ xs)) (OfKind a) ≡ true
+parent_in : (a : IdBytes) (f : ℕ) (xs : List IdBytes) → has (map OfKind (parents_of (Inside a f) ++ xs)) (OfKind a) ≡ true
 parent_in a f xs = at_first (OfKind a) (map OfKind xs)
 
 later_in : (xs ys : List IdBytes) (a : IdBytes) → has (map OfKind ys) (OfKind a) ≡ true → has (map OfKind (xs ++ ys)) (OfKind a) ≡ true
@@ -264,12 +264,12 @@ move_goes meta m n e from from_rank to to_rank above_from above_to alike =
     let s = Move e from from_rank to to_rank above_from above_to in
     let read : (c : Cell) → has (step_reads s) c ≡ true → Agree meta m n c = λ c h. alike c (has_first (step_reads s) (OfPlace e ∷ OfRank e ∷ (place_list meta from ++ place_list meta to)) c h) in
     let wrote : (c : Cell) → has (OfPlace e ∷ OfRank e ∷ (place_list meta from ++ place_list meta to)) c ≡ true → Agree meta m n c = λ c h. alike c (has_second (step_reads s) (OfPlace e ∷ OfRank e ∷ (place_list meta from ++ place_list meta to)) c h) in
-    let kinds : (c : Cell) → has (map OfKind (e ∷ (parent_kind from ++ parent_kind to))) c ≡ true → Agree meta m n c = λ c h. read c (has_first (map OfKind (e ∷ (parent_kind from ++ parent_kind to))) (map OfPlace (above_from ++ above_to)) c h) in
-    let places : (x : IdBytes) → has (map OfPlace (above_from ++ above_to)) (OfPlace x) ≡ true → get m.place x ≡ get n.place x = λ x h. read (OfPlace x) (has_second (map OfKind (e ∷ (parent_kind from ++ parent_kind to))) (map OfPlace (above_from ++ above_to)) (OfPlace x) h) in
-    let kind : get m.kind e ≡ get n.kind e = kinds (OfKind e) (at_first (OfKind e) (map OfKind (parent_kind from ++ parent_kind to))) in
+    let kinds : (c : Cell) → has (map OfKind (e ∷ (parents_of from ++ parents_of to))) c ≡ true → Agree meta m n c = λ c h. read c (has_first (map OfKind (e ∷ (parents_of from ++ parents_of to))) (map OfPlace (above_from ++ above_to)) c h) in
+    let places : (x : IdBytes) → has (map OfPlace (above_from ++ above_to)) (OfPlace x) ≡ true → get m.place x ≡ get n.place x = λ x h. read (OfPlace x) (has_second (map OfKind (e ∷ (parents_of from ++ parents_of to))) (map OfPlace (above_from ++ above_to)) (OfPlace x) h) in
+    let kind : get m.kind e ≡ get n.kind e = kinds (OfKind e) (at_first (OfKind e) (map OfKind (parents_of from ++ parents_of to))) in
     let place : get m.place e ≡ get n.place e = wrote (OfPlace e) (at_first (OfPlace e) (OfRank e ∷ (place_list meta from ++ place_list meta to))) in
     let rank : get m.prank e ≡ get n.prank e = wrote (OfRank e) (further (OfPlace e) (OfRank e) (OfRank e ∷ (place_list meta from ++ place_list meta to)) (at_first (OfRank e) (place_list meta from ++ place_list meta to))) in
-    let parent : (a : IdBytes) (f : ℕ) → to ≡ Inside a f → get m.kind a ≡ get n.kind a = λ a f is. kinds (OfKind a) (further (OfKind e) (OfKind a) (map OfKind (parent_kind from ++ parent_kind to)) (later_in (parent_kind from) (parent_kind to) a (subst (λ p. has (map OfKind (parent_kind p)) (OfKind a) ≡ true) (sym is) (at_first (OfKind a) [])))) in
+    let parent : (a : IdBytes) (f : ℕ) → to ≡ Inside a f → get m.kind a ≡ get n.kind a = λ a f is. kinds (OfKind a) (further (OfKind e) (OfKind a) (map OfKind (parents_of from ++ parents_of to)) (later_in (parents_of from) (parents_of to) a (subst (λ p. has (map OfKind (parents_of p)) (OfKind a) ≡ true) (sym is) (at_first (OfKind a) [])))) in
     let live = to_live meta m n to parent in
     let may = ap (λ c. may_move meta m c to) kind ∙ to_may meta m n (get n.kind e) to parent in
     let up = chain_alike m.place n.place (Some from) above_from (λ x h. places x ((places_split above_from above_to x).0 h)) in

@@ -19,7 +19,7 @@ use Rattle.model_state.specs.Keys.{IdBytes, AttrKey, RowKey, id_cmp, row_cmp}
 use Rattle.model_state.specs.Typing.{opposite_of}
 use Rattle.model_state.specs.State.{State, place_eq, is_inside}
 use Rattle.model_state.specs.Steps.{tests, apply, single, mirror_write}
-use Rattle.model_laws.specs.Cells.{Cell, OfKind, OfPlace, OfRank, OfAttr, OfRow, OfWhole, About, is_finite, has, stands_in, stands_inside, side, mirror_side, place_list, parent_kind, Agree, may_change}
+use Rattle.model_laws.specs.Cells.{Cell, OfKind, OfPlace, OfRank, OfAttr, OfRow, OfWhole, About, is_finite, has, stands_in, stands_inside, side, mirror_side, place_list, parents_of, Agree, may_change}
 use Rattle.model_state.proofs.Orders.{id_order, attr_order, row_order}
 use Rattle.model_state.proofs.StepTests.{passed, place_equality}
 use Rattle.model_laws.proofs.Births.{dead_place}
@@ -114,7 +114,7 @@ whole_listed meta a f place finite is =
     subst (λ p. has (place_list meta p) (OfWhole a f) ≡ true) is
     (ap (λ t. has (elim t as (λ _. List Cell) [ true ↦ OfWhole a f ∷ [] | false ↦ [] ]) (OfWhole a f)) finite ∙ at_first (OfWhole a f) [])
 
-not_inside : (y : IdBytes) (place : Place) (e : IdBytes) → has (map About (parent_kind place ++ e ∷ [])) (About y) ≡ false → is_inside y place ≡ false
+not_inside : (y : IdBytes) (place : Place) (e : IdBytes) → has (map About (parents_of place ++ e ∷ [])) (About y) ≡ false → is_inside y place ≡ false
 not_inside y Root e out = refl
 not_inside y (Inside a f) e out = or_first _ _ out
 
@@ -122,7 +122,7 @@ not_inside y (Inside a f) e out = or_first _ _ out
 module _ (meta : Meta) (m : State) (e : IdBytes) (k : Option ℕ) (was now : Option Place) (r : Option ℕ) (place : Place) (old : get m.place e ≡ was)
     (turn : (h : Option Place → Bool) → h None ≡ h (Some place) → h was ≡ h now) where
   abbrev named : List Cell
-  named = (OfKind e ∷ OfPlace e ∷ OfRank e ∷ place_list meta place) ++ map About (parent_kind place ++ e ∷ [])
+  named = (OfKind e ∷ OfPlace e ∷ OfRank e ∷ place_list meta place) ++ map About (parents_of place ++ e ∷ [])
 
   place_left : (h : Option Place → Bool) → h None ≡ h (Some place) → (x : IdBytes) → h (get m.place x) ≡ h (get (set m.place e now) x)
   place_left h alike x = by_key id_order (λ x. h (get m.place x) ≡ h (get (set m.place e now) x)) e x
@@ -142,18 +142,18 @@ module _ (meta : Meta) (m : State) (e : IdBytes) (k : Option ℕ) (was now : Opt
     λ is y. refl,
     λ finite x. place_left (stands_in (Inside a f))
         (sym (not_so (place_eq (Inside a f) place) (λ same. true_false _ (whole_listed meta a f place finite (place_equality.exact (Inside a f) place same))
-        (not_first (place_list meta place) (map About (parent_kind place ++ e ∷ [])) (OfWhole a f) out)))) x,
+        (not_first (place_list meta place) (map About (parents_of place ++ e ∷ [])) (OfWhole a f) out)))) x,
   )
   births_leave (About y) out = (
     λ h. refl,
     λ h z. refl,
     λ z h. refl,
     λ x. place_left (stands_inside y)
-        (sym (not_inside y place e (not_second (place_list meta place) (map About (parent_kind place ++ e ∷ [])) (About y) out))) x,
+        (sym (not_inside y place e (not_second (place_list meta place) (map About (parents_of place ++ e ∷ [])) (About y) out))) x,
   )
 
 -- ---- moves
-two_parents : (y : IdBytes) (from to : Place) → has (map About (parent_kind from ++ parent_kind to)) (About y) ≡ false → (is_inside y from ≡ false) × (is_inside y to ≡ false)
+two_parents : (y : IdBytes) (from to : Place) → has (map About (parents_of from ++ parents_of to)) (About y) ≡ false → (is_inside y from ≡ false) × (is_inside y to ≡ false)
 two_parents y Root Root out = (refl, refl)
 two_parents y Root (Inside b g) out = (refl, or_first _ _ out)
 two_parents y (Inside a f) Root out = (or_first _ _ out, refl)
@@ -161,7 +161,7 @@ two_parents y (Inside a f) (Inside b g) out = (or_first _ _ out, or_first (text_
 
 module _ (meta : Meta) (m : State) (e : IdBytes) (from to : Place) (rank : ℕ) (old : get m.place e ≡ Some from) where
   abbrev moved : List Cell
-  moved = (OfPlace e ∷ OfRank e ∷ (place_list meta from ++ place_list meta to)) ++ map About ((e ∷ (parent_kind from ++ parent_kind to)) ++ [])
+  moved = (OfPlace e ∷ OfRank e ∷ (place_list meta from ++ place_list meta to)) ++ map About ((e ∷ (parents_of from ++ parents_of to)) ++ [])
 
   move_left : (h : Option Place → Bool) → h (Some from) ≡ h (Some to) → (x : IdBytes) → h (get m.place x) ≡ h (get (set m.place e (Some to)) x)
   move_left h alike x = by_key id_order (λ x. h (get m.place x) ≡ h (get (set m.place e (Some to)) x)) e x
@@ -183,7 +183,7 @@ module _ (meta : Meta) (m : State) (e : IdBytes) (from to : Place) (rank : ℕ) 
   moves_leave (OfWhole a f) out = (
     λ is y. refl,
     λ finite x.
-        let lists = not_first (place_list meta from ++ place_list meta to) (map About ((e ∷ (parent_kind from ++ parent_kind to)) ++ [])) (OfWhole a f) out in
+        let lists = not_first (place_list meta from ++ place_list meta to) (map About ((e ∷ (parents_of from ++ parents_of to)) ++ [])) (OfWhole a f) out in
         move_left (stands_in (Inside a f))
         (unlisted a f finite from (not_first (place_list meta from) (place_list meta to) (OfWhole a f) lists)
         ∙ sym (unlisted a f finite to (not_second (place_list meta from) (place_list meta to) (OfWhole a f) lists))) x,
@@ -193,8 +193,8 @@ module _ (meta : Meta) (m : State) (e : IdBytes) (from to : Place) (rank : ℕ) 
     λ h z. refl,
     λ z h. refl,
     λ x.
-        let abouts = not_second (place_list meta from ++ place_list meta to) (map About ((e ∷ (parent_kind from ++ parent_kind to)) ++ [])) (About y) out in
-        let parents = two_parents y from to (subst (λ xs. has (map About xs) (About y) ≡ false) (append_nil (parent_kind from ++ parent_kind to)) (or_second (text_eq y e) _ abouts)) in
+        let abouts = not_second (place_list meta from ++ place_list meta to) (map About ((e ∷ (parents_of from ++ parents_of to)) ++ [])) (About y) out in
+        let parents = two_parents y from to (subst (λ xs. has (map About xs) (About y) ≡ false) (append_nil (parents_of from ++ parents_of to)) (or_second (text_eq y e) _ abouts)) in
         move_left (stands_inside y) (parents.0 ∙ sym parents.1) x,
   )
     where

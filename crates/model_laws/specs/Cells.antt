@@ -10,7 +10,7 @@ use Rattle.model_state.specs.declared.step.Place.TheVariants.{Root, Inside}
 use Rattle.model_state.specs.declared.step.Step.{Step}
 use Rattle.model_state.specs.declared.step.Step.TheVariants.{Put, Ins, Del, Shift, Link, Unlink, RerankRow, New, Gone, Move, RerankPlace}
 use Rattle.model_state.specs.Keys.{IdBytes}
-use Rattle.model_state.specs.Typing.{bounded_kind, contains_kind, kind_of, upper_of, opposite_of}
+use Rattle.model_state.specs.Typing.{bounded_kind, is_containment, kind_of, upper_of, opposite_of}
 use Rattle.model_state.specs.State.{State, place_eq, is_inside}
 
 -- OfKind, OfPlace, OfRank, OfAttr, OfRow, OfWhole are cells; About e is all that hangs on e
@@ -29,7 +29,7 @@ is_bounded meta f = bounded_kind (kind_of meta f)
 
 -- a containment with a finite upper bound
 abbrev pub is_finite : Meta → ℕ → Bool
-is_finite meta f = contains_kind (kind_of meta f) && is_some (upper_of meta f)
+is_finite meta f = is_containment (kind_of meta f) && is_some (upper_of meta f)
 
 -- equal cells
 abbrev pub cell_eq : Cell → Cell → Bool
@@ -78,10 +78,10 @@ abbrev pub place_list : Meta → Place → List Cell
 place_list meta Root = []
 place_list meta (Inside a f) = elim (is_finite meta f) [ true ↦ OfWhole a f ∷ [] | false ↦ [] ]
 
--- the element that a place is inside, if any
-abbrev pub parent_kind : Place → List IdBytes
-parent_kind Root = []
-parent_kind (Inside a f) = a ∷ []
+-- the parent of a place as a list, empty for the root
+abbrev pub parents_of : Place → List IdBytes
+parents_of Root = []
+parents_of (Inside a f) = a ∷ []
 
 -- the cells that a step writes
 abbrev pub step_writes : Meta → Step → List Cell
@@ -97,14 +97,14 @@ step_writes meta (Del e f at v) = OfAttr e f ∷ []
 step_writes meta (RerankRow a f b old new) = side meta a f b ∷ []
 step_writes meta (Shift e f from to) = OfAttr e f ∷ []
 
--- the elements whose class a step reads, as Kind cells
+-- the elements whose class a step reads
 abbrev pub kinds_read : Step → List IdBytes
 kinds_read (Put e f old new) = e ∷ []
 kinds_read (Link a f ra b rb) = a ∷ b ∷ []
 kinds_read (Unlink a f ra b rb) = a ∷ b ∷ []
-kinds_read (New e class place rank) = parent_kind place
-kinds_read (Gone e class place rank) = parent_kind place
-kinds_read (Move e from from_rank to to_rank above_from above_to) = e ∷ (parent_kind from ++ parent_kind to)
+kinds_read (New e class place rank) = parents_of place
+kinds_read (Gone e class place rank) = parents_of place
+kinds_read (Move e from from_rank to to_rank above_from above_to) = e ∷ (parents_of from ++ parents_of to)
 kinds_read (Ins e f at v) = e ∷ []
 kinds_read (Del e f at v) = e ∷ []
 kinds_read (RerankRow a f b old new) = a ∷ b ∷ []

@@ -5,6 +5,7 @@ use Rattle.std.specs.Option.{option_map_or}
 use Rattle.finite_maps.specs.Equal.{option_eq, text_eq}
 pub use Rattle.ecore_meta.specs.Meta.{has_feature, is_a}
 pub use Rattle.ecore_meta.specs.Typing.{in_width, literal_count, fits, kind_of, upper_of, opposite_of, plain_to, links}
+pub use Rattle.ecore_meta.specs.Ends.{is_containment}
 use Rattle.ecore_meta.specs.Meta.{Meta}
 use Rattle.ecore_meta.specs.declared.meta.Kind.{Kind}
 use Rattle.ecore_meta.specs.declared.meta.Kind.TheVariants.{Attr, AttrMany, Bounded, Free, Contains}
@@ -53,18 +54,13 @@ abbrev pub bounded_kind : Kind → Bool
 bounded_kind (Bounded target opposite) = true
 bounded_kind k = false
 
--- a containment
-abbrev pub contains_kind : Kind → Bool
-contains_kind (Contains target opposite) = true
-contains_kind k = false
-
 -- the bound of a feature's rows
 abbrev pub row_upper : Meta → ℕ → Option ℕ
 row_upper meta f = cond (bounded_kind (kind_of meta f)) (upper_of meta f) None
 
 -- the bound of a feature's children
 abbrev pub child_upper : Meta → ℕ → Option ℕ
-child_upper meta f = cond (contains_kind (kind_of meta f)) (upper_of meta f) None
+child_upper meta f = cond (is_containment (kind_of meta f)) (upper_of meta f) None
 
 -- a many-valued attribute
 abbrev pub is_many : Kind → Bool

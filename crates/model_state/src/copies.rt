@@ -6,7 +6,8 @@ use crate::{Id, Place, Step};
 use ecore_meta::{List, Value};
 use std::alloc::{AllocError, Global};
 
-fn copy_value(alloc: Global, v: &Option<Value>) -> Result<Option<Value>, AllocError>
+/// A copy of a value that may be missing.
+pub fn copy_value(alloc: Global, v: &Option<Value>) -> Result<Option<Value>, AllocError>
     ensures { IfOk result (λ w. w ≡ v.now) }
 {
     match v {

@@ -13,6 +13,7 @@ mod step;
 mod typing;
 
 pub use containers::chain;
+pub use copies::copy_value;
 pub use entry::{Entry, Incoming};
 pub use id::{Id, IdFault};
 pub use look::{Change, Look};
@@ -21,7 +22,7 @@ pub use operation::{OpKind, Operation, Package};
 pub use rank::{MOST_ENTRIES, RANK_GAP, rank_between};
 pub use step::{ApplyFault, Place, Placed, Step, StepFault};
 pub use typing::{
-    attr_fits, child_upper, class_has, fits, is_attr, is_below_bound, is_concrete, is_default,
-    is_many, is_one, is_plain, is_same_value, is_unique, many_fits, may_contain, may_link,
-    opposite_of, row_upper, upper_of,
+    attr_fits, child_upper, class_has, contains, fits, is_attr, is_below_bound, is_concrete,
+    is_default, is_many, is_one, is_plain, is_same_option, is_same_value, is_unique, many_fits,
+    may_contain, may_link, opposite_of, row_upper, upper_of,
 };

@@ -1,5 +1,6 @@
 //! Recorded operations, simple or composite, and the packages that they make up.
 ghost use Rattle.std.specs.Prelude.{◌≡◌, IfOk};
+ghost use Rattle.model_state.specs.Packages.{steps_of};
 
 use crate::Step;
 use ecore_meta::{List, Text};
@@ -37,6 +38,16 @@ fn copy_steps(alloc: Global, steps: &List<Step>) -> Result<List<Step>, AllocErro
 }
 
 impl Operation {
+    /// The steps of the operation, simple or composite.
+    pub fn steps(&self) -> &[Step]
+        ensures { result.now ≡ steps_of self.now }
+    {
+        match self {
+            Operation::Simple { steps, .. } => steps.as_slice(),
+            Operation::Composite { steps, .. } => steps.as_slice(),
+        }
+    }
+
     /// The same operation in memory of its own.
     pub fn copy(&self, alloc: Global) -> Result<Operation, AllocError>
         ensures { IfOk result (λ o. o ≡ self.now) }

@@ -1,5 +1,7 @@
 //! The typing rules: which features and values a metamodel lets an element have, and the bounds of its lists.
 ghost use Rattle.std.specs.Prelude.{◌≡◌, Some};
+ghost use Rattle.std.specs.List.{list_any};
+ghost use Rattle.finite_maps.specs.Equal.{option_eq};
 ghost use Rattle.finite_maps.specs.Maps.{is_below};
 ghost use Rattle.model_state.specs.Typing.{is_concrete, contains_to, kind_of, upper_of, child_upper, row_upper, plain_to, opposite_of, is_plain, fits, is_attr, attr_fits, is_many, is_unique, many_fits, is_default, value_eq};
 ghost use Rattle.model_state.specs.Steps.{class_has, may_link};
@@ -169,6 +171,26 @@ pub fn is_same_value(x: &Value, y: &Value) -> bool
             _ => false,
         },
     }
+}
+
+/// Whether both are the same value, or none.
+pub fn is_same_option(x: &Option<Value>, y: &Option<Value>) -> bool
+    ensures { result ≡ option_eq value_eq x.now y.now }
+{
+    match x {
+        None => y.is_none(),
+        Some(x) => match y {
+            None => false,
+            Some(y) => is_same_value(x, y),
+        },
+    }
+}
+
+/// Whether the value is among these.
+pub fn contains(values: &[Value], v: &Value) -> bool
+    ensures { result ≡ list_any (value_eq v.now) values.now }
+{
+    values.iter().any(|x| is_same_value(v, x))
 }
 
 /// Whether a value is of the type.

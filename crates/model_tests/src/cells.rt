@@ -3,7 +3,7 @@
 ghost use Rattle.std.specs.Prelude.{◌≡◌, [], ◌∷◌, false, Some, IfOk};
 ghost use Rattle.model_state.specs.State.{State, nothing};
 ghost use Rattle.model_state.specs.Steps.{fold};
-ghost use Rattle.model_state.specs.Packages.{steps_of, fold_package};
+ghost use Rattle.model_state.specs.Packages.{fold_package};
 ghost use Rattle.model_state.specs.Good.{Good, Sound};
 ghost use Rattle.step_apply.specs.View.{plain_state};
 ghost use Rattle.footprint.specs.Interference.{interferes};
@@ -36,15 +36,6 @@ fn clash(
     let a = print_of(alloc, first, meta)?;
     let b = print_of(alloc, second, meta)?;
     Ok(interferes(&a, &b))
-}
-
-fn steps_of(op: &Operation) -> &[Step]
-    ensures { result.now ≡ steps_of op.now }
-{
-    match op {
-        Operation::Simple { steps, .. } => steps.as_slice(),
-        Operation::Composite { steps, .. } => steps.as_slice(),
-    }
 }
 
 // The model that the steps make of the empty one.
@@ -134,8 +125,8 @@ fn is_same_after(
     requires run { fold meta.now nothing start.now ≡ Some (plain_state in_order.old) }
     requires apart { interferes meta.now first.now second.now ≡ false }
 {
-    replay(in_order, meta, steps_of(first))?;
-    replay(in_order, meta, steps_of(second))?;
+    replay(in_order, meta, first.steps())?;
+    replay(in_order, meta, second.steps())?;
     is_left_exchanged(alloc, meta, in_order, start, first, second)
 }
 

@@ -201,13 +201,6 @@ fn measure_batches<M: Change>(
     Ok(done)
 }
 
-fn steps_of(operation: &Operation) -> &[Step] {
-    match operation {
-        Operation::Simple { steps, .. } => steps.as_slice(),
-        Operation::Composite { steps, .. } => steps.as_slice(),
-    }
-}
-
 /// The model of a number takes the steps of operations one by one.
 fn take_all<M: Change>(
     meta: &Metamodel,
@@ -220,7 +213,7 @@ fn take_all<M: Change>(
     ensures { OnOk result (AreGood meta.now M.state models.new.items) }
 {
     for operation in package.as_slice() {
-        take(meta, models, model, steps_of(operation))?;
+        take(meta, models, model, operation.steps())?;
     }
     Ok(())
 }

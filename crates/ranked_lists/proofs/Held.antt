@@ -20,7 +20,7 @@ use Rattle.model_state.specs.Keys.{IdBytes, id_cmp}
 use Rattle.model_state.specs.Listing.{entry_cmp}
 use Rattle.model_state.proofs.Orders.{id_order, entry_order}
 use Rattle.ranked_lists.specs.Ranks.{Ranks, ranked_entry, entries_by_rank}
-use Rattle.ranked_lists.specs.Ranked.{rank_of, ranks_of, AreRanked}
+use Rattle.ranked_lists.specs.Ranked.{rank_of, rank_map, AreRanked}
 
 or_left : (b c : Bool) → b || c ≡ false → b ≡ false
 or_left true c h = cc
@@ -40,7 +40,7 @@ not_listed (x ∷ xs) q h =
     ap (λ b. cond b (Some x.rank) (rank_of xs q)) (same_id q x.id ∙ or_left (eq_by_cmp id_cmp q x.id) _ h)
     ∙ not_listed xs q (or_right (eq_by_cmp id_cmp q x.id) _ h)
 
-pub get-ranks : (xs : List Entry) (q : IdBytes) → get (ranks_of xs) q ≡ rank_of xs q
+pub get-ranks : (xs : List Entry) (q : IdBytes) → get (rank_map xs) q ≡ rank_of xs q
 get-ranks xs q = get-tabulate id_order (rank_of xs) (map (λ (x : Entry). x.id) xs) (not_listed xs) q
 
 -- ---- the entries of a map, each once
@@ -124,11 +124,11 @@ module _ (xs : List Entry) (m : Ranks) (h : Holds xs m) where
         | Some r ↦ λ is. sym (some_rank q r is)
       ] refl
 
-  pub ranks_are : ranks_of xs ≡ m
-  ranks_are = same id_order (ranks_of xs) m (λ q. get-ranks xs q ∙ rank_is q)
+  pub ranks_are : rank_map xs ≡ m
+  ranks_are = same id_order (rank_map xs) m (λ q. get-ranks xs q ∙ rank_is q)
 
   -- entries in order
-  pub now_ranked : Rises entry_cmp xs → AreRanked xs × (ranks_of xs ≡ m)
+  pub now_ranked : Rises entry_cmp xs → AreRanked xs × (rank_map xs ≡ m)
   now_ranked up = (listed xs m h up ∙ ap entries_by_rank (sym ranks_are), ranks_are)
 
 -- ---- a write of one element
@@ -144,9 +144,9 @@ holds_set xs ys m e v h change p =
 -- entries that were put in order after a write
 pub sorted_set : (xs zs ys : List Entry) (e : IdBytes) (v : Option ℕ) → AreRanked xs → IsPermutation zs ys → IsSorted entry_cmp ys
     → ((p : Entry → Bool) → tally p zs + counts (λ (z : IdBytes × ℕ). p (ranked_entry z)) e (rank_of xs e) ≡ tally p xs + counts (λ (z : IdBytes × ℕ). p (ranked_entry z)) e v)
-    → AreRanked ys × (ranks_of ys ≡ set (ranks_of xs) e v)
+    → AreRanked ys × (rank_map ys ≡ set (rank_map xs) e v)
 sorted_set xs zs ys e v ranked moved up change =
-    let m = ranks_of xs in
+    let m = rank_map xs in
     let is : ys ≡ in_order entry_cmp zs = sorted_is entry_order zs ys moved up in
     now_ranked ys (set m e v)
     (holds_set xs ys m e v (holds xs m ranked) (λ p. ap (λ n. n + counts (λ (z : IdBytes × ℕ). p (ranked_entry z)) e (get m e)) (tally_permuted p zs ys moved) ∙ ap (λ o. tally p zs + counts (λ (z : IdBytes × ℕ). p (ranked_entry z)) e o) (get-ranks xs e) ∙ change p))
@@ -164,8 +164,8 @@ length_ranked m =
 
 -- no entry
 pub none_ranked : AreRanked []
-none_ranked = listed [] (ranks_of []) (λ p. sym (count_none id_order _ (ranks_of []) (λ q v at. absurd (some_none (get (ranks_of []) q) v at (get-ranks [] q))))) tt
+none_ranked = listed [] (rank_map []) (λ p. sym (count_none id_order _ (rank_map []) (λ q v at. absurd (some_none (get (rank_map []) q) v at (get-ranks [] q))))) tt
 
 -- the list of a map
-pub listed_is : (xs : List Entry) (m : Ranks) → xs ≡ entries_by_rank m → AreRanked xs × (ranks_of xs ≡ m)
+pub listed_is : (xs : List Entry) (m : Ranks) → xs ≡ entries_by_rank m → AreRanked xs × (rank_map xs ≡ m)
 listed_is xs m is = now_ranked xs m (holds xs m is) (subst (Rises entry_cmp) (sym is) (rises-in_order entry_order (map ranked_entry (entries m))))

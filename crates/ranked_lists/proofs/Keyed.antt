@@ -28,7 +28,7 @@ use Rattle.model_state.specs.Keys.{IdBytes}
 use Rattle.model_state.specs.Listing.{entry_cmp}
 use Rattle.model_state.proofs.Orders.{id_order, entry_order}
 use Rattle.ranked_lists.specs.Ranks.{Ranks, ranked_entry}
-use Rattle.ranked_lists.specs.Ranked.{ranks_of, AreRanked, named, entry_with, IsTableOf}
+use Rattle.ranked_lists.specs.Ranked.{rank_map, AreRanked, named, entry_with, IsTableOf}
 use Rattle.ranked_lists.proofs.Held.{Holds, holds, holds_set, now_ranked}
 
 -- ---- keys that come and go
@@ -123,10 +123,10 @@ passed a b c d k h g = omega (arith, h, g)
 
 module _ (ks : List Entry) (ranked : AreRanked ks) (e : IdBytes) where
   abbrev was : Ranks
-  was = ranks_of ks
+  was = rank_map ks
 
   abbrev After : List Entry → Option ℕ → Type 0
-  After ns v = AreRanked ns × (ranks_of ns ≡ set was e v)
+  After ns v = AreRanked ns × (rank_map ns ≡ set was e v)
 
   all_held : Holds ks was
   all_held = holds ks was ranked

@@ -16,7 +16,7 @@ use Rattle.model_state.specs.Keys.{IdBytes, id_cmp}
 use Rattle.model_state.specs.Listing.{entry_cmp}
 use Rattle.model_state.proofs.Orders.{id_order, entry_order}
 use Rattle.ranked_lists.specs.Ranks.{Ranks, ranked_entry}
-use Rattle.ranked_lists.specs.Ranked.{rank_of, ranks_of, AreRanked, entry_with}
+use Rattle.ranked_lists.specs.Ranked.{rank_of, rank_map, AreRanked, entry_with}
 use Rattle.ranked_lists.proofs.Held.{get-ranks, holds, holds_set, now_ranked, sorted_set, each_rank, same_id}
 use Rattle.ranked_lists.proofs.Places.{tally_more, tally-remove, tally-slice_set, rises-remove, place_some}
 
@@ -24,14 +24,14 @@ its_entry : (x : Entry) (e : IdBytes) → x.id ≡ e → entry_with e x.rank ≡
 its_entry x e id = λ i. record { rank = x.rank; id = sym id i }
 
 rises : (xs : List Entry) → AreRanked xs → Rises entry_cmp xs
-rises xs ranked = subst (Rises entry_cmp) (sym ranked) (rises-in_order entry_order (map ranked_entry (entries (ranks_of xs))))
+rises xs ranked = subst (Rises entry_cmp) (sym ranked) (rises-in_order entry_order (map ranked_entry (entries (rank_map xs))))
 
 went : (a b c : ℕ) → a + c ≡ b → a + c ≡ b + 0
 went a b c h = omega (arith, h)
 
 module _ (xs : List Entry) (e : IdBytes) (ranked : AreRanked xs) where
   abbrev After : List Entry → Option ℕ → Type 0
-  After ys v = AreRanked ys × (ranks_of ys ≡ set (ranks_of xs) e v)
+  After ys v = AreRanked ys × (rank_map ys ≡ set (rank_map xs) e v)
 
   module _ (i : ℕ) (is : position (λ (x : Entry). text_eq x.id e) xs ≡ Some i) where
     abbrev old : Entry
@@ -46,8 +46,8 @@ module _ (xs : List Entry) (e : IdBytes) (ranked : AreRanked xs) where
     -- an element taken out
     pub taken_out : (ys : List Entry) → ys ≡ remove xs i → After ys None
     taken_out ys gone =
-        now_ranked ys (set (ranks_of xs) e None)
-        (holds_set xs ys (ranks_of xs) e None (holds xs (ranks_of xs) ranked) (λ p.
+        now_ranked ys (set (rank_map xs) e None)
+        (holds_set xs ys (rank_map xs) e None (holds xs (rank_map xs) ranked) (λ p.
         ap (λ o. tally p ys + counts (λ (z : IdBytes × ℕ). p (ranked_entry z)) e o) (get-ranks xs e ∙ had)
         ∙ ap (λ x. tally p ys + cond (p x) 1 0) old_is
         ∙ ap (λ l. tally p l + cond (p old) 1 0) gone
@@ -97,11 +97,11 @@ get_put m n q (x ∷ xs) all =
     either false o w h = h
 
 -- all entries, put into the empty map
-pub put_all_is : (xs : List Entry) → AreRanked xs → put_all xs ≡ ranks_of xs
-put_all_is xs ranked = same id_order (put_all xs) (ranks_of xs) (λ q.
-    get_put (ranks_of xs) empty q xs (each_rank xs (ranks_of xs) (holds xs (ranks_of xs) ranked))
-    ∙ ap (cond (is_some (rank_of xs q)) (get (ranks_of xs) q)) (get-empty id_cmp q)
-    ∙ whole (rank_of xs q) (get (ranks_of xs) q) (get-ranks xs q))
+pub put_all_is : (xs : List Entry) → AreRanked xs → put_all xs ≡ rank_map xs
+put_all_is xs ranked = same id_order (put_all xs) (rank_map xs) (λ q.
+    get_put (rank_map xs) empty q xs (each_rank xs (rank_map xs) (holds xs (rank_map xs) ranked))
+    ∙ ap (cond (is_some (rank_of xs q)) (get (rank_map xs) q)) (get-empty id_cmp q)
+    ∙ whole (rank_of xs q) (get (rank_map xs) q) (get-ranks xs q))
   where
     whole : (r o : Option ℕ) → o ≡ r → cond (is_some r) o None ≡ o
     whole None o h = sym h

@@ -15,18 +15,18 @@ rank_of [] q = None
 rank_of (x ∷ xs) q = cond (text_eq x.id q) (Some x.rank) (rank_of xs q)
 
 -- the elements of the entries with their ranks
-abbrev pub ranks_of : List Entry → Ranks
-ranks_of xs = tabulate id_cmp (rank_of xs) (map (λ (x : Entry). x.id) xs)
+abbrev pub rank_map : List Entry → Ranks
+rank_map xs = tabulate id_cmp (rank_of xs) (map (λ (x : Entry). x.id) xs)
 
 -- the entries stand in order, each of an element of its own
 abbrev pub AreRanked : List Entry → Type 0
-AreRanked xs = xs ≡ entries_by_rank (ranks_of xs)
+AreRanked xs = xs ≡ entries_by_rank (rank_map xs)
 
 -- a table from texts to entries, as one from ids
 abbrev pub named : {Y : Type 0} → List (String Y × Entry) → List (IdBytes × Entry)
 named es = map (λ e. (string_bytes e.0, e.1)) es
 
--- an element that has the rank
+-- the entry of an element with that rank
 abbrev pub entry_with : IdBytes → ℕ → Entry
 entry_with q r = record { rank = r; id = q }
 
@@ -36,7 +36,7 @@ IsTableOf es m = (q : IdBytes) → lookup (text_eq q) es ≡ option_map (entry_w
 
 -- what is held: few entries in one vector, or many
 abbrev pub held : {Z : Type 0} → List Entry → Option (Box Ranks Z) → Ranks
-held xs None = ranks_of xs
+held xs None = rank_map xs
 held xs (Some many) = many.value
 
 -- few entries are ranked; beside many there are none

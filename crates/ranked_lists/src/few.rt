@@ -3,7 +3,7 @@ ghost use Rattle.std.specs.Prelude.{◌≡◌, Some, None, OnOk, OnErr, IfOk, po
 ghost use Rattle.finite_maps.specs.Equal.{text_eq};
 ghost use Rattle.finite_maps.specs.Maps.{set};
 ghost use Rattle.model_state.specs.declared.entry.Entry.{Entry};
-ghost use Rattle.ranked_lists.specs.Ranked.{rank_of, ranks_of, AreRanked};
+ghost use Rattle.ranked_lists.specs.Ranked.{rank_of, rank_map, AreRanked};
 
 use model_state::{Entry, Id};
 use std::alloc::{AllocError, Global};
@@ -41,7 +41,7 @@ fn add_among(entries: &mut Vec<Entry>, e: Id, rank: u64) -> Result<(), AllocErro
     requires ranked { AreRanked entries.old.items }
     requires absent { rank_of entries.old.items e ≡ None }
     ensures ranked { AreRanked entries.new.items }
-    ensures ok { OnOk result (ranks_of entries.new.items ≡ set (ranks_of entries.old.items) e (Some rank)) }
+    ensures ok { OnOk result (rank_map entries.new.items ≡ set (rank_map entries.old.items) e (Some rank)) }
     ensures err { OnErr result (entries.new.items ≡ entries.old.items) }
 {
     make_room(entries)?;
@@ -55,7 +55,7 @@ fn rerank_among(entries: &mut Vec<Entry>, e: &Id, at: usize, rank: u64)
     requires ranked { AreRanked entries.old.items }
     requires at { position (λ (x : Entry). text_eq x.id e.now) entries.old.items ≡ Some at }
     ensures ranked { AreRanked entries.new.items }
-    ensures ranks { ranks_of entries.new.items ≡ set (ranks_of entries.old.items) e.now (Some rank) }
+    ensures ranks { rank_map entries.new.items ≡ set (rank_map entries.old.items) e.now (Some rank) }
 {
     entries[at].rank = rank;
     entries.sort_unstable();
@@ -65,7 +65,7 @@ fn rerank_among(entries: &mut Vec<Entry>, e: &Id, at: usize, rank: u64)
 pub fn put_among(entries: &mut Vec<Entry>, e: Id, rank: u64) -> Result<(), AllocError>
     requires { AreRanked entries.old.items }
     ensures ranked { AreRanked entries.new.items }
-    ensures ok { OnOk result (ranks_of entries.new.items ≡ set (ranks_of entries.old.items) e (Some rank)) }
+    ensures ok { OnOk result (rank_map entries.new.items ≡ set (rank_map entries.old.items) e (Some rank)) }
     ensures err { OnErr result (entries.new.items ≡ entries.old.items) }
 {
     match index_of(entries.as_slice(), &e) {
@@ -81,7 +81,7 @@ pub fn put_among(entries: &mut Vec<Entry>, e: Id, rank: u64) -> Result<(), Alloc
 pub fn drop_among(entries: &mut Vec<Entry>, e: &Id)
     requires { AreRanked entries.old.items }
     ensures ranked { AreRanked entries.new.items }
-    ensures ranks { ranks_of entries.new.items ≡ set (ranks_of entries.old.items) e.now None }
+    ensures ranks { rank_map entries.new.items ≡ set (rank_map entries.old.items) e.now None }
 {
     if let Some(at) = index_of(entries.as_slice(), e) {
         entries.remove(at);

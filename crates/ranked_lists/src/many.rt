@@ -24,15 +24,15 @@ pub struct Many {
 
 impl Model for Many {
     ghost use Rattle.ranked_lists.specs.Ranks.{Ranks, ranks_code};
-    ghost use Rattle.ranked_lists.specs.Ranked.{ranks_of, AreRanked, named, IsTableOf};
+    ghost use Rattle.ranked_lists.specs.Ranked.{rank_map, AreRanked, named, IsTableOf};
 
     ghost Value = { Ranks };
 
     ghost coded = { ranks_code };
 
-    ghost view = { λ a. ranks_of a.by_rank.keys };
+    ghost view = { λ a. rank_map a.by_rank.keys };
 
-    ghost invariant = { λ a. AreRanked a.by_rank.keys × IsTableOf (named a.by_id.entries) (ranks_of a.by_rank.keys) };
+    ghost invariant = { λ a. AreRanked a.by_rank.keys × IsTableOf (named a.by_id.entries) (rank_map a.by_rank.keys) };
 }
 
 /// Writes the rank of an element in a table, where it is there. This takes no memory.

@@ -6,7 +6,7 @@ ghost use Rattle.finite_maps.specs.Maps.{set};
 ghost use Rattle.spread_maps.specs.Spread.{is_bare};
 ghost use Rattle.model_state.specs.Listing.{last_rank};
 ghost use Rattle.ranked_lists.specs.Ranks.{entries_by_rank};
-ghost use Rattle.ranked_lists.specs.Ranked.{ranks_of, AreRanked};
+ghost use Rattle.ranked_lists.specs.Ranked.{rank_map, AreRanked};
 
 use crate::few::{copied_entries, drop_among, put_among, rank_among};
 use crate::many::Many;
@@ -46,7 +46,7 @@ impl Model for RankedList {
 /// The same entries by id and by rank.
 fn many_of(alloc: Global, entries: &[Entry]) -> Result<Many, AllocError>
     requires { AreRanked entries.now }
-    ensures { IfOk result (λ m. m ≡ ranks_of entries.now) }
+    ensures { IfOk result (λ m. m ≡ rank_map entries.now) }
 {
     let mut many = Many::new(alloc);
     for entry in entries {
@@ -58,7 +58,7 @@ fn many_of(alloc: Global, entries: &[Entry]) -> Result<Many, AllocError>
 /// The same entries by id and by rank, where an element has another rank or is new.
 fn grown(alloc: Global, entries: &[Entry], e: Id, rank: u64) -> Result<Box<Many>, AllocError>
     requires { AreRanked entries.now }
-    ensures { IfOk result (λ m. m.value ≡ set (ranks_of entries.now) e (Some rank)) }
+    ensures { IfOk result (λ m. m.value ≡ set (rank_map entries.now) e (Some rank)) }
 {
     let mut many = many_of(alloc, entries)?;
     many.put(alloc, e, rank)?;

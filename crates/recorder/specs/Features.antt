@@ -1,19 +1,14 @@
 -- The effect of an edit of a feature, once its element and its feature are found.
-use Rattle.std.specs.Prelude.{ℕ, Bool, not, ◌&&◌, nat_lt, List, length, Option, Result, Ok, Err, if◌then◌else◌}
-use Rattle.std.specs.List.{list_any}
-use Rattle.finite_maps.specs.Maps.{is_below}
+use Rattle.std.specs.Prelude.{ℕ, Result, Err}
 use Rattle.ecore_meta.specs.Meta.{Meta}
 use Rattle.ecore_meta.specs.declared.meta.Kind.{Kind}
-use Rattle.ecore_meta.specs.declared.meta.Value.{Value}
 use Rattle.model_state.specs.Keys.{IdBytes}
 use Rattle.model_state.specs.State.{State}
-use Rattle.model_state.specs.Typing.{value_eq}
 use Rattle.edit_laws.specs.declared.fault.EditFault.{EditFault}
-use Rattle.edit_laws.specs.declared.fault.EditFault.TheVariants.{AlreadyThere, Bound, WrongKind}
+use Rattle.edit_laws.specs.declared.fault.EditFault.TheVariants.{WrongKind}
 use Rattle.edits.specs.declared.edit.Edit.{Edit}
 use Rattle.edits.specs.declared.edit.Edit.TheVariants.{Set, Unset, Add, Remove, Shift, Link, Unlink, Reorder}
 use Rattle.edits.specs.Edits.{Reading, Effect, set_effect, unset_effect, add_effect, remove_effect, shift_effect, link_effect, unlink_effect, reorder_effect}
-use Rattle.model_state.specs.Ranks.{most_entries}
 
 -- the effect of an edit on a feature of an element, by the feature's kind; another edit is refused
 unfoldable pub effect_on : Reading → Meta → State → IdBytes → Edit → ℕ → Kind → Result Effect EditFault
@@ -26,11 +21,3 @@ effect_on reading meta m e (Link id feature target index) f kind = link_effect m
 effect_on reading meta m e (Unlink id feature target) f kind = unlink_effect meta m e f kind target
 effect_on reading meta m e (Reorder id feature target index) f kind = reorder_effect meta m e f kind target index
 effect_on reading meta m e edit f kind = Err WrongKind
-
--- a list of values takes one more, or why it doesn't
-abbrev pub accepts : Bool → Option ℕ → List Value → Value → Result (Unit {0}) EditFault
-accepts unique upper vs v =
-    if unique && list_any (value_eq v) vs then Err AlreadyThere
-    else if not (is_below (length vs) upper) then Err Bound
-    else if not (nat_lt (length vs) most_entries) then Err Bound
-    else Ok tt

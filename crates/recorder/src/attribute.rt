@@ -1,10 +1,9 @@
 //! The recording of `set` and `unset`, by the kind of the feature; a default is held as no value.
 ghost use Rattle.std.specs.Prelude.{◌≡◌, ◌∷◌, [], IfOk, None, true};
 ghost use Rattle.std.specs.FinMap.{get};
-ghost use Rattle.finite_maps.specs.Equal.{option_eq};
 ghost use Rattle.model_state.specs.Good.{Good};
 ghost use Rattle.model_state.specs.Steps.{class_has};
-ghost use Rattle.model_state.specs.Typing.{kind_of, value_eq};
+ghost use Rattle.model_state.specs.Typing.{kind_of};
 ghost use Rattle.model_state.specs.declared.operation.OpKind.TheVariants.{Attribute};
 ghost use Rattle.model_state.specs.declared.step.Step.TheVariants.{Put};
 ghost use Rattle.emfjson_io.specs.Values.{value_of};
@@ -18,22 +17,9 @@ use crate::{many, reference};
 use ecore_meta::{Kind, List, Metamodel, Text, Value};
 use edit_laws::EditFault;
 use edits::Recorded;
-use model_state::{Id, Look, OpKind, Step, is_attr, is_default, is_many, is_plain, is_same_value};
+use model_state::{Id, Look, OpKind, Step, is_attr, is_default, is_many, is_plain, is_same_option};
 use opposites::holds_one;
 use std::alloc::{AllocError, Global};
-
-/// Whether both are the same value, or none.
-fn is_same(x: &Option<Value>, y: &Option<Value>) -> bool
-    ensures { result ≡ option_eq value_eq x.now y.now }
-{
-    match x {
-        None => y.is_none(),
-        Some(x) => match y {
-            None => false,
-            Some(y) => is_same_value(x, y),
-        },
-    }
-}
 
 /// The single value of an attribute, None where it isn't set.
 fn single_value<L: Look>(
@@ -86,7 +72,7 @@ fn put_steps<L: Look>(
     ensures { IfOk result (λ steps. steps ≡ put_made (L.state look.now) e.now f new) }
 {
     let old = single_value(alloc, look, e, f)?;
-    if is_same(&old, &new) {
+    if is_same_option(&old, &new) {
         Ok(List::new(alloc))
     } else {
         put_step(alloc, e, f, old, new)

@@ -1,6 +1,6 @@
 //! The recording of `add`, `remove`, `shift` and `unset` of many-valued attributes.
-ghost use Rattle.std.specs.Prelude.{◌≡◌, ◌≤◌, ◌<◌, ◌∷◌, ◌++◌, IfOk, OnOk, [], None, Some, length, true, unwrap_or};
-ghost use Rattle.std.specs.List.{list_all, list_any};
+ghost use Rattle.std.specs.Prelude.{◌≡◌, ◌<◌, ◌∷◌, IfOk, [], None, Some, length, true, unwrap_or};
+ghost use Rattle.std.specs.List.{list_all};
 ghost use Rattle.finite_maps.specs.Equal.{list_eq};
 ghost use Rattle.finite_maps.specs.Maps.{is_below};
 ghost use Rattle.ecore_meta.specs.Typing.{upper_of};
@@ -8,29 +8,23 @@ ghost use Rattle.model_state.specs.Good.{Good};
 ghost use Rattle.model_state.specs.Lists.{shifted};
 ghost use Rattle.model_state.specs.Typing.{is_many, kind_of, value_eq};
 ghost use Rattle.emfjson_io.specs.Values.{value_of};
-ghost use Rattle.edit_laws.specs.ManyValues.{dels, values_in};
 ghost use Rattle.model_state.specs.declared.operation.OpKind.TheVariants.{ManyAttribute};
 ghost use Rattle.model_state.specs.declared.step.Step.TheVariants.{Del, Ins};
-ghost use Rattle.edits.specs.Edits.{Clears, operation_of, add_effect, insert_effect, recording, recording_of, remove_effect, shift_effect};
-ghost use Rattle.recorder.specs.Features.{accepts};
+ghost use Rattle.edits.specs.Edits.{Clears, accepts, operation_of, add_effect, insert_effect, recording, recording_of, remove_effect, shift_effect};
 ghost use Rattle.edits.specs.Answers.{Answers};
-ghost use Rattle.model_state.specs.Ranks.{most_entries};
+ghost use Rattle.model_state.specs.Listing.{values_at};
 
 use crate::feature::{Named, read};
 use crate::operation::{one_step, operation};
+use containment::dels;
 use ecore_meta::{Kind, List, Metamodel, Text, Value};
 use edit_laws::EditFault;
 use edits::Recorded;
 use model_state::{
-    Id, Look, MOST_ENTRIES, OpKind, Step, is_below_bound, is_many, is_same_value, upper_of,
+    Id, Look, MOST_ENTRIES, OpKind, Step, contains, is_below_bound, is_many, is_same_value,
+    upper_of,
 };
 use std::alloc::{AllocError, Global};
-
-fn contains(values: &[Value], v: &Value) -> bool
-    ensures { result ≡ list_any (value_eq v.now) values.now }
-{
-    values.iter().any(|x| is_same_value(v, x))
-}
 
 /// Whether a list of n values has room for one more under the upper bound.
 fn has_room(meta: &Metamodel, f: u32, n: usize) -> bool
@@ -43,7 +37,7 @@ fn has_room(meta: &Metamodel, f: u32, n: usize) -> bool
 fn count<L: Look>(look: &L, meta: &Metamodel, e: &Id, f: u32) -> u32
     requires good { Good meta.now (L.state look.now) }
     requires many { is_many (kind_of meta.now f) ≡ true }
-    ensures { result ≡ length (values_in (L.state look.now) e.now f) }
+    ensures { result ≡ length (values_at (L.state look.now) e.now f) }
 {
     // Only the contract needs it.
     let _meta = meta;
@@ -68,23 +62,6 @@ fn del(alloc: Global, e: &Id, f: u32, at: u32, v: &Value) -> Result<Step, AllocE
     let e = e.copy(alloc)?;
     let v = v.copy(alloc)?;
     Ok(Step::Del { e, f, at, v })
-}
-
-/// A step for each of the values, the last first.
-fn dels(
-    alloc: Global,
-    e: &Id,
-    f: u32,
-    values: &[Value],
-    steps: &mut List<Step>,
-) -> Result<(), AllocError>
-    requires { length values.now ≤ most_entries }
-    ensures { OnOk result (steps.new ≡ steps.old ++ dels e.now f 0 values.now) }
-{
-    for at in (0..values.len()).rev() {
-        steps.push(del(alloc, e, f, at as u32, &values[at])?)?;
-    }
-    Ok(())
 }
 
 /// Records that all values of a many-valued attribute are removed.
@@ -117,7 +94,7 @@ fn takes<L: Look>(
     unique: bool,
     value: &Value,
 ) -> Result<(), EditFault>
-    ensures { result ≡ accepts unique (upper_of meta.now named.now.feature) (values_in (L.state look.now) named.now.id named.now.feature) value.now }
+    ensures { result ≡ accepts unique (upper_of meta.now named.now.feature) (values_at (L.state look.now) named.now.id named.now.feature) value.now tt }
 {
     let values = look.attr(&named.id, named.feature);
     if unique && contains(values, value) {
@@ -148,7 +125,7 @@ fn add_value<L: Look>(
     at: u32,
     value: Value,
 ) -> Result<Recorded, EditFault>
-    ensures { Answers result (recording_of meta.now (L.state look.now) (insert_effect named.now.id named.now.feature unique (upper_of meta.now named.now.feature) (values_in (L.state look.now) named.now.id named.now.feature) at (Some value))) }
+    ensures { Answers result (recording_of meta.now (L.state look.now) (insert_effect named.now.id named.now.feature unique (upper_of meta.now named.now.feature) (values_at (L.state look.now) named.now.id named.now.feature) at (Some value))) }
 {
     takes(look, meta, named, unique, &value)?;
     let step = ins(alloc, &named.id, named.feature, at, value)?;

@@ -24,7 +24,7 @@ use Rattle.model_state.specs.Good.{Good}
 use Rattle.model_state.specs.Keys.{IdBytes}
 use Rattle.model_state.specs.Listing.{children, targets, entry_cmp, rank_at, row_entry, is_of}
 use Rattle.model_state.specs.State.{State, place_eq}
-use Rattle.model_state.specs.Typing.{bounded_kind, contains_kind, child_upper, row_upper}
+use Rattle.model_state.specs.Typing.{bounded_kind, is_containment, child_upper, row_upper}
 use Rattle.emfjson_text.specs.Tree.{child_ids, is_single, target_ids}
 
 module _ {A : Type 0} where
@@ -96,5 +96,5 @@ module _ (meta : Meta) (m : State) (good : Good meta m) where
 
   pub children_within : (a : IdBytes) (f target : ℕ) (opposite : Option ℕ) → kind_of meta f ≡ Contains target opposite → is_within (length (child_ids m (Inside a f))) (upper_of meta f) ≡ true
   children_within a f target opposite kind =
-      let upper : child_upper meta f ≡ upper_of meta f = ap (λ k. cond (contains_kind k) (upper_of meta f) None) kind in
+      let upper : child_upper meta f ≡ upper_of meta f = ap (λ k. cond (is_containment k) (upper_of meta f) None) kind in
       subst (λ n. is_within n (upper_of meta f) ≡ true) (sym (child_count m (Inside a f))) (subst (λ u. is_within (count (λ e. place_eq (Inside a f) e.1) m.place) u ≡ true) upper (good.places.bound a f))

@@ -14,15 +14,14 @@ use Rattle.model_state.specs.declared.step.Step.{Step}
 use Rattle.model_state.specs.declared.step.Step.TheVariants.{Link}
 use Rattle.model_state.specs.Good.{Good, AttrOk, ValuesOk}
 use Rattle.model_state.specs.Keys.{IdBytes, AttrKey}
-use Rattle.model_state.specs.Listing.{targets}
+use Rattle.model_state.specs.Listing.{targets, values_at}
 use Rattle.model_state.specs.Lists.{values_of}
 use Rattle.model_state.specs.State.{State, is_live}
 use Rattle.model_state.specs.Typing.{is_plain, is_attr, kind_of, opposite_of, upper_of}
 use Rattle.edit_laws.specs.Attributes.{single_value}
-use Rattle.edit_laws.specs.ManyValues.{values_in}
 use Rattle.edit_laws.specs.Rows.{Rows, link_step, mirror_rank}
 use Rattle.edit_laws.proofs.Lists.{targets_held}
-use Rattle.containment.specs.Deletes.{slots_of, is_attribute}
+use Rattle.containment.specs.Deletes.{slots_of, holds_values}
 use Rattle.containment.proofs.ElementsGone.{AllLive}
 use Rattle.op_form.specs.Formed.{IsU32, IsU64, IsIdText, IsGiven, IsValue, IsPlace, IsStep}
 use Rattle.state_steps.specs.Whole.{birth, births, put_first, inserts, filled, all_filled, is_less, leads, linked, all_linked, elements_of, as_steps}
@@ -140,7 +139,7 @@ module _ (meta : Meta) (m : State) (good : Good meta m) (spelled : IsSpelled met
 
   filled_given : (s : AttrKey) → AllByRecursion IsStep (filled meta m s)
   filled_given s =
-      chosen (is_attr (kind_of meta s.1)) (put_first s (single_value (get m.attr s))) (inserts s.0 s.1 0 (values_in m s.0 s.1))
+      chosen (is_attr (kind_of meta s.1)) (put_first s (single_value (get m.attr s))) (inserts s.0 s.1 0 (values_at m s.0 s.1))
       (λ is. put_given s (get m.attr s) (spelled.values s))
       (λ not. all_inserts meta (get m.kind s.0) s (get m.attr s) (good.attrs.typed s.0 s.1) (spelled.values s))
 
@@ -151,7 +150,7 @@ module _ (meta : Meta) (m : State) (good : Good meta m) (spelled : IsSpelled met
   pub whole_given : AllByRecursion IsStep (as_steps meta m)
   whole_given =
       let xs : List IdBytes = elements_of meta m in
-      let values : List Step = all_filled meta m (slots_of meta m is_attribute xs) in
+      let values : List Step = all_filled meta m (slots_of meta m holds_values xs) in
       let rows : List Step = all_linked meta m.row (slots_of meta m is_plain xs) in
       both IsStep (births m xs) (values ++ rows) (births_given xs (all_live meta m good xs (λ y h. h)))
-      (both IsStep values rows (all_filled_given (slots_of meta m is_attribute xs)) (all_links_given meta m.row spelled.rows (slots_of meta m is_plain xs)))
+      (both IsStep values rows (all_filled_given (slots_of meta m holds_values xs)) (all_links_given meta m.row spelled.rows (slots_of meta m is_plain xs)))

@@ -18,7 +18,7 @@ use Rattle.model_state.proofs.Orders.{id_order, attr_order, row_order}
 use Rattle.model_laws.proofs.Runs.{fold_append, reversal_undoes}
 use Rattle.edit_laws.specs.Rows.{Rows}
 use Rattle.edit_laws.proofs.Clears.{Leads}
-use Rattle.containment.specs.Deletes.{gone_made, is_attribute, is_touched, outgoing_made, slots_of, values_made}
+use Rattle.containment.specs.Deletes.{gone_made, holds_values, is_touched, outgoing_made, slots_of, values_made}
 use Rattle.containment.specs.Subtree.{is_among}
 use Rattle.containment.proofs.Children.{has_children}
 use Rattle.containment.proofs.ElementsGone.{Bare, elements_lead, stripped}
@@ -73,7 +73,7 @@ module _ (meta : Meta) (sound : Sound meta) (m : State) (good : Good meta m) whe
   links = links_of meta m xs
 
   abbrev slots : List AttrKey
-  slots = slots_of meta m is_attribute xs
+  slots = slots_of meta m holds_values xs
 
   once : Distinct xs
   once = distinct_from meta m good xs (all_ordered meta m good)
@@ -100,7 +100,7 @@ module _ (meta : Meta) (sound : Sound meta) (m : State) (good : Good meta m) whe
 
   part_values : fold meta (record m { row = empty }) (values_made meta m slots) ≡ Some (record m { row = empty; attr = empty })
   part_values =
-      values_lead meta sound m slots (record m { row = empty }) part_out.good (attributes meta m good xs) (slots_distinct meta m is_attribute xs once) (kept_all meta sound m slots)
+      values_lead meta sound m slots (record m { row = empty }) part_out.good (attributes meta m good xs) (slots_distinct meta m holds_values xs once) (kept_all meta sound m slots)
       ∙ ap (λ (attr : FinMap _ (List Value)). Some (record m { row = empty; attr = attr })) (values_left meta m good xs ∙ no_values)
 
   -- ---- the elements

@@ -11,14 +11,14 @@ use Rattle.model_state.specs.declared.entry.Entry.{Entry}
 use Rattle.model_state.specs.declared.step.Step.{Step}
 use Rattle.model_state.specs.declared.step.Step.TheVariants.{Put, Ins, Del}
 use Rattle.model_state.specs.Keys.{IdBytes, AttrKey}
-use Rattle.model_state.specs.Listing.{targets}
+use Rattle.model_state.specs.Listing.{targets, values_at}
 use Rattle.model_state.specs.State.{State}
 use Rattle.model_state.specs.Steps.{rev, rev_all}
 use Rattle.model_state.specs.Typing.{opposite_of, is_plain, is_attr, kind_of, value_eq}
 use Rattle.edit_laws.specs.Attributes.{single_value, put_made}
-use Rattle.edit_laws.specs.ManyValues.{dels, values_in}
+use Rattle.edit_laws.specs.ManyValues.{dels}
 use Rattle.edit_laws.specs.Rows.{Rows, unlinks, unlink_step, link_step, mirror_rank}
-use Rattle.containment.specs.Deletes.{gone_made, gone_step, emptied_made, values_made, slots_of, is_attribute}
+use Rattle.containment.specs.Deletes.{gone_made, gone_step, emptied_made, values_made, slots_of, holds_values}
 use Rattle.state_steps.specs.Whole.{birth, births, put_first, inserts, filled, all_filled, linked, all_linked, leads, links_of, unlinked}
 
 pub rev_join : (xs ys : List Step) → rev_all (xs ++ ys) ≡ rev_all ys ++ rev_all xs
@@ -39,9 +39,9 @@ put_turned s (Some v) = refl
 
 filled_turned : (meta : Meta) (m : State) (s : AttrKey) → rev_all (emptied_made meta m s) ≡ filled meta m s
 filled_turned meta m s =
-    elim (is_attr (kind_of meta s.1)) as (λ b. rev_all (cond b (put_made m s.0 s.1 None) (dels s.0 s.1 0 (values_in m s.0 s.1))) ≡ cond b (put_first s (single_value (get m.attr s))) (inserts s.0 s.1 0 (values_in m s.0 s.1))) [
+    elim (is_attr (kind_of meta s.1)) as (λ b. rev_all (cond b (put_made m s.0 s.1 None) (dels s.0 s.1 0 (values_at m s.0 s.1))) ≡ cond b (put_first s (single_value (get m.attr s))) (inserts s.0 s.1 0 (values_at m s.0 s.1))) [
       | true ↦ put_turned s (single_value (get m.attr s))
-      | false ↦ inserts_turned s.0 s.1 0 (values_in m s.0 s.1)
+      | false ↦ inserts_turned s.0 s.1 0 (values_at m s.0 s.1)
     ]
 
 all_filled_turned : (meta : Meta) (m : State) (ss : List AttrKey) → rev_all (values_made meta m ss) ≡ all_filled meta m ss
@@ -72,12 +72,12 @@ all_links_turned meta row (s ∷ ss) =
     ]
 
 pub all_turned : (meta : Meta) (m : State) (xs : List IdBytes) →
-    rev_all (unlinked meta m.row (links_of meta m xs) ++ (values_made meta m (slots_of meta m is_attribute xs) ++ gone_made m xs))
-    ≡ births m xs ++ (all_filled meta m (slots_of meta m is_attribute xs) ++ all_linked meta m.row (slots_of meta m is_plain xs))
+    rev_all (unlinked meta m.row (links_of meta m xs) ++ (values_made meta m (slots_of meta m holds_values xs) ++ gone_made m xs))
+    ≡ births m xs ++ (all_filled meta m (slots_of meta m holds_values xs) ++ all_linked meta m.row (slots_of meta m is_plain xs))
 all_turned meta m xs =
     let rows = unlinked meta m.row (links_of meta m xs) in
-    let values = values_made meta m (slots_of meta m is_attribute xs) in
+    let values = values_made meta m (slots_of meta m holds_values xs) in
     rev_join rows (values ++ gone_made m xs)
     ∙ ap (λ l. l ++ rev_all rows) (rev_join values (gone_made m xs))
     ∙ append_assoc (rev_all (gone_made m xs)) (rev_all values) (rev_all rows)
-    ∙ (λ i. births_turned m xs i ++ (all_filled_turned meta m (slots_of meta m is_attribute xs) i ++ all_links_turned meta m.row (slots_of meta m is_plain xs) i))
+    ∙ (λ i. births_turned m xs i ++ (all_filled_turned meta m (slots_of meta m holds_values xs) i ++ all_links_turned meta m.row (slots_of meta m is_plain xs) i))

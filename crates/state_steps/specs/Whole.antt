@@ -10,15 +10,15 @@ use Rattle.model_state.specs.declared.step.Step.{Step}
 use Rattle.model_state.specs.declared.step.Step.TheVariants.{Put, Ins, New}
 use Rattle.model_state.specs.Keys.{IdBytes, AttrKey}
 use Rattle.model_state.specs.Good.{Good, Sound}
-use Rattle.model_state.specs.Listing.{targets, children, rank_at}
+use Rattle.model_state.specs.Listing.{targets, children, rank_at, values_at}
 use Rattle.model_state.specs.State.{State, nothing}
 use Rattle.model_state.specs.Steps.{fold}
 use Rattle.model_state.specs.Typing.{opposite_of, is_plain, is_attr, kind_of}
 use Rattle.edit_laws.specs.Attributes.{single_value}
-use Rattle.edit_laws.specs.ManyValues.{values_in}
 use Rattle.edit_laws.specs.Rows.{Rows, unlinks, link_step, mirror_rank}
-use Rattle.containment.specs.Deletes.{slots_of, values_made, gone_made, is_attribute}
-use Rattle.containment.specs.Subtree.{each, ids_of, subtree_of}
+use Rattle.containment.specs.Deletes.{slots_of, values_made, gone_made, holds_values}
+use Rattle.containment.specs.Subtree.{each, subtree_of}
+use Rattle.edit_laws.specs.Standing.{ids_of}
 
 -- the elements at the root, in order
 abbrev pub roots_of : State → List IdBytes
@@ -50,7 +50,7 @@ unlinked meta row (s ∷ ss) = unlinks row (opposite_of meta s.1) s.0 s.1 (targe
 abbrev pub unmade : Meta → State → List Step
 unmade meta m =
     let xs = elements_of meta m in
-    unlinked meta m.row (links_of meta m xs) ++ (values_made meta m (slots_of meta m is_attribute xs) ++ gone_made m xs)
+    unlinked meta m.row (links_of meta m xs) ++ (values_made meta m (slots_of meta m holds_values xs) ++ gone_made m xs)
 
 -- ---- the steps that build a state
 -- an element is created where it stands
@@ -73,7 +73,7 @@ inserts e f n (v ∷ vs) = Ins e f n v ∷ inserts e f (n + 1) vs
 
 -- an attribute gets its values
 abbrev pub filled : Meta → State → AttrKey → List Step
-filled meta m s = cond (is_attr (kind_of meta s.1)) (put_first s (single_value (get m.attr s))) (inserts s.0 s.1 0 (values_in m s.0 s.1))
+filled meta m s = cond (is_attr (kind_of meta s.1)) (put_first s (single_value (get m.attr s))) (inserts s.0 s.1 0 (values_at m s.0 s.1))
 
 -- each of these attributes gets its values, the last first
 abbrev pub all_filled : Meta → State → List AttrKey → List Step
@@ -94,7 +94,7 @@ all_linked meta row (s ∷ ss) = all_linked meta row ss ++ cond (leads meta s) (
 abbrev pub as_steps : Meta → State → List Step
 as_steps meta m =
     let xs = elements_of meta m in
-    births m xs ++ (all_filled meta m (slots_of meta m is_attribute xs) ++ all_linked meta m.row (slots_of meta m is_plain xs))
+    births m xs ++ (all_filled meta m (slots_of meta m holds_values xs) ++ all_linked meta m.row (slots_of meta m is_plain xs))
 
 -- the steps of a state build it from the empty one
 abbrev pub StepsBuild : Type 0

@@ -2,8 +2,9 @@
 ghost use Rattle.std.specs.Prelude.{◌≡◌, ◌++◌, IfOk, OnOk};
 ghost use Rattle.model_state.specs.Good.{Good};
 ghost use Rattle.model_state.specs.declared.step.Step.TheVariants.{New};
-ghost use Rattle.containment.specs.Subtree.{each, ids_of, subtree_of};
+ghost use Rattle.containment.specs.Subtree.{each, subtree_of};
 ghost use Rattle.state_steps.specs.Whole.{birth, births, elements_of};
+ghost use Rattle.edit_laws.specs.Standing.{ids_of};
 
 use containment::subtree;
 use ecore_meta::{List, Metamodel};

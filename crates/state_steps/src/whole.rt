@@ -4,7 +4,7 @@ ghost use Rattle.model_state.specs.Good.{Good, Sound};
 ghost use Rattle.model_state.specs.State.{nothing};
 ghost use Rattle.model_state.specs.Steps.{fold};
 ghost use Rattle.model_state.specs.Typing.{is_plain};
-ghost use Rattle.containment.specs.Deletes.{slots_of, is_attribute};
+ghost use Rattle.containment.specs.Deletes.{slots_of, holds_values};
 ghost use Rattle.state_steps.specs.Whole.{all_filled, all_linked, as_steps, births};
 
 use crate::elements::{births, elements};
@@ -24,7 +24,7 @@ fn fill<L: Look>(
     steps: &mut List<Step>,
 ) -> Result<(), AllocError>
     requires good { Good meta.now (L.state look.now) }
-    ensures { OnOk result (steps.new ≡ steps.old ++ all_filled meta.now (L.state look.now) (slots_of meta.now (L.state look.now) is_attribute elements.now)) }
+    ensures { OnOk result (steps.new ≡ steps.old ++ all_filled meta.now (L.state look.now) (slots_of meta.now (L.state look.now) holds_values elements.now)) }
 {
     let attributes = slots_of(alloc, look, meta, Sort::Attribute, elements)?;
     fill_all(alloc, look, meta, attributes.as_slice(), steps)
@@ -54,7 +54,7 @@ fn build<L: Look>(
     steps: &mut List<Step>,
 ) -> Result<(), AllocError>
     requires good { Good meta.now (L.state look.now) }
-    ensures { OnOk result (steps.new ≡ ((steps.old ++ births (L.state look.now) elements.now) ++ all_filled meta.now (L.state look.now) (slots_of meta.now (L.state look.now) is_attribute elements.now)) ++ all_linked meta.now (L.state look.now).row (slots_of meta.now (L.state look.now) is_plain elements.now)) }
+    ensures { OnOk result (steps.new ≡ ((steps.old ++ births (L.state look.now) elements.now) ++ all_filled meta.now (L.state look.now) (slots_of meta.now (L.state look.now) holds_values elements.now)) ++ all_linked meta.now (L.state look.now).row (slots_of meta.now (L.state look.now) is_plain elements.now)) }
 {
     births(alloc, look, elements, steps)?;
     fill(alloc, look, meta, elements, steps)?;

@@ -21,13 +21,12 @@ use Rattle.model_state.specs.Keys.{IdBytes, RowKey, id_cmp, row_cmp}
 use Rattle.model_state.specs.Listing.{is_of, row_entry}
 use Rattle.model_state.proofs.Orders.{id_order, nat_order, row_order}
 use Rattle.step_apply.specs.Groups.{members_of, IsOut}
-use Rattle.step_apply.specs.Spots.{Members}
-use Rattle.ranked_lists.specs.Ranks.{ranked_entry}
+use Rattle.ranked_lists.specs.Ranks.{ranked_entry, Ranks}
 use Rattle.spread_maps.proofs.PartLaws.{part, entries-part}
 use Rattle.step_apply.proofs.Regrouped.{map_map, tally_part}
 
 abbrev Out : Type 0
-Out = BTreeMap IdBytes (BTreeMap ℕ Members)
+Out = BTreeMap IdBytes (BTreeMap ℕ Ranks)
 
 -- by cases on whether the list is that of a and f
 pub by_list : (P : IdBytes → ℕ → Type 0) (a : IdBytes) (f : ℕ) → P a f → ((g : ℕ) → nat_eq f g ≡ false → P a g) → ((b : IdBytes) (g : ℕ) → text_eq a b ≡ false → P b g) → (b : IdBytes) (g : ℕ) → P b g

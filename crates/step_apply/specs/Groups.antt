@@ -10,26 +10,25 @@ use Rattle.model_state.specs.declared.step.Place.{Place}
 use Rattle.model_state.specs.declared.step.Place.TheVariants.{Root, Inside}
 use Rattle.model_state.specs.declared.step.Placed.{Placed}
 use Rattle.model_state.specs.Keys.{IdBytes, RowKey, id_cmp, row_cmp}
-use Rattle.ranked_lists.specs.Ranks.{stood}
-use Rattle.step_apply.specs.Spots.{Members}
+use Rattle.ranked_lists.specs.Ranks.{stood, Ranks}
 use Rattle.step_apply.specs.declared.groups.Groups.{Groups}
 
 -- the elements of one list, and their ranks there
-abbrev pub group_of : Option Members → Members
+abbrev pub group_of : Option Ranks → Ranks
 group_of None = empty
 group_of (Some m) = m
 
 -- those of a feature of one element
-abbrev pub fan_of : Option (BTreeMap ℕ Members) → ℕ → Members
+abbrev pub fan_of : Option (BTreeMap ℕ Ranks) → ℕ → Ranks
 fan_of None f = empty
 fan_of (Some t) f = group_of (tree.get nat_cmp t f)
 
 -- those of a feature of an element
-abbrev pub members_of : BTreeMap IdBytes (BTreeMap ℕ Members) → IdBytes → ℕ → Members
+abbrev pub members_of : BTreeMap IdBytes (BTreeMap ℕ Ranks) → IdBytes → ℕ → Ranks
 members_of t a f = fan_of (tree.get id_cmp t a) f
 
 -- those of a place
-abbrev pub standing : Groups → Place → Members
+abbrev pub standing : Groups → Place → Ranks
 standing s Root = s.roots
 standing s (Inside a f) = members_of s.inside a f
 
@@ -38,7 +37,7 @@ abbrev pub IsGrouped : BTreeMap IdBytes Placed → Groups → Type 0
 IsGrouped t g = (p : Place) (e : IdBytes) → get (standing g p) e ≡ stood p (tree.get id_cmp t e)
 
 -- the rows are held by source and feature
-abbrev pub IsOut : BTreeMap RowKey ℕ → BTreeMap IdBytes (BTreeMap ℕ Members) → Type 0
+abbrev pub IsOut : BTreeMap RowKey ℕ → BTreeMap IdBytes (BTreeMap ℕ Ranks) → Type 0
 IsOut t out = (a : IdBytes) (f : ℕ) (b : IdBytes) → get (members_of out a f) b ≡ tree.get row_cmp t (a, f, b)
 
 -- the rows to an element

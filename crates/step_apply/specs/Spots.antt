@@ -18,10 +18,6 @@ pub record Spots : Type 0 where
 abbrev pub spots_code : Coded Spots
 spots_code = code_by (FinMap id_cmp Place × FinMap id_cmp ℕ) (coded× (code coded_id place_type.the_row.coded) (code coded_id coded_ℕ)) (λ s. (s.place, s.rank)) (λ p. record { place = p.0; rank = p.1 }) (λ _. refl)
 
--- the elements of one list, and their ranks there
-abbrev pub Members : Type 0
-Members = FinMap id_cmp ℕ
-
 -- the values of each attribute that is set
 abbrev pub Values : Type 0
 Values = FinMap attr_cmp (List Value)
@@ -31,9 +27,9 @@ abbrev pub values_code : Coded Values
 values_code = code (coded× coded_id coded_ℕ) (coded_list value_type.the_row.coded)
 
 -- the rank of each row
-abbrev pub Ranks : Type 0
-Ranks = FinMap row_cmp ℕ
+abbrev pub RowRanks : Type 0
+RowRanks = FinMap row_cmp ℕ
 
 -- the code of those ranks
-abbrev pub ranks_code : Coded Ranks
+abbrev pub ranks_code : Coded RowRanks
 ranks_code = code (code_by (IdBytes × (ℕ × IdBytes)) (coded× coded_id (coded× coded_ℕ coded_id)) (λ k. (k.0, (k.1, k.2))) (λ p. (p.0, p.1.0, p.1.1)) (λ _. refl)) coded_ℕ

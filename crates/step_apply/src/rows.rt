@@ -228,12 +228,12 @@ pub struct Rows {
 }
 
 impl Model for Rows {
-    ghost use Rattle.step_apply.specs.Spots.{Ranks, ranks_code};
+    ghost use Rattle.step_apply.specs.Spots.{RowRanks, ranks_code};
     ghost use Rattle.finite_maps.specs.Tables.{table};
     ghost use Rattle.model_state.specs.Keys.{row_cmp};
     ghost use Rattle.step_apply.specs.Groups.{IsOut, IsInto};
 
-    ghost Value = { Ranks };
+    ghost Value = { RowRanks };
 
     ghost coded = { ranks_code };
 

@@ -1,6 +1,6 @@
 //! The rules of Ins, Del and Shift, by which the list of a many-valued attribute changes.
 ghost use Rattle.std.specs.Prelude.{◌≡◌, ◌≤◌, ◌<◌, OnOk, OnErr, IfOk, IfErr, Some, length, slice_get, true};
-ghost use Rattle.std.specs.List.{list_any, insert, remove};
+ghost use Rattle.std.specs.List.{insert, remove};
 ghost use Rattle.finite_maps.specs.Maps.{set};
 ghost use Rattle.finite_maps.specs.Equal.{option_eq};
 ghost use Rattle.model_state.specs.Typing.{value_eq};
@@ -15,16 +15,10 @@ ghost use Rattle.model_state.specs.declared.step.Step.TheVariants.{Ins, Del, Shi
 use crate::Write;
 use ecore_meta::{List, Metamodel, Value};
 use model_state::{
-    Id, MOST_ENTRIES, StepFault, class_has, is_below_bound, is_many, is_same_value, is_unique,
-    many_fits, upper_of,
+    Id, MOST_ENTRIES, StepFault, class_has, contains, is_below_bound, is_many, is_same_value,
+    is_unique, many_fits, upper_of,
 };
 use std::alloc::{AllocError, Global};
-
-fn contains(values: &[Value], v: &Value) -> bool
-    ensures { result ≡ list_any (value_eq v.now) values.now }
-{
-    values.iter().any(|x| is_same_value(v, x))
-}
 
 /// Whether the value at a place of the list is that one.
 fn has_at(values: &[Value], at: usize, v: &Value) -> bool

@@ -13,20 +13,10 @@ ghost use Rattle.model_state.specs.declared.step.Step.TheVariants.{Put};
 
 use crate::Write;
 use ecore_meta::{List, Metamodel, Value};
-use model_state::{Id, StepFault, attr_fits, class_has, is_attr, is_default, is_same_value};
+use model_state::{
+    Id, StepFault, attr_fits, class_has, is_attr, is_default, is_same_option, is_same_value,
+};
 use std::alloc::{AllocError, Global};
-
-fn is_same_option(x: &Option<Value>, y: &Option<Value>) -> bool
-    ensures { result ≡ option_eq value_eq x.now y.now }
-{
-    match x {
-        None => y.is_none(),
-        Some(x) => match y {
-            None => false,
-            Some(y) => is_same_value(x, y),
-        },
-    }
-}
 
 fn may_be(meta: &Metamodel, f: u32, v: &Option<Value>) -> bool
     ensures { result ≡ value_fits meta.now f v.now }

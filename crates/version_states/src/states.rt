@@ -20,16 +20,6 @@ use state_cache::Cache;
 use std::alloc::{AllocError, Global};
 use working_model::Working;
 
-/// The steps of an operation, simple or composite.
-pub fn steps_in(operation: &Operation) -> &[Step]
-    ensures { result.now ≡ steps_of operation.now }
-{
-    match operation {
-        Operation::Simple { steps, .. } => steps.as_slice(),
-        Operation::Composite { steps, .. } => steps.as_slice(),
-    }
-}
-
 /// The steps of the one operation of a package.
 pub fn steps_out(package: Package) -> List<Step>
     requires one { length «package» ≡ 1 }
@@ -70,7 +60,7 @@ pub fn follow(
     ensures good { Good meta.now model.new }
 {
     for operation in operations {
-        take_steps(model, meta, steps_in(operation))?;
+        take_steps(model, meta, operation.steps())?;
     }
     Ok(())
 }
@@ -92,7 +82,7 @@ pub fn take_back(
         return None;
     };
     let mut model = model;
-    match model.replay(meta, steps_in(&reversal)) {
+    match model.replay(meta, reversal.steps()) {
         Ok(()) => Some(model),
         Err(_) => None,
     }
@@ -111,7 +101,7 @@ pub fn stop_in(
 {
     let mut before = 0;
     for operation in operations {
-        let steps = steps_in(operation);
+        let steps = operation.steps();
         if let Err(stop) = model.replay(meta, steps) {
             return match stop.fault {
                 StepFault::Memory => Err(AllocError),

@@ -5,4 +5,4 @@ use Rattle.merge_choices.proofs.Drops.{FlagsSoFar}
 use Rattle.merge_choices.proofs.choices.mine_dropped.Given as goal
 
 abbrev pub invariant-loop-k : goal.invariant-loop-k
-invariant-loop-k l = FlagsSoFar l.flags.items l.size (drops_mine (drop l.k l.buckets) (drop l.k l.letters)) (drops_mine l.buckets l.letters)
+invariant-loop-k l = FlagsSoFar l.flags.items l.size (drops_mine (drop l.k l.buckets) (drop l.k l.sides)) (drops_mine l.buckets l.sides)

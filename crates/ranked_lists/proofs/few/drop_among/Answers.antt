@@ -4,7 +4,7 @@ use Rattle.finite_maps.specs.Equal.{text_eq}
 use Rattle.finite_maps.proofs.MapLaws.{set_here}
 use Rattle.model_state.specs.declared.entry.Entry.{Entry}
 use Rattle.model_state.proofs.Orders.{id_order}
-use Rattle.ranked_lists.specs.Ranked.{ranks_of}
+use Rattle.ranked_lists.specs.Ranked.{rank_map}
 use Rattle.ranked_lists.proofs.Held.{get-ranks}
 use Rattle.ranked_lists.proofs.Places.{place_none}
 use Rattle.ranked_lists.proofs.Taken.{taken_out}
@@ -24,4 +24,4 @@ pub returns-in_default-clause-ranks : goal.returns-in_default-clause-ranks
 returns-in_default-clause-ranks c =
     let items = c.args.entries.now.items in
     let none = ap (position (λ (x : Entry). text_eq x.id c.args.e.now)) (sym c.as_slice.ensures.value) ∙ sym c.index_of.ensures ∙ c.in_default.is in
-    sym (set_here id_order (ranks_of items) c.args.e.now None (get-ranks items c.args.e.now ∙ place_none items c.args.e.now none))
+    sym (set_here id_order (rank_map items) c.args.e.now None (get-ranks items c.args.e.now ∙ place_none items c.args.e.now none))

@@ -13,7 +13,7 @@ overflow_add-result c =
     let m = c.loop-operation.model in
     let at = ⊎_elim (λ memory. absurd (c.in_default-fault.not-Memory memory)) (λ at. at) c.in-Err.ensures.cannot in
     let fits = stop_fits meta m c.args.operations.now c.loop-operation.operation-index c.loop-operation.before c.operation-item.result c.in-Err.stop c.loop-operation-test.true c.loop-operation.invariant.total c.requires.few
-    (subst (λ (l : List Step). first_stop meta m l ≡ Some c.in-Err.stop) (c.steps_in-steps.ensures ∙ ap steps_of c.operation-item.is) at) in
+    (subst (λ (l : List Step). first_stop meta m l ≡ Some c.in-Err.stop) (c.steps-steps.ensures ∙ ap steps_of c.operation-item.is) at) in
     omega (arith, fits)
 
 pub returns-in_default-fault : goal.returns-in_default-fault
@@ -22,7 +22,7 @@ returns-in_default-fault c =
     let m = c.loop-operation.model in
     let at = ⊎_elim (λ memory. absurd (c.in_default-fault.not-Memory memory)) (λ at. at) c.in-Err.ensures.cannot in
     let here = stop_here meta m c.args.operations.now c.loop-operation.operation-index c.loop-operation.before c.operation-item.result c.in-Err.stop c.loop-operation-test.true
-    (subst (λ (l : List Step). first_stop meta m l ≡ Some c.in-Err.stop) (c.steps_in-steps.ensures ∙ ap steps_of c.operation-item.is) at) in
+    (subst (λ (l : List Step). first_stop meta m l ≡ Some c.in-Err.stop) (c.steps-steps.ensures ∙ ap steps_of c.operation-item.is) at) in
     record { stop = sym (ap (λ (o : Option ApplyFault). option_map (λ (x : ApplyFault). x.at) o) (sym c.loop-operation.invariant.stops ∙ here)) }
 
 pub loop-operation-preserved : goal.loop-operation-preserved
@@ -33,7 +33,7 @@ loop-operation-preserved c =
     let before = c.loop-operation.before in
     let m = c.loop-operation.model in
     let n = c.replay.new.self in
-    let same = c.steps_in-steps.ensures ∙ ap steps_of c.operation-item.is in
+    let same = c.steps-steps.ensures ∙ ap steps_of c.operation-item.is in
     record {
       good = c.replay.ensures.good;
       total = omega (arith, total_on os i c.operation-item.result c.loop-operation-test.true, ap (λ (l : List Step). length l) same, c.loop-operation.invariant.total);

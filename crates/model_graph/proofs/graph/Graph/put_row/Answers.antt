@@ -7,7 +7,7 @@ use Rattle.spread_maps.specs.Spread.{inner}
 use Rattle.model_state.specs.Keys.{AttrKey}
 use Rattle.model_state.specs.State.{State}
 use Rattle.graph_parts.specs.declared.element.Node.{Node}
-use Rattle.model_graph.specs.Seen.{Elements, nodes_state, Rewrites, IsMirrored, IsHoused}
+use Rattle.model_graph.specs.Seen.{Elements, nodes_state, Rewrites, IsAtBothEnds, IsHoused}
 use Rattle.model_graph.proofs.Housed.{row_written}
 use Rattle.model_graph.proofs.Linked.{out_key, into_key, live_there, live_rewritten, into_there, linked, row_back}
 use Rattle.model_graph.proofs.graph.Graph.put_row.Goals as goal
@@ -43,7 +43,7 @@ invariant_of-self-in-Err c =
     let key : AttrKey = (c.in_ok-copy-2.field-0, c.args.f) in
     let into = into_key c.self.inside.nodes c.put_into.new.nodes c.args.b.now (c.in_ok-copy.field-0, c.args.f) key (Some c.args.rank) (ap (λ x. (x, c.args.f)) (c.in_ok-copy.ensures ∙ sym c.in_ok-copy-2.ensures)) c.in_ok-put_into.ensures.ok in
     let back = subst (λ (t : Elements). Rewrites t c.restore_into.new.nodes c.args.b.now (λ n. record n { into = set n.into key c.rank_into-old.result })) c.in-Err.ensures.err c.restore_into.ensures in
-    subst (λ (t : Elements). IsMirrored t × IsHoused c.self.inside.roots t)
+    subst (λ (t : Elements). IsAtBothEnds t × IsHoused c.self.inside.roots t)
     (sym (row_back c.self.inside.nodes c.put_into.new.nodes c.restore_into.new.nodes c.args.b.now key (Some c.args.rank) c.rank_into-old.result (sym c.rank_into-old.ensures) into back)) c.self.invariant
 
 pub returns-in-Ok-clause-ok : goal.returns-in-Ok-clause-ok

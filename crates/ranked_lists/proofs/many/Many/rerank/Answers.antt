@@ -9,7 +9,7 @@ use Rattle.finite_maps.proofs.MapLaws.{set_here}
 use Rattle.model_state.specs.Keys.{IdBytes}
 use Rattle.model_state.specs.Listing.{entry_cmp}
 use Rattle.model_state.proofs.Orders.{id_order}
-use Rattle.ranked_lists.specs.Ranked.{ranks_of, named, entry_with, IsTableOf}
+use Rattle.ranked_lists.specs.Ranked.{rank_map, named, entry_with, IsTableOf}
 use Rattle.ranked_lists.proofs.Held.{holds}
 use Rattle.ranked_lists.proofs.Keyed.{set_moved, is_in}
 use Rattle.ranked_lists.proofs.many.Many.rerank.Goals as goal
@@ -29,9 +29,9 @@ invariant_of-self-2 c =
     let os = c.insert.new.self.keys in
     let some = ap (λ m. get m e) c.self.view_is ∙ c.requires in
     let after = set_moved keys c.self.invariant.0 e os c.remove.new.self.keys c.args.old c.args.rank some c.if-old-rank.false c.in_ok-insert.ensures.keys
-    (c.in_ok-insert.ensures.updates.0 (entry_with e c.args.old) ∙ still_in _ _ (is_in keys (ranks_of keys) (holds keys (ranks_of keys) c.self.invariant.0) e c.args.old some))
+    (c.in_ok-insert.ensures.updates.0 (entry_with e c.args.old) ∙ still_in _ _ (is_in keys (rank_map keys) (holds keys (rank_map keys) c.self.invariant.0) e c.args.old some))
     (c.remove.ensures.keys ∙ ap (λ (z : IdBytes). remove_key (is_at (entry_cmp (entry_with z c.args.old))) os) c.in_ok-copy.ensures) c.remove.ensures.ordered in
-    let m = ranks_of keys in
+    let m = rank_map keys in
     let fs = named c.write_rank.new.by_id.entries in
     let there = subst (λ (z : IdBytes). IsSome (get m z)) (sym c.in_ok-copy.ensures) (subst (λ o. IsSome o) (sym some) refl) in
     let wrote = subst (λ (z : IdBytes). IsTableOf fs (set m z (Some c.args.rank))) c.in_ok-copy.ensures (c.write_rank.ensures m c.self.invariant.1 there) in
@@ -45,6 +45,6 @@ returns-clause-ok c =
     let os = c.insert.new.self.keys in
     let some = ap (λ m. get m e) c.self.view_is ∙ c.requires in
     let after = set_moved keys c.self.invariant.0 e os c.remove.new.self.keys c.args.old c.args.rank some c.if-old-rank.false c.in_ok-insert.ensures.keys
-    (c.in_ok-insert.ensures.updates.0 (entry_with e c.args.old) ∙ still_in _ _ (is_in keys (ranks_of keys) (holds keys (ranks_of keys) c.self.invariant.0) e c.args.old some))
+    (c.in_ok-insert.ensures.updates.0 (entry_with e c.args.old) ∙ still_in _ _ (is_in keys (rank_map keys) (holds keys (rank_map keys) c.self.invariant.0) e c.args.old some))
     (c.remove.ensures.keys ∙ ap (λ (z : IdBytes). remove_key (is_at (entry_cmp (entry_with z c.args.old))) os) c.in_ok-copy.ensures) c.remove.ensures.ordered in
     after.1 ∙ ap (λ m. set m e (Some c.args.rank)) c.self.view_is
