@@ -9,6 +9,18 @@ use model_state::Id;
 /// The numbers of ids are below this prime.
 const KEY_RANGE: u64 = 1_000_003;
 
+/// By this the number of an id is multiplied before a byte is added.
+const TEXT_FACTOR: u64 = 31;
+
+/// By this the number of a target is multiplied.
+const TARGET_FACTOR: u64 = 17;
+
+/// By this the number of a feature is multiplied.
+const FEATURE_FACTOR: u64 = 613;
+
+/// There is room for so many sorts of cells.
+const SORTS: u64 = 8;
+
 /// A number of the id.
 fn id_key(id: &Id) -> u64
     ensures key { result ≡ text_key 0 id.now }
@@ -16,7 +28,7 @@ fn id_key(id: &Id) -> u64
 {
     let mut key = 0;
     for b in id.as_str().as_bytes() {
-        key = (key * 31 + *b as u64) % KEY_RANGE;
+        key = (key * TEXT_FACTOR + *b as u64) % KEY_RANGE;
     }
     key
 }
@@ -26,12 +38,14 @@ fn cell_key(cell: &Cell) -> u64
     ensures { result ≡ cell_key (seen cell.now) }
 {
     match cell {
-        Cell::Kind(e) => id_key(e) * 8,
-        Cell::Place(e) => id_key(e) * 8 + 1,
-        Cell::Rank(e) => id_key(e) * 8 + 2,
-        Cell::Attr(e, f) => (id_key(e) + *f as u64 * 613) * 8 + 3,
-        Cell::Row(a, f, b) => (id_key(a) + id_key(b) * 17 + *f as u64 * 613) * 8 + 4,
-        Cell::Whole(a, f) => (id_key(a) + *f as u64 * 613) * 8 + 5,
+        Cell::Kind(e) => id_key(e) * SORTS,
+        Cell::Place(e) => id_key(e) * SORTS + 1,
+        Cell::Rank(e) => id_key(e) * SORTS + 2,
+        Cell::Attr(e, f) => (id_key(e) + *f as u64 * FEATURE_FACTOR) * SORTS + 3,
+        Cell::Row(a, f, b) => (id_key(a) + id_key(b) * TARGET_FACTOR + *f as u64 * FEATURE_FACTOR)
+            * SORTS
+            + 4,
+        Cell::Whole(a, f) => (id_key(a) + *f as u64 * FEATURE_FACTOR) * SORTS + 5,
     }
 }
 

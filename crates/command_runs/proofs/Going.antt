@@ -4,9 +4,9 @@ use Rattle.std.specs.Prelude.{IsTrue}
 use Rattle.std.proofs.lemmas.List.{append-nil, take_at, length-take, take-append-le, take_min}
 use Rattle.host_port.specs.Host.{Told, MayLeave, GoesOn, Throughout, KeepsDisk, KeepsSaid, AddsPart, disk_now, said_now, CrashLeaves}
 use Rattle.host_port.proofs.Course.{carry_on, told_next, still_disk, still_said, adds_none, said_kept_now}
-use Rattle.command_runs.specs.Runs.{Answer, listed, replies, events, answered}
-use Rattle.command_runs.specs.Crashes.{IsAmong, IsRunning, IsStepping}
-use Rattle.command_runs.proofs.RunLaws.{replies-append, events-append, answered-within, replies-more, events-more}
+use Rattle.command_runs.specs.Runs.{Answer, listed, replies, events, events_due}
+use Rattle.command_runs.specs.Crashes.{StandsForAtLeast, IsRunning, IsStepping}
+use Rattle.command_runs.proofs.RunLaws.{replies-append, events-append, events_due-within, replies-more, events-more}
 
 -- Between two commands: these answers are given and the others are left. What they print is printed, and what they make stands.
 -- At each moment since the entry a prefix of the whole run's replies was printed and a crash leaves what it may.
@@ -16,7 +16,7 @@ pub record Going {E : Type 0} (stands : List ℕ → List E → Type 0) (entry n
   pub said : said_now now ≡ said_now entry ++ replies done
   pub rest : rests (first ++ events done)
   pub part : Throughout entry now (λ disk said. AddsPart (said_now entry) (replies whole) said)
-  pub moments : Throughout entry now (IsRunning stands first (events whole) (answered whole) (said_now entry))
+  pub moments : Throughout entry now (IsRunning stands first (events whole) (events_due whole) (said_now entry))
 
 -- what one command does at each of its moments
 pub record Steps {E : Type 0} (stands : List ℕ → List E → Type 0) (a b : Told) (answer : Answer E) (rests : List E → Type 0) : Type 0 where
@@ -32,12 +32,12 @@ take_past (x ∷ xs) ys (suc m) n is = ap (λ (l : List ℕ). x ∷ l) (take_pas
 module _ {E : Type 0} (stands : List ℕ → List E → Type 0) where
   -- the file stands for the events so far, while no more replies than those so far are begun
   pub among : (first : List E) (whole done left : List (Answer E)) (x : List ℕ) (n : ℕ) → whole ≡ done ++ left → n ≤ length (replies done)
-      → stands x (first ++ events done) → IsAmong stands first (events whole) (answered whole n) x
+      → stands x (first ++ events done) → StandsForAtLeast stands first (events whole) (events_due whole n) x
   among first whole done left x n is within stood =
       let split : events whole ≡ events done ++ events left = ap events is ∙ events-append done left in
       record {
         count = length (events done);
-        least_is = subst (λ (l : List (Answer E)). answered l n ≤ length (events done)) (sym is) (answered-within done left n within);
+        least_is = subst (λ (l : List (Answer E)). events_due l n ≤ length (events done)) (sym is) (events_due-within done left n within);
         most_is = omega (arith, ap length split, length-append (events done) (events left));
         stands_for = subst (λ (l : List E). stands x (first ++ l)) (sym (ap (λ (l : List E). take (length (events done)) l) split
             ∙ take_at (events done) (events left) (length (events done)) refl)) stood;
@@ -75,8 +75,8 @@ module _ {E : Type 0} (stands : List ℕ → List E → Type 0) where
               (λ told t low high. let p = going.part (subst IsTrue course.tells told) a.clock course.clock (omega arith) in (p.0, said told t low high ∙ p.1))
 
           quiet_moments : GoesOn a b → KeepsDisk a b → KeepsSaid a b → ((events : List E) → rests events → CrashLeaves (λ x. stands x events) (disk_now a))
-              → Throughout entry b (IsRunning stands first (events whole) (answered whole) (said_now entry))
-          quiet_moments on disk said leaves = carry_on entry a b (IsRunning stands first (events whole) (answered whole) (said_now entry)) course on going.moments
+              → Throughout entry b (IsRunning stands first (events whole) (events_due whole) (said_now entry))
+          quiet_moments on disk said leaves = carry_on entry a b (IsRunning stands first (events whole) (events_due whole) (said_now entry)) course on going.moments
               (λ told t low high x left_there. among first whole going.done left x (length (b.said t) - length (said_now entry)) going.whole_is
               (omega (arith, ap length (said told t low high), ap length going.said, length-append (said_now entry) (replies going.done)))
               (leaves (first ++ events going.done) going.rest x (subst (λ d. MayLeave d x) (disk told t low high) left_there)))
@@ -103,7 +103,7 @@ module _ {E : Type 0} (stands : List ℕ → List E → Type 0) where
                   ∙ ap (λ (l : List ℕ). said_now entry ++ l) (sym cut),
             )
 
-        moments_here : Throughout a b (IsRunning stands first (events whole) (answered whole) (said_now entry))
+        moments_here : Throughout a b (IsRunning stands first (events whole) (events_due whole) (said_now entry))
         moments_here told t low high x left_there =
             let p = steps.part told t low high in
             ⊎_elim
@@ -127,8 +127,8 @@ module _ {E : Type 0} (stands : List ℕ → List E → Type 0) where
         pub stepped_part : Throughout entry b (λ disk said. AddsPart (said_now entry) (replies whole) said)
         stepped_part = carry_on entry a b (λ disk said. AddsPart (said_now entry) (replies whole) said) course steps.course going.part part_here
 
-        pub stepped_moments : Throughout entry b (IsRunning stands first (events whole) (answered whole) (said_now entry))
-        stepped_moments = carry_on entry a b (IsRunning stands first (events whole) (answered whole) (said_now entry)) course steps.course going.moments moments_here
+        pub stepped_moments : Throughout entry b (IsRunning stands first (events whole) (events_due whole) (said_now entry))
+        stepped_moments = carry_on entry a b (IsRunning stands first (events whole) (events_due whole) (said_now entry)) course steps.course going.moments moments_here
 
         -- and where its reply was printed
         pub one_more : (rests_next : List E → Type 0) → said_now b ≡ said_now a ++ answer.reply

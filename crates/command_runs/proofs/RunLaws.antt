@@ -3,7 +3,7 @@ use Rattle.std.proofs.Common.{◌≡◌, ℕ, ◌+◌, ◌-◌, ◌≤◌, List,
 use Rattle.std.proofs.lemmas.List.{append-nil}
 use Rattle.std.proofs.lemmas.Bool.{cases_eq}
 use Rattle.std.proofs.lemmas.Bool.Decides.{nat_tests}
-use Rattle.command_runs.specs.Runs.{Answer, listed, played, replies, events, answered}
+use Rattle.command_runs.specs.Runs.{Answer, listed, played, replies, events, events_due}
 
 pub or_assoc : (a b c : Bool) → ((a || b) || c) ≡ (a || (b || c))
 or_assoc true b c = refl
@@ -27,20 +27,20 @@ module _ {E : Type 0} where
   events-append (x ∷ xs) ys = ap (λ (l : List E). listed x.event ++ l) (events-append xs ys) ∙ sym (append_assoc (listed x.event) (events xs) (events ys))
 
   -- no more events must be kept than those of the answers whose replies reach so far
-  pub answered-within : (xs ys : List (Answer E)) (n : ℕ) → n ≤ length (replies xs) → answered (xs ++ ys) n ≤ length (events xs)
-  answered-within [] [] n within = omega arith
-  answered-within [] (y ∷ ys) n within =
+  pub events_due-within : (xs ys : List (Answer E)) (n : ℕ) → n ≤ length (replies xs) → events_due (xs ++ ys) n ≤ length (events xs)
+  events_due-within [] [] n within = omega arith
+  events_due-within [] (y ∷ ys) n within =
       let none : n ≡ 0 = omega arith in
-      let zero_is : answered (y ∷ ys) n ≡ 0 = grind (arith, nat_tests) in
+      let zero_is : events_due (y ∷ ys) n ≡ 0 = grind (arith, nat_tests) in
       omega (arith, zero_is)
-  answered-within (x ∷ xs) ys n within = elim (cases_eq n 0) [
+  events_due-within (x ∷ xs) ys n within = elim (cases_eq n 0) [
     | inl none ↦
-        let zero_is : answered (x ∷ xs ++ ys) n ≡ 0 = grind (arith, nat_tests) in
+        let zero_is : events_due (x ∷ xs ++ ys) n ≡ 0 = grind (arith, nat_tests) in
         omega (arith, zero_is)
     | inr some ↦
-        let more_is : answered (x ∷ xs ++ ys) n ≡ length (listed x.event) + answered (xs ++ ys) (n - length x.reply) = grind (arith, nat_tests) in
+        let more_is : events_due (x ∷ xs ++ ys) n ≡ length (listed x.event) + events_due (xs ++ ys) (n - length x.reply) = grind (arith, nat_tests) in
         let rest : n - length x.reply ≤ length (replies xs) = omega (arith, within, length-append x.reply (replies xs)) in
-        omega (arith, more_is, answered-within xs ys (n - length x.reply) rest, length-append (listed x.event) (events xs))
+        omega (arith, more_is, events_due-within xs ys (n - length x.reply) rest, length-append (listed x.event) (events xs))
   ]
 
   -- one answer more

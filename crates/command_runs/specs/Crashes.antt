@@ -4,7 +4,7 @@ use Rattle.host_port.specs.Host.{Disk, CrashLeaves}
 use Rattle.command_runs.specs.Runs.{listed}
 
 -- the file stands for the first events and some of those that were made since: at least so many, and none in part
-pub record IsAmong {E : Type 0} (stands : List ℕ → List E → Type 0) (first made : List E) (least : ℕ) (x : List ℕ) : Type 0 where
+pub record StandsForAtLeast {E : Type 0} (stands : List ℕ → List E → Type 0) (first made : List E) (least : ℕ) (x : List ℕ) : Type 0 where
   pub count : ℕ
   pub least_is : least ≤ count
   pub most_is : count ≤ length made
@@ -13,7 +13,7 @@ pub record IsAmong {E : Type 0} (stands : List ℕ → List E → Type 0) (first
 -- At a moment of a run, where before is what was printed before it. Whatever a crash leaves stands for the first events and some
 -- of those made, with all that are answered by then. How many these are at least is a function of how much was printed.
 abbrev pub IsRunning : {E : Type 0} → (List ℕ → List E → Type 0) → List E → List E → (ℕ → ℕ) → List ℕ → Disk → List ℕ → Type 0
-IsRunning stands first made least before disk said = CrashLeaves (IsAmong stands first made (least (length said - length before))) disk
+IsRunning stands first made least before disk said = CrashLeaves (StandsForAtLeast stands first made (least (length said - length before))) disk
 
 -- the same; or the disk is still that of the entry, with what it held unsynced, and nothing is printed
 abbrev pub IsOpenedRunning : {E : Type 0} → Disk → (List ℕ → List E → Type 0) → List E → List E → (ℕ → ℕ) → List ℕ → Disk → List ℕ → Type 0

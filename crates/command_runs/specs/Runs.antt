@@ -44,6 +44,6 @@ refuses (answer ∷ answers) = answer.refused || refuses answers
 
 -- How many events must be kept once n bytes are printed: those of each answer that was begun by then. An answer without a
 -- reply is begun with the next that has one.
-abbrev pub answered : {E : Type 0} → List (Answer E) → ℕ → ℕ
-answered [] n = 0
-answered (answer ∷ answers) n = if n == 0 then 0 else length (listed answer.event) + answered answers (n - length answer.reply)
+abbrev pub events_due : {E : Type 0} → List (Answer E) → ℕ → ℕ
+events_due [] n = 0
+events_due (answer ∷ answers) n = if n == 0 then 0 else length (listed answer.event) + events_due answers (n - length answer.reply)

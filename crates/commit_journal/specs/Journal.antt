@@ -41,6 +41,10 @@ after_gate form = four_bytes (length form) ++ form ++ 0 ∷ []
 abbrev pub first_gate : ℕ
 first_gate = 16
 
+-- the bytes of a new file: the header and a closed gate
+abbrev pub new_size : ℕ
+new_size = 17
+
 -- the offset of the next gate, after the record of a byte string of that size
 abbrev pub next_gate : ℕ → ℕ → ℕ
 next_gate gate size = gate + 5 + size
@@ -56,7 +60,7 @@ IsShort form = length form ≤ most_bytes
 -- the file begins with the header and the records of these byte strings, which end at an offset
 pub record ReadsTo (file : List ℕ) (forms : List (List ℕ)) (place : ℕ) : Type 0 where
   pub prefix : take place file ≡ header ++ records forms
-  pub place_is : place ≡ 16 + length (records forms)
+  pub place_is : place ≡ first_gate + length (records forms)
   pub sizes : All IsShort forms
 
 -- and there stands a closed gate
@@ -66,9 +70,9 @@ pub record EndsAt (file : List ℕ) (forms : List (List ℕ)) (place : ℕ) : Ty
   pub closed : slice_index file place ≢ open_gate
   pub low : place < 2 ^ 40
 
--- the file stands for these byte strings: it is too short to hold any, or its records up to a closed gate are theirs
+-- the file stands for these byte strings: it has at most 17 bytes and there are none, or its records up to a closed gate are theirs
 abbrev pub StandsFor : List ℕ → List (List ℕ) → Type 0
-StandsFor file forms = ((length file ≤ 17) × (forms ≡ [])) ⊎ ((17 < length file) × ((place : ℕ) × EndsAt file forms place))
+StandsFor file forms = ((length file ≤ new_size) × (forms ≡ [])) ⊎ ((new_size < length file) × ((place : ℕ) × EndsAt file forms place))
 
 -- the file stands for no list of byte strings
 abbrev pub StandsForNone : List ℕ → Type 0
@@ -87,7 +91,7 @@ pub record IsClosed (file : List ℕ) (place : ℕ) : Type 0 where
   pub in_file : place < length file
   pub closed : slice_index file place ≢ open_gate
 
--- neither a closed gate nor a whole record stands there
+-- neither a closed gate stands there, nor a whole record whose next gate is below 2^40
 pub record IsStuck (file : List ℕ) (place : ℕ) : Type 0 where
   pub not_closed : place < length file → slice_index file place ≡ open_gate
   pub no_record : (form : List ℕ) → IsShort form → place + 5 + length form < 2 ^ 40 → ¬ (take (5 + length form) (drop place file) ≡ record_of form)
@@ -100,17 +104,17 @@ pub record IsOpen (file : List ℕ) (place size : ℕ) : Type 0 where
 
 -- the first byte that differs from the header
 pub record IsNoHeader (file : List ℕ) (at : ℕ) : Type 0 where
-  pub within : at < 16
+  pub within : at < first_gate
   pub same : take at file ≡ take at header
   pub differs : slice_index file at ≢ slice_index header at
 
--- a file that a journal may be read from: it is long enough to hold a record, or new
+-- a file that a journal may be read from: it has more than 17 bytes, or is new
 abbrev pub IsMounted : List ℕ → Type 0
-IsMounted file = (17 < length file) ⊎ (file ≡ new_file)
+IsMounted file = (new_size < length file) ⊎ (file ≡ new_file)
 
--- what mounting leaves of a file: all of it, or a new file where it was too short to hold a record
+-- what mounting leaves of a file: all of it, or a new file where it had at most 17 bytes
 abbrev pub MountedFrom : List ℕ → List ℕ → Type 0
-MountedFrom old new = ((17 < length old) × (new ≡ old)) ⊎ ((length old ≤ 17) × (new ≡ new_file))
+MountedFrom old new = ((new_size < length old) × (new ≡ old)) ⊎ ((length old ≤ new_size) × (new ≡ new_file))
 
 -- a file while it is read: all of it is stable, and it reads as these byte strings up to an offset
 pub record IsWalked (disk : Disk) (forms : List (List ℕ)) (place : ℕ) : Type 0 where
@@ -143,9 +147,9 @@ pub record WalkState : Type 0 where
 abbrev pub HoldsRecord : Frames → PagedState → List ℕ → Type 0
 HoldsRecord pool prepared form = HoldsBytes pool prepared (after_gate form)
 
--- a record of this size may be appended at a journal's end
+-- the record of a byte string of this size may be appended at a journal's end
 pub record RecordFits (end size : ℕ) : Type 0 where
-  pub short : size + 5 ≤ 2 ^ 24
+  pub short : size ≤ most_bytes
   pub room : end + size + 6 ≤ 2 ^ 40
 
 -- Whether such a record may be appended there, or which limit stands in its way. A journal has at most 2 ^ 40 bytes with the gate

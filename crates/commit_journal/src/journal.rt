@@ -74,13 +74,6 @@ impl Journal {
         self.end
     }
 
-    /// Whether an append has failed. What the file holds then is known only by reading it again.
-    pub fn broken(&self) -> bool
-        ensures broken { result ≡ self.now.broken }
-    {
-        self.broken
-    }
-
     /// Makes the record of a byte string ready in frames of the pool, so that an append takes no memory.
     pub fn prepare(
         &self,

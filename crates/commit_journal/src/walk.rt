@@ -2,11 +2,11 @@
 ghost use Rattle.std.specs.Prelude.{◌≡◌, ◌⊎◌, ◌+◌, ◌^◌, ◌<◌, ◌≤◌, ◌++◌, [], ◌∷◌, List, ℕ, length, IsTrue, IfOk, OnOk, IfErr, IfSome, IfNone, OnErr, IsErrOf, true, false};
 ghost use Rattle.host_port.specs.Host.{disk_now, Rose, GoesOn, Throughout, KeepsDisk, KeepsSaid, KeepsInput, RaisesDiskAlone, CrashLeaves};
 ghost use Rattle.std.specs.Bool.{OnTrue, OnFalse};
-ghost use Rattle.commit_journal.specs.Journal.{WalkState, header, four_bytes, IsWalked, IsClosed, IsStuck, IsOpen, IsNoHeader, IsAtRest, IsShort, MountedFrom, StandsForSame, StandsForNone, most_bytes};
+ghost use Rattle.commit_journal.specs.Journal.{WalkState, header, four_bytes, IsWalked, IsClosed, IsStuck, IsOpen, IsNoHeader, IsAtRest, IsShort, MountedFrom, StandsForSame, StandsForNone, first_gate, most_bytes, new_size};
 ghost use Rattle.commit_journal.specs.Walk.{IfDamaged};
 
 use crate::fault::JournalFault;
-use crate::fit::{FIRST_GATE, JOURNAL_LIMIT, MOST_BYTES, OPEN_GATE};
+use crate::fit::{FIRST_GATE, JOURNAL_LIMIT, MOST_BYTES, NEW_SIZE, OPEN_GATE};
 use crate::journal::Journal;
 use crate::write::write_durably;
 use host_port::{Failed, Host};
@@ -111,11 +111,11 @@ fn read_gate<H: Host>(host: &mut H, gate: u64) -> Result<Gate, Failed>
 }
 
 impl Walk {
-    /// Syncs. Then it writes the header and a closed gate where the file is too short to hold a record, and else looks
-    /// at the header. It never answers `Memory`.
+    /// Syncs. Then it writes the header and a closed gate where the file has at most 17 bytes, and else looks at
+    /// the header. It never answers `Memory`.
     pub fn mount<H: Host>(host: &mut H) -> Result<Walk, JournalFault>
-        ensures ok { IfOk result (λ walk. walk ≡ record { place = 16; next = 16; ended = false }) }
-        ensures walked { OnOk result (IsTrue (H.told host.old).tells → IsWalked (disk_now (H.told host.new)) [] 16) }
+        ensures ok { IfOk result (λ walk. walk ≡ record { place = first_gate; next = first_gate; ended = false }) }
+        ensures walked { OnOk result (IsTrue (H.told host.old).tells → IsWalked (disk_now (H.told host.new)) [] first_gate) }
         ensures same { OnOk result (IsTrue (H.told host.old).tells → StandsForSame (disk_now (H.told host.old)).now (disk_now (H.told host.new)).now) }
         ensures any_moment { Throughout (H.told host.old) (H.told host.new)
             (λ disk _. (disk ≡ disk_now (H.told host.old)) ⊎ CrashLeaves (StandsForSame (disk_now (H.told host.old)).now) disk) }
@@ -123,8 +123,8 @@ impl Walk {
         ensures damaged { IfErr result (λ fault. IfDamaged fault (λ at. IsTrue (H.told host.old).tells → IsNoHeader (disk_now (H.told host.old)).now at)) }
         ensures nothing { IfErr result (λ fault. IfDamaged fault (λ _. IsTrue (H.told host.old).tells → StandsForNone (disk_now (H.told host.old)).now)) }
         ensures kept { IfErr result (λ fault. IfDamaged fault (λ _. Throughout (H.told host.old) (H.told host.new) (λ disk _. disk.now ≡ (disk_now (H.told host.old)).now))) }
-        // A file that is long enough to hold a record reads as it was at each moment, whatever the answer.
-        ensures long { 17 < length (disk_now (H.told host.old)).now → Throughout (H.told host.old) (H.told host.new) (λ disk _. disk.now ≡ (disk_now (H.told host.old)).now) }
+        // A file of more than 17 bytes reads as it was at each moment, whatever the answer.
+        ensures long { new_size < length (disk_now (H.told host.old)).now → Throughout (H.told host.old) (H.told host.new) (λ disk _. disk.now ≡ (disk_now (H.told host.old)).now) }
         ensures cause { IsErrOf result JournalFault.DiskFault → Rose (H.told host.old).disk_faults (H.told host.new).disk_faults }
         ensures memory { ¬ IsErrOf result JournalFault.Memory }
         ensures alone { RaisesDiskAlone (H.told host.old) (H.told host.new) }
@@ -134,7 +134,7 @@ impl Walk {
     {
         host.sync()?;
         let length = host.len()?;
-        if length <= 17 {
+        if length <= NEW_SIZE {
             write_durably(host, 0, b"EMFSTORE\0\0\0\x01\0\0\0\0\0")?;
             return Ok(Walk::start());
         }
@@ -147,7 +147,7 @@ impl Walk {
     }
 
     fn start() -> Walk
-        ensures { result ≡ record { place = 16; next = 16; ended = false } }
+        ensures { result ≡ record { place = first_gate; next = first_gate; ended = false } }
     {
         Walk {
             place: FIRST_GATE,

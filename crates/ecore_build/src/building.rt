@@ -146,8 +146,7 @@ fn checked(alloc: Global, rows: &[ClassifierRow]) -> Result<Resolved, MetaFault>
     }
 }
 
-/// The metamodel that a document's rows stand for, or the first fault of the document. `MetaRows::is_numbered` and
-/// `MetaRows::has_fit_names` test what is asked.
+/// The metamodel that a document's rows stand for, or the first fault of the document.
 pub fn build(alloc: Global, rows: &MetaRows) -> Result<Metamodel, MetaFault>
     requires numbered { Numbered rows.now.classifiers }
     requires fit { NamesFit rows.now.classifiers }

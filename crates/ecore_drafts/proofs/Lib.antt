@@ -3,6 +3,4 @@ pub mod OwnLaws
 pub mod PlaceLaws
 pub mod SuperLaws
 pub mod TableLaws
-mod NumberedLaws
-mod FitLaws
 pub mod Items

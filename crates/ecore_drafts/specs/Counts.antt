@@ -1,6 +1,5 @@
 -- Which documents can be numbered.
-use Rattle.std.specs.Prelude.{ℕ, ◌<◌, [], ◌∷◌, length, Bool, false, nat_lt, not, ◌&&◌}
-use Rattle.std.specs.List.{list_any}
+use Rattle.std.specs.Prelude.{ℕ, ◌<◌, [], ◌∷◌, length}
 use Rattle.ecore_drafts.specs.Document.{ClassifierRows, feature_total}
 use Rattle.ecore_drafts.specs.declared.rows.ClassifierRow.{ClassifierRow}
 use Rattle.ecore_drafts.specs.declared.rows.ClassifierRow.TheVariants.{Class, Enum, Plain}
@@ -15,12 +14,6 @@ Few (Class c) = length c.features < too_many
 Few (Enum e) = length e.literals < too_many
 Few (Plain t) = Unit {0}
 
--- too many features or literals of a classifier to be numbered
-abbrev pub is_many : ClassifierRow → Bool
-is_many (Class c) = not (nat_lt (length c.features) too_many)
-is_many (Enum e) = not (nat_lt (length e.literals) too_many)
-is_many (Plain t) = false
-
 -- the features or literals of each classifier can be numbered
 abbrev pub AreFew : ClassifierRows → Type 0
 AreFew [] = Unit {0}
@@ -31,7 +24,3 @@ pub record Numbered (rows : ClassifierRows) : Type 0 where
   pub classifiers : length rows < too_many
   pub features : feature_total rows < too_many
   pub parts : AreFew rows
-
--- the same as a test
-abbrev pub is_numbered : ClassifierRows → Bool
-is_numbered rows = nat_lt (length rows) too_many && (nat_lt (feature_total rows) too_many && not (list_any is_many rows))

@@ -1,6 +1,6 @@
 -- Names of a document that are of their form.
-use Rattle.std.specs.Prelude.{◌≡◌, ◌||◌, Bool, false, List, [], ◌∷◌}
-use Rattle.std.specs.List.{AllByRecursion, list_any}
+use Rattle.std.specs.Prelude.{◌≡◌, false, List, [], ◌∷◌}
+use Rattle.std.specs.List.{AllByRecursion}
 use Rattle.ecore_meta.specs.Named.{has_slash, is_taken}
 use Rattle.ecore_drafts.specs.declared.rows.ClassifierRow.{ClassifierRow}
 use Rattle.ecore_drafts.specs.declared.rows.ClassifierRow.TheVariants.{Class, Enum, Plain}
@@ -12,9 +12,3 @@ NamesFit [] = Unit {0}
 NamesFit (Class c ∷ rows) = (has_slash c.name ≡ false) × AllByRecursion (λ (f : FeatureRow). is_taken f.name ≡ false) c.features × NamesFit rows
 NamesFit (Enum e ∷ rows) = NamesFit rows
 NamesFit (Plain t ∷ rows) = NamesFit rows
-
--- the name of a classifier or of one of its features is of another form
-abbrev pub is_misnamed : ClassifierRow → Bool
-is_misnamed (Class c) = has_slash c.name || list_any (λ (f : FeatureRow). is_taken f.name) c.features
-is_misnamed (Enum e) = false
-is_misnamed (Plain t) = false

@@ -4,7 +4,7 @@ use Rattle.std.specs.Prelude.{IsTrue, map}
 use Rattle.std.proofs.lemmas.List.{append-nil}
 use Rattle.host_port.specs.Host.{Told, MayLeave, GoesOn, Throughout, KeepsSaid, KeepsInput, AddsPart, Rose, disk_now, said_now}
 use Rattle.host_port.proofs.Course.{at_last, carry_on, told_next, adds_none, said_kept_now, still_disk, keeps_input_on}
-use Rattle.command_runs.specs.Runs.{played, replies, events, answered}
+use Rattle.command_runs.specs.Runs.{played, replies, events, events_due}
 use Rattle.command_runs.specs.Crashes.{IsRunning, IsOpenedRunning}
 use Rattle.command_runs.proofs.Going.{among}
 use Rattle.op_form.specs.declared.event.Event.{Event}
@@ -76,7 +76,7 @@ module _ (entry a : Told) (course : GoesOn entry a) (said : KeepsSaid entry a) (
   pub opening_part : Throughout entry a (λ disk said. AddsPart (said_now entry) (replies task.answers) said)
   opening_part = adds_none entry a (replies task.answers) said
 
-  pub opening_moments : Throughout entry a (IsOpenedRunning (disk_now entry) StandsForEvents first (events task.answers) (answered task.answers) (said_now entry))
+  pub opening_moments : Throughout entry a (IsOpenedRunning (disk_now entry) StandsForEvents first (events task.answers) (events_due task.answers) (said_now entry))
   opening_moments told t low high =
       let none : length (a.said t) - length (said_now entry) ≤ 0 = omega (arith, ap length (said told t low high)) in
       ⊎_elim
@@ -124,23 +124,23 @@ module _ (entry a : Told) (course : GoesOn entry a) (said : KeepsSaid entry a) (
       (subst (λ (t : Task). Throughout a b (λ disk said. AddsPart (said_now a) (replies t.answers) said)) (task_is told) (part first (holds_first told)))) told
 
   pub whole_moments : ((made : List Event) → IsStoreOf (disk_now a) now made
-      → Throughout a b (IsRunning StandsForEvents made (events (asked now a.left).answers) (answered (asked now a.left).answers) (said_now a)))
-      → Throughout entry b (IsOpenedRunning (disk_now entry) StandsForEvents first (events (asked (played play empty first) entry.left).answers) (answered (asked (played play empty first) entry.left).answers) (said_now entry))
+      → Throughout a b (IsRunning StandsForEvents made (events (asked now a.left).answers) (events_due (asked now a.left).answers) (said_now a)))
+      → Throughout entry b (IsOpenedRunning (disk_now entry) StandsForEvents first (events (asked (played play empty first) entry.left).answers) (events_due (asked (played play empty first) entry.left).answers) (said_now entry))
   whole_moments moments told = carry_on entry a b
-      (IsOpenedRunning (disk_now entry) StandsForEvents first (events (asked (played play empty first) entry.left).answers) (answered (asked (played play empty first) entry.left).answers) (said_now entry)) course on
+      (IsOpenedRunning (disk_now entry) StandsForEvents first (events (asked (played play empty first) entry.left).answers) (events_due (asked (played play empty first) entry.left).answers) (said_now entry)) course on
       (opening_moments entry a course said mounting first stood (asked (played play empty first) entry.left))
       (λ told_a t low high. inr (
-      subst (λ (l : List ℕ). Throughout a b (IsRunning StandsForEvents first (events (asked (played play empty first) entry.left).answers) (answered (asked (played play empty first) entry.left).answers) l)) (said_is told)
-      (subst (λ (t : Task). Throughout a b (IsRunning StandsForEvents first (events t.answers) (answered t.answers) (said_now a))) (task_is told) (moments first (holds_first told))) told_a t low high)) told
+      subst (λ (l : List ℕ). Throughout a b (IsRunning StandsForEvents first (events (asked (played play empty first) entry.left).answers) (events_due (asked (played play empty first) entry.left).answers) l)) (said_is told)
+      (subst (λ (t : Task). Throughout a b (IsRunning StandsForEvents first (events t.answers) (events_due t.answers) (said_now a))) (task_is told) (moments first (holds_first told))) told_a t low high)) told
 
 -- what stands in the file at the end of a run
-pub stopped : (entry b : Told) (first : List Event) (task : Task) → GoesOn entry b → Throughout entry b (IsOpenedRunning (disk_now entry) StandsForEvents first (events task.answers) (answered task.answers) (said_now entry))
+pub stopped : (entry b : Told) (first : List Event) (task : Task) → GoesOn entry b → Throughout entry b (IsOpenedRunning (disk_now entry) StandsForEvents first (events task.answers) (events_due task.answers) (said_now entry))
     → StandsForEvents (disk_now entry).now first → MayLeave (disk_now b) (disk_now b).now → IsTrue entry.tells → IsKept task first entry b
 stopped entry b first task course moments stood left told = ⊎_elim
     (λ before. among StandsForEvents first task.answers [] task.answers (disk_now b).now (length (said_now b) - length (said_now entry)) refl (omega (arith, ap length before.1))
     (subst (λ (l : List Event). StandsForEvents (disk_now b).now l) (sym (append-nil first)) (subst (λ d. StandsForEvents d.now first) (sym before.0) stood)))
     (λ running. running (disk_now b).now left)
-    (at_last entry b (IsOpenedRunning (disk_now entry) StandsForEvents first (events task.answers) (answered task.answers) (said_now entry)) course moments told)
+    (at_last entry b (IsOpenedRunning (disk_now entry) StandsForEvents first (events task.answers) (events_due task.answers) (said_now entry)) course moments told)
 
 -- where nothing rose, the run comes to what its task comes to
 pub complete : (task : Task) (first : List Event) (entry b : Told) (status : Status) → Ends task first entry b status → NothingRose entry b

@@ -214,7 +214,7 @@ damage_of Memory P Q R gives p q = tt
 pub none_stands : (file : List ℕ) → StandsForNone file → StandsForNoEvents file
 none_stands file none events stood = none (map event_encoding events) stood.forms
 
--- a file that is too short to hold a record stands for no events at all, which is a list of them
+-- a file of at most 17 bytes stands for no events at all, which is a list of them
 pub is_long : (file : List ℕ) → StandsForNoEvents file → 17 < length file
 is_long file none = elim (cases_lt 17 (length file)) [
   | inl long ↦ long

@@ -3,7 +3,7 @@ use Rattle.std.proofs.Common.{◌≡◌, ◌∙◌, ℕ, List, [], ◌∷◌, �
 use Rattle.std.specs.Prelude.{IsTrue}
 use Rattle.host_port.specs.Host.{Told, GoesOn, Throughout, KeepsDisk, AddsPart, disk_now, said_now}
 use Rattle.host_port.proofs.Course.{at_last, kept_now}
-use Rattle.command_runs.specs.Runs.{Answer, replies, events, answered}
+use Rattle.command_runs.specs.Runs.{Answer, replies, events, events_due}
 use Rattle.command_runs.specs.Crashes.{IsRunning}
 use Rattle.command_runs.proofs.Going.{Going, Steps, one_more, stepped_part, stepped_moments, answers_more}
 use Rattle.command_runs.proofs.RunLaws.{events-more}
@@ -31,7 +31,7 @@ module _ (entry b d : Told) (made : List Event) (task : Task) (state : State) (l
   pub printed_part : Throughout entry d (λ disk said. AddsPart (said_now entry) (replies task.answers) said)
   printed_part = stepped_part StandsForEvents entry made task.answers b d (printing line ∷ []) (λ events. IsStoreOf (disk_now b) state events) going course (printing line) [] refl steps
 
-  pub printed_moments : Throughout entry d (IsRunning StandsForEvents made (events task.answers) (answered task.answers) (said_now entry))
+  pub printed_moments : Throughout entry d (IsRunning StandsForEvents made (events task.answers) (events_due task.answers) (said_now entry))
   printed_moments = stepped_moments StandsForEvents entry made task.answers b d (printing line ∷ []) (λ events. IsStoreOf (disk_now b) state events) going course (printing line) [] refl steps
 
   whole : task.answers ≡ (going.done ++ printing line ∷ []) ++ []

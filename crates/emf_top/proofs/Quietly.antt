@@ -7,7 +7,7 @@ use Rattle.std.proofs.lemmas.List.Sums.{sum_by-cons}
 use Rattle.host_port.specs.Host.{MayLeave, Told, GoesOn, Throughout, KeepsDisk, KeepsSaid, KeepsInput, AddsPart, disk_now, said_now}
 use Rattle.host_port.specs.Cut.{Item}
 use Rattle.host_port.proofs.Course.{at_last, course_on, course_still, still_input, keeps_input_on, adds_none, told_next, kept_now, said_kept_now}
-use Rattle.command_runs.specs.Runs.{Answer, listed, after, answers, replies, events, played, answered}
+use Rattle.command_runs.specs.Runs.{Answer, listed, after, answers, replies, events, played, events_due}
 use Rattle.command_runs.specs.Crashes.{IsRunning}
 use Rattle.command_runs.proofs.RunLaws.{played-append}
 use Rattle.command_runs.proofs.Going.{Going, Steps, quietly, begins, one_more, stepped_part, stepped_moments}
@@ -103,7 +103,7 @@ module _ (entry b : Told) (s0 : State) (items : List Item) (at refused : ℕ) (s
   fill_part made holds told = stepped_part StandsForEvents entry made (filling s0 items).answers b d (ahead s0 items state (drop at items)) (λ events. IsStoreOf (disk_now b) state events) (fills.going told made holds) fills.course
       (silenced answer) (ahead s0 items (after play state answer.event) (drop (at + 1) items)) left_is steps told
 
-  pub fill_moments : (made : List Event) → IsStoreOf (disk_now entry) s0 made → Throughout entry d (IsRunning StandsForEvents made (events (filling s0 items).answers) (answered (filling s0 items).answers) (said_now entry))
+  pub fill_moments : (made : List Event) → IsStoreOf (disk_now entry) s0 made → Throughout entry d (IsRunning StandsForEvents made (events (filling s0 items).answers) (events_due (filling s0 items).answers) (said_now entry))
   fill_moments made holds told = stepped_moments StandsForEvents entry made (filling s0 items).answers b d (ahead s0 items state (drop at items)) (λ events. IsStoreOf (disk_now b) state events) (fills.going told made holds) fills.course
       (silenced answer) (ahead s0 items (after play state answer.event) (drop (at + 1) items)) left_is steps told
 

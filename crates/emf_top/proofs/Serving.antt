@@ -7,7 +7,7 @@ use Rattle.host_port.specs.Cut.{Item, Script, script_from, with_item, ends_by}
 use Rattle.host_port.specs.declared.lines.LineFault.{LineFault}
 use Rattle.host_port.specs.declared.lines.LineFault.TheVariants as faults
 use Rattle.host_port.proofs.Course.{at_last, course_on, course_still, still_disk, still_said, still_input, adds_none, told_next, kept_now}
-use Rattle.command_runs.specs.Runs.{Answer, listed, after, answers, replies, events, refuses, answered}
+use Rattle.command_runs.specs.Runs.{Answer, listed, after, answers, replies, events, refuses, events_due}
 use Rattle.command_runs.specs.Crashes.{IsRunning, IsStepping}
 use Rattle.command_runs.proofs.RunLaws.{or_assoc, or_false}
 use Rattle.command_runs.proofs.Going.{Going, Steps, quietly, begins, one_more, stepped_part, stepped_moments, answers_more}
@@ -107,7 +107,7 @@ module _ (entry a b : Told) (made : List Event) (task : Task) (left : Script) (s
   pub looked_part : Throughout entry b (λ disk said. AddsPart (said_now entry) (replies task.answers) said)
   looked_part = (looked entry a b made task left state refused between course on disk said told left refl).going.part
 
-  pub looked_moments : Throughout entry b (IsRunning StandsForEvents made (events task.answers) (answered task.answers) (said_now entry))
+  pub looked_moments : Throughout entry b (IsRunning StandsForEvents made (events task.answers) (events_due task.answers) (said_now entry))
   looked_moments = (looked entry a b made task left state refused between course on disk said told left refl).going.moments
 
 -- an item was answered
@@ -125,7 +125,7 @@ module _ (entry b d : Told) (made : List Event) (task : Task) (next : Script) (i
   answered_part = stepped_part StandsForEvents entry made task.answers b d (answers decide play state (item ∷ next.items)) (λ events. IsStoreOf (disk_now b) state events) between.going course answer
       (answers decide play (after play state answer.event) next.items) left_is steps
 
-  pub answered_moments : Throughout entry d (IsRunning StandsForEvents made (events task.answers) (answered task.answers) (said_now entry))
+  pub answered_moments : Throughout entry d (IsRunning StandsForEvents made (events task.answers) (events_due task.answers) (said_now entry))
   answered_moments = stepped_moments StandsForEvents entry made task.answers b d (answers decide play state (item ∷ next.items)) (λ events. IsStoreOf (disk_now b) state events) between.going course answer
       (answers decide play (after play state answer.event) next.items) left_is steps
 
@@ -208,7 +208,7 @@ module _ (entry a b : Told) (s0 : State) (whole : Script) (failed : Bool) (place
     pub item_part : (made : List Event) → IsStoreOf (disk_now entry) s0 made → Throughout entry d (λ disk said. AddsPart (said_now entry) (replies (serving s0 whole).answers) said)
     item_part made holds told = answered_part entry b d made (serving s0 whole) (script_from takes_block place_b (pending_b ++ b.left)) item state refused answer answer_is (item_between told made holds) course_b step_on part moments told
 
-    pub item_moments : (made : List Event) → IsStoreOf (disk_now entry) s0 made → Throughout entry d (IsRunning StandsForEvents made (events (serving s0 whole).answers) (answered (serving s0 whole).answers) (said_now entry))
+    pub item_moments : (made : List Event) → IsStoreOf (disk_now entry) s0 made → Throughout entry d (IsRunning StandsForEvents made (events (serving s0 whole).answers) (events_due (serving s0 whole).answers) (said_now entry))
     item_moments made holds told = answered_moments entry b d made (serving s0 whole) (script_from takes_block place_b (pending_b ++ b.left)) item state refused answer answer_is (item_between told made holds) course_b step_on part moments told
 
     pub step_fault_ends : (fault : SessionFault) (now : State)

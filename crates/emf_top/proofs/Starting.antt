@@ -2,7 +2,7 @@
 use Rattle.std.proofs.Common.{◌≡◌, ◌∙◌, ℕ, List, [], ◌++◌, ap}
 use Rattle.host_port.specs.Host.{Told, Throughout, AddsPart, disk_now, said_now}
 use Rattle.host_port.specs.Cut.{script_from}
-use Rattle.command_runs.specs.Runs.{replies, events, answered}
+use Rattle.command_runs.specs.Runs.{replies, events, events_due}
 use Rattle.command_runs.specs.Crashes.{IsRunning}
 use Rattle.command_runs.proofs.Going.{Going, begins}
 use Rattle.op_form.specs.declared.event.Event.{Event}
@@ -30,5 +30,5 @@ module _ (a : Told) (state : State) (task : Task) (made : List Event) (holds : I
   pub part_at_start : Throughout a a (λ disk said. AddsPart (said_now a) (replies task.answers) said)
   part_at_start = at_start.part
 
-  pub moments_at_start : Throughout a a (IsRunning StandsForEvents made (events task.answers) (answered task.answers) (said_now a))
+  pub moments_at_start : Throughout a a (IsRunning StandsForEvents made (events task.answers) (events_due task.answers) (said_now a))
   moments_at_start = at_start.moments

@@ -1,8 +1,8 @@
 -- How a run ends.
 use Rattle.std.specs.Prelude.{◌≡◌, ◌⊎◌, ℕ, ◌-◌, List, [], ◌∷◌, ◌++◌, false, length, IsSome, IsTrue}
 use Rattle.host_port.specs.Host.{Told, disk_now, said_now, Rose, Throughout, KeepsInput, KeepsSaid, AddsPart}
-use Rattle.command_runs.specs.Runs.{Answer, replies, events, answered}
-use Rattle.command_runs.specs.Crashes.{IsAmong}
+use Rattle.command_runs.specs.Runs.{Answer, replies, events, events_due}
+use Rattle.command_runs.specs.Crashes.{StandsForAtLeast}
 use Rattle.op_form.specs.declared.event.Event.{Event}
 use Rattle.plain_repository.specs.Store.{StandsForEvents, StandsForNoEvents, IsDamaged}
 use Rattle.emf_top.specs.declared.answered.SessionFault.{SessionFault}
@@ -52,7 +52,7 @@ pub record IsHalted (task : Task) (first : List Event) (before now : Told) : Typ
 
 -- the file stands for the first events and some of those of the task, none in part, with all whose reply was begun
 abbrev pub IsKept : Task → List Event → Told → Told → Type 0
-IsKept task first before now = IsAmong StandsForEvents first (events task.answers) (answered task.answers (length (said_now now) - length (said_now before))) (disk_now now).now
+IsKept task first before now = StandsForAtLeast StandsForEvents first (events task.answers) (events_due task.answers (length (said_now now) - length (said_now before))) (disk_now now).now
 
 -- A run ends so, where the file stood for the first events. A disk fault comes while the store is opened, or while an
 -- answer's event is on its way.

@@ -1,7 +1,7 @@
 //! What `--generate` does: items are answered quietly, and one line says what came of it.
 ghost use Rattle.std.specs.Prelude.{◌≡◌, ◌≢◌, ◌+◌, ◌<◌, ◌≤◌, ◌^◌, ℕ, List, Bool, All, IfOk, IsTrue, false, if◌then◌else◌, string_bytes};
 ghost use Rattle.host_port.specs.Host.{disk_now, said_now, Rose, GoesOn, Throughout, AddsPart};
-ghost use Rattle.command_runs.specs.Runs.{replies, events, answered};
+ghost use Rattle.command_runs.specs.Runs.{replies, events, events_due};
 ghost use Rattle.command_runs.specs.Crashes.{IsRunning};
 ghost use Rattle.op_form.specs.declared.event.Event.{Event};
 ghost use Rattle.plain_repository.specs.Store.{StandsForEvents};
@@ -65,7 +65,7 @@ pub(crate) fn fill<H: Host>(
         → Throughout (H.told host.old) (H.told host.new) (λ _ said. AddsPart (said_now (H.told host.old)) (replies (filling session.old.state items.now).answers) said) }
     ensures moments { (made : List Event) → IsStoreOf (disk_now (H.told host.old)) session.old.state made
         → Throughout (H.told host.old) (H.told host.new) (IsRunning StandsForEvents made (events (filling session.old.state items.now).answers)
-        (answered (filling session.old.state items.now).answers) (said_now (H.told host.old))) }
+        (events_due (filling session.old.state items.now).answers) (said_now (H.told host.old))) }
     ensures unread { KeepsUnread (filling session.old.state items.now) (H.told host.old) (H.told host.new) }
     ensures words { result ≢ Status.BadWords }
     ensures read { result ≡ Status.ReadFault → Rose (H.told host.old).take_faults (H.told host.new).take_faults }

@@ -1,7 +1,7 @@
 //! What `--check` prints: how much a store holds.
 ghost use Rattle.std.specs.Prelude.{◌≡◌, ◌≢◌, ◌<◌, ◌^◌, ℕ, List, IfOk, IsTrue, string_bytes};
 ghost use Rattle.host_port.specs.Host.{disk_now, said_now, Rose, GoesOn, Throughout, AddsPart};
-ghost use Rattle.command_runs.specs.Runs.{replies, events, answered};
+ghost use Rattle.command_runs.specs.Runs.{replies, events, events_due};
 ghost use Rattle.command_runs.specs.Crashes.{IsRunning};
 ghost use Rattle.op_form.specs.declared.event.Event.{Event};
 ghost use Rattle.plain_repository.specs.Store.{StandsForEvents};
@@ -39,7 +39,7 @@ pub(crate) fn look<H: Host>(alloc: Global, host: &mut H, session: &Session) -> S
         → Throughout (H.told host.old) (H.told host.new) (λ _ said. AddsPart (said_now (H.told host.old)) (replies (checking session.now.state).answers) said) }
     ensures moments { (made : List Event) → IsStoreOf (disk_now (H.told host.old)) session.now.state made
         → Throughout (H.told host.old) (H.told host.new) (IsRunning StandsForEvents made (events (checking session.now.state).answers)
-        (answered (checking session.now.state).answers) (said_now (H.told host.old))) }
+        (events_due (checking session.now.state).answers) (said_now (H.told host.old))) }
     ensures unread { KeepsUnread (checking session.now.state) (H.told host.old) (H.told host.new) }
     ensures words { result ≢ Status.BadWords }
     ensures read { result ≡ Status.ReadFault → Rose (H.told host.old).take_faults (H.told host.new).take_faults }

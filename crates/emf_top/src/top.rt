@@ -2,7 +2,7 @@
 ghost use Rattle.std.specs.Prelude.{◌≡◌, ◌≢◌, ◌⊎◌, ◌+◌, ◌↔◌, ◌++◌, ◌||◌, true, false, Bool, ℕ, List, map, string_bytes, IsTrue};
 ghost use Rattle.host_port.specs.Host.{disk_now, said_now, Rose, GoesOn, Throughout, AddsPart, KeepsSaid, KeepsInput};
 ghost use Rattle.host_port.specs.Cut.{script_from};
-ghost use Rattle.command_runs.specs.Runs.{played, replies, events, answered};
+ghost use Rattle.command_runs.specs.Runs.{played, replies, events, events_due};
 ghost use Rattle.command_runs.specs.Crashes.{IsRunning, IsOpenedRunning};
 ghost use Rattle.op_form.specs.declared.event.Event.{Event};
 ghost use Rattle.plain_repository.specs.Lines.{takes_block};
@@ -108,7 +108,7 @@ pub fn run<H: Host>(alloc: Global, words: &[String], host: &mut H) -> Status
     // whose reply is begun are among them. Or the disk is still that of the entry, and nothing is printed.
     ensures moments { (request : Request) (first : List Event) → StandsForEvents (disk_now (H.told host.old)).now first → AskFor (map string_bytes words.now) request
         → Throughout (H.told host.old) (H.told host.new) (IsOpenedRunning (disk_now (H.told host.old)) StandsForEvents first (events (task_of request (played play empty first) (H.told host.old).left).answers)
-        (answered (task_of request (played play empty first) (H.told host.old).left).answers) (said_now (H.told host.old))) }
+        (events_due (task_of request (played play empty first) (H.told host.old).left).answers) (said_now (H.told host.old))) }
     // However it ends, the file stands for the first events and some of the new ones, none in part. All whose reply is
     // begun are among them. The command that was being written at a disk fault is kept whole or not at all.
     ensures stopped { IsTrue (H.told host.old).tells → (request : Request) (first : List Event) → StandsForEvents (disk_now (H.told host.old)).now first → AskFor (map string_bytes words.now) request
@@ -147,7 +147,7 @@ fn run_request<H: Host>(alloc: Global, request: Request, host: &mut H) -> Status
         → Throughout (H.told host.old) (H.told host.new) (λ _ said. AddsPart (said_now (H.told host.old)) (replies (task_of request (played play empty first) (H.told host.old).left).answers) said) }
     ensures moments { (first : List Event) → StandsForEvents (disk_now (H.told host.old)).now first
         → Throughout (H.told host.old) (H.told host.new) (IsOpenedRunning (disk_now (H.told host.old)) StandsForEvents first (events (task_of request (played play empty first) (H.told host.old).left).answers)
-        (answered (task_of request (played play empty first) (H.told host.old).left).answers) (said_now (H.told host.old))) }
+        (events_due (task_of request (played play empty first) (H.told host.old).left).answers) (said_now (H.told host.old))) }
     ensures unread { (first : List Event) → KeepsUnread (task_of request (played play empty first) (H.told host.old).left) (H.told host.old) (H.told host.new) }
     ensures words { result ≢ Status.BadWords }
     ensures read { result ≡ Status.ReadFault → Rose (H.told host.old).take_faults (H.told host.new).take_faults }
@@ -178,7 +178,7 @@ fn fulfil<H: Host>(alloc: Global, request: Request, host: &mut H, session: &mut 
         → Throughout (H.told host.old) (H.told host.new) (λ _ said. AddsPart (said_now (H.told host.old)) (replies (task_of request session.old.state (H.told host.old).left).answers) said) }
     ensures moments { (made : List Event) → IsStoreOf (disk_now (H.told host.old)) session.old.state made
         → Throughout (H.told host.old) (H.told host.new) (IsRunning StandsForEvents made (events (task_of request session.old.state (H.told host.old).left).answers)
-        (answered (task_of request session.old.state (H.told host.old).left).answers) (said_now (H.told host.old))) }
+        (events_due (task_of request session.old.state (H.told host.old).left).answers) (said_now (H.told host.old))) }
     ensures unread { KeepsUnread (task_of request session.old.state (H.told host.old).left) (H.told host.old) (H.told host.new) }
     ensures words { result ≢ Status.BadWords }
     ensures read { result ≡ Status.ReadFault → Rose (H.told host.old).take_faults (H.told host.new).take_faults }
@@ -222,7 +222,7 @@ fn serve<H: Host>(alloc: Global, host: &mut H, session: &mut Session, lines: &mu
         → Throughout (H.told host.old) (H.told host.new) (λ _ said. AddsPart (said_now (H.told host.old)) (replies (serving session.old.state (script_from takes_block lines.old.place (lines.old.pending ++ (H.told host.old).left))).answers) said) }
     ensures moments { (made : List Event) → IsStoreOf (disk_now (H.told host.old)) session.old.state made
         → Throughout (H.told host.old) (H.told host.new) (IsRunning StandsForEvents made (events (serving session.old.state (script_from takes_block lines.old.place (lines.old.pending ++ (H.told host.old).left))).answers)
-        (answered (serving session.old.state (script_from takes_block lines.old.place (lines.old.pending ++ (H.told host.old).left))).answers) (said_now (H.told host.old))) }
+        (events_due (serving session.old.state (script_from takes_block lines.old.place (lines.old.pending ++ (H.told host.old).left))).answers) (said_now (H.told host.old))) }
     ensures words { result ≢ Status.BadWords }
     ensures read { result ≡ Status.ReadFault → Rose (H.told host.old).take_faults (H.told host.new).take_faults }
     ensures write { result ≡ Status.WriteFault → Rose (H.told host.old).say_faults (H.told host.new).say_faults }

@@ -61,7 +61,8 @@ pub enum LineFault {
     Memory,
 }
 
-/// Reads the lines of an input, whatever pieces the host hands over.
+/// Reads the lines of an input, whatever pieces the host hands over. After a call that answered a fault it isn't used
+/// again.
 #[derive(Drop)]
 pub struct Lines {
     unread: Unread,
@@ -98,13 +99,6 @@ impl Lines {
         ensures text { result.now ≡ self.now.text }
     {
         self.text.as_str()
-    }
-
-    /// Whether a call answered a fault: then the reader isn't used again.
-    pub fn failed(&self) -> bool
-        ensures failed { result ≡ self.now.failed }
-    {
-        self.failed
     }
 
     /// Reads the next line.

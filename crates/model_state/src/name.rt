@@ -3,6 +3,9 @@ ghost use Rattle.std.specs.Prelude.{◌≡◌};
 ghost use Rattle.std.specs.List.{list_all};
 ghost use Rattle.model_state.specs.Names.{is_name, is_name_byte};
 
+/// The most bytes after a name's first.
+const MOST_NAME_REST: usize = 63;
+
 /// Whether a text is a name of a branch, a tag or a composite. It is a letter, and at most 63 letters, digits, `_`, `.`
 /// or `-` after it, all ASCII.
 pub fn is_name(text: &str) -> bool
@@ -11,7 +14,7 @@ pub fn is_name(text: &str) -> bool
     match text.as_bytes() {
         [] => false,
         [first, rest @ ..] => {
-            first.is_ascii_alphabetic() && rest.len() <= 63 && are_name_bytes(rest)
+            first.is_ascii_alphabetic() && rest.len() <= MOST_NAME_REST && are_name_bytes(rest)
         }
     }
 }

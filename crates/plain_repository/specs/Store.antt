@@ -1,7 +1,7 @@
 -- What the bytes of a file stand for.
 use Rattle.std.specs.Prelude.{◌≡◌, ◌⊎◌, ℕ, ◌^◌, ◌<◌, List, [], ◌∷◌, ◌++◌, IsTrue, length, map}
 use Rattle.host_port.specs.Host.{Disk}
-use Rattle.commit_journal.specs.Journal.{StandsFor, ReadsTo, IsStuck, IsNoHeader, IsAtRest, next_gate}
+use Rattle.commit_journal.specs.Journal.{StandsFor, ReadsTo, IsStuck, IsNoHeader, IsAtRest, new_size, next_gate}
 use Rattle.op_form.specs.declared.event.Event.{Event}
 use Rattle.op_form.specs.Events.{event_encoding}
 use Rattle.plain_repository.specs.State.{empty}
@@ -30,10 +30,10 @@ pub record IsBroken (file : List ℕ) (at : ℕ) : Type 0 where
   pub low : at < 2 ^ 40
   pub stuck : IsStuck file at ⊎ IsUnplayable file events at
 
--- Where a file is damaged that is long enough to hold a record. It is at the first byte that is not the header's, or where the
--- reading of its records stops.
+-- Where a file of more than 17 bytes is damaged. It is at the first byte that is not the header's, or where the reading of its
+-- records stops.
 pub record IsDamaged (file : List ℕ) (at : ℕ) : Type 0 where
-  pub long : 17 < length file
+  pub long : new_size < length file
   pub found : IsNoHeader file at ⊎ IsBroken file at
 
 -- a file stands for one list of events at most

@@ -50,9 +50,9 @@ pub record Keeps (fits : ℕ → ℕ → Type 0) (old new : Entries) : Type 0 wh
   pub no_more : count < length old → ¬ fits (suc count) (length (held (take (suc count) old)))
 
 -- so many entries and frames of theirs are within these limits, with so many other frames out and so many still needed
-pub record Fits (most_entries most_frames others needed entries frames : ℕ) : Type 0 where
-  pub entries_fit : entries ≤ most_entries
-  pub frames_fit : frames + needed ≤ most_frames
+pub record Fits (most frames_most others needed entries frames : ℕ) : Type 0 where
+  pub entries_fit : entries ≤ most
+  pub frames_fit : frames + needed ≤ frames_most
   pub out_fits : others + frames + needed ≤ pool_limit
 
 -- an entry with these bytes stands first, and of the other ones as many as there is room for

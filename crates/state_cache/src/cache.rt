@@ -23,7 +23,7 @@ const MOST_FRAMES_HELD: usize = 6144;
 const ANY_FRAMES: usize = 1 << 33;
 
 /// The most bytes of an entry.
-pub const ENTRY_LIMIT: usize = 8_388_608;
+const MOST_ENTRY_BYTES: usize = 8_388_608;
 
 /// Byte strings by version. Contracts see the versions and where their bytes lie, the most recently used first.
 #[derive(Drop)]
@@ -178,7 +178,7 @@ impl Cache {
         ensures same { OnErr result (SameFrames pool.old pool.new) }
         ensures err_out { OnErr result (out_of pool.new ≡ out_of pool.old) }
     {
-        if bytes.len() > ENTRY_LIMIT {
+        if bytes.len() > MOST_ENTRY_BYTES {
             return Ok(false);
         }
         // All memory is taken before the first entry goes.

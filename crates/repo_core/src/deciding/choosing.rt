@@ -1,5 +1,6 @@
 //! What is answered where theirs and mine conflict.
-ghost use Rattle.std.specs.Prelude.{◌≡◌, [], ◌<◌, ◌-◌, ◌^◌, All, IfOk, IfNone, IfSome, true, unwrap_or};
+ghost use Rattle.std.specs.Prelude.{◌≡◌, [], IfOk, IfNone, IfSome, true, unwrap_or};
+ghost use Rattle.data_lines.specs.Buckets.{HaveNumbers};
 ghost use Rattle.plain_repository.specs.Answers as plain;
 ghost use Rattle.plain_repository.specs.Choices.{chosen};
 ghost use Rattle.merge_plans.specs.Choices.{are_choices};
@@ -31,7 +32,7 @@ pub(crate) fn refused_choices(
     buckets: &Buckets,
     choices: &Option<Text>,
 ) -> Result<Option<Decision>, AllocError>
-    requires places { All (λ b. All (λ i. i < 2 ^ 64 - 1) b.theirs × All (λ i. i < 2 ^ 64 - 1) b.mine) buckets.now.rows }
+    requires places { HaveNumbers buckets.now }
     ensures refused { IfOk result (λ found. IfSome found (λ d. (otherwise : plain.Decision) → seen d ≡ chosen buckets.now.rows choices.now otherwise)) }
     ensures made { IfOk result (λ found. IfSome found (λ d. (s : State) → CanMakeIt s d.made)) }
     ensures passed { IfOk result (λ found. IfNone found ((otherwise : plain.Decision) → chosen buckets.now.rows choices.now otherwise ≡ otherwise)) }

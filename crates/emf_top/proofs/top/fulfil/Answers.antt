@@ -3,7 +3,7 @@ use Rattle.std.specs.Prelude.{All}
 use Rattle.host_port.specs.Host.{Throughout, AddsPart, said_now}
 use Rattle.host_port.specs.Cut.{Item}
 use Rattle.host_port.proofs.Course.{still_input}
-use Rattle.command_runs.specs.Runs.{replies, events, answered}
+use Rattle.command_runs.specs.Runs.{replies, events, events_due}
 use Rattle.command_runs.specs.Crashes.{IsRunning}
 use Rattle.plain_repository.specs.Store.{StandsForEvents}
 use Rattle.emf_top.specs.Headline.{Ends}
@@ -32,7 +32,7 @@ pub returns-in-Ok-clause-part : goal.returns-in-Ok-clause-part
 returns-in-Ok-clause-part g c = rw c.in-Serve.is (λ made holds. subst (λ (t : Task). Throughout (g.H.Host.told c.args.host.now) (g.H.Host.told c.serve.new.host) (λ disk said. AddsPart (said_now (g.H.Host.told c.args.host.now)) (replies t.answers) said)) (from_start c.args.session.now.state (g.H.Host.told c.args.host.now).left c.in-Ok.lines.place c.in-Ok.lines.pending c.in-Ok.ensures.start.1 c.in-Ok.ensures.start.0) (c.serve.ensures.part made holds))
 
 pub returns-in-Ok-clause-moments : goal.returns-in-Ok-clause-moments
-returns-in-Ok-clause-moments g c = rw c.in-Serve.is (λ made holds. subst (λ (t : Task). Throughout (g.H.Host.told c.args.host.now) (g.H.Host.told c.serve.new.host) (IsRunning StandsForEvents made (events t.answers) (answered t.answers) (said_now (g.H.Host.told c.args.host.now)))) (from_start c.args.session.now.state (g.H.Host.told c.args.host.now).left c.in-Ok.lines.place c.in-Ok.lines.pending c.in-Ok.ensures.start.1 c.in-Ok.ensures.start.0) (c.serve.ensures.moments made holds))
+returns-in-Ok-clause-moments g c = rw c.in-Serve.is (λ made holds. subst (λ (t : Task). Throughout (g.H.Host.told c.args.host.now) (g.H.Host.told c.serve.new.host) (IsRunning StandsForEvents made (events t.answers) (events_due t.answers) (said_now (g.H.Host.told c.args.host.now)))) (from_start c.args.session.now.state (g.H.Host.told c.args.host.now).left c.in-Ok.lines.place c.in-Ok.lines.pending c.in-Ok.ensures.start.1 c.in-Ok.ensures.start.0) (c.serve.ensures.moments made holds))
 
 pub returns-in-Ok-clause-unread : goal.returns-in-Ok-clause-unread
 returns-in-Ok-clause-unread g c = rw c.in-Serve.is (λ unread. let other : true ≡ false = unread in absurd cc)
@@ -68,7 +68,7 @@ pub returns-in-Ok-generated-clause-part : goal.returns-in-Ok-generated-clause-pa
 returns-in-Ok-generated-clause-part g c = rw c.in-Generate.is (λ made holds. subst (λ (l : List Item). Throughout (g.H.Host.told c.args.host.now) (g.H.Host.told c.fill.new.host) (λ disk said. AddsPart (said_now (g.H.Host.told c.args.host.now)) (replies (filling c.args.session.now.state l).answers) said)) (c.as_slice.ensures ∙ c.in-Ok-generated.ensures) (c.fill.ensures.part made holds))
 
 pub returns-in-Ok-generated-clause-moments : goal.returns-in-Ok-generated-clause-moments
-returns-in-Ok-generated-clause-moments g c = rw c.in-Generate.is (λ made holds. subst (λ (l : List Item). Throughout (g.H.Host.told c.args.host.now) (g.H.Host.told c.fill.new.host) (IsRunning StandsForEvents made (events (filling c.args.session.now.state l).answers) (answered (filling c.args.session.now.state l).answers) (said_now (g.H.Host.told c.args.host.now)))) (c.as_slice.ensures ∙ c.in-Ok-generated.ensures) (c.fill.ensures.moments made holds))
+returns-in-Ok-generated-clause-moments g c = rw c.in-Generate.is (λ made holds. subst (λ (l : List Item). Throughout (g.H.Host.told c.args.host.now) (g.H.Host.told c.fill.new.host) (IsRunning StandsForEvents made (events (filling c.args.session.now.state l).answers) (events_due (filling c.args.session.now.state l).answers) (said_now (g.H.Host.told c.args.host.now)))) (c.as_slice.ensures ∙ c.in-Ok-generated.ensures) (c.fill.ensures.moments made holds))
 
 pub returns-in-Ok-generated-clause-unread : goal.returns-in-Ok-generated-clause-unread
 returns-in-Ok-generated-clause-unread g c = rw c.in-Generate.is (λ unread. c.fill.ensures.unread unread)

@@ -2,7 +2,7 @@ use Rattle.std.proofs.Common.{◌≡◌, ◌⊎◌, inl, inr, arith, refl, subst
 use Rattle.std.specs.Prelude.{map, string_bytes}
 use Rattle.host_port.specs.Host.{Throughout, AddsPart, disk_now, said_now}
 use Rattle.host_port.proofs.Course.{told_next, still_said, still_input}
-use Rattle.command_runs.specs.Runs.{played, replies, events, answered}
+use Rattle.command_runs.specs.Runs.{played, replies, events, events_due}
 use Rattle.command_runs.specs.Crashes.{IsOpenedRunning}
 use Rattle.plain_repository.specs.State.{empty}
 use Rattle.plain_repository.specs.Events.{play}
@@ -22,7 +22,7 @@ pub returns-in-Some-clause-part : goal.returns-in-Some-clause-part
 returns-in-Some-clause-part g c = λ request first stood asks. subst (λ (r : Request). Throughout (g.H.Host.told c.args.host.now) (g.H.Host.told c.run_request.new.host) (λ disk said. AddsPart (said_now (g.H.Host.told c.args.host.now)) (replies (task_of r (played play empty first) (g.H.Host.told c.args.host.now).left).answers) said)) (same_request (map string_bytes c.args.words.now) c.in-Some.request request c.in-Some.ensures.asked asks) (c.run_request.ensures.part first stood)
 
 pub returns-in-Some-clause-moments : goal.returns-in-Some-clause-moments
-returns-in-Some-clause-moments g c = λ request first stood asks. subst (λ (r : Request). Throughout (g.H.Host.told c.args.host.now) (g.H.Host.told c.run_request.new.host) (IsOpenedRunning (disk_now (g.H.Host.told c.args.host.now)) StandsForEvents first (events (task_of r (played play empty first) (g.H.Host.told c.args.host.now).left).answers) (answered (task_of r (played play empty first) (g.H.Host.told c.args.host.now).left).answers) (said_now (g.H.Host.told c.args.host.now)))) (same_request (map string_bytes c.args.words.now) c.in-Some.request request c.in-Some.ensures.asked asks) (c.run_request.ensures.moments first stood)
+returns-in-Some-clause-moments g c = λ request first stood asks. subst (λ (r : Request). Throughout (g.H.Host.told c.args.host.now) (g.H.Host.told c.run_request.new.host) (IsOpenedRunning (disk_now (g.H.Host.told c.args.host.now)) StandsForEvents first (events (task_of r (played play empty first) (g.H.Host.told c.args.host.now).left).answers) (events_due (task_of r (played play empty first) (g.H.Host.told c.args.host.now).left).answers) (said_now (g.H.Host.told c.args.host.now)))) (same_request (map string_bytes c.args.words.now) c.in-Some.request request c.in-Some.ensures.asked asks) (c.run_request.ensures.moments first stood)
 
 pub returns-in-Some-clause-stopped : goal.returns-in-Some-clause-stopped
 returns-in-Some-clause-stopped g c = λ told request first stood asks. subst (λ (r : Request). IsKept (task_of r (played play empty first) (g.H.Host.told c.args.host.now).left) first (g.H.Host.told c.args.host.now) (g.H.Host.told c.run_request.new.host)) (same_request (map string_bytes c.args.words.now) c.in-Some.request request c.in-Some.ensures.asked asks)
