@@ -31,7 +31,14 @@ fn rank_back<L: Look>(look: &L, opposite: Option<u32>, a: &Id, b: &Id) -> u64
 }
 
 /// The link of a row and its mirror, as they are given.
-fn new_link(alloc: Global, a: &Id, f: u32, ra: u64, b: &Id, rb: Option<u64>) -> Result<Step, AllocError>
+fn new_link(
+    alloc: Global,
+    a: &Id,
+    f: u32,
+    ra: u64,
+    b: &Id,
+    rb: Option<u64>,
+) -> Result<Step, AllocError>
     ensures { IfOk result (λ s. s ≡ Link a.now f ra b.now rb) }
 {
     let a = a.copy(alloc)?;
