@@ -103,7 +103,7 @@ fn sorts(
     Ok((early, late))
 }
 
-// Three frames, a sync, the gate, a sync, and the reply; then the input's end.
+// Three takes of input, three frames, a sync, the gate, a sync, and the reply; then the input's end.
 #[test]
 fn a_long_title_is_there_or_not_after_a_crash_and_is_once_it_was_replied(
     rt: HostRuntime,
