@@ -153,14 +153,17 @@ fn undoes_gone(e: &Id, class: u32, place: &Place, rank: u64, t: &Step) -> bool
     }
 }
 
-/// Whether a step's reversal moves the element from one place to another: each with its rank and the elements above.
+/// Whether a step's reversal moves the element from one place to the other, with these ranks there.
 fn undoes_move(
     e: &Id,
-    from: (&Place, u64, &List<Id>),
-    to: (&Place, u64, &List<Id>),
+    from: &Place,
+    to: &Place,
+    ranks: (u64, u64),
+    above_from: &List<Id>,
+    above_to: &List<Id>,
     t: &Step,
 ) -> bool
-    ensures { result ≡ step_eq (Move e.now from.0.now from.1 to.0.now to.1 from.2.now to.2.now) (rev t.now) }
+    ensures { result ≡ step_eq (Move e.now from.now ranks.0 to.now ranks.1 above_from.now above_to.now) (rev t.now) }
 {
     match t {
         Step::Move {
@@ -173,12 +176,12 @@ fn undoes_move(
             above_to: above_forth,
         } => {
             e == x
-                && from.0.is_same(forth)
-                && from.1 == *forth_rank
-                && to.0.is_same(back)
-                && to.1 == *back_rank
-                && are_same_ids(from.2, above_forth)
-                && are_same_ids(to.2, above_back)
+                && from.is_same(forth)
+                && ranks.0 == *forth_rank
+                && to.is_same(back)
+                && ranks.1 == *back_rank
+                && are_same_ids(above_from, above_forth)
+                && are_same_ids(above_to, above_back)
         }
         _ => false,
     }
@@ -231,9 +234,8 @@ fn undoes(s: &Step, t: &Step) -> bool
             above_from,
             above_to,
         } => {
-            let from = (from, *from_rank, above_from);
-            let to = (to, *to_rank, above_to);
-            undoes_move(e, from, to, t)
+            let ranks = (*from_rank, *to_rank);
+            undoes_move(e, from, to, ranks, above_from, above_to, t)
         },
         Step::RerankPlace { e, old, new } => undoes_rerank_place(e, *old, *new, t),
     }
