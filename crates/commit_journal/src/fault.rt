@@ -9,8 +9,8 @@ use thiserror::Error;
 /// Why a journal could not be read.
 #[derive(Clone, Copy, Debug, PartialEq, Eq, Error)]
 pub enum JournalFault {
-    /// The file stands for no list of records. The offset, from 0, is that of the header's first byte that differs. Else it
-    /// is that at which neither a closed gate stands, nor a whole record whose next gate is below 2^40.
+    /// The file stands for no list of records. The offset, from 0, is that of the header's first byte that differs. Else
+    /// neither a closed gate stands there, nor a whole record whose next gate is below 2^40.
     #[error("the journal is damaged at byte {at}")]
     Damaged { at: u64 },
     /// A disk call of the host failed.

@@ -100,7 +100,7 @@ impl Journal {
 
     /// Adds a record: writes it and the next closed gate, frame by frame, syncs, opens the gate before it, syncs. A crash at
     /// any moment leaves the old records, or these with the new one; after `Ok` the new one. After an error the journal is
-    /// broken. The record's frames are given back either way.
+    /// broken: what the file holds then is known only by reading it again. The record's frames are given back either way.
     pub fn append<H: Host>(
         &mut self,
         pool: &mut Pool,
