@@ -168,8 +168,8 @@ unset_effect e f (Bounded target opposite) = Ok (Forgets e f)
 unset_effect e f (Free target opposite) = Ok (Forgets e f)
 unset_effect e f kind = Err WrongKind
 
--- What is given, where a list of values takes one more: it is not held yet where each is held once. There is room for it under the
--- upper bound, and fewer than most_entries values are there.
+-- What is given, where a list of values takes one more. The value is not held yet where each is held once. There is room for it
+-- under the upper bound, and fewer than most_entries values are there.
 abbrev pub accepts : {T : Type 0} → Bool → Option ℕ → List Value → Value → T → Result T EditFault
 accepts unique upper vs v given =
     if unique && list_any (value_eq v) vs then Err AlreadyThere
