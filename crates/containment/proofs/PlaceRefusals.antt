@@ -2,36 +2,21 @@
 use Rattle.std.proofs.lemmas.Bool.Decides.{nat_tests}
 use Rattle.std.proofs.Common.{◌≡◌, ℕ, Bool, true, false, cond, not, List, [], refl, ap, ◌∙◌, arith, nat_le, length}
 use Rattle.std.specs.Prelude.{Option, None, Some, is_some}
-use Rattle.std.specs.FinMap.{FinMap, get, entries}
-use Rattle.finite_maps.specs.Maps.{count, tally}
-use Rattle.finite_maps.specs.Sorts.{picked}
-use Rattle.finite_maps.proofs.SortLaws.{tally-in_order, tally-map}
+use Rattle.std.specs.FinMap.{get}
 use Rattle.ecore_meta.specs.Meta.{Meta}
 use Rattle.model_state.specs.declared.entry.Entry.{Entry}
 use Rattle.model_state.specs.declared.step.Place.{Place}
-use Rattle.model_state.specs.Keys.{IdBytes, id_cmp}
-use Rattle.model_state.specs.Listing.{children, entry_cmp}
+use Rattle.model_state.specs.Keys.{IdBytes}
+use Rattle.model_state.specs.Listing.{children}
 use Rattle.model_state.specs.State.{State, place_eq}
 use Rattle.model_state.specs.Steps.{may_move}
 use Rattle.edit_laws.specs.Spot.{end_spot, rank_for, ranks_of, spot_by}
 use Rattle.edit_laws.specs.Places.{rerank_places}
 use Rattle.containment.proofs.Reranks.{no_reranks}
-use Rattle.edit_laws.proofs.Lists.{tally-filter}
-use Rattle.edit_laws.proofs.Creates.{spot_of}
-use Rattle.opposites.proofs.RankLaws.{length_tally, true_too}
 use Rattle.containment.specs.declared.fault.MoveFault.{MoveFault}
 use Rattle.containment.specs.declared.fault.MoveFault.TheVariants.{Bound, NoEntry, WrongType, WouldCycle}
 use Rattle.containment.specs.Subtree.{is_among}
 use Rattle.containment.specs.Refusals.{first_refusal, spot_refusal, within_tests, arrival_tests, move_refusal, place_of}
-
--- as many children as elements that stand there
-pub length_children : (place : FinMap id_cmp Place) (prank : FinMap id_cmp ℕ) (p : Place) → length (children place prank p) ≡ count (λ (e : IdBytes × Place). place_eq p e.1) place
-length_children place prank p =
-    length_tally (children place prank p)
-    ∙ tally-in_order entry_cmp (λ _. true) _
-    ∙ tally-map (λ _. true) (spot_of prank) (picked (λ (e : IdBytes × Place). place_eq p e.1) place)
-    ∙ tally-filter (λ (e : IdBytes × Place). place_eq p e.1) (λ _. true) (entries place)
-    ∙ (λ i. tally (λ (e : IdBytes × Place). true_too (place_eq p e.1) i) (entries place))
 
 -- the end is an index
 own_le : (n : ℕ) → nat_le n n ≡ true

@@ -6,10 +6,9 @@ ghost use Rattle.edit_laws.specs.Places.{create_made, rerank_places};
 ghost use Rattle.containment.specs.Refusals.{IsRefusal, create_refusal};
 
 use crate::MoveFault;
-use crate::place::{has_room, may_stand};
 use crate::spots::{Spot, last_spot};
 use ecore_meta::{List, Metamodel};
-use model_state::{Id, Look, Place, Step};
+use model_state::{Id, Look, Place, Step, has_room, may_stand};
 use std::alloc::{AllocError, Global};
 
 /// The spot of a new element of a class, last in a place. Refused with WrongType before Bound.

@@ -10,10 +10,9 @@ ghost use Rattle.containment.specs.Refusals.{IsPlace, IsRefusal, arrival_tests, 
 ghost use Rattle.containment.specs.Moves.{HasRefusal, IsMove, IsMoveRefusal};
 
 use crate::MoveFault;
-use crate::place::{has_room, may_move};
 use crate::spots::{arrival_spot, find_spot};
 use ecore_meta::{List, Metamodel};
-use model_state::{Id, Look, Place, Placed, Step, chain};
+use model_state::{Id, Look, Place, Placed, Step, chain, has_room, may_move};
 use opposites::{index_or_end, stands_at, without_entry};
 use std::alloc::Global;
 

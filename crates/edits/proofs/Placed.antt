@@ -1,6 +1,6 @@
 -- An element is created, moved or deleted: what its tests have shown, and the steps taken one by one.
-use Rattle.std.proofs.Common.{◌≡◌, ℕ, Bool, true, false, cond, not, refl, sym, ap, subst, ◌∙◌, ◌&&◌}
-use Rattle.std.specs.Prelude.{Option, None, Some, is_some, unwrap_or, Result, Ok, Err, if◌then◌else◌}
+use Rattle.std.proofs.Common.{◌≡◌, ℕ, true, refl, sym, ap, subst, ◌∙◌}
+use Rattle.std.specs.Prelude.{Option, None, Some, is_some, unwrap_or, Result, Ok, Err}
 use Rattle.std.specs.FinMap.{get}
 use Rattle.finite_maps.proofs.EqualLaws.{and_both}
 use Rattle.ecore_meta.specs.Meta.{Meta}
@@ -9,11 +9,10 @@ use Rattle.model_state.specs.declared.step.Place.TheVariants as places
 use Rattle.model_state.specs.Ident.{is_id}
 use Rattle.model_state.specs.Keys.{IdBytes}
 use Rattle.model_state.specs.State.{State, is_live}
-use Rattle.model_state.specs.Steps.{fold, class_has, place_live}
+use Rattle.model_state.specs.Steps.{fold, class_has}
 use Rattle.model_state.specs.Typing.{kind_of, is_concrete, is_containment}
 use Rattle.model_state.specs.Good.{Good, Sound}
 use Rattle.edit_laws.specs.declared.fault.EditFault.{EditFault}
-use Rattle.edit_laws.specs.Places.{MayCreate}
 use Rattle.containment.specs.declared.fault.MoveFault.{MoveFault}
 use Rattle.containment.specs.Refusals.{IsPlace, create_refusal, create_tests, move_refusal, place_of}
 use Rattle.containment.specs.Moves.{move_after, move_made}

@@ -1,40 +1,29 @@
 -- An edit that is not refused: what its tests have shown, the steps taken one by one, and when there is none.
-use Rattle.std.proofs.Common.{◌≡◌, ℕ, Bool, true, false, cond, not, List, [], ◌∷◌, length, refl, ap, subst, ◌∙◌, ◌&&◌, ◌||◌, nat_eq, nat_le, nat_lt}
-use Rattle.std.specs.Prelude.{Option, None, Some, is_some, ok_or, unwrap_or, slice_get, Result, Ok, Err, if◌then◌else◌}
+use Rattle.std.proofs.Common.{◌≡◌, ℕ, Bool, true, List, length, refl, ap, ◌∙◌, ◌&&◌, nat_le, nat_lt}
+use Rattle.std.specs.Prelude.{Option, None, Some, is_some, unwrap_or, Result, Ok, Err}
 use Rattle.std.specs.List.{list_any}
-use Rattle.std.specs.Option.{option_map_or}
-use Rattle.std.specs.Str.{bytes_eq}
 use Rattle.std.specs.FinMap.{get}
 use Rattle.finite_maps.specs.Maps.{is_below}
-use Rattle.finite_maps.proofs.EqualLaws.{nat_equality}
-use Rattle.ecore_meta.specs.Meta.{Meta, class_named, feature_named, first_named, name_at}
+use Rattle.ecore_meta.specs.Meta.{Meta, class_named}
 use Rattle.ecore_meta.specs.Typing.{fits}
-use Rattle.ecore_meta.specs.declared.meta.Class.{Class}
-use Rattle.ecore_meta.specs.declared.meta.Feature.{Feature}
 use Rattle.ecore_meta.specs.declared.meta.Kind.{Kind}
 use Rattle.ecore_meta.specs.declared.meta.Kind.TheVariants.{Attr, AttrMany, Bounded, Free}
 use Rattle.ecore_meta.specs.declared.meta.Scalar.{Scalar}
 use Rattle.ecore_meta.specs.declared.meta.Scalar.TheVariants as types
 use Rattle.ecore_meta.specs.declared.meta.Value.{Value}
-use Rattle.model_state.specs.declared.entry.Entry.{Entry}
-use Rattle.model_state.specs.declared.step.Place.TheVariants.{Root}
 use Rattle.model_state.specs.Ident.{is_id}
 use Rattle.model_state.specs.Keys.{IdBytes}
-use Rattle.model_state.specs.Listing.{children, values_at}
-use Rattle.model_state.specs.State.{State, is_live}
-use Rattle.model_state.specs.Steps.{fold, class_has, value_fits, not_default}
-use Rattle.model_state.specs.Typing.{value_eq, kind_of, upper_of, is_concrete, is_attr, is_many, is_unique, attr_fits, many_fits}
+use Rattle.model_state.specs.Listing.{values_at}
+use Rattle.model_state.specs.State.{State}
+use Rattle.model_state.specs.Steps.{fold, class_has}
+use Rattle.model_state.specs.Typing.{value_eq, kind_of, upper_of, is_attr, is_many, is_unique, attr_fits, many_fits}
 use Rattle.model_state.specs.Good.{Good, Sound}
 use Rattle.edits.specs.declared.edit.Edit.{Edit}
 use Rattle.edits.specs.declared.edit.Edit.TheVariants.{Create, Delete, Set, Unset, Add, Remove, Shift, Link, Unlink, Reorder, Move}
 use Rattle.edit_laws.specs.declared.fault.EditFault.{EditFault}
-use Rattle.edit_laws.specs.declared.fault.EditFault.TheVariants.{NoFeature}
-use Rattle.edit_laws.specs.References.{holds_one, MaySet, MayLink, MayReorder}
+use Rattle.edit_laws.specs.References.{holds_one}
 use Rattle.edit_laws.specs.Refusals.{set_ref_refusal, link_index, link_refusal, unlink_refusal, reorder_refusal}
-use Rattle.edit_laws.specs.Spot.{rank_for, ranks_of, spot_by}
-use Rattle.edit_laws.specs.Places.{MayCreate}
-use Rattle.edit_laws.specs.Attributes.{IsAttribute, taken}
-use Rattle.edit_laws.specs.ManyValues.{IsMany, MayInsert}
+use Rattle.edit_laws.specs.Attributes.{taken}
 use Rattle.edits.specs.FreshIds.{id_or_fresh}
 use Rattle.edits.specs.Edits.{Reading, Effect, Creates, Moves, Deletes, Puts, Clears, Inserts, Removes, Shifts, Refers, Forgets, Links, Unlinks, Reorders, class_at, feature_at, put_effect, unless_refused, target_in, refer_effect, set_effect, unset_effect, insert_effect, add_effect, remove_effect, shift_effect, is_listed, link_effect, unlink_effect, reorder_effect, of_feature, effect_of, made, after}
 use Rattle.containment.proofs.DeleteLaws.{delete_leads}

@@ -8,6 +8,7 @@ mod id;
 mod look;
 mod name;
 mod operation;
+mod place_tests;
 mod rank;
 mod step;
 mod typing;
@@ -19,6 +20,7 @@ pub use id::{Id, IdFault};
 pub use look::{Change, Look};
 pub use name::is_name;
 pub use operation::{OpKind, Operation, Package};
+pub use place_tests::{has_room, may_move, may_stand};
 pub use rank::{MOST_ENTRIES, RANK_GAP, rank_between};
 pub use step::{ApplyFault, Place, Placed, Step, StepFault};
 pub use typing::{

@@ -1,5 +1,5 @@
--- The tests of what has a spelling: they hold of just these values.
-use Rattle.std.proofs.Common.{◌≡◌, ℕ, ℤ, pos, negsuc, ◌^◌, ◌<◌, ◌≤◌, nat_le, nat_lt, Bool, true, false, ◌&&◌, List, length, All, Option, Some, None, refl, sym, ap, ◌∙◌}
+-- The tests of what has an encoding: they hold of just these values.
+use Rattle.std.proofs.Common.{◌≡◌, ℕ, ℤ, pos, negsuc, ◌^◌, ◌<◌, ◌≤◌, nat_le, Bool, true, false, ◌&&◌, List, length, All, Option, Some, None, refl, sym, ap, ◌∙◌}
 use Rattle.std.specs.Prelude.{FitsSigned}
 use Rattle.std.specs.Int.{w64}
 use Rattle.std.specs.List.{list_all}
@@ -152,14 +152,14 @@ event_told (Update ws choices) = two (u32_told ws) (text_told choices)
 event_told (Merge ws branch choices) = three (u32_told ws) (u32_told branch) (text_told choices)
 event_told (Drop ws) = u32_told ws
 
--- what passes the test has a spelling, and what has one passes it
+-- what passes the test has an encoding, and what has one passes it
 pub is_event_is : (e : Event) → is_event e ≡ true → IsEvent e
 is_event_is e h = (event_told e).is h
 
 pub is_event_holds : (e : Event) → IsEvent e → is_event e ≡ true
 is_event_holds e h = (event_told e).holds h
 
--- what passes the test of packages has a spelling
+-- what passes the test of packages has an encoding
 pub is_package_is : (operations : List Operation) → is_package operations ≡ true → IsPackage operations
 is_package_is operations h = (package_told operations).is h
 

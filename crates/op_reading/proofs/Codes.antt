@@ -1,4 +1,4 @@
--- Readings that undo spellings, put together from those of their fields.
+-- Readings that undo encodings, put together from those of their fields.
 use Rattle.std.proofs.Common.{◌≡◌, ◌⊎◌, inl, inr, ℕ, zero, suc, ◌+◌, ◌<◌, ◌≤◌, List, [], ◌∷◌, ◌++◌, All, length, Bool, true, false, cond, nat_eq, nat_lt, Some, None, Result, Ok, Err, refl, sym, ap, subst, ◌∙◌, append_assoc, append-nil, length-append, arith}
 use Rattle.std.proofs.lemmas.Bool.{eqb-true, le-leb}
 use Rattle.std.proofs.lemmas.List.{get_or-append-add}
@@ -17,7 +17,7 @@ use Rattle.op_reading.specs.Events.{whole_of}
 use Rattle.op_reading.specs.Laws.{AreReadAgain, AreSpelledSo}
 use Rattle.op_form.specs.Formed.{IsU32, IsU64, IsGiven, IsList, IsSomeList}
 
--- values of a kind, their spelling and their reading
+-- values of a kind, their encoding and their reading
 pub record Codes {X : Type 0} (Is : X → Type 0) (form : X → List ℕ) (read : Reading X) : Type 0 where
   pub again : IsReadAgain Is form read
   pub spelled : IsSpelledSo Is form read

@@ -1,4 +1,4 @@
--- Steps that have a spelling lead from a spelled state to one.
+-- Steps that have an encoding lead from a spelled state to one.
 use Rattle.std.proofs.Common.{◌≡◌, ℕ, zero, suc, ◌<◌, true, List, [], ◌∷◌, ◌++◌, take, drop, refl, sym, subst, arith, nat_lt}
 use Rattle.std.specs.Prelude.{Option, None, Some, slice_get}
 use Rattle.std.specs.FinMap.{FinMap, get, empty, get-empty}

@@ -7,9 +7,9 @@ ghost use Rattle.model_state.specs.Good.{Good};
 ghost use Rattle.model_state.specs.declared.step.Step.TheVariants.{New, Gone};
 
 use crate::Write;
-use crate::queries::{is_roomy, may_hold, place_is_live, stands_at, stands_in};
+use crate::queries::{place_is_live, stands_at, stands_in};
 use ecore_meta::Metamodel;
-use model_state::{Id, Place, StepFault, is_concrete};
+use model_state::{Id, Place, StepFault, has_room, is_concrete, may_stand};
 
 fn same_class(x: Option<u32>, y: u32) -> bool
     ensures { result ≡ option_eq nat_eq x (Some y) }
@@ -44,10 +44,10 @@ pub fn take_new<S: Write>(
     if !is_concrete(meta, class) {
         return Err(StepFault::WrongType);
     }
-    if !may_hold(model, meta, class, place) {
+    if !may_stand(model, meta, class, place) {
         return Err(StepFault::WrongType);
     }
-    if !is_roomy(model, meta, place) {
+    if !has_room(model, meta, place) {
         return Err(StepFault::Bound);
     }
     match model.make(e, class, place, rank) {

@@ -2,15 +2,15 @@
 ghost use Rattle.std.specs.Prelude.{◌≡◌, OnOk, OnErr, IfErr, Some};
 ghost use Rattle.std.specs.List.{list_any};
 ghost use Rattle.finite_maps.specs.Equal.{text_eq};
-ghost use Rattle.model_state.specs.Steps.{Can, fault, apply, chain_is, may_move};
+ghost use Rattle.model_state.specs.Steps.{Can, fault, apply, chain_is};
 ghost use Rattle.model_state.specs.Faults.{IsFault};
 ghost use Rattle.model_state.specs.Good.{Good};
 ghost use Rattle.model_state.specs.declared.step.Step.TheVariants.{Move, RerankPlace};
 
 use crate::Write;
-use crate::queries::{is_roomy, may_hold, place_is_live, stands_at, stands_in};
+use crate::queries::{place_is_live, stands_at, stands_in};
 use ecore_meta::{List, Metamodel};
-use model_state::{Id, Place, StepFault};
+use model_state::{Id, Place, StepFault, has_room, may_move};
 
 fn names(ids: &[Id], e: &Id) -> bool
     ensures { result ≡ list_any (text_eq e.now) ids.now }
@@ -36,16 +36,6 @@ fn has_chain<S: Write>(model: &S, place: &Place, ids: &[Id]) -> bool
         next = &placed.place;
     }
     next.parent().is_none()
-}
-
-/// Whether an element of the class, if it is one, may stand in the place.
-fn may_go<S: Write>(model: &S, meta: &Metamodel, class: Option<u32>, place: &Place) -> bool
-    ensures { result ≡ may_move meta.now (S.state model.now) class place.now }
-{
-    match class {
-        None => false,
-        Some(class) => may_hold(model, meta, class, place),
-    }
 }
 
 /// Takes a step of the kind Move.
@@ -81,7 +71,7 @@ pub fn take_move<S: Write>(
     if !place_is_live(model, to) {
         return Err(StepFault::NotThere);
     }
-    if !may_go(model, meta, model.class(e), to) {
+    if !may_move(model, meta, model.class(e), to) {
         return Err(StepFault::WrongType);
     }
     if !has_chain(model, from, above_from.as_slice()) {
@@ -93,7 +83,7 @@ pub fn take_move<S: Write>(
     if names(above_to.as_slice(), e) {
         return Err(StepFault::Chain);
     }
-    if !is_roomy(model, meta, to) {
+    if !has_room(model, meta, to) {
         return Err(StepFault::Bound);
     }
     match model.stand(e, from, to, to_rank) {

@@ -3,11 +3,10 @@ ghost use Rattle.std.specs.Prelude.{◌≡◌, Some, nat_eq};
 ghost use Rattle.std.specs.FinMap.{get};
 ghost use Rattle.finite_maps.specs.Equal.{option_eq};
 ghost use Rattle.model_state.specs.State.{place_eq};
-ghost use Rattle.model_state.specs.Steps.{place_live, may_stand, has_room};
+ghost use Rattle.model_state.specs.Steps.{place_live};
 
 use crate::Write;
-use ecore_meta::Metamodel;
-use model_state::{Id, Place, child_upper, class_has, is_below_bound, may_contain};
+use model_state::{Id, Place};
 
 /// Whether a number that may be missing is just that one.
 pub(crate) fn is_rank(x: Option<u64>, y: u64) -> bool
@@ -25,28 +24,6 @@ pub(crate) fn place_is_live<S: Write>(model: &S, place: &Place) -> bool
     match place {
         Place::Root => true,
         Place::Inside { parent, .. } => model.class(parent).is_some(),
-    }
-}
-
-pub(crate) fn may_hold<S: Write>(model: &S, meta: &Metamodel, class: u32, place: &Place) -> bool
-    ensures { result ≡ may_stand meta.now (S.state model.now) class place.now }
-{
-    match place {
-        Place::Root => true,
-        Place::Inside { parent, feature } => {
-            class_has(meta, model.class(parent), *feature) && may_contain(meta, *feature, class)
-        }
-    }
-}
-
-pub(crate) fn is_roomy<S: Write>(model: &S, meta: &Metamodel, place: &Place) -> bool
-    ensures { result ≡ has_room meta.now (S.state model.now) place.now }
-{
-    match place {
-        Place::Root => true,
-        Place::Inside { feature, .. } => {
-            is_below_bound(model.child_count(place), child_upper(meta, *feature))
-        }
     }
 }
 

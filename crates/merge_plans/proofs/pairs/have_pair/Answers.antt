@@ -1,4 +1,4 @@
-use Rattle.std.proofs.Common.{List, ℕ, length, ap, sym, ◌∙◌, nat_eq}
+use Rattle.std.proofs.Common.{List, ℕ, length, ap, ◌∙◌, nat_eq}
 use Rattle.std.specs.Prelude.{not}
 use Rattle.merge_plans.proofs.Paired.{pairs_tell}
 use Rattle.merge_plans.proofs.pairs.have_pair.Goals as goal

@@ -1,4 +1,4 @@
-use Rattle.std.proofs.Common.{◌<◌, ◌^◌, ◌-◌, List, length, subst, sym, arith}
+use Rattle.std.proofs.Common.{List, subst, sym, arith}
 use Rattle.std.specs.Prelude.{All}
 use Rattle.footprint.specs.declared.bucket.Bucket.{Bucket}
 use Rattle.merge_plans.proofs.Numbered.{HaveNumbers, numbered}
