@@ -41,7 +41,7 @@ after_gate form = four_bytes (length form) ++ form ++ 0 ∷ []
 abbrev pub first_gate : ℕ
 first_gate = 16
 
--- the bytes of a new file: the header and a closed gate
+-- how many bytes a new file has: its header's, and a closed gate's
 abbrev pub new_size : ℕ
 new_size = 17
 

@@ -6,7 +6,7 @@ ghost use Rattle.commit_journal.specs.Journal.{RecordFits, fit_of, next_gate};
 /// The offset of the first gate: after the header.
 pub const FIRST_GATE: u64 = 16;
 
-/// The bytes of a new file: the header and a closed gate.
+/// How many bytes a new file has: its header's, and a closed gate's.
 pub(crate) const NEW_SIZE: u64 = 17;
 
 /// The byte of a gate that a record stands behind; any other closes it.

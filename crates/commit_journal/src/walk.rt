@@ -13,7 +13,11 @@ use host_port::{Failed, Host};
 use std::alloc::Global;
 use std::marker::Model;
 
+/// What a journal begins with: that it is one, and the version of its form.
 const HEADER: [u8; 16] = *b"EMFSTORE\0\0\0\x01\0\0\0\0";
+
+/// A new journal: the header and a closed gate.
+const NEW_FILE: [u8; 17] = *b"EMFSTORE\0\0\0\x01\0\0\0\0\0";
 
 /// A journal that is being read, record by record.
 #[derive(Drop)]
@@ -43,7 +47,7 @@ fn first_difference(head: &[u8; 16]) -> Option<u64>
     None
 }
 
-// The number that a field of four bytes spells.
+// The number in a field of four bytes.
 fn number_in(field: &[u8; 4]) -> u32
     ensures spelt { four_bytes result ≡ field.now }
     ensures low { result < 2 ^ 32 }
@@ -135,7 +139,7 @@ impl Walk {
         host.sync()?;
         let length = host.len()?;
         if length <= NEW_SIZE {
-            write_durably(host, 0, b"EMFSTORE\0\0\0\x01\0\0\0\0\0")?;
+            write_durably(host, 0, &NEW_FILE)?;
             return Ok(Walk::start());
         }
         let mut head = [0; 16];

@@ -103,8 +103,8 @@ fn imported<L: Look>(
 ///
 /// # Errors
 ///
-/// `IdInUse` where the document gives an id that is live; `Bound` where the root is to be renumbered and has 4,294,967,295
-/// elements or more; `Memory`.
+/// `IdInUse` where the document gives an id that is live; `Bound` where the root is to be renumbered and has
+/// `MOST_ENTRIES` elements or more; `Memory`.
 pub fn import_doc<L: Look>(
     alloc: Global,
     look: &L,

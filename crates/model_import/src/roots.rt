@@ -115,7 +115,7 @@ fn spread_root(
 ///
 /// # Errors
 ///
-/// `Bound` where the root is to be renumbered and has 4,294,967,295 elements or more; `Memory`.
+/// `Bound` where the root is to be renumbered and has `MOST_ENTRIES` elements or more; `Memory`.
 pub(crate) fn add_root(
     alloc: Global,
     roots: &mut List<Entry>,

@@ -61,7 +61,7 @@ fn is_id(id: &Id) -> bool
     true
 }
 
-/// A length that four bytes can spell.
+/// Whether a length is one of 32 bits.
 fn is_short(len: usize) -> bool
     ensures { result ≡ is_u32 len }
 {

@@ -150,7 +150,7 @@ fn put_event(form: &mut Form, event: &Event) -> Result<(), AllocError>
     }
 }
 
-/// An event that is its kind's byte, a workspace's number and a text.
+/// Appends the encoding of an event of a workspace's number and a text.
 fn put_with_text(form: &mut Form, kind: u8, ws: u32, text: &str) -> Result<(), AllocError>
     requires { length text.now < 2 ^ 32 }
     ensures { OnOk result (form.new ≡ form.old ++ kind ∷ (u32_encoding ws ++ text_encoding text.now)) }
@@ -160,7 +160,7 @@ fn put_with_text(form: &mut Form, kind: u8, ws: u32, text: &str) -> Result<(), A
     form.put_text(text)
 }
 
-/// An event that is its kind's byte and a workspace's number.
+/// Appends the encoding of an event of a workspace's number alone.
 fn put_of_workspace(form: &mut Form, kind: u8, ws: u32) -> Result<(), AllocError>
     ensures { OnOk result (form.new ≡ form.old ++ kind ∷ u32_encoding ws) }
 {

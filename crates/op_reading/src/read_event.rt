@@ -14,7 +14,7 @@ use model_state::{OpKind, Operation, Package, Step, is_name};
 use op_form::Event;
 use std::alloc::Global;
 
-/// The package that the bytes spell, all of the bytes.
+/// The package whose encoding all of the bytes are.
 ///
 /// # Errors
 ///
@@ -29,7 +29,7 @@ pub fn decode(alloc: Global, bytes: &[u8]) -> Result<Package, FormFault>
     Ok(package)
 }
 
-/// The event that the bytes spell, all of the bytes.
+/// The event whose encoding all of the bytes are.
 ///
 /// # Errors
 ///

@@ -8,7 +8,7 @@ use thiserror::Error;
 /// The fault of making frames free.
 #[derive(Clone, Copy, Debug, PartialEq, Eq, Error)]
 pub enum PoolFault {
-    /// More than 8,192 frames would be out.
+    /// More than `POOL_LIMIT` frames would be out.
     #[error("the pool is full")]
     Full,
     /// There was no memory for the frames.

@@ -15,7 +15,7 @@ use Rattle.history_tree.specs.States.{operations_to}
 use Rattle.history_tree.specs.Whole.{IsWhole}
 use Rattle.plain_repository.specs.State.{State, Workspace, recorded_steps}
 
--- steps that have a spelling and lead to a model, one by one from the empty project
+-- steps that have an encoding and lead to a model, one by one from the empty project
 pub record IsRun (meta : Meta) (steps : List Step) : Type 0 where
   pub model : models.State
   pub run : fold meta nothing steps ≡ Some model

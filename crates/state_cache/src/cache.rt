@@ -164,8 +164,8 @@ impl Cache {
     }
 
     /// Puts an entry for a version first, and evicts those that were used least recently. Each goes only where
-    /// otherwise more than 64 entries or 6,144 frames would be held or more than 8,192 be out. `false` where the bytes
-    /// are too long.
+    /// otherwise more than `MOST_HELD` entries or `MOST_FRAMES_HELD` frames would be held, or more than `POOL_LIMIT` be
+    /// out. `false` where the bytes are too long.
     pub fn store(&mut self, pool: &mut Pool, version: u32, bytes: &[u8]) -> Result<bool, AllocError>
         requires out { IsCached pool.old self.old }
         requires others { out_of pool.old ≤ most_frames_held + length (held self.old) }
