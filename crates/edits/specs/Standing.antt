@@ -14,7 +14,8 @@ use Rattle.edits.specs.Edits.{Effect, Creates, Moves, Deletes, Refers, Links, Re
 
 -- A new element stands last, one that moves at its index of the others, None for their end. What stays of a deletion is as it
 -- was. A target that is set stands first, one that is linked at its index, and its source last in the opposite's list. One that
--- is reordered stands at its index. The other lists are as they were, without what the edit takes away.
+-- is reordered stands at its index. The other lists are as they were, without what the edit takes away. Nothing is said of edits
+-- of attributes, of links that are taken away, nor of a target that is set where it stands already.
 abbrev pub StandsAsAsked : Meta → State → State → Effect → Type 0
 StandsAsAsked meta before after (Creates e class place) = Placed before after e place (length (children before.place before.prank place))
 StandsAsAsked meta before after (Moves e place at) = Placed before after e place (unwrap_or at (length (without_entry e (children before.place before.prank place))))

@@ -16,7 +16,8 @@ pub record IsServed (task : Task) (first : List Event) (before now : Told) : Typ
   pub said : said_now now ≡ said_now before ++ replies task.answers
   pub stands : StandsForEvents (disk_now now).now (first ++ events task.answers)
 
--- the answer whose reply was not printed whole is kept, and so is each before it, whose replies were
+-- the answer whose reply was being printed is kept, with any prefix of its reply printed; so is each before it, whose replies were
+-- printed whole
 pub record IsUnsaid (task : Task) (first : List Event) (before now : Told) : Type 0 where
   pub done : List (Answer Event)
   pub answer : Answer Event
@@ -90,7 +91,7 @@ code_of (Input fault at) = 8
 abbrev pub KeepsUnread : Task → Told → Told → Type 0
 KeepsUnread task before now = task.reads ≡ false → KeepsInput before now
 
--- no count of faults rose
+-- no count of faults rose, and none stands at its greatest number
 pub record NothingRose (before now : Told) : Type 0 where
   pub take_faults : Rose before.take_faults now.take_faults → ⊥
   pub say_faults : Rose before.say_faults now.say_faults → ⊥

@@ -87,8 +87,7 @@ pub record IsPlan (pool : Frames) (state : State) (decision : plain.Decision) (p
   pub answered : plan.answered ≡ answered_as (is_refusal decision.reply)
   pub ready : IsRecordOf pool state decision.event plan.ready
 
--- A store while it is read. Its records up to an offset are those of events, each one that a command could make, and the state is
--- theirs.
+-- A store while it is read. Its records up to an offset are those of events, each one that could be made, and the state is theirs.
 pub record IsReplayed (disk : Disk) (state : State) (place : ℕ) (made : List Event) : Type 0 where
   pub walked : IsWalked disk (map event_encoding made) place
   pub playable : IsTrue (are_playable empty made)

@@ -1,4 +1,4 @@
-//! Which events a command could make, and what is made of them, one by one and read again from their bytes.
+//! Which events could be made, and what is made of them, one by one and read again from their bytes.
 ghost use Rattle.std.specs.Prelude.{◌≡◌, ◌≢◌, ◌+◌, ◌<◌, ◌≤◌, ◌^◌, ◌||◌, OnOk, OnErr, IsErrOf, IsTrue, length, is_some, true, false};
 ghost use Rattle.commit_journal.specs.Journal.{most_bytes, next_gate};
 ghost use Rattle.op_form.specs.declared.event.Event.{Event};
@@ -58,7 +58,7 @@ fn has_local(repo: &Repo, ws: u32) -> bool
     }
 }
 
-/// Whether a command could make a workspace at a version on a branch.
+/// Whether a workspace could be made at a version on a branch.
 fn could_check_out(repo: &Repo, version: u32, branch: u32) -> bool
     ensures { result ≡ playable_with repo.now repo.now.meta (Checkout version branch) }
 {
@@ -99,7 +99,7 @@ fn could_discard(repo: &Repo, ws: u32) -> bool
     repo.begun().is_some() && (is_open(repo, ws) || has_local(repo, ws))
 }
 
-/// Whether a command could make a version of a workspace's operations.
+/// Whether a version could be made of a workspace's operations.
 fn could_commit(repo: &Repo, ws: u32, message: &Text) -> bool
     ensures { result ≡ playable_with repo.now repo.now.meta (Commit ws message.now) }
 {
@@ -134,7 +134,7 @@ fn could_branch(repo: &Repo, ws: u32, name: &Text) -> bool
         && is_closed(repo, ws)
 }
 
-/// Whether a command could make a tag of that name.
+/// Whether a tag of that name could be made.
 fn could_tag(repo: &Repo, name: &Text, version: u32) -> bool
     ensures { result ≡ playable_with repo.now repo.now.meta (Tag name.now version) }
 {
@@ -153,7 +153,7 @@ fn could_drop(repo: &Repo, ws: u32) -> bool
     repo.begun().is_some() && repo.workspace(ws).is_some()
 }
 
-/// Whether a command could make an event, as far as this is known without making it.
+/// Whether an event could be made, as far as this is known without making it.
 fn could(repo: &Repo, event: &Event) -> bool
     ensures { result ≡ (is_tested_late event.now || playable_with repo.now repo.now.meta event.now) }
 {
@@ -230,7 +230,7 @@ fn change(
     }
 }
 
-/// Makes an event whose bytes are so many, where a command could make it.
+/// Makes an event whose bytes are so many, where it could be made.
 #[tactic(auto, unfolding(plain_repository::specs::Events::play, plain_repository::specs::Events::playable), using(version_states::proofs::Caching::uses_none))]
 fn make(
     alloc: Global,
@@ -265,7 +265,7 @@ fn make(
     Ok(())
 }
 
-/// Makes an event that a command could make, whose bytes are so many. What the event has is moved into the repository. When out of memory
+/// Makes an event that could be made, whose bytes are so many. What the event has is moved into the repository. When out of memory
 /// the repository stays as it is.
 pub fn play(
     alloc: Global,
@@ -296,7 +296,7 @@ pub fn play(
 ///
 /// # Errors
 ///
-/// `NotPlayable` where they are no event that a command could make here, and out of memory. The repository stays as it is.
+/// `NotPlayable` where they are no event that could be made here, and out of memory. The repository stays as it is.
 #[tactic(auto, using(version_states::proofs::Caching::uses_none))]
 pub fn replay(
     alloc: Global,

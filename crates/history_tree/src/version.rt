@@ -10,7 +10,7 @@ pub struct Version {
     pub branch: u32,
     /// The version that it was made of; version 0 alone has none.
     pub parent: Option<u32>,
-    /// The versions of other branches that were merged into it.
+    /// The heads of other branches that were merged into it. Such a head may be a version of any branch.
     pub merged: List<u32>,
     /// What the user says of it.
     pub message: Text,

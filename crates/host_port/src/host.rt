@@ -10,7 +10,8 @@ use thiserror::Error;
 pub struct Failed;
 
 /// The outside of the program: an input, a console and one file. A call that fails has raised the count of faults of
-/// its kind. The kinds are that of `take`, that of `say`, and that of the four calls on the file.
+/// its kind, or that stands at its greatest number. No clause says that other calls leave it. The kinds are that of
+/// `take`, that of `say`, and that of the four calls on the file.
 pub trait Host {
     /// All that it reports: what the file may be found to hold at each moment, what was printed by then, and the input.
     ghost told: { Self → Told };

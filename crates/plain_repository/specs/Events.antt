@@ -1,4 +1,5 @@
--- What an event makes of the repository, and which events a command could make: one line an event.
+-- What an event makes of the repository, and which events could be made: one line an event. Some of these come of no command, as
+-- a Commit whose message has a line feed.
 use Rattle.std.specs.Prelude.{ℕ, ◌+◌, ◌&&◌, ◌==◌, nat_lt, List, [], ◌∷◌, Bool, true, false, length, Option, Some, None, is_some}
 use Rattle.commit_journal.specs.Journal.{next_gate}
 use Rattle.ecore_meta.specs.Meta.{Meta}
@@ -79,11 +80,11 @@ playable_with s (Some meta) (Merge ws branch letters) = can_merge meta s.history
 playable_with s (Some meta) (Drop ws) = is_some (workspace_of s ws)
 playable_with s meta event = false
 
--- is the event one that a command could make on this state
+-- could the event be made on this state
 unfoldable pub playable : State → Event → Bool
 playable s event = nat_lt s.events most_events && fits_record event && playable_with s s.meta event
 
--- is each event one that a command could make on the state that the events before it leave
+-- could each event be made on the state that the events before it leave
 abbrev pub are_playable : State → List Event → Bool
 are_playable s [] = true
 are_playable s (event ∷ events) = playable s event && are_playable (play s event) events

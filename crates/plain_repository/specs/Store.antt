@@ -7,7 +7,7 @@ use Rattle.op_form.specs.Events.{event_encoding}
 use Rattle.plain_repository.specs.State.{empty}
 use Rattle.plain_repository.specs.Events.{are_playable}
 
--- the events whose records the file has, each one that a command could make after those before it
+-- the events whose records the file has, each one that could be made after those before it
 pub record StandsForEvents (file : List ℕ) (events : List Event) : Type 0 where
   pub forms : StandsFor file (map event_encoding events)
   pub playable : IsTrue (are_playable empty events)

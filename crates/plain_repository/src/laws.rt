@@ -24,7 +24,7 @@ pub fn law_of_working_models()
 {}
 
 /// The law of versions: the operations on the path of each version lead one by one from the empty project to its
-/// state. It is good, and its elements have ids of the form of ids. Each id, number and value that steps name of it has a
+/// state. It is good, and its elements have ids of the form of ids. Each id, number and value that steps name of it has an
 /// encoding. And each number in the history names something.
 pub fn law_of_versions()
     ensures defined { VersionsAreDefined }

@@ -7,7 +7,7 @@ use std::alloc::AllocError;
 /// Why the bytes of a record are not played.
 #[derive(Clone, Copy)]
 pub enum ReplayFault {
-    /// They are no event that a command could make here.
+    /// They are no event that could be made here.
     NotPlayable,
     /// Out of memory.
     Memory,
