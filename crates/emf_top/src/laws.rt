@@ -1,10 +1,12 @@
 //! The laws of stores and of counts: functions without a body, whose contracts are the laws.
 ghost use Rattle.plain_repository.specs.Store.{StandsForOne, IsDamagedOnce, DamagedStandsForNone};
 ghost use Rattle.emf_top.specs.Counts.{WorkspacesAreFew};
+ghost use Rattle.emf_top.specs.Stores.{EachStandsOrIsDamaged};
 
-/// The law of stores: a file stands for one list of events at most. It is damaged at one offset at most, and then it
-/// stands for none.
+/// The law of stores: each file of bytes stands for a list of events, or is damaged at an offset. It stands for one list
+/// at most. It is damaged at one offset at most, and then it stands for none.
 pub fn law_of_stores()
+    ensures either { EachStandsOrIsDamaged }
     ensures meaning { StandsForOne }
     ensures place { IsDamagedOnce }
     ensures none { DamagedStandsForNone }

@@ -113,7 +113,8 @@ impl Session {
     /// # Errors
     ///
     /// `DiskFault` breaks the session, and nothing of the reply is printed. After `SayFault` the command is carried out.
-    /// After `Memory` nothing has changed. `Damaged` is never answered.
+    /// After `Memory` the state, the disk and the console are as before; the cache may have changed. `Damaged` is never
+    /// answered.
     pub(crate) fn step<H: Host>(
         &mut self,
         alloc: Global,
@@ -169,7 +170,8 @@ impl Session {
     ///
     /// # Errors
     ///
-    /// `DiskFault` breaks the session. After `Memory` nothing has changed. No other fault is answered.
+    /// `DiskFault` breaks the session. After `Memory` the state and the disk are as before; the cache may have changed. No
+    /// other fault is answered.
     pub(crate) fn step_quiet<H: Host>(
         &mut self,
         alloc: Global,
