@@ -10,9 +10,22 @@ const JOURNAL: &str = "emfstore.journal";
 
 const FOLDER: &str = ".";
 
+const ROOT: &str = "/";
+
+/// Three handles of the root folder. The system gives a file that is opened the least number that is free, and that of a
+/// standard stream where one is closed. So these are opened before the store and kept beside it, and the store gets no
+/// number of a stream. A folder is neither read nor written as a stream is: each call on a closed stream fails.
+#[derive(Drop)]
+struct Fillers {
+    _first: File,
+    _second: File,
+    _third: File,
+}
+
 /// The open file, which no other program that asks for the lock writes to meanwhile.
 #[derive(Drop)]
 struct Store {
+    _fillers: Fillers,
     file: File,
     /// The file's length in bytes, where it is known: as the system reported it once, and then by what was written since.
     len: Option<u64>,
@@ -49,7 +62,18 @@ fn sync_folder<R: Files<File = File>>(rt: &R) -> Option<()> {
     }
 }
 
+fn filled<R: Files<File = File>>(rt: &R) -> Option<Fillers> {
+    let mut how = OpenOptions::new();
+    how.read(true);
+    Some(Fillers {
+        _first: how.open(rt, ROOT).ok()?,
+        _second: how.open(rt, ROOT).ok()?,
+        _third: how.open(rt, ROOT).ok()?,
+    })
+}
+
 fn opened<R: Files<File = File>>(rt: &R) -> Option<Store> {
+    let fillers = filled(rt)?;
     let mut how = OpenOptions::new();
     how.read(true);
     how.write(true);
@@ -61,6 +85,7 @@ fn opened<R: Files<File = File>>(rt: &R) -> Option<Store> {
         sync_folder(rt)?;
     }
     Some(Store {
+        _fillers: fillers,
         file,
         len: Some(len),
     })
