@@ -5,7 +5,7 @@ ghost use Rattle.ecore_meta.specs.Meta.{is_in};
 
 use std::collections::BTreeSet;
 
-fn set_at(above: &[BTreeSet<u32>], c: u32) -> Option<&BTreeSet<u32>>
+pub(crate) fn set_at(above: &[BTreeSet<u32>], c: u32) -> Option<&BTreeSet<u32>>
     ensures { option_copied result ≡ slice_get above.now c }
 {
     above.get(c as usize)

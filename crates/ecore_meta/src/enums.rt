@@ -105,6 +105,13 @@ impl Enums {
         self.items.len() as u32
     }
 
+    /// The enum of that number, where there is one.
+    pub fn get(&self, e: u32) -> Option<&Enum>
+        ensures { option_copied result ≡ slice_get self.now e }
+    {
+        enum_at(self.items.as_slice(), e)
+    }
+
     /// How many literals an enum has; none where there is no such enum.
     pub fn literal_count(&self, e: u32) -> u32
         ensures { result ≡ length (literals_at self.now e) }

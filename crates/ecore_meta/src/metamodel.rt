@@ -1,6 +1,6 @@
 //! A metamodel, and its questions: classes and features by number and by name, subtyping, literals, defaults.
 ghost use Rattle.std.specs.Prelude.{◌≡◌, ◌<◌, IfOk, length, slice_get, Some};
-ghost use Rattle.std.specs.Option.{option_copied};
+ghost use Rattle.std.specs.Option.{option_copied, option_map};
 ghost use Rattle.ecore_meta.specs.Meta.{class_named, feature_named, features_of, has_feature, is_a};
 ghost use Rattle.ecore_meta.specs.Promised.{IsMetamodel};
 ghost use Rattle.ecore_meta.specs.Sound.{Sound};
@@ -10,11 +10,11 @@ ghost use Rattle.ecore_meta.specs.Parts.{meta_in};
 ghost use Rattle.ecore_meta.specs.Values.{literal_in};
 
 use crate::Text;
-use crate::above::is_in;
+use crate::above::{is_in, set_at};
 use crate::enums::Enums;
 use crate::feature_index::{feature_indexes, feature_of, name_index};
 use crate::indexes::{class_index, number_in};
-use crate::meta::{Class, Feature};
+use crate::meta::{Class, Enum, Feature};
 use std::alloc::{AllocError, Global};
 use std::collections::{BTreeMap, BTreeSet};
 use std::marker::Model;
@@ -148,6 +148,20 @@ impl Metamodel {
     {
         // For what the type's invariant says.
         let _uri = &self.uri;
+    }
+
+    /// The enum of that number, where there is one.
+    pub fn get_enum(&self, e: u32) -> Option<&Enum>
+        ensures { option_copied result ≡ slice_get self.now.enums e }
+    {
+        self.enums.get(e)
+    }
+
+    /// The numbers of a class and of all classes above it; none where there is no such class.
+    pub fn above(&self, c: u32) -> Option<&BTreeSet<u32>>
+        ensures { option_map (λ s. s.keys) (option_copied result) ≡ slice_get self.now.above c }
+    {
+        set_at(self.above.as_slice(), c)
     }
 
     /// Whether the class c is d, or d is above it.

@@ -9,8 +9,10 @@ use std::cmp::Ordering;
 
 /// A key of an element's object.
 #[derive(Clone, Copy)]
-pub(crate) enum Key {
+pub enum Key {
+    /// `_id`, the element's id.
     Ident,
+    /// `eClass`, the element's class.
     Class,
     /// The feature of that number.
     Feature(u32),

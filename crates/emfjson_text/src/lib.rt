@@ -8,5 +8,6 @@ mod leaf;
 mod part;
 mod write;
 
+pub use key::Key;
 pub use laws::law_of_texts;
 pub use write::write_model;
