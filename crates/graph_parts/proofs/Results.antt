@@ -1,7 +1,13 @@
 -- Goals after a call whose result is only passed on.
-use Rattle.std.specs.Prelude.{Result, Ok, Err, OnOk, OnErr}
+use Rattle.std.proofs.Common.{◌≡◌}
+use Rattle.std.specs.Prelude.{Result, Ok, Err, OnOk, OnErr, Option, None, Some, IsSome}
 
 -- by cases on the result
 pub by_result : {T E A B : Type 0} (P : Type 0) (r : Result T E) → OnOk r A → OnErr r B → (A → P) → (B → P) → P
 by_result P (Ok x) a b f g = f a
 by_result P (Err x) a b f g = g b
+
+-- what is there isn't missing
+pub none_some : {A : Type 0} (o : Option A) → IsSome o → o ≡ None → ⊥
+none_some None h is = cc
+none_some (Some x) h is = cc

@@ -1,5 +1,6 @@
 //! The values of an element's attributes.
-ghost use Rattle.std.specs.Prelude.{◌≡◌, ℕ, List, Some, None, OnOk, OnErr, IfOk, unwrap_or, [], nat_eq, position};
+ghost use Rattle.std.specs.Prelude.{◌≡◌, ℕ, List, Some, None, OnOk, OnErr, IfOk, IsSome, unwrap_or, [], nat_eq, position};
+ghost use Rattle.std.specs.Borrow.{sem};
 ghost use Rattle.std.specs.FinMap.{get, empty};
 ghost use Rattle.finite_maps.specs.Maps.{set};
 ghost use Rattle.spread_maps.specs.Spread.{is_bare};
@@ -47,6 +48,8 @@ fn write_at(items: &mut Vec<(u32, List<Value>)>, f: u32, at: usize, values: List
 }
 
 impl Attrs {
+    ghost use Rattle.graph_parts.specs.Lends.{lends_values};
+
     /// No attribute is set.
     pub fn new(alloc: Global) -> Attrs
         ensures { result ≡ empty }
@@ -95,6 +98,20 @@ impl Attrs {
                 Ok(())
             }
         }
+    }
+
+    /// The values of an attribute that is set, to be changed where they stand. An attribute without values isn't set, so
+    /// a caller leaves some.
+    pub fn find_mut(&mut self, f: u32) -> &mut List<Value>
+        requires { IsSome (get self.old f) }
+        ensures* writes_back { sem 𝓛 (lends_values self.entry f result) }
+        ensures value { get self.old f ≡ Some result.now }
+    {
+        let at = match index_of(self.items.as_slice(), f) {
+            Some(at) => at,
+            None => unreachable!(),
+        };
+        &mut self.items[at].1
     }
 
     /// Takes the values of an attribute away, where it is set.

@@ -6,3 +6,4 @@ pub mod Linked
 pub mod Looked
 pub mod Stored
 pub mod Copied
+pub mod Values

@@ -1,4 +1,5 @@
 //! The model over elements in slots, its copy, and the writes of its references.
+ghost use Rattle.std.specs.Borrow.{sem};
 ghost use Rattle.std.specs.Prelude.{◌≡◌, OnOk, OnErr, IfOk, cond, Some, None, true, IsSome, is_some, ◌&&◌};
 ghost use Rattle.std.specs.FinMap.{get, empty, keys};
 ghost use Rattle.std.specs.Ordering.{eq_by_cmp};
@@ -11,6 +12,7 @@ ghost use Rattle.model_state.specs.Keys.{IdBytes, id_cmp};
 ghost use Rattle.model_graph.specs.Seen.{Rewrites, either_node};
 
 use crate::writes::{drop_into, drop_out, put_into, put_out, rewrite_into};
+use ecore_meta::{List, Value};
 use graph_parts::Node;
 use model_state::Id;
 use nodes::Nodes;
@@ -114,6 +116,8 @@ fn copied_nodes(alloc: Global, ids: &[Id], nodes: &Nodes<Node>) -> Result<Nodes<
 }
 
 impl Graph {
+    ghost use Rattle.model_graph.specs.Lends.{lends_attr};
+
     /// The same model in memory of its own.
     pub fn copy(&self) -> Result<Graph, AllocError>
         ensures { IfOk result (λ g. g ≡ self.now) }
@@ -136,6 +140,16 @@ impl Graph {
             roots: RankedList::new(alloc),
             nodes: Nodes::new(alloc),
         }
+    }
+
+    /// The values of an attribute that is set, to be changed where they stand. A caller leaves some, as an attribute without
+    /// values isn't set.
+    pub(crate) fn values_mut(&mut self, e: &Id, f: u32) -> &mut List<Value>
+        requires { IsSome (get self.old.attr (e.now, f)) }
+        ensures* writes_back { sem 𝓛 (lends_attr self.entry e.now f result) }
+        ensures value { get self.old.attr (e.now, f) ≡ Some result.now }
+    {
+        self.nodes.find_mut(e).attrs.find_mut(f)
     }
 
     /// Gives a reference its rank, a new reference or one that is there, at its source and at its target.

@@ -7,9 +7,9 @@ use crate::look::targets_of;
 use crate::writes::{drop_attr, put_attr, write_placed};
 use ecore_meta::{List, Metamodel, Value};
 use graph_parts::Node;
-use model_state::{Change, Id, Place, Placed, Step, StepFault};
-use std::alloc::AllocError;
-use step_rules::{Write, take_step};
+use model_state::{Change, Id, Look, Place, Placed, Step, StepFault};
+use std::alloc::{AllocError, Global};
+use step_rules::{Write, insert_in, remove_in, shift_in, take_step};
 
 impl Write for Graph {
     fn target_count(&self, a: &Id, f: u32) -> usize {
@@ -76,6 +76,44 @@ impl Write for Graph {
             return Ok(());
         }
         put_attr(&mut self.nodes, e, f, values)
+    }
+
+    fn insert_value(
+        &mut self,
+        alloc: Global,
+        e: &Id,
+        f: u32,
+        at: usize,
+        v: &Value,
+    ) -> Result<(), AllocError> {
+        let v = v.copy(alloc)?;
+        if self.attr(e, f).len() == 0 {
+            let mut values = List::new(alloc);
+            insert_in(alloc, &mut values, at, v)?;
+            return self.put_values(e, f, values);
+        }
+        insert_in(alloc, self.values_mut(e, f), at, v)
+    }
+
+    fn remove_value(&mut self, alloc: Global, e: &Id, f: u32, at: usize) -> Result<(), AllocError> {
+        if self.attr(e, f).len() == 1 {
+            drop_attr(&mut self.nodes, e, f);
+            return Ok(());
+        }
+        remove_in(alloc, self.values_mut(e, f), at);
+        Ok(())
+    }
+
+    fn shift_value(
+        &mut self,
+        alloc: Global,
+        e: &Id,
+        f: u32,
+        from: usize,
+        to: usize,
+    ) -> Result<(), AllocError> {
+        shift_in(alloc, self.values_mut(e, f), from, to);
+        Ok(())
     }
 
     fn join(

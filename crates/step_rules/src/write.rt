@@ -1,14 +1,17 @@
 //! The trait of a model whose maps can be written.
-ghost use Rattle.std.specs.Prelude.{◌≡◌, OnOk, OnErr, Some, None, true, false, is_some, nat_eq};
+ghost use Rattle.std.specs.Prelude.{◌≡◌, ◌≤◌, ◌<◌, length, OnOk, OnErr, Some, None, true, false, is_some, nat_eq};
 ghost use Rattle.std.specs.FinMap.{get};
+ghost use Rattle.std.specs.List.{insert, remove};
 ghost use Rattle.finite_maps.specs.Maps.{set, set_all};
-ghost use Rattle.model_state.specs.Lists.{entry_of};
+ghost use Rattle.model_state.specs.Listing.{values_at};
+ghost use Rattle.model_state.specs.Lists.{entry_of, shifted};
 ghost use Rattle.model_state.specs.State.{is_live, place_eq, row_count, value_count, link_count, inner_count};
 ghost use Rattle.model_state.specs.Steps.{place_live, mirror_given, mirror_write};
 
+use crate::lists::{copied, insert_in, remove_in, shift_in};
 use ecore_meta::{List, Value};
 use model_state::{Id, Look, Place};
-use std::alloc::AllocError;
+use std::alloc::{AllocError, Global};
 
 /// A model whose maps can be written: what the steps ask of it beside its queries, and what they write. After an error,
 /// which is out of memory, nothing has changed.
@@ -50,6 +53,58 @@ pub trait Write: Look {
         requires { is_live (Self.state self.old) e.now ≡ true }
         ensures ok { OnOk result (Self.state self.new ≡ record (Self.state self.old) { attr = set (Self.state self.old).attr (e.now, f) (entry_of values) }) }
         ensures err { OnErr result (Self.state self.new ≡ Self.state self.old) };
+
+    /// Puts a value into those of an attribute, before the one at the index or last. A model that changes the list where
+    /// it stands has its own.
+    fn insert_value(
+        &mut self,
+        alloc: Global,
+        e: &Id,
+        f: u32,
+        at: usize,
+        v: &Value,
+    ) -> Result<(), AllocError>
+        requires live { is_live (Self.state self.old) e.now ≡ true }
+        requires at { at ≤ length (values_at (Self.state self.old) e.now f) }
+        ensures ok { OnOk result (Self.state self.new ≡ record (Self.state self.old) { attr = set (Self.state self.old).attr (e.now, f) (entry_of (insert (values_at (Self.state self.old) e.now f) at v.now)) }) }
+        ensures err { OnErr result (Self.state self.new ≡ Self.state self.old) }
+    {
+        let mut values = copied(alloc, self.attr(e, f))?;
+        insert_in(alloc, &mut values, at, v.copy(alloc)?)?;
+        self.put_values(e, f, values)
+    }
+
+    /// Takes the value at an index out of those of an attribute, which isn't set where none is left.
+    fn remove_value(&mut self, alloc: Global, e: &Id, f: u32, at: usize) -> Result<(), AllocError>
+        requires live { is_live (Self.state self.old) e.now ≡ true }
+        requires at { at < length (values_at (Self.state self.old) e.now f) }
+        ensures ok { OnOk result (Self.state self.new ≡ record (Self.state self.old) { attr = set (Self.state self.old).attr (e.now, f) (entry_of (remove (values_at (Self.state self.old) e.now f) at)) }) }
+        ensures err { OnErr result (Self.state self.new ≡ Self.state self.old) }
+    {
+        let mut values = copied(alloc, self.attr(e, f))?;
+        remove_in(alloc, &mut values, at);
+        self.put_values(e, f, values)
+    }
+
+    /// Takes the value at one index of an attribute out and puts it in at another.
+    fn shift_value(
+        &mut self,
+        alloc: Global,
+        e: &Id,
+        f: u32,
+        from: usize,
+        to: usize,
+    ) -> Result<(), AllocError>
+        requires live { is_live (Self.state self.old) e.now ≡ true }
+        requires from { from < length (values_at (Self.state self.old) e.now f) }
+        requires to { to < length (values_at (Self.state self.old) e.now f) }
+        ensures ok { OnOk result (Self.state self.new ≡ record (Self.state self.old) { attr = set (Self.state self.old).attr (e.now, f) (entry_of (shifted (values_at (Self.state self.old) e.now f) from to)) }) }
+        ensures err { OnErr result (Self.state self.new ≡ Self.state self.old) }
+    {
+        let mut values = copied(alloc, self.attr(e, f))?;
+        shift_in(alloc, &mut values, from, to);
+        self.put_values(e, f, values)
+    }
 
     /// Puts a reference in, and its mirror where there is an opposite, or neither.
     fn join(

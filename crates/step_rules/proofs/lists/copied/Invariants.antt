@@ -1,6 +1,6 @@
 -- the values so far
 use Rattle.std.proofs.Common.{◌≡◌, take}
-use Rattle.step_rules.proofs.many.copied.Given as goal
+use Rattle.step_rules.proofs.lists.copied.Given as goal
 
 abbrev pub invariant-loop-v : goal.invariant-loop-v
-invariant-loop-v l = l.found.items ≡ take l.v-index l.values
+invariant-loop-v l = l.found ≡ take l.v-index l.values
