@@ -43,8 +43,41 @@ fn rows_of(alloc: Global, theirs: &[u64], mine: &[u64]) -> Result<List<Bucket>, 
     Ok(found)
 }
 
+/// The buckets' rows, by the labels of all operations of the two packages.
+fn compared_rows(
+    alloc: Global,
+    theirs: &Package,
+    mine: &Package,
+    meta: &Metamodel,
+) -> Result<List<Bucket>, AllocError>
+    ensures { IfOk result (λ rows. rows ≡ buckets meta.now theirs.now mine.now) }
+{
+    let mut prints = prints_of(alloc, theirs.as_slice(), meta)?;
+    put_prints(alloc, &mut prints, mine.as_slice(), meta)?;
+    let found = labels_of(alloc, &prints)?;
+    let (left, right) = found.split_at(theirs.len());
+    let rows = rows_of(alloc, left, right)?;
+    Ok(rows)
+}
+
+/// The same. Where either package is empty there are none, and nothing is compared.
+fn rows_between(
+    alloc: Global,
+    theirs: &Package,
+    mine: &Package,
+    meta: &Metamodel,
+) -> Result<List<Bucket>, AllocError>
+    ensures { IfOk result (λ rows. rows ≡ buckets meta.now theirs.now mine.now) }
+{
+    if theirs.len() == 0 || mine.len() == 0 {
+        return Ok(List::new(alloc));
+    }
+    let rows = compared_rows(alloc, theirs, mine, meta)?;
+    Ok(rows)
+}
+
 /// The buckets of two packages: the components of operations that interfere, one with the next. Those count that have
-/// operations of both packages, in the order of their first operations.
+/// operations of both packages, in the order of their first operations. Where either package is empty nothing is compared.
 pub fn buckets(
     alloc: Global,
     theirs: &Package,
@@ -55,10 +88,6 @@ pub fn buckets(
     ensures classes { IfOk result (λ b. AreClasses meta.now theirs.now mine.now b.rows) }
     ensures order { IfOk result (λ b. InOrder b.rows) }
 {
-    let mut prints = prints_of(alloc, theirs.as_slice(), meta)?;
-    put_prints(alloc, &mut prints, mine.as_slice(), meta)?;
-    let found = labels_of(alloc, &prints)?;
-    let (left, right) = found.split_at(theirs.len());
-    let rows = rows_of(alloc, left, right)?;
+    let rows = rows_between(alloc, theirs, mine, meta)?;
     Ok(Buckets { rows })
 }
