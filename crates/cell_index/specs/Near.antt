@@ -10,6 +10,15 @@ use Rattle.footprint.specs.Prints.{seen, cells}
 use Rattle.cell_index.specs.Keys.{cell_key}
 use Rattle.cell_index.specs.declared.listing.CellIndex.{CellIndex}
 
+-- the operations of the prints interfere
+abbrev pub prints_interfere : Print → Print → Bool
+prints_interfere p q = cells_interfere (cells p.writes) (cells p.reads) (cells q.writes) (cells q.reads)
+
+-- the operation at the place interferes with that of the print
+pub record IsMet (prints : List Print) (p : Print) (k : ℕ) : Type 0 where
+  pub low : k < length prints
+  pub meets : prints_interfere p (get_or prints k p) ≡ true
+
 -- the list at the slot
 abbrev pub list_at : List (Vec ℕ Global) → ℕ → List ℕ
 list_at [] s = []

@@ -5,6 +5,7 @@
 mod keys;
 mod listing;
 mod marking;
+mod meeting;
 mod seeking;
 mod staying;
 
