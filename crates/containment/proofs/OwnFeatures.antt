@@ -1,8 +1,8 @@
 -- The features of a class, as its own list and as those of the metamodel that it has.
 use Rattle.std.proofs.Common.{◌≡◌, ℕ, zero, suc, ◌+◌, Bool, true, false, cond, ◌&&◌, List, [], ◌∷◌, ◌++◌, refl, sym, ap, ◌∙◌, length, arith}
-use Rattle.std.specs.Prelude.{Option, None, Some}
+use Rattle.std.specs.Prelude.{None, Some}
 use Rattle.std.specs.List.{filter, range_with_len}
-use Rattle.ecore_meta.specs.Meta.{Meta, features_of as own_features, has_feature}
+use Rattle.ecore_meta.specs.Meta.{Meta, features_of as own_features}
 use Rattle.ecore_meta.specs.Promised.{ListsDeclared, declared}
 use Rattle.ecore_meta.specs.declared.meta.Kind.{Kind}
 use Rattle.ecore_meta.proofs.DeclaredLaws.{has_declared}

@@ -1,5 +1,5 @@
 -- The number of an id behind the prefix that a workspace's ids have.
-use Rattle.std.proofs.Common.{◌≡◌, ◌<◌, ◌≤◌, ◌^◌, ℕ, Bool, true, false, List, [], ◌∷◌, ◌++◌, None, Some, refl, sym, ap, subst, ◌∙◌, arith, append_assoc, drop, take, get_or, length, codes, ◌+◌, ◌||◌}
+use Rattle.std.proofs.Common.{◌≡◌, ◌<◌, ◌≤◌, ◌^◌, ℕ, Bool, false, List, [], ◌∷◌, ◌++◌, None, Some, sym, ap, ◌∙◌, arith, append_assoc, drop, take, get_or, length, codes, ◌+◌, ◌||◌}
 use Rattle.std.specs.Prelude.{Option, IfSome}
 use Rattle.std.specs.Fmt.{decimal}
 use Rattle.std.specs.List.{list_any}
