@@ -17,3 +17,4 @@ pub mod Walks
 pub mod ContainerLists
 pub mod Keeps
 pub mod Reached
+pub mod OwnFeatures

@@ -1,6 +1,6 @@
 -- A walk over a subtree, with a stack of the elements whose subtrees are still to come.
-use Rattle.std.proofs.Common.{◌≡◌, ℕ, Bool, true, false, cond, ◌+◌, suc, List, [], ◌∷◌, ◌++◌, refl, sym, ap, subst, ◌∙◌, append_assoc, arith, ◌<◌, length, get_or, drop, reverse}
-use Rattle.std.proofs.lemmas.List.{append-nil, reverse-append, reverse-reverse}
+use Rattle.std.proofs.Common.{◌≡◌, ℕ, Bool, true, false, cond, ◌+◌, suc, List, [], ◌∷◌, ◌++◌, refl, sym, ap, subst, ◌∙◌, append_assoc, arith, ◌<◌, length, get_or, drop, map, take, reverse}
+use Rattle.std.proofs.lemmas.List.{append-nil, reverse-append, reverse-reverse, take_more}
 use Rattle.std.proofs.Math.Seq.{drop-cons}
 use Rattle.std.specs.List.{filter}
 use Rattle.ecore_meta.specs.Meta.{Meta}
@@ -8,17 +8,11 @@ use Rattle.model_state.specs.declared.step.Place.TheVariants.{Inside}
 use Rattle.model_state.specs.Keys.{IdBytes}
 use Rattle.model_state.specs.Listing.{children}
 use Rattle.model_state.specs.State.{State}
-use Rattle.containment.specs.Subtree.{children_by, children_of, numbers}
+use Rattle.containment.specs.Subtree.{children_by, children_of}
 use Rattle.containment.proofs.Forests.{IsForest}
 use Rattle.edit_laws.specs.Standing.{ids_of}
 
--- ---- the features below a number, and that number
-one_more : (n : ℕ) → numbers (n + 1) ≡ numbers n ++ n ∷ []
-one_more n = ap numbers (after n)
-  where
-    after : (n : ℕ) → n + 1 ≡ suc n
-    after n = omega arith
-
+-- ---- the items up to an index, and the one there
 filter_last : (p : ℕ → Bool) (ns : List ℕ) (n : ℕ) → filter p (ns ++ n ∷ []) ≡ filter p ns ++ cond (p n) (n ∷ []) []
 filter_last p [] n = refl
 filter_last p (k ∷ ks) n =
@@ -27,11 +21,16 @@ filter_last p (k ∷ ks) n =
       | false ↦ filter_last p ks n
     ]
 
-pub passing : (p : ℕ → Bool) (n : ℕ) → p n ≡ true → filter p (numbers (n + 1)) ≡ filter p (numbers n) ++ n ∷ []
-passing p n h = ap (filter p) (one_more n) ∙ filter_last p (numbers n) n ∙ ap (λ b. filter p (numbers n) ++ cond b (n ∷ []) []) h
+pub passing : (p : ℕ → Bool) (ns : List ℕ) (i : ℕ) → p (get_or ns i 0) ≡ true → i < length ns → filter p (take (i + 1) ns) ≡ filter p (take i ns) ++ get_or ns i 0 ∷ []
+passing p ns i h low = ap (filter p) (take_more ns i 0 low) ∙ filter_last p (take i ns) (get_or ns i 0) ∙ ap (λ b. filter p (take i ns) ++ cond b (get_or ns i 0 ∷ []) []) h
 
-pub failing : (p : ℕ → Bool) (n : ℕ) → p n ≡ false → filter p (numbers (n + 1)) ≡ filter p (numbers n)
-failing p n h = ap (filter p) (one_more n) ∙ filter_last p (numbers n) n ∙ ap (λ b. filter p (numbers n) ++ cond b (n ∷ []) []) h ∙ append-nil (filter p (numbers n))
+pub failing : (p : ℕ → Bool) (ns : List ℕ) (i : ℕ) → p (get_or ns i 0) ≡ false → i < length ns → filter p (take (i + 1) ns) ≡ filter p (take i ns)
+failing p ns i h low =
+    ap (filter p) (take_more ns i 0 low) ∙ filter_last p (take i ns) (get_or ns i 0) ∙ ap (λ b. filter p (take i ns) ++ cond b (get_or ns i 0 ∷ []) []) h ∙ append-nil (filter p (take i ns))
+
+pub map_last : {A B : Type 0} (f : A → B) (xs : List A) (x : A) → map f (xs ++ x ∷ []) ≡ map f xs ++ f x ∷ []
+map_last f [] x = refl
+map_last f (y ∷ ys) x = ap (λ l. f y ∷ l) (map_last f ys x)
 
 -- the rest of a list after an item
 pub drop_more : {X : Type 0} (xs : List X) (i : ℕ) (x : X) → i < length xs → x ≡ get_or xs i x → drop i xs ≡ x ∷ drop (i + 1) xs

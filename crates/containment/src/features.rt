@@ -1,12 +1,14 @@
 //! The features of elements, each as the slot of one element, by the sort that is looked for.
-ghost use Rattle.std.specs.Prelude.{◌≡◌, ◌++◌, IfOk, OnOk, map};
+ghost use Rattle.std.specs.Prelude.{◌≡◌, ◌++◌, Bool, IfOk, OnOk, map};
+ghost use Rattle.std.specs.List.{filter};
+ghost use Rattle.ecore_meta.specs.declared.meta.Kind.{Kind};
 ghost use Rattle.model_state.specs.Typing.{kind_of};
 ghost use Rattle.containment.specs.Subtree.{features_of};
 ghost use Rattle.containment.specs.Deletes.{slots_of};
 ghost use Rattle.containment.specs.Sorts.{passes};
 
 use ecore_meta::{List, Metamodel};
-use model_state::{Id, Look, class_has, is_attr, is_many, is_plain};
+use model_state::{Id, Look, is_attr, is_many, is_plain};
 use std::alloc::{AllocError, Global};
 
 /// A feature of an element.
@@ -31,6 +33,18 @@ fn passes(meta: &Metamodel, sort: Sort, f: u32) -> bool
     }
 }
 
+/// The features of a class, its own and inherited, by number; none without a class.
+pub(crate) fn features_of(meta: &Metamodel, class: Option<u32>) -> &[u32]
+    ensures { (p : Kind → Bool) → filter (λ f. p (kind_of meta.now f)) result.now ≡ features_of meta.now p class }
+{
+    // For what a metamodel says of the lists of features.
+    meta.promised();
+    match class {
+        None => &[],
+        Some(class) => meta.features_of(class),
+    }
+}
+
 /// The features of a sort that the class has, by number, as slots of an element.
 fn push_slots(
     alloc: Global,
@@ -42,9 +56,10 @@ fn push_slots(
 ) -> Result<(), AllocError>
     ensures { OnOk result (slots.new ≡ slots.old ++ map (λ f. (e.now, f)) (features_of meta.now (passes sort) class)) }
 {
-    for f in 0..meta.feature_count() {
-        if class_has(meta, class, f) && passes(meta, sort, f) {
-            slots.push((e.copy(alloc)?, f))?;
+    let features = features_of(meta, class);
+    for f in features {
+        if passes(meta, sort, *f) {
+            slots.push((e.copy(alloc)?, *f))?;
         }
     }
     Ok(())

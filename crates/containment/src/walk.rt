@@ -6,9 +6,10 @@ ghost use Rattle.model_state.specs.declared.step.Place.TheVariants.{Inside};
 ghost use Rattle.containment.specs.Subtree.{children_of, subtree_of};
 ghost use Rattle.edit_laws.specs.Standing.{ids_of};
 
+use crate::features::features_of;
 use crate::place::is_containment;
 use ecore_meta::{List, Metamodel};
-use model_state::{Entry, Id, Look, Place, class_has};
+use model_state::{Entry, Id, Look, Place};
 use std::alloc::{AllocError, Global};
 
 /// The ids of entries.
@@ -48,11 +49,11 @@ fn children_of<L: Look>(
 ) -> Result<Vec<Id>, AllocError>
     ensures { IfOk result (λ v. v.items ≡ children_of meta.now (L.state look.now) e.now) }
 {
-    let class = look.class(e);
+    let features = features_of(meta, look.class(e));
     let mut found = Vec::new(alloc);
-    for f in 0..meta.feature_count() {
-        if class_has(meta, class, f) && is_containment(meta, f) {
-            push_children(alloc, look, e, f, &mut found)?;
+    for f in features {
+        if is_containment(meta, *f) {
+            push_children(alloc, look, e, *f, &mut found)?;
         }
     }
     Ok(found)

@@ -17,3 +17,4 @@ pub mod SetAttrs
 pub mod Made
 pub mod Fitting
 pub mod Naming
+pub mod Among

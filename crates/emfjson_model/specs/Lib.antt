@@ -5,3 +5,4 @@ pub mod Document
 pub mod Answers
 pub mod Laws
 pub mod Fits
+pub mod Targets

@@ -8,6 +8,7 @@ mod paths;
 mod read;
 mod references;
 mod sources;
+mod targets;
 
 pub use doc::{Doc, DocRefs, DocRow};
 pub use laws::law_of_documents;

@@ -5,20 +5,20 @@ ghost use Rattle.emfjson_drafts.specs.Answers.{Gives};
 ghost use Rattle.emfjson_model.specs.Merged.{attr_at, attrs_by, merged, merged_all, merged_at, merged_within, naming, next_row, others, row_of, rows_by};
 
 use crate::doc::{DocRefs, DocRow};
-use crate::references::has;
 use crate::sources::Sources;
+use crate::targets::Targets;
 use ecore_meta::{List, Metamodel, Value};
 use emfjson_drafts::{DocAttr, Draft, ModelFault, is_within};
 use model_state::{Id, opposite_of, row_upper};
 use std::alloc::{AllocError, Global};
 
 /// Those of the numbers that are not among the targets.
-fn without(alloc: Global, numbers: &[usize], targets: &[usize]) -> Result<List<usize>, AllocError>
+fn without(alloc: Global, numbers: &[usize], targets: &Targets) -> Result<List<usize>, AllocError>
     ensures { IfOk result (λ ns. ns ≡ filter (λ n. not (list_any (nat_eq n) targets.now)) numbers.now) }
 {
     let mut others = List::new(alloc);
     for n in numbers {
-        if !has(targets, *n) {
+        if !targets.has(*n) {
             others.push(*n)?;
         }
     }
@@ -35,7 +35,8 @@ fn naming(
 ) -> Result<List<usize>, AllocError>
     ensures { IfOk result (λ ns. ns ≡ naming g row targets.now 0 given.now) }
 {
-    without(alloc, given.naming(row, g), targets)
+    let targets = Targets::of(alloc, targets)?;
+    without(alloc, given.naming(row, g), &targets)
 }
 
 fn others(

@@ -1,7 +1,6 @@
 //! The targets that each element itself gives of its plain references, each looked up and tested for type and
 //! duplicates.
-ghost use Rattle.std.specs.Prelude.{◌≡◌, IfOk, [], nat_eq, option_and_then};
-ghost use Rattle.std.specs.List.{list_any};
+ghost use Rattle.std.specs.Prelude.{◌≡◌, IfOk, [], option_and_then};
 ghost use Rattle.model_state.specs.Typing.{kind_of, plain_to};
 ghost use Rattle.emfjson_drafts.specs.Answers.{Gives};
 ghost use Rattle.emfjson_drafts.specs.Reads.{collected};
@@ -9,6 +8,7 @@ ghost use Rattle.emfjson_model.specs.References.{entries_at, given_by, located, 
 
 use crate::doc::DocRefs;
 use crate::paths::located;
+use crate::targets::Targets;
 use ecore_meta::{Kind, List, Metamodel, Text};
 use emfjson_drafts::{Draft, Finder, Links, ModelFault};
 use model_state::is_plain;
@@ -28,18 +28,11 @@ fn is_plain_to(meta: &Metamodel, f: u32, class: u32) -> bool
     }
 }
 
-/// Whether the number is in the list.
-pub(crate) fn has(numbers: &[usize], n: usize) -> bool
-    ensures { result ≡ list_any (nat_eq n) numbers.now }
-{
-    numbers.iter().any(|other| n == *other)
-}
-
 fn new_target(
     meta: &Metamodel,
     rows: &Finder,
     f: u32,
-    targets: &[usize],
+    targets: &Targets,
     found: Option<usize>,
 ) -> Result<usize, ModelFault>
     ensures { Gives result (new_target meta.now rows.now f targets.now found) }
@@ -47,7 +40,7 @@ fn new_target(
     match found {
         None => Err(ModelFault::BadRef),
         Some(n) => {
-            if has(targets, n) {
+            if targets.has(n) {
                 return Err(ModelFault::BadRef);
             }
             if !is_plain_to(meta, f, rows.class_at(n)) {
@@ -79,7 +72,7 @@ fn target_of(
     meta: &Metamodel,
     rows: &Finder,
     f: u32,
-    targets: &[usize],
+    targets: &Targets,
     entry: &Option<Text>,
 ) -> Result<usize, ModelFault>
     ensures { Gives result (target_of meta.now rows.now f targets.now entry.now) }
@@ -96,11 +89,12 @@ fn targets_of(
 ) -> Result<List<usize>, ModelFault>
     ensures { Gives result (targets_of meta.now rows.now f entries.now) }
 {
-    let mut targets = List::new(alloc);
+    let mut targets = Targets::new(alloc);
     for entry in entries {
-        targets.push(target_of(alloc, meta, rows, f, targets.as_slice(), entry)?)?;
+        let target = target_of(alloc, meta, rows, f, &targets, entry)?;
+        targets = targets.with(target)?;
     }
-    Ok(targets)
+    Ok(targets.into_list())
 }
 
 /// The entries of a feature, none where its key is not there.

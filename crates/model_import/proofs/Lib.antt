@@ -13,3 +13,4 @@ pub mod ImportLead
 pub mod NameLists
 pub mod GivenIds
 pub mod PlaceCounts
+pub mod FirstPlaces

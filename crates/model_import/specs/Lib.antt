@@ -8,3 +8,4 @@ pub mod Links
 pub mod Import
 pub mod After
 pub mod Laws
+pub mod Indexes

@@ -4,6 +4,7 @@
 mod counts;
 mod given;
 mod import;
+mod indexes;
 mod laws;
 mod links;
 mod names;

@@ -1,8 +1,8 @@
 //! The links of an import: each reference with its opposite is one step, with the rank on either side.
 ghost use Rattle.std.specs.Prelude.{◌≡◌, ◌++◌, OnOk, length, Some, option_copied, slice_get};
-ghost use Rattle.emfjson_model.specs.Merged.{targets_at};
-ghost use Rattle.model_import.specs.Links.{index_in, is_made, link_to, links_made, mirror_of, refs_at, refs_made, targets_made};
+ghost use Rattle.model_import.specs.Links.{is_made, link_to, links_from, links_made, mirror_of, refs_made, targets_made};
 
+use crate::indexes::Indexes;
 use crate::names::name_at;
 use crate::news::rank_of;
 use ecore_meta::{List, Metamodel};
@@ -21,47 +21,13 @@ fn is_made(opposite: Option<u32>, n: usize, f: u32, b: usize) -> bool
     }
 }
 
-/// Where a number stands in a list, its length if it does not.
-fn index_in(numbers: &[usize], n: usize) -> usize
-    ensures { result ≡ index_in n numbers.now }
-{
-    let mut index: usize = 0;
-    for other in numbers {
-        if n == *other {
-            return index;
-        }
-        index += 1;
-    }
-    index
-}
-
-fn targets_at(refs: &[DocRefs], f: u32) -> &[usize]
-    ensures { result.now ≡ targets_at f refs.now }
-{
-    for r in refs {
-        if f == r.feature {
-            return r.targets.as_slice();
-        }
-    }
-    &[]
-}
-
-fn refs_at(rows: &[DocRow], b: usize) -> &[DocRefs]
-    ensures { result.now ≡ refs_at rows.now b }
-{
-    match rows.get(b) {
-        None => &[],
-        Some(row) => row.refs.as_slice(),
-    }
-}
-
 /// The rank of the mirror of a link of row n to the target b.
-fn mirror_of(rows: &[DocRow], opposite: Option<u32>, n: usize, b: usize) -> u64
+fn mirror_of(rows: &Indexes, opposite: Option<u32>, n: usize, b: usize) -> u64
     ensures { result ≡ mirror_of rows.now opposite n b }
 {
     match opposite {
         None => 0,
-        Some(g) => rank_of(index_in(targets_at(refs_at(rows, b), g), n)),
+        Some(g) => rank_of(rows.index(b, g, n)),
     }
 }
 
@@ -69,7 +35,7 @@ fn mirror_of(rows: &[DocRow], opposite: Option<u32>, n: usize, b: usize) -> u64
 fn add_link(
     alloc: Global,
     meta: &Metamodel,
-    rows: &[DocRow],
+    rows: &Indexes,
     n: usize,
     e: &Id,
     f: u32,
@@ -99,7 +65,7 @@ fn add_target(
     alloc: Global,
     meta: &Metamodel,
     names: &[Id],
-    rows: &[DocRow],
+    rows: &Indexes,
     n: usize,
     e: &Id,
     f: u32,
@@ -119,7 +85,7 @@ fn add_targets(
     alloc: Global,
     meta: &Metamodel,
     names: &[Id],
-    rows: &[DocRow],
+    rows: &Indexes,
     n: usize,
     e: &Id,
     refs: &DocRefs,
@@ -137,7 +103,7 @@ fn add_refs(
     alloc: Global,
     meta: &Metamodel,
     names: &[Id],
-    rows: &[DocRow],
+    rows: &Indexes,
     n: usize,
     e: &Id,
     refs: &[DocRefs],
@@ -147,6 +113,33 @@ fn add_refs(
 {
     for list in refs {
         add_targets(alloc, meta, names, rows, n, e, list, steps)?;
+    }
+    Ok(())
+}
+
+/// The steps in which the elements of rows are linked to those of all rows.
+fn add_all(
+    alloc: Global,
+    meta: &Metamodel,
+    names: &[Id],
+    indexes: &Indexes,
+    rows: &[DocRow],
+    steps: &mut List<Step>,
+) -> Result<(), AllocError>
+    requires { length names.now ≡ length rows.now }
+    ensures { OnOk result (steps.new ≡ steps.old ++ links_from meta.now names.now indexes.now 0 rows.now) }
+{
+    for (n, row) in rows.iter().enumerate() {
+        add_refs(
+            alloc,
+            meta,
+            names,
+            indexes,
+            n,
+            name_at(names, n),
+            row.refs.as_slice(),
+            steps,
+        )?;
     }
     Ok(())
 }
@@ -162,17 +155,6 @@ pub(crate) fn add_links(
     requires { length names.now ≡ length rows.now }
     ensures { OnOk result (steps.new ≡ steps.old ++ links_made meta.now names.now rows.now) }
 {
-    for (n, row) in rows.iter().enumerate() {
-        add_refs(
-            alloc,
-            meta,
-            names,
-            rows,
-            n,
-            name_at(names, n),
-            row.refs.as_slice(),
-            steps,
-        )?;
-    }
-    Ok(())
+    let indexes = Indexes::new(alloc, rows)?;
+    add_all(alloc, meta, names, &indexes, rows, steps)
 }

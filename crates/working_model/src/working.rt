@@ -10,7 +10,7 @@ ghost use Rattle.model_state.specs.State.{nothing};
 ghost use Rattle.model_state.specs.Steps.{first_stop, fold};
 ghost use Rattle.working_model.specs.Taken.{AreTaken};
 
-use crate::deletions::delete_any;
+use crate::deletions::kept_up_to;
 use ecore_meta::Metamodel;
 use edits::numbered_id;
 use model_graph::Graph;
@@ -22,6 +22,7 @@ use std::marker::Model;
 /// A model, and a number of a workspace's ids: those of lesser numbers are live. Contracts see the model alone.
 #[derive(Drop)]
 pub struct Working {
+    alloc: Global,
     model: Graph,
     ws: u32,
     next: u64,
@@ -65,6 +66,7 @@ impl Working {
         ensures good { (meta : Meta) → Good meta result }
     {
         Working {
+            alloc,
             model: Graph::new(alloc),
             ws: 0,
             next: 1,
@@ -87,15 +89,15 @@ impl Working {
         ensures taken { IfErr result (λ e. fold meta.now self.old (take e.at steps.now) ≡ Some self.new) }
         ensures good { Good meta.now self.new }
     {
-        let next = if delete_any(steps) { 1 } else { self.next };
+        let next = kept_up_to(self.alloc, self.ws, self.next, steps);
         self.next = 1;
         replay(&mut self.model, meta, steps)?;
         self.next = next;
         Ok(())
     }
 
-    /// The first id of a workspace that no live element has. The search begins where it ended the last time, if that
-    /// was for this workspace and no replay deleted an element or failed since. Else it begins at 1.
+    /// The first id of a workspace that no live element has. The search begins where it ended the last time, or at the least
+    /// number whose id was deleted since. It begins at 1 where that was for another workspace, or a replay failed since.
     pub fn fresh_id(&mut self, alloc: Global, ws: u32) -> Result<Id, AllocError>
         ensures id { IfOk result (λ id. id ≡ fresh_id self.old ws) }
         ensures form { OnOk result (is_id (fresh_id self.old ws) ≡ true) }

@@ -3,7 +3,6 @@ use Rattle.std.specs.Prelude.{None, Some, position}
 use Rattle.std.specs.FinMap.{get}
 use Rattle.finite_maps.specs.Maps.{set}
 use Rattle.ecore_meta.specs.declared.meta.Value.{Value}
-use Rattle.graph_parts.specs.Parts.{flat}
 use Rattle.graph_parts.proofs.Flat.{get_none, written_at}
 use Rattle.graph_parts.proofs.Results.{none_some}
 use Rattle.graph_parts.proofs.attrs.Attrs.find_mut.Goals as goal

@@ -1,5 +1,4 @@
-use Rattle.std.proofs.Common.{◌≡◌, refl, sym, ap, ◌∙◌}
-use Rattle.std.specs.Prelude.{Some}
+use Rattle.std.proofs.Common.{refl, sym, ◌∙◌}
 use Rattle.model_graph.proofs.Values.{holder_there, held, held_there, revalued_state, revalued_kept}
 use Rattle.model_graph.proofs.graph.Graph.values_mut.Goals as goal
 

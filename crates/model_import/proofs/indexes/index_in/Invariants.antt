@@ -1,6 +1,6 @@
 use Rattle.std.proofs.Common.{◌≡◌, ◌+◌, drop}
 use Rattle.model_import.specs.Links.{index_in}
-use Rattle.model_import.proofs.links.index_in.Given as goal
+use Rattle.model_import.proofs.indexes.index_in.Given as goal
 
 abbrev pub invariant-loop-other : goal.invariant-loop-other
 invariant-loop-other l = record {

@@ -1,6 +1,6 @@
 use Rattle.std.proofs.Common.{◌≡◌, drop}
 use Rattle.emfjson_model.specs.Merged.{targets_at}
-use Rattle.model_import.proofs.links.targets_at.Given as goal
+use Rattle.model_import.proofs.indexes.targets_at.Given as goal
 
 abbrev pub invariant-loop-r : goal.invariant-loop-r
 invariant-loop-r l = targets_at l.f (drop l.r-index l.refs) ≡ targets_at l.f l.refs

@@ -1,6 +1,0 @@
-use Rattle.std.proofs.Common.{◌≡◌, ◌++◌, drop}
-use Rattle.model_import.specs.Links.{links_from}
-use Rattle.model_import.proofs.links.add_links.Given as goal
-
-abbrev pub invariant-loop-n : goal.invariant-loop-n
-invariant-loop-n l = l.steps ++ links_from l.meta l.names l.rows l.n (drop l.n l.rows) ≡ l.initial.steps ++ links_from l.meta l.names l.rows 0 l.rows
