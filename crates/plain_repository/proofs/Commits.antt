@@ -16,6 +16,7 @@ use Rattle.commit_journal.specs.declared.fit.Fit.TheVariants as fits
 use Rattle.op_form.specs.declared.event.Event.{Event}
 use Rattle.op_form.specs.declared.event.Event.TheVariants.{Commit}
 use Rattle.op_form.specs.Events.{event_encoding}
+use Rattle.op_form.specs.Formed.{is_event}
 use Rattle.script_lang.specs.declared.command.Command.TheVariants as commands
 use Rattle.script_lang.specs.declared.reply.Refusal.TheVariants as refusals
 use Rattle.script_lang.specs.declared.reply.Last.TheVariants as last
@@ -41,13 +42,14 @@ Says d base at = d.reply.last ≡ last.No (refusals.Stale base at)
 -- an event for which there may be no room is never stale
 room_not_stale : (s : State) (lines : List (List ℕ)) (words : List ℕ) (event : Event) (base at : ℕ) → Says (with_room s lines words event) base at → ⊥
 unfolding with_room
-room_not_stale s lines words event base at = by (nat_le most_events s.events) (fit_of s.end (length (event_encoding event)))
+room_not_stale s lines words event base at = by (nat_le most_events s.events) (is_event event) (fit_of s.end (length (event_encoding event)))
   where
-    by : (full : Bool) (fit : Fit) → Says (cond full (refused refusals.HistoryFull) (by_fit fit lines words event)) base at → ⊥
-    by true fit e = cc
-    by false fits.Yes e = cc
-    by false fits.TooLarge e = cc
-    by false fits.Full e = cc
+    by : (full formed : Bool) (fit : Fit) → Says (cond full (refused refusals.HistoryFull) (cond formed (by_fit fit lines words event) (refused refusals.TooLarge))) base at → ⊥
+    by true formed fit e = cc
+    by false false fit e = cc
+    by false true fits.Yes e = cc
+    by false true fits.TooLarge e = cc
+    by false true fits.Full e = cc
 
 module _ (s : State) (meta : Meta) (begun : s.meta ≡ Some meta) (ws : ℕ) (message : List ℕ) (base at : ℕ) where
   stale_of : (o : Option Workspace) → workspace_of s ws ≡ o → Says (commit_of s ws message o) base at → IsStale s ws base at
