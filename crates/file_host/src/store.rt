@@ -40,19 +40,13 @@ fn lock(file: &File) -> io::Result<()> {
     }
 }
 
-fn open_to_read<R: Files<File = File>>(rt: &R, name: Path<'_>) -> io::Result<File> {
-    let mut how = OpenOptions::new();
-    how.read(true);
-    how.open(rt, name)
-}
-
 /// The folder that has the file's name. A link may lead to a file in another folder.
 fn open_folder<R: Files<File = File> + AllocGlobal>(rt: &R) -> io::Result<File> {
     if !uninterrupted(|| fs::symlink_metadata(rt, JOURNAL))?.is_symlink() {
-        return open_to_read(rt, Path::new(FOLDER));
+        return File::open(rt, FOLDER);
     }
     let name = uninterrupted(|| fs::canonicalize(rt, JOURNAL))?;
-    open_to_read(rt, name.as_path().parent().unwrap_or(Path::new(ROOT)))
+    File::open(rt, name.as_path().parent().unwrap_or(Path::new(ROOT)))
 }
 
 /// Makes sure that the folder keeps the name of a new file. A folder that may not be read, or whose system has no such
@@ -66,17 +60,14 @@ fn sync_folder<R: Files<File = File> + AllocGlobal>(rt: &R) -> io::Result<()> {
 }
 
 /// The file, made where it is missing. What is opened gets the least number that is free, and that of a standard stream
-/// where one is closed. A second handle of the same open file never does.
+/// where one is closed. A second handle of what was opened never does.
 fn open_file<R: Files<File = File>>(rt: &R) -> io::Result<File> {
     let mut how = OpenOptions::new();
-    how.read(true);
-    how.write(true);
-    how.create(true);
-    let first = how.open(rt, JOURNAL)?;
-    first.try_clone()
+    how.read(true).write(true).create(true);
+    how.open(rt, JOURNAL)?.try_clone()
 }
 
-/// The file under its lock. It is none where it isn't a regular file, or is open as a standard stream too.
+/// The file under its lock. Nothing is opened where it is no regular file, or is open as a standard stream too.
 fn open_store<R: Files<File = File> + AllocGlobal>(rt: &R) -> io::Result<Store> {
     let file = open_file(rt)?;
     lock(&file)?;
@@ -127,13 +118,11 @@ impl<'a, R: Files<File = File> + AllocGlobal> LazyStore<'a, R> {
     }
 
     fn opened(&mut self) -> io::Result<&mut Store> {
-        if self.store.is_none() {
-            self.store = Some(open_store(self.rt)?);
-        }
-        match &mut self.store {
-            Some(store) => Ok(store),
-            None => Err(io::Error::from(ErrorKind::NotFound)),
-        }
+        let store = match self.store.take() {
+            Some(store) => store,
+            None => open_store(self.rt)?,
+        };
+        Ok(self.store.insert(store))
     }
 
     pub(crate) fn len(&mut self) -> io::Result<u64> {
