@@ -11,7 +11,7 @@ use Rattle.footprint.proofs.Held.{prints_tell}
 use Rattle.footprint.proofs.Pairs.{interference_is_symmetric}
 use Rattle.cell_index.specs.Near.{prints_interfere}
 use Rattle.conflict_buckets.specs.Pairs.{have_pair}
-use Rattle.conflict_buckets.proofs.Turns.{drop_past}
+use Rattle.conflict_buckets.proofs.Empty.{drop_past}
 
 -- does one of the operations interfere with that one
 abbrev pub meets_one : Meta → List Operation → Operation → Bool

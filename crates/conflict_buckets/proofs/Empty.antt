@@ -1,10 +1,15 @@
 -- Where either side is empty there is no bucket.
-use Rattle.std.proofs.Common.{◌≡◌, ℕ, zero, suc, List, [], ◌∷◌, ◌++◌, refl, ap, ◌∙◌, length, take, drop, arith, append-nil}
+use Rattle.std.proofs.Common.{◌≡◌, ℕ, zero, suc, ◌≤◌, List, [], ◌∷◌, ◌++◌, refl, ap, ◌∙◌, length, take, drop, arith, append-nil}
 use Rattle.ecore_meta.specs.Meta.{Meta}
 use Rattle.model_state.specs.declared.operation.Operation.{Operation}
 use Rattle.footprint.specs.Buckets.{labels, mixed, places, rows, buckets}
 use Rattle.bucket_laws.proofs.Exact.{labels_length}
-use Rattle.conflict_buckets.proofs.Turns.{drop_past}
+
+pub drop_past : {A : Type 0} (xs : List A) (n : ℕ) → length xs ≤ n → drop n xs ≡ []
+drop_past [] zero h = refl
+drop_past [] (suc n) h = refl
+drop_past (x ∷ xs) zero h = absurd (omega (arith, h))
+drop_past (x ∷ xs) (suc n) h = drop_past xs n (omega (arith, h))
 
 mixed_none : (xs : List ℕ) → mixed xs [] ≡ []
 mixed_none [] = refl
