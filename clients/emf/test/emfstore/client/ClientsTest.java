@@ -1,20 +1,17 @@
 package emfstore.client;
 
 import emfstore.client.Recorder.Choice;
-import java.io.FileOutputStream;
 import java.io.IOException;
 import java.io.InputStream;
 import java.io.OutputStream;
 import java.nio.file.Files;
 import java.nio.file.Path;
-import java.util.ArrayList;
 import java.util.List;
 import java.util.Map;
 import org.eclipse.emf.common.util.EList;
 import org.eclipse.emf.common.util.TreeIterator;
 import org.eclipse.emf.ecore.EClass;
 import org.eclipse.emf.ecore.EObject;
-import org.eclipse.emf.ecore.EcorePackage;
 import org.eclipse.emf.ecore.resource.Resource;
 import org.eclipse.emf.ecore.util.EcoreUtil;
 import org.eclipse.emf.ecore.xmi.XMLResource;
@@ -25,7 +22,10 @@ public final class ClientsTest {
             "DateConversionDelegateAnnotation");
     private static final int EDITS = 2_000;
     private static final int EDITS_A_LOOK = 100;
-    private static final int MOST = 60;
+    private static final int EDITS_A_COMPOSITE = 10;
+    /** As many elements as there may be: few in the first half of the edits, so that their lists are long, and then many. */
+    private static final int FEW = 20;
+    private static final int MANY = 300;
     private static final int MODEL_BYTES = 50_000;
     /** Limits by which a model of that size makes many blocks. */
     private static final Blocks.Limits SMALL = new Blocks.Limits(6_000, 100_000, 160, 3);
@@ -67,12 +67,12 @@ public final class ClientsTest {
         for (String name : List.of("Change", "ExtendedMetaData")) {
             model(name, ofEmf(name), randomModel(name, ofEmf(name)));
         }
-        tell("3 models");
     }
 
     private void model(String name, String ecore, String model) throws IOException {
         String first = roundTrip(ecore, model, Blocks.Limits.OF_PROGRAM, name + "1.xmi");
         roundTrip(ecore, first, SMALL, name + "2.xmi");
+        tell("a model of " + name + ", " + Files.size(Path.of(first)) + " bytes of XMI");
     }
 
     /** Brings a model in, and what the program shows into a file; the file as EMF loads it must be equal to the model. */
@@ -95,7 +95,7 @@ public final class ClientsTest {
             }
             XMLResource shown = metamodels.create(folder.resolve(file).toString());
             String text = store.send("show 1").data().get(0);
-            check(text.length() >= MODEL_BYTES, file + " has " + text.length() + " bytes only");
+            check(text.length() >= MODEL_BYTES, file + ": " + text.length() + " bytes are few");
             ModelFiller.fill(shown, profile, new Ids(), text);
             shown.save(Map.of());
             shown.getResourceSet().getResources().remove(shown);
@@ -126,13 +126,18 @@ public final class ClientsTest {
     private void edits() throws IOException {
         Metamodels metamodels = new Metamodels(List.of(kinds));
         Profile profile = new Profile(metamodels.packages());
-        XMLResource live = metamodels.create("live.xmi");
+        XMLResource live = metamodels.create(folder.resolve("live.xmi").toString());
         RandomEdits edits = new RandomEdits(profile, live, 2, classes(profile, metamodels));
         int refused = 0;
         try (Store store = start(profile); Recorder recorder = Recorder.checkout(store, profile, "trunk", live)) {
             for (int i = 1; i <= EDITS; i++) {
+                int most = i <= EDITS / 2 ? FEW : MANY;
                 try {
-                    edits.edit(MOST);
+                    if (i % EDITS_A_COMPOSITE == 0) {
+                        recorder.composite("several", () -> List.of(most, most, most).forEach(edits::edit));
+                    } else {
+                        edits.edit(most);
+                    }
                 } catch (RefusedException | IllegalArgumentException refusal) {
                     refused++;
                 }
@@ -144,11 +149,108 @@ public final class ClientsTest {
             }
         }
         tell(EDITS + " edits recorded, " + refused + " refused");
+        live.getContents().retainAll(ModelText.roots(live));
+        live.save(Map.of());
+        model("kinds", kinds, folder.resolve("live.xmi").toString());
     }
 
-    private void conflicts() { }
+    /** Two people give one element a name, and one of them chooses: the first time mine, then theirs. What doesn't conflict stays. */
+    private void conflicts() throws IOException {
+        Metamodels metamodels = new Metamodels(List.of(kinds));
+        Profile profile = new Profile(metamodels.packages());
+        XMLResource ofAnn = metamodels.create("ann.xmi");
+        XMLResource ofBen = metamodels.create("ben.xmi");
+        try (Store store = start(profile); Recorder ann = Recorder.checkout(store, profile, "trunk", ofAnn)) {
+            ofAnn.getContents().add(create(profile, "Node", "door"));
+            ann.commit("a door");
+            Recorder ben = Recorder.checkout(store, profile, "trunk", ofBen);
+            for (Choice choice : Choice.values()) {
+                set(ofAnn.getContents().get(0), "name", "Ann's, " + choice);
+                ann.commit("hers");
+                set(ofBen.getContents().get(0), "name", "Ben's, " + choice);
+                ofBen.getContents().add(create(profile, "Node", "his own"));
+                checkRefused(24, () -> ben.commit("his"));
+                ben.update(bucket -> {
+                    check(bucket.equals(new Recorder.Bucket(1, List.of(1), List.of(1))), "another bucket: " + bucket);
+                    return choice;
+                });
+                String kept = choice == Choice.MINE ? "Ben's, " : "Ann's, ";
+                check(get(ofBen.getContents().get(0), "name").equals(kept + choice), "not " + kept + choice);
+                ben.commit("his");
+                ann.update(bucket -> choice);
+                check(ann.text().equals(ben.text()), "Ann and Ben have other models");
+                checkEqual(ofAnn, ofBen, "after " + choice);
+            }
+            check(ofAnn.getContents().size() == 1 + Choice.values().length, "an element is lost");
+        }
+        tell("a conflict resolved both ways");
+    }
 
-    private void refusals() { }
+    /** Where a change is refused all of it is taken back, in the store and in the resource, and each element stays the object that it was. */
+    private void refusals() throws IOException {
+        Metamodels metamodels = new Metamodels(List.of(kinds));
+        Profile profile = new Profile(metamodels.packages());
+        XMLResource live = metamodels.create("live.xmi");
+        try (Store store = start(profile); Recorder recorder = Recorder.checkout(store, profile, "trunk", live)) {
+            EObject node = create(profile, "Node", "node");
+            EObject other = create(profile, "Values", "other");
+            live.getContents().addAll(List.of(node, other));
+            list(node, "few").addAll(List.of(create(profile, "Values", "1"), create(profile, "Values", "2")));
+            List<EObject> pair = List.of(create(profile, "Values", "3"), create(profile, "Values", "4"));
+            List<Runnable> edits = List.of(
+                    () -> list(node, "few").addAll(pair),
+                    () -> recorder.composite("both", () -> {
+                        set(node, "name", "x");
+                        list(node, "few").add(pair.get(0));
+                        list(node, "few").add(other);
+                    }),
+                    () -> list(node, "repeated").addAll(List.of(node, node)),
+                    () -> set(node, "name", "long".repeat(Store.LINE_BYTES)));
+            String text = recorder.text();
+            List<String> changes = store.send("changes 1").data();
+            List<EObject> few = List.copyOf(list(node, "few"));
+            for (int i = 0; i < edits.size(); i++) {
+                checkRefused(i < 2 ? 19 : 0, edits.get(i));
+                check(recorder.text().equals(text) && store.send("show 1").data().equals(List.of(text)), "change " + i + " is left in the model");
+                check(store.send("changes 1").data().equals(changes), "change " + i + " is recorded");
+                check(list(node, "few").equals(few) && live.getContents().equals(List.of(node, other)), "change " + i + " leaves other objects");
+            }
+            tell(edits.size() + " refusals");
+        }
+    }
+
+    /** Checks that the edit is refused by that number, or for 0 before it is sent. */
+    private static void checkRefused(int number, Runnable edit) {
+        try {
+            edit.run();
+        } catch (RefusedException refusal) {
+            check(refusal.reply().refusal() == number, "refused otherwise: " + refusal.getMessage());
+            return;
+        } catch (IllegalArgumentException refusal) {
+            check(number == 0, "refused otherwise: " + refusal.getMessage());
+            return;
+        }
+        throw new AssertionError("not refused by " + number);
+    }
+
+    private static EObject create(Profile profile, String owner, String name) {
+        EObject created = EcoreUtil.create(profile.classNamed(owner));
+        set(created, "name", name);
+        return created;
+    }
+
+    private static void set(EObject element, String feature, Object value) {
+        element.eSet(element.eClass().getEStructuralFeature(feature), value);
+    }
+
+    private static Object get(EObject element, String feature) {
+        return element.eGet(element.eClass().getEStructuralFeature(feature));
+    }
+
+    @SuppressWarnings("unchecked")
+    private static EList<EObject> list(EObject element, String feature) {
+        return (EList<EObject>) get(element, feature);
+    }
 
     private void checkShown(Store store, Recorder recorder, Profile profile, XMLResource live, String when) throws IOException {
         String text = store.send("show 1").data().get(0);

@@ -151,7 +151,8 @@ final class RandomEdits {
         EList<Object> list = list(element, feature);
         Object value = value(element, feature, depth);
         int kind = random.nextInt(12);
-        if (kind < 4 || list.isEmpty()) {
+        boolean isBounded = feature.ecore().getUpperBound() > 1;
+        if (kind < (isBounded ? 9 : 4) || list.isEmpty()) {
             if (value != null) {
                 insert(list, value);
             }
