@@ -11,6 +11,8 @@ import java.util.function.BiPredicate;
 import java.util.stream.Collectors;
 import org.eclipse.emf.ecore.EObject;
 import org.eclipse.emf.ecore.EReference;
+import org.eclipse.emf.ecore.InternalEObject;
+import org.eclipse.emf.ecore.resource.Resource;
 
 /** The text of elements, as `show` prints it and `import` reads it. */
 final class ModelText {
@@ -62,6 +64,27 @@ final class ModelText {
 
     private static List<EObject> passing(BiPredicate<EObject, EObject> test, EObject element, Feature feature) {
         return targets(element, feature.reference()).stream().filter(it -> test.test(element, it)).toList();
+    }
+
+    /** Whether an element is one of a resource, by its own place there or by that of an element that contains it. */
+    static boolean isIn(Resource resource, EObject element) {
+        for (EObject around = element; around != null; around = around.eContainer()) {
+            if (((InternalEObject) around).eDirectResource() == resource) {
+                return true;
+            }
+        }
+        return false;
+    }
+
+    /** The element of a resource that contains this one, or null. EMF's list of roots may have one that stands elsewhere too, as in a cut-out parent. */
+    static EObject parent(Resource resource, EObject element) {
+        EObject around = element.eContainer();
+        return around != null && isIn(resource, around) ? around : null;
+    }
+
+    /** The elements of a resource that stand in no other of it. */
+    static List<EObject> roots(Resource resource) {
+        return resource.getContents().stream().filter(it -> parent(resource, it) == null).toList();
     }
 
     /** What an element contains, by the containments that the program has. */

@@ -1,9 +1,13 @@
 package emfstore.client;
 
 import emfstore.client.Profile.Feature;
+import emfstore.client.Profile.Kind;
+import java.util.ArrayDeque;
 import java.util.ArrayList;
 import java.util.Arrays;
 import java.util.Collection;
+import java.util.Comparator;
+import java.util.Deque;
 import java.util.HashMap;
 import java.util.List;
 import java.util.Map;
@@ -56,8 +60,8 @@ public final class Recorder extends EContentAdapter implements AutoCloseable {
     private final List<String> planned = new ArrayList<>();
     /** Where elements stood before that are on their way to another place. */
     private final Map<EObject, EObject> parentsBefore = new HashMap<>();
-    /** What the commands since the last operation delete, with its ids. */
-    private final Map<EObject, String> deleted = new HashMap<>();
+    /** What takes back the changes of ids since the last operation, the last first. */
+    private final Deque<Runnable> idsBefore = new ArrayDeque<>();
     private boolean isPaused;
     private boolean isComposite;
 
@@ -129,7 +133,7 @@ public final class Recorder extends EContentAdapter implements AutoCloseable {
             throw new IllegalStateException("a change was refused, and the composite taken back");
         }
         end();
-        deleted.clear();
+        idsBefore.clear();
     }
 
     /** The id of an element in the store, or null for one outside. */
@@ -139,7 +143,7 @@ public final class Recorder extends EContentAdapter implements AutoCloseable {
 
     /** The text of the resource, byte for byte what {@code show} prints where all is recorded. */
     String text() {
-        return ModelText.ofModel(profile, ids, resource.getContents());
+        return ModelText.ofModel(profile, ids, ModelText.roots(resource));
     }
 
     /** Ends the recording. The workspace stays, and the resource is as it is. */
@@ -151,7 +155,7 @@ public final class Recorder extends EContentAdapter implements AutoCloseable {
     @Override
     public void notifyChanged(Notification notification) {
         super.notifyChanged(notification);
-        if (isPaused || notification.isTouch()) {
+        if (isPaused) {
             return;
         }
         planned.clear();
@@ -186,11 +190,20 @@ public final class Recorder extends EContentAdapter implements AutoCloseable {
         if (feature == null || ids.id(element) == null) {
             return;
         }
-        switch (feature.kind()) {
-            case ATTRIBUTE -> planAttribute(notification, element, feature);
-            case CONTAINMENT -> planPlace(notification, element, feature.reference());
-            case REFERENCE -> links.sync(element, feature.reference());
-            default -> { }
+        if (feature.kind() == Kind.REFERENCE) {
+            // Of a reference that is its own opposite EMF says that nothing changed at the other end.
+            checkTargets(element, feature);
+            links.sync(element, feature.reference());
+        } else if (feature.kind() == Kind.ATTRIBUTE && !notification.isTouch()) {
+            planAttribute(notification, element, feature);
+        } else if (feature.kind() == Kind.CONTAINMENT && !notification.isTouch()) {
+            planPlace(notification, element, feature.reference());
+        }
+    }
+
+    private static void checkTargets(EObject element, Feature feature) {
+        if (ModelText.list(element, feature).size() > ModelText.targets(element, feature.reference()).size()) {
+            throw new IllegalArgumentException("a target twice in " + Reach.path(feature.ecore()));
         }
     }
 
@@ -230,62 +243,88 @@ public final class Recorder extends EContentAdapter implements AutoCloseable {
 
     private void planPlace(Notification notification, EObject parent, EReference containment) {
         List<EObject> gone = new ArrayList<>();
+        List<EObject> freed = new ArrayList<>();
         for (EObject element : elements(notification.getOldValue())) {
-            if (isInside(element)) {
-                parentsBefore.put(element, parent);
-            } else if (ids.id(element) != null) {
+            if (!ModelText.isIn(resource, element)) {
                 gone.add(element);
+            } else if (ModelText.parent(resource, element) != null) {
+                parentsBefore.put(element, parent);
+            } else {
+                freed.add(element);
             }
         }
-        List<EObject> added = new ArrayList<>(elements(notification.getNewValue()));
+        planRoots(freed);
+        List<EObject> added = arriving(notification, parent);
         added.stream().filter(it -> gone.stream().anyMatch(above -> EcoreUtil.isAncestor(above, parentsBefore.get(it))))
                 .forEach(it -> planned.add(lines.move(it, null, null, Lines.END)));
-        gone.forEach(this::planDeletion);
-        while (!added.isEmpty()) {
-            EObject element = added.remove(0);
-            planArrival(element, parent, containment, index(element, parent, containment, added));
-        }
+        gone.stream().filter(it -> ids.id(it) != null).forEach(this::planDeletion);
+        planArrivals(added, parent, containment);
+    }
+
+    /** What a notification brings to a place. What comes to the root from a container was moved when it left that. */
+    private List<EObject> arriving(Notification notification, EObject parent) {
+        boolean isMove = notification.getEventType() == Notification.MOVE;
+        return elements(notification.getNewValue()).stream()
+                .filter(it -> ModelText.parent(resource, it) == parent && (parent != null || isMove || ids.id(it) == null)).toList();
     }
 
     /** Where an element stands among the others of its place, but for those still to come. */
     private int index(EObject element, EObject parent, EReference containment, Collection<EObject> toCome) {
-        List<EObject> place = parent == null ? resource.getContents() : ModelText.targets(parent, containment);
+        List<EObject> place = parent == null ? ModelText.roots(resource) : ModelText.targets(parent, containment);
         int at = place.indexOf(element);
         boolean isLast = place.subList(at + 1, place.size()).stream().allMatch(toCome::contains);
         return isLast ? Lines.END : at;
     }
 
-    private void planArrival(EObject element, EObject parent, EReference containment, int index) {
-        boolean isKnown = ids.id(element) != null;
-        if (isKnown) {
-            parentsBefore.remove(element);
-        } else {
-            planCreations(element, parent, containment);
-        }
-        if (isKnown || index != Lines.END) {
-            planned.add(lines.move(element, parent, containment, index));
-        }
-        if (!isKnown) {
-            List<EObject> subtree = subtree(element);
-            subtree.forEach(this::planAttributes);
-            subtree.forEach(links::sync);
+    private void planRoots(List<EObject> elements) {
+        List<EObject> roots = ModelText.roots(resource);
+        planArrivals(elements.stream().sorted(Comparator.comparing(roots::indexOf)).toList(), null, null);
+    }
+
+    /** Brings elements to a place, which has them in this order. */
+    private void planArrivals(List<EObject> elements, EObject parent, EReference containment) {
+        for (int i = 0; i < elements.size(); i++) {
+            List<EObject> toCome = elements.subList(i + 1, elements.size());
+            planArrival(elements.get(i), parent, containment, index(elements.get(i), parent, containment, toCome));
         }
     }
 
-    private void planCreations(EObject element, EObject parent, EReference containment) {
+    private void planArrival(EObject element, EObject parent, EReference containment, int index) {
+        parentsBefore.remove(element);
+        List<EObject> arrived = new ArrayList<>();
+        if (ids.id(element) == null) {
+            planCreation(element, parent, containment, arrived);
+        }
+        if (arrived.isEmpty() || index != Lines.END) {
+            planned.add(lines.move(element, parent, containment, index));
+        }
+        arrived.forEach(this::planAttributes);
+        arrived.forEach(links::sync);
+    }
+
+    /** Creates an element last in a place, with all inside it. What the store has already is moved there. */
+    private void planCreation(EObject element, EObject parent, EReference containment, List<EObject> arrived) {
         if (profile.features(element.eClass()) == null) {
             throw new IllegalArgumentException("no class of the metamodel: " + Reach.path(element.eClass()));
         }
+        profile.features(element.eClass()).values().stream().filter(it -> it.kind() == Kind.REFERENCE).forEach(it -> checkTargets(element, it));
         ids.name(element);
+        idsBefore.push(() -> ids.remove(element));
+        arrived.add(element);
         planned.add(lines.create(element, parent, containment));
         for (EObject child : ModelText.children(profile, element)) {
-            planCreations(child, element, (EReference) child.eContainingFeature());
+            EReference inside = (EReference) child.eContainingFeature();
+            if (ids.id(child) == null) {
+                planCreation(child, element, inside, arrived);
+            } else {
+                planned.add(lines.move(child, element, inside, Lines.END));
+            }
         }
     }
 
     private void planAttributes(EObject element) {
         for (Feature feature : profile.features(element.eClass()).values()) {
-            if (feature.kind() != Profile.Kind.ATTRIBUTE || !element.eIsSet(feature.ecore())) {
+            if (feature.kind() != Kind.ATTRIBUTE || !element.eIsSet(feature.ecore())) {
                 continue;
             }
             if (feature.isMany()) {
@@ -296,23 +335,31 @@ public final class Recorder extends EContentAdapter implements AutoCloseable {
         }
     }
 
+    /** Deletes an element that isn't in the resource any more. What it contains may be, by a place of its own, and is moved there before. */
     private void planDeletion(EObject element) {
+        List<EObject> gone = new ArrayList<>();
+        List<EObject> kept = new ArrayList<>();
+        part(element, gone, kept);
+        kept.forEach(it -> planned.add(lines.move(it, null, null, Lines.END)));
         planned.add(lines.delete(element));
-        for (EObject inside : subtree(element)) {
+        planRoots(kept);
+        for (EObject inside : gone) {
+            String id = ids.id(inside);
             links.forget(inside);
-            deleted.put(inside, ids.id(inside));
             ids.remove(inside);
+            idsBefore.push(() -> ids.put(inside, id));
         }
     }
 
-    private List<EObject> subtree(EObject element) {
-        List<EObject> found = new ArrayList<>(List.of(element));
-        ModelText.children(profile, element).forEach(it -> found.addAll(subtree(it)));
-        return found;
-    }
-
-    private boolean isInside(EObject element) {
-        return EcoreUtil.getRootContainer(element).eResource() == resource;
+    private void part(EObject element, List<EObject> gone, List<EObject> kept) {
+        gone.add(element);
+        for (EObject child : ModelText.children(profile, element)) {
+            if (ModelText.isIn(resource, child)) {
+                kept.add(child);
+            } else {
+                part(child, gone, kept);
+            }
+        }
     }
 
     private static List<EObject> elements(Object value) {
@@ -330,7 +377,7 @@ public final class Recorder extends EContentAdapter implements AutoCloseable {
             end();
         }
         if (!isComposite) {
-            deleted.clear();
+            idsBefore.clear();
         }
     }
 
@@ -353,8 +400,8 @@ public final class Recorder extends EContentAdapter implements AutoCloseable {
                 store.send(lines.command("undo"));
             }
         }
-        deleted.forEach((element, id) -> ids.put(element, id));
-        deleted.clear();
+        idsBefore.forEach(Runnable::run);
+        idsBefore.clear();
         parentsBefore.clear();
         show();
     }

@@ -1,0 +1,322 @@
+package emfstore.client;
+
+import emfstore.client.Recorder.Choice;
+import java.io.IOException;
+import java.io.InputStream;
+import java.io.OutputStream;
+import java.nio.file.Files;
+import java.nio.file.Path;
+import java.util.List;
+import java.util.Map;
+import org.eclipse.emf.common.util.EList;
+import org.eclipse.emf.common.util.TreeIterator;
+import org.eclipse.emf.ecore.EClass;
+import org.eclipse.emf.ecore.EObject;
+import org.eclipse.emf.ecore.resource.Resource;
+import org.eclipse.emf.ecore.util.EcoreUtil;
+import org.eclipse.emf.ecore.xmi.XMLResource;
+
+/** Runs the tools and the Recorder against the built program: on EMF's own metamodels, on models of them, and on a metamodel of all kinds. */
+public final class ClientsTest {
+    private static final List<String> OF_EMF = List.of("Ecore", "XMLType", "XMLNamespace", "Change", "ExtendedMetaData", "EcoreAnnotation",
+            "DateConversionDelegateAnnotation");
+    private static final int EDITS = 2_000;
+    private static final int EDITS_A_LOOK = 100;
+    private static final int EDITS_A_COMPOSITE = 10;
+    /** As many elements as there may be: few in the first half of the edits, so that their lists are long, and then many. */
+    private static final int FEW = 20;
+    private static final int MANY = 300;
+    private static final int MODEL_BYTES = 50_000;
+    /** Limits by which a model of that size makes many blocks. */
+    private static final Blocks.Limits SMALL = new Blocks.Limits(6_000, 100_000, 160, 3);
+
+    private final Path program;
+    private final Path folder;
+    private final String kinds;
+    private int stores;
+
+    private ClientsTest(Path program, Path folder, Path tests) {
+        this.program = program;
+        this.folder = folder;
+        kinds = tests.resolve("kinds.ecore").toString();
+    }
+
+    /** The words: the built program, an empty folder, and the folder of the tests. */
+    public static void main(String[] words) throws IOException {
+        ClientsTest test = new ClientsTest(Path.of(words[0]), Path.of(words[1]), Path.of(words[2]));
+        test.metamodels();
+        test.models();
+        test.edits();
+        test.conflicts();
+        test.refusals();
+    }
+
+    /** Each of EMF's metamodels is one of the program, and what it hasn't is named. */
+    private void metamodels() throws IOException {
+        for (String name : OF_EMF) {
+            start(profile(ofEmf(name))).close();
+        }
+        List<String> wanted = Files.readAllLines(Path.of(kinds.replace(".ecore", ".remarks")));
+        check(profile(kinds).remarks().equals(wanted), "remarks on kinds.ecore: " + profile(kinds).remarks());
+        tell(OF_EMF.size() + 1 + " metamodels");
+    }
+
+    /** Models go in and come out equal, also in many blocks. */
+    private void models() throws IOException {
+        model("Ecore", ofEmf("Ecore"), ofEmf("Ecore"));
+        for (String name : List.of("Change", "ExtendedMetaData")) {
+            model(name, ofEmf(name), randomModel(name, ofEmf(name)));
+        }
+    }
+
+    private void model(String name, String ecore, String model) throws IOException {
+        String first = roundTrip(ecore, model, Blocks.Limits.OF_PROGRAM, name + "1.xmi");
+        roundTrip(ecore, first, SMALL, name + "2.xmi");
+        tell("a model of " + name + ", " + Files.size(Path.of(first)) + " bytes of XMI");
+    }
+
+    /** Brings a model in, and what the program shows into a file; the file as EMF loads it must be equal to the model. */
+    private String roundTrip(String ecore, String model, Blocks.Limits limits, String file) throws IOException {
+        Metamodels metamodels = new Metamodels(List.of(ecore));
+        Profile profile = new Profile(metamodels.packages());
+        Resource original = metamodels.load(model);
+        Xmi2Script tool = new Xmi2Script(profile);
+        List<String> script = tool.script(original.getContents(), 1, limits);
+        check(tool.remarks().isEmpty(), model + ": " + tool.remarks());
+        try (Store store = start(profile)) {
+            store.send("checkout 0");
+            for (int i = 0; i < script.size(); i++) {
+                if (script.get(i).startsWith("import ")) {
+                    store.send(script.get(i), script.get(i + 1));
+                    i += 2;
+                } else {
+                    store.send(script.get(i));
+                }
+            }
+            XMLResource shown = metamodels.create(folder.resolve(file).toString());
+            String text = store.send("show 1").data().get(0);
+            check(text.length() >= MODEL_BYTES, file + ": " + text.length() + " bytes are few");
+            ModelFiller.fill(shown, profile, new Ids(), text);
+            shown.save(Map.of());
+            shown.getResourceSet().getResources().remove(shown);
+        }
+        String written = folder.resolve(file).toString();
+        checkEqual(original, metamodels.load(written), file);
+        return written;
+    }
+
+    /** A file with a model that random edits made. */
+    private String randomModel(String name, String ecore) throws IOException {
+        Metamodels metamodels = new Metamodels(List.of(ecore));
+        XMLResource model = metamodels.create(folder.resolve(name + ".xmi").toString());
+        Profile profile = new Profile(metamodels.packages());
+        RandomEdits edits = new RandomEdits(profile, model, 1, classes(profile, metamodels));
+        while (size(model) < MODEL_BYTES) {
+            for (int i = 0; i < EDITS_A_LOOK; i++) {
+                edits.edit(Integer.MAX_VALUE);
+            }
+            edits.putBack();
+            model.getContents().retainAll(ModelText.roots(model));
+        }
+        model.save(Map.of());
+        return folder.resolve(name + ".xmi").toString();
+    }
+
+    /** Random edits of a live resource: it, the program's text and a second resource filled from that are equal after each hundred. */
+    private void edits() throws IOException {
+        Metamodels metamodels = new Metamodels(List.of(kinds));
+        Profile profile = new Profile(metamodels.packages());
+        XMLResource live = metamodels.create(folder.resolve("live.xmi").toString());
+        RandomEdits edits = new RandomEdits(profile, live, 2, classes(profile, metamodels));
+        int refused = 0;
+        try (Store store = start(profile); Recorder recorder = Recorder.checkout(store, profile, "trunk", live)) {
+            for (int i = 1; i <= EDITS; i++) {
+                int most = i <= EDITS / 2 ? FEW : MANY;
+                try {
+                    if (i % EDITS_A_COMPOSITE == 0) {
+                        recorder.composite("several", () -> List.of(most, most, most).forEach(edits::edit));
+                    } else {
+                        edits.edit(most);
+                    }
+                } catch (RefusedException | IllegalArgumentException refusal) {
+                    refused++;
+                }
+                if (i % EDITS_A_LOOK == 0) {
+                    edits.putBack();
+                    checkShown(store, recorder, profile, live, "after " + i + " edits");
+                    recorder.commit(i + " edits");
+                }
+            }
+        }
+        tell(EDITS + " edits recorded, " + refused + " refused");
+        live.getContents().retainAll(ModelText.roots(live));
+        live.save(Map.of());
+        model("kinds", kinds, folder.resolve("live.xmi").toString());
+    }
+
+    /** Two people give one element a name, and one of them chooses: the first time mine, then theirs. What doesn't conflict stays. */
+    private void conflicts() throws IOException {
+        Metamodels metamodels = new Metamodels(List.of(kinds));
+        Profile profile = new Profile(metamodels.packages());
+        XMLResource ofAnn = metamodels.create("ann.xmi");
+        XMLResource ofBen = metamodels.create("ben.xmi");
+        try (Store store = start(profile); Recorder ann = Recorder.checkout(store, profile, "trunk", ofAnn)) {
+            ofAnn.getContents().add(create(profile, "Node", "door"));
+            ann.commit("a door");
+            Recorder ben = Recorder.checkout(store, profile, "trunk", ofBen);
+            for (Choice choice : Choice.values()) {
+                set(ofAnn.getContents().get(0), "name", "Ann's, " + choice);
+                ann.commit("hers");
+                set(ofBen.getContents().get(0), "name", "Ben's, " + choice);
+                ofBen.getContents().add(create(profile, "Node", "his own"));
+                checkRefused(24, () -> ben.commit("his"));
+                ben.update(bucket -> {
+                    check(bucket.equals(new Recorder.Bucket(1, List.of(1), List.of(1))), "another bucket: " + bucket);
+                    return choice;
+                });
+                String kept = choice == Choice.MINE ? "Ben's, " : "Ann's, ";
+                check(get(ofBen.getContents().get(0), "name").equals(kept + choice), "not " + kept + choice);
+                ben.commit("his");
+                ann.update(bucket -> choice);
+                check(ann.text().equals(ben.text()), "Ann and Ben have other models");
+                checkEqual(ofAnn, ofBen, "after " + choice);
+            }
+            check(ofAnn.getContents().size() == 1 + Choice.values().length, "an element is lost");
+        }
+        tell("a conflict resolved both ways");
+    }
+
+    /** Where a change is refused all of it is taken back, in the store and in the resource, and each element stays the object that it was. */
+    private void refusals() throws IOException {
+        Metamodels metamodels = new Metamodels(List.of(kinds));
+        Profile profile = new Profile(metamodels.packages());
+        XMLResource live = metamodels.create("live.xmi");
+        try (Store store = start(profile); Recorder recorder = Recorder.checkout(store, profile, "trunk", live)) {
+            EObject node = create(profile, "Node", "node");
+            EObject other = create(profile, "Values", "other");
+            live.getContents().addAll(List.of(node, other));
+            list(node, "few").addAll(List.of(create(profile, "Values", "1"), create(profile, "Values", "2")));
+            List<EObject> pair = List.of(create(profile, "Values", "3"), create(profile, "Values", "4"));
+            List<Runnable> edits = List.of(
+                    () -> list(node, "few").addAll(pair),
+                    () -> recorder.composite("both", () -> {
+                        set(node, "name", "x");
+                        list(node, "few").add(pair.get(0));
+                        list(node, "few").add(other);
+                    }),
+                    () -> list(node, "repeated").addAll(List.of(node, node)),
+                    () -> set(node, "name", "long".repeat(Store.LINE_BYTES)));
+            String text = recorder.text();
+            List<String> changes = store.send("changes 1").data();
+            List<EObject> few = List.copyOf(list(node, "few"));
+            for (int i = 0; i < edits.size(); i++) {
+                checkRefused(i < 2 ? 19 : 0, edits.get(i));
+                check(recorder.text().equals(text) && store.send("show 1").data().equals(List.of(text)), "change " + i + " is left in the model");
+                check(store.send("changes 1").data().equals(changes), "change " + i + " is recorded");
+                check(list(node, "few").equals(few) && live.getContents().equals(List.of(node, other)), "change " + i + " leaves other objects");
+            }
+            tell(edits.size() + " refusals");
+        }
+    }
+
+    /** Checks that the edit is refused by that number, or for 0 before it is sent. */
+    private static void checkRefused(int number, Runnable edit) {
+        try {
+            edit.run();
+        } catch (RefusedException refusal) {
+            check(refusal.reply().refusal() == number, "refused otherwise: " + refusal.getMessage());
+            return;
+        } catch (IllegalArgumentException refusal) {
+            check(number == 0, "refused otherwise: " + refusal.getMessage());
+            return;
+        }
+        throw new AssertionError("not refused by " + number);
+    }
+
+    private static EObject create(Profile profile, String owner, String name) {
+        EObject created = EcoreUtil.create(profile.classNamed(owner));
+        set(created, "name", name);
+        return created;
+    }
+
+    private static void set(EObject element, String feature, Object value) {
+        element.eSet(element.eClass().getEStructuralFeature(feature), value);
+    }
+
+    private static Object get(EObject element, String feature) {
+        return element.eGet(element.eClass().getEStructuralFeature(feature));
+    }
+
+    @SuppressWarnings("unchecked")
+    private static EList<EObject> list(EObject element, String feature) {
+        return (EList<EObject>) get(element, feature);
+    }
+
+    private void checkShown(Store store, Recorder recorder, Profile profile, XMLResource live, String when) throws IOException {
+        String text = store.send("show 1").data().get(0);
+        check(recorder.text().equals(text), when + " the program shows another model");
+        XMLResource second = new Metamodels(List.of(kinds)).create("second.xmi");
+        ModelFiller.fill(second, profile, new Ids(), text);
+        checkEqual(live, second, when);
+    }
+
+    private static void checkEqual(Resource first, Resource second, String where) {
+        check(EcoreUtil.equals(ModelText.roots(first), ModelText.roots(second)), where + ": the models differ");
+        TreeIterator<EObject> others = EcoreUtil.getAllContents(ModelText.roots(second));
+        for (TreeIterator<EObject> all = EcoreUtil.getAllContents(ModelText.roots(first)); all.hasNext(); ) {
+            String id = Ids.own(all.next());
+            String other = Ids.own(others.next());
+            check(id == null || id.equals(other), where + ": the id " + id + " is " + other);
+        }
+    }
+
+    private static List<EClass> classes(Profile profile, Metamodels metamodels) {
+        EObject whole = metamodels.packages().get(0);
+        return profile.classifiers().stream().filter(EClass.class::isInstance).map(EClass.class::cast)
+                .filter(it -> !it.isAbstract() && EcoreUtil.isAncestor(whole, it)).toList();
+    }
+
+    private static long size(XMLResource model) throws IOException {
+        long[] count = {0};
+        model.save(new OutputStream() {
+            @Override
+            public void write(int b) {
+                count[0]++;
+            }
+        }, Map.of());
+        return count[0];
+    }
+
+    private static Profile profile(String ecore) throws IOException {
+        return new Profile(new Metamodels(List.of(ecore)).packages());
+    }
+
+    /** A file with one of EMF's own metamodels, out of its libraries. */
+    private String ofEmf(String name) throws IOException {
+        Path file = folder.resolve(name + ".ecore");
+        if (Files.notExists(file)) {
+            try (InputStream found = ClientsTest.class.getResourceAsStream("/model/" + name + ".ecore")) {
+                Files.copy(found, file);
+            }
+        }
+        return file.toString();
+    }
+
+    /** The program over a new store, with a metamodel. */
+    private Store start(Profile profile) throws IOException {
+        Path place = Files.createDirectory(folder.resolve("store" + ++stores));
+        Store store = new Store(program, place);
+        store.send("init", new MetamodelText(profile).text());
+        return store;
+    }
+
+    private static void check(boolean holds, String otherwise) {
+        if (!holds) {
+            throw new AssertionError(otherwise);
+        }
+    }
+
+    private static void tell(String what) {
+        System.out.println(what);
+    }
+}
