@@ -1,0 +1,6 @@
+pub mod Evolved
+pub mod Extension
+pub mod Order
+pub mod Preserves
+pub mod Renumbered
+pub mod Same

@@ -1,0 +1,111 @@
+//! A metamodel in the place of another.
+ghost use Rattle.std.specs.Prelude.{◌≡◌, IfErr, IfOk, None, length};
+ghost use Rattle.std.specs.BTreeMap.{get_by_text};
+ghost use Rattle.ecore_meta.specs.Names.{Name};
+ghost use Rattle.metamodel_growth.specs.Evolved.{evolved, orders};
+ghost use Rattle.metamodel_growth.specs.Extension.{IsMissing, enum_named, missing};
+ghost use Rattle.metamodel_growth.specs.Order.{IsOrder};
+ghost use Rattle.metamodel_growth.specs.Preserves.{Preserves};
+
+use crate::fault::EvolveFault;
+use crate::found::{classes_in, enum_index, enums_in, features_in};
+use crate::missing::missing;
+use crate::moved::renumbered;
+use crate::order::{Order, Orders, begun_by};
+use ecore_meta::Metamodel;
+use std::alloc::{AllocError, Global};
+use std::collections::BTreeMap;
+
+/// The order of the classes of the new metamodel: first those of the old one.
+fn class_order(alloc: Global, old: &Metamodel, next: &Metamodel) -> Result<Order, AllocError>
+    ensures numbers { IfOk result (λ o. o ≡ (orders old.now next.now).classes) }
+    ensures order { IfOk result (λ o. IsOrder (length next.now.classes) o) }
+{
+    old.promised();
+    next.promised();
+    let first = classes_in(alloc, old, next)?;
+    let numbers = begun_by(alloc, first, next.class_count())?;
+    let order = Order::new(alloc, numbers)?;
+    Ok(order)
+}
+
+/// The same of its features.
+fn feature_order(alloc: Global, old: &Metamodel, next: &Metamodel) -> Result<Order, AllocError>
+    ensures numbers { IfOk result (λ o. o ≡ (orders old.now next.now).features) }
+    ensures order { IfOk result (λ o. IsOrder (length next.now.features) o) }
+{
+    old.promised();
+    next.promised();
+    let first = features_in(alloc, old, next)?;
+    let numbers = begun_by(alloc, first, next.feature_count())?;
+    let order = Order::new(alloc, numbers)?;
+    Ok(order)
+}
+
+/// The same of its enums.
+fn enum_order(
+    alloc: Global,
+    old: &Metamodel,
+    next: &Metamodel,
+    index: &BTreeMap<String, u32>,
+) -> Result<Order, AllocError>
+    requires { (q : Name) → get_by_text index.now q ≡ enum_named next.now q }
+    ensures numbers { IfOk result (λ o. o ≡ (orders old.now next.now).enums) }
+    ensures order { IfOk result (λ o. IsOrder (length next.now.enums) o) }
+{
+    old.promised();
+    next.promised();
+    let first = enums_in(alloc, old, next, index)?;
+    let numbers = begun_by(alloc, first, next.enum_count())?;
+    let order = Order::new(alloc, numbers)?;
+    Ok(order)
+}
+
+/// The new metamodel with the numbers of the old one.
+#[tactic(auto, unfolding(crate::specs::Evolved::evolved))]
+fn moved(
+    alloc: Global,
+    old: &Metamodel,
+    next: &Metamodel,
+    index: &BTreeMap<String, u32>,
+) -> Result<Metamodel, AllocError>
+    requires index { (q : Name) → get_by_text index.now q ≡ enum_named next.now q }
+    requires extends { missing old.now next.now ≡ None }
+    ensures evolved { IfOk result (λ m. m ≡ evolved old.now next.now) }
+    ensures preserves { IfOk result (λ m. Preserves old.now m) }
+{
+    old.promised();
+    next.promised();
+    let classes = class_order(alloc, old, next)?;
+    let features = feature_order(alloc, old, next)?;
+    let enums = enum_order(alloc, old, next, index)?;
+    let to = Orders {
+        classes,
+        features,
+        enums,
+    };
+    let parts = renumbered(alloc, next, &to)?;
+    // For how many classes and features there are.
+    let _classes = next.class_count();
+    let _features = next.feature_count();
+    let meta = Metamodel::of_parts(alloc, parts)?;
+    Ok(meta)
+}
+
+/// The new metamodel in the place of the old one, where it has all parts of the old one by name. Then what has its name in
+/// the old one gets its number there, and the others get the next numbers, in their order in the new one. Else the fault
+/// names the first part that the new one does not have: the URI comes first, then classes, enums and features, each by
+/// number. A class is kept with its flag, below what it was below; an enum with its literals, behind which more may come;
+/// a feature with its owner, its bounds and its kind.
+pub fn evolve(alloc: Global, old: &Metamodel, next: &Metamodel) -> Result<Metamodel, EvolveFault>
+    ensures evolved { IfOk result (λ m. m ≡ evolved old.now next.now) }
+    ensures extends { IfOk result (λ _. missing old.now next.now ≡ None) }
+    ensures preserves { IfOk result (λ m. Preserves old.now m) }
+    ensures fault { IfErr result (IsMissing (missing old.now next.now)) }
+{
+    let index = enum_index(alloc, next)?;
+    match missing(alloc, old, next, &index)? {
+        Some(name) => Err(EvolveFault::NotExtension { name }),
+        None => Ok(moved(alloc, old, next, &index)?),
+    }
+}

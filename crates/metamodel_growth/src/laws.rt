@@ -1,0 +1,7 @@
+//! The laws of metamodels that are the same: each is a function without a body, whose contract is the law.
+ghost use Rattle.metamodel_growth.specs.Same.{SameIsEqual};
+
+/// Two metamodels are the same part by part just where they are equal.
+pub fn law_of_same()
+    ensures { SameIsEqual }
+{}
