@@ -1,6 +1,8 @@
--- An event of another workspace leaves this one, and its model.
-use Rattle.std.proofs.Common.{◌≡◌, ◌≢◌, ℕ, ◌<◌, List, nat_eq, false, length, Option, None, Some, refl, sym, ◌∙◌, ap, subst, true≢false}
+-- An event of another workspace leaves this one, and its model; and an event is of one workspace at most.
+use Rattle.std.proofs.Common.{◌≡◌, ◌≢◌, ℕ, ◌<◌, List, nat_eq, true, false, length, Option, None, Some, refl, sym, ◌∙◌, ap, subst, true≢false}
 use Rattle.std.specs.Prelude.{IsTrue, unwrap_or, option_map}
+use Rattle.std.proofs.lemmas.Bool.{eqb-true}
+use Rattle.std.proofs.lemmas.Option.{same_Some}
 use Rattle.ecore_meta.specs.Meta.{Meta}
 use Rattle.model_state.specs.State.{nothing}
 use Rattle.model_state.specs.Steps.{fold}
@@ -20,12 +22,13 @@ use Rattle.plain_repository.specs.Local.{without_last, without_any}
 use Rattle.plain_repository.specs.Tidying.{tidied}
 use Rattle.plain_repository.specs.Merging.{updated, merged_with}
 use Rattle.plain_repository.specs.Events.{by_meta, effect, is_of, play, playable, playable_with}
-use Rattle.plain_repository.specs.Laws.{WorkspacesStayApart, ModelsStayApart}
+use Rattle.plain_repository.specs.Laws.{EventsAreOfOne, SomeAreOfNone, WorkspacesStayApart, ModelsStayApart}
 use Rattle.plain_repository.proofs.Encodings.{and_right}
+use Rattle.plain_repository.proofs.Kept.{same_meta}
 use Rattle.plain_repository.proofs.Places.{of_number, is_of_number, other_number, more_number}
 use Rattle.plain_repository.proofs.Reached.{in_order}
 
--- numbers that a test finds unequal differ
+-- numbers that a test finds same_workspace differ
 pub differ : (k n : ℕ) → nat_eq k n ≡ false → k ≢ n
 differ k n is e = true≢false (sym (heads.same_number k) ∙ ap (λ m. nat_eq k m) e ∙ is)
 
@@ -91,8 +94,41 @@ effect_leaves meta s w within (Update k letters) could = refl
 effect_leaves meta s w within (Merge k branch letters) could = refl
 effect_leaves meta s w within (Drop k) could = refl
 
+-- an event leaves the metamodel that is there
+pub meta_stays : (s : State) (meta now : Meta) (e : Event) → s.meta ≡ Some meta → IsTrue (playable s e) → (play s e).meta ≡ Some now → now ≡ meta
+unfolding play playable
+meta_stays s meta now e begun could is =
+    same_Some now meta (sym is ∙ same_meta s meta e (subst (λ (m : Option Meta). IsTrue (playable_with s m e)) begun (and_right _ (playable_with s s.meta e) could)) ∙ begun)
+
 pub models_stay_apart : ModelsStayApart
 unfolding play playable
-models_stay_apart s meta w t e could =
-    same_model meta (effect s e).history s.history w
-    (effect_leaves meta s w (in_order s meta w t).stands.base e (subst (λ (m : Option Meta). IsTrue (playable_with s m e)) t.in_state.begun (and_right _ (playable_with s s.meta e) could)))
+models_stay_apart s meta now w t e could is =
+    ap (λ (m : Meta). model_of m (play s e).history w) (meta_stays s meta now e t.in_state.begun could is) ∙ stays
+  where
+    stays : model_of meta (play s e).history w ≡ model_of meta s.history w
+    stays =
+        same_model meta (effect s e).history s.history w
+        (effect_leaves meta s w (in_order s meta w t).stands.base e (subst (λ (m : Option Meta). IsTrue (playable_with s m e)) t.in_state.begun (and_right _ (playable_with s s.meta e) could)))
+
+-- ---- which events are of a workspace
+same_workspace : (k ws n : ℕ) → nat_eq k ws ≡ true → nat_eq k n ≡ true → ws ≡ n
+same_workspace k ws n first second = sym (eqb-true k ws first) ∙ eqb-true k n second
+
+pub events_are_of_one : EventsAreOfOne
+events_are_of_one (Init text) ws n first second = absurd cc
+events_are_of_one (Checkout version branch) ws n first second = absurd cc
+events_are_of_one (Edit k operations) ws n first second = same_workspace k ws n first second
+events_are_of_one (Begin k name) ws n first second = same_workspace k ws n first second
+events_are_of_one (End k) ws n first second = same_workspace k ws n first second
+events_are_of_one (Undo k) ws n first second = same_workspace k ws n first second
+events_are_of_one (Discard k) ws n first second = same_workspace k ws n first second
+events_are_of_one (Tidy k) ws n first second = same_workspace k ws n first second
+events_are_of_one (Commit k message) ws n first second = same_workspace k ws n first second
+events_are_of_one (Branch k name) ws n first second = same_workspace k ws n first second
+events_are_of_one (Tag name version) ws n first second = absurd cc
+events_are_of_one (Update k letters) ws n first second = same_workspace k ws n first second
+events_are_of_one (Merge k branch letters) ws n first second = same_workspace k ws n first second
+events_are_of_one (Drop k) ws n first second = same_workspace k ws n first second
+
+pub some_are_of_none : SomeAreOfNone
+some_are_of_none = record { init = λ text ws. refl; checkout = λ version branch ws. refl; tag = λ name version ws. refl }

@@ -1,6 +1,6 @@
 -- The bytes of an event that could be made say which it is.
 use Rattle.std.proofs.Common.{◌≡◌, ℕ, ◌≤◌, nat_le, length-append, List, [], ◌∷◌, Bool, true, false, ◌&&◌, nat_lt, length, refl, sym, ◌∙◌, ap, subst, arith, append-nil}
-use Rattle.std.specs.Prelude.{IsTrue, map}
+use Rattle.std.specs.Prelude.{IsTrue, map, not}
 use Rattle.std.proofs.lemmas.Bool.{leb-true}
 use Rattle.byte_form.proofs.FieldLemmas.{apart}
 use Rattle.byte_form.specs.Fields.{text_encoding, u32_encoding}
@@ -23,6 +23,10 @@ and_left false b both = both
 pub and_right : (a b : Bool) → IsTrue (a && b) → IsTrue b
 and_right true b both = both
 and_right false b both = absurd cc
+
+pub not_so : (b : Bool) → not b ≡ true → b ≡ false
+not_so true is = absurd cc
+not_so false is = refl
 
 -- a text is shorter than the event of it
 pub text_shorter : (text : List ℕ) → length text ≤ length (event_encoding (Init text))

@@ -40,8 +40,9 @@ use Rattle.plain_repository.specs.Tidying.{tidied, can_tidy}
 use Rattle.plain_repository.specs.Merging.{update_buckets, updated, can_update, merge_buckets, merged_with, is_other_branch, has_theirs, can_merge}
 use Rattle.plain_repository.specs.Events.{by_meta, effect, play, playable, playable_with, are_playable}
 use Rattle.plain_repository.specs.Orderly.{RunsTo, Runs, steps_to, StandsInHistory, InOrder, HeadsLead, IfThere, Orderly, AllOrderly, IsOrderly}
-use Rattle.plain_repository.proofs.Encodings.{and_left, and_right, playable_is_event}
+use Rattle.plain_repository.proofs.Encodings.{and_left, and_right, not_so, playable_is_event}
 use Rattle.plain_repository.proofs.Merged.{tidied_led, updated_led, merged_led}
+use Rattle.plain_repository.proofs.Names.{split_last, first_names, version_names, branch_names, tag_names}
 use Rattle.plain_repository.proofs.Places.{both, at_number, all_weaker, number_changed, number_dropped}
 use Rattle.plain_repository.proofs.Recorded.{steps_append}
 use Rattle.plain_repository.proofs.Runs.{same_run, untouched_runs, more_runs, open_runs, closed_runs, last_runs, closed_steps_are}
@@ -78,7 +79,7 @@ more_in_order meta h more spelled w can r = by w.composite refl
 -- ---- events that leave the history
 -- what holds of the workspaces, with the history and the metamodel as they are
 with_workspaces : (meta : Meta) (s : State) (ws : List (Option Workspace)) → Orderly meta s → AllByRecursion (IfThere (InOrder meta s.history)) ws → Orderly meta (record s { workspaces = ws })
-with_workspaces meta s ws kept all = record { metamodel = kept.metamodel; whole = kept.whole; heads = kept.heads; versions = kept.versions; workspaces = all }
+with_workspaces meta s ws kept all = record { metamodel = kept.metamodel; whole = kept.whole; heads = kept.heads; names = kept.names; versions = kept.versions; workspaces = all }
 
 changed_kept : (meta : Meta) (s : State) (change : Workspace → Workspace) (k : ℕ) → Orderly meta s
     → ((w : Workspace) → workspace_of s k ≡ Some w → InOrder meta s.history w → InOrder meta s.history (change w)) → Orderly meta (with_changed change k s)
@@ -120,17 +121,6 @@ checkout_kept meta s version branch can kept =
     ))
 
 -- ---- events that change the history
--- an item of a list with one more after it
-split_last : {X : Type 0} (xs : List X) (y : X) (k : ℕ) (x : X) → slice_get (xs ++ y ∷ []) k ≡ Some x → (slice_get xs k ≡ Some x) ⊎ ((k ≡ length xs) × (y ≡ x))
-split_last [] y zero x is = inr (refl, cc)
-split_last [] y (suc k) x is = absurd cc
-split_last (z ∷ xs) y zero x is = inl is
-split_last (z ∷ xs) y (suc k) x is =
-    elim (split_last xs y k x is) [
-      | inl h ↦ inl h
-      | inr h ↦ inr (ap suc h.0, h.1)
-    ]
-
 -- a number below one more
 below_more : (v n : ℕ) → v < n + 1 → (v < n) ⊎ (v ≡ n)
 below_more v n within = by (nat_lt v n) refl
@@ -220,14 +210,15 @@ module _ (meta : Meta) (s : State) (kept : Orderly meta s) (message : List ℕ) 
     metamodel = kept.metamodel;
     whole = commit_whole;
     heads = commit_heads;
+    names = version_names s.history (version_of w message) kept.names;
     versions = commit_versions;
     workspaces = number_changed (InOrder meta h) (InOrder meta more) commit_others (committed n) s k
         (λ v at q. let same : w ≡ v = same_Some w v (sym there ∙ at) in subst (λ (u : Workspace). InOrder meta more (committed n u)) same (commit_itself w.composite refl)) kept.workspaces;
   }
 
 -- ---- Branch
-branch_kept : (meta : Meta) (s : State) → Orderly meta s → (name : List ℕ) (w : Workspace) → InOrder meta s.history w → (k : ℕ) → workspace_of s k ≡ Some w → Orderly meta (with_new_branch k name (Some w) s)
-branch_kept meta s kept name w r k there =
+branch_kept : (meta : Meta) (s : State) → Orderly meta s → (name : List ℕ) → is_name name ≡ true → is_new_branch s.history name ≡ true → (w : Workspace) → InOrder meta s.history w → (k : ℕ) → workspace_of s k ≡ Some w → Orderly meta (with_new_branch k name (Some w) s)
+branch_kept meta s kept name is new w r k there =
     let h : History = s.history in
     let more : History = with_branch h name w.base in
     let longer : length more.branches ≡ length h.branches + 1 = length-append h.branches (record { name = name; start = w.base } ∷ []) in
@@ -237,6 +228,7 @@ branch_kept meta s kept name w r k there =
       metamodel = kept.metamodel;
       whole = whole_branch h kept.whole name w.base r.stands.base;
       heads = λ v version at. subst (λ k. Contains (path h k) v) (sym (head_kept h name w.base version.branch (All-at (λ (v : Version). v.branch < length h.branches) h.versions v version at kept.whole.branches))) (kept.heads v version at);
+      names = branch_names h name w.base kept.names is new;
       versions = kept.versions;
       workspaces = number_changed (InOrder meta h) (InOrder meta more)
           (λ v q. record {
@@ -264,11 +256,12 @@ branch_kept meta s kept name w r k there =
     All-at P vs k v at all = subst P (get_or_from_slice_get vs k v v at) (all k v (slice_get_within vs k v at))
 
 -- ---- Tag
-tag_kept : (meta : Meta) (s : State) → Orderly meta s → (name : List ℕ) (version : ℕ) → version < length s.history.versions → Orderly meta (with_new_tag name version s)
-tag_kept meta s kept name version within = record {
+tag_kept : (meta : Meta) (s : State) → Orderly meta s → (name : List ℕ) (version : ℕ) → is_name name ≡ true → has_tag s.history name ≡ false → version < length s.history.versions → Orderly meta (with_new_tag name version s)
+tag_kept meta s kept name version is new within = record {
   metamodel = kept.metamodel;
   whole = whole_tag s.history kept.whole name version within;
   heads = kept.heads;
+  names = tag_names s.history name version kept.names is new;
   versions = kept.versions;
   workspaces = all_weaker (InOrder meta s.history) (InOrder meta (with_tag s.history name version)) (λ w q. record {
     stands = record { branch = q.stands.branch; base = q.stands.base; on_path = q.stands.on_path; pending = q.stands.pending };
@@ -286,6 +279,7 @@ first_kept meta s text is none = record {
   metamodel = read_holds text meta is;
   whole = whole_first;
   heads = first_heads;
+  names = first_names;
   versions = λ v within. let is_zero : 0 ≡ v = omega (arith, within) in subst (λ k. RunsTo meta first_history k) is_zero (record { model = nothing; run = refl; spelled = tt });
   workspaces = subst (AllByRecursion (IfThere (InOrder meta first_history))) (sym none) tt;
 }
@@ -334,9 +328,10 @@ commit_by meta s k message (Some w) there can kept =
     commit_kept meta s kept message w (at_number (InOrder meta s.history) s k w there kept.workspaces)
     (eqb-true w.base (head s.history w.branch) (and_left _ (is_closed (Some w)) first)) (and_right (nat_eq w.base (head s.history w.branch)) (is_closed (Some w)) first) k there
 
-branch_by : (meta : Meta) (s : State) (k : ℕ) (name : List ℕ) (o : Option Workspace) → workspace_of s k ≡ o → is_closed o ≡ true → Orderly meta s → Orderly meta (with_new_branch k name o s)
-branch_by meta s k name None there closed kept = absurd cc
-branch_by meta s k name (Some w) there closed kept = branch_kept meta s kept name w (at_number (InOrder meta s.history) s k w there kept.workspaces) k there
+branch_by : (meta : Meta) (s : State) (k : ℕ) (name : List ℕ) (o : Option Workspace) → is_name name ≡ true → is_new_branch s.history name ≡ true → workspace_of s k ≡ o → is_closed o ≡ true → Orderly meta s
+    → Orderly meta (with_new_branch k name o s)
+branch_by meta s k name None is new there closed kept = absurd cc
+branch_by meta s k name (Some w) is new there closed kept = branch_kept meta s kept name is new w (at_number (InOrder meta s.history) s k w there kept.workspaces) k there
 
 -- an event that could be made keeps all of it
 pub event_kept : (meta : Meta) (s : State) (e : Event) → s.meta ≡ Some meta → IsTrue (playable_with s (Some meta) e) → IsEvent e → Orderly meta s → Orderly meta (effect s e)
@@ -360,9 +355,14 @@ event_kept meta s (Tidy k) begun could spelled kept =
     subst (λ (m : Option Meta). Orderly meta (with_changed (by_meta m tidied) k s)) (sym begun)
     (changed_kept meta s (tidied meta) k kept (λ w at q. tidied_in_order meta s kept w (found s k (λ o. can_tidy meta o ≡ true) could w at) q))
 event_kept meta s (Commit k message) begun could spelled kept = commit_by meta s k message (workspace_of s k) refl could kept
-event_kept meta s (Branch k name) begun could spelled kept = branch_by meta s k name (workspace_of s k) refl (and_right (is_name name && is_new_branch s.history name) (is_closed (workspace_of s k)) could) kept
+event_kept meta s (Branch k name) begun could spelled kept =
+    let named = and_left (is_name name && is_new_branch s.history name) (is_closed (workspace_of s k)) could in
+    branch_by meta s k name (workspace_of s k) (and_left (is_name name) (is_new_branch s.history name) named) (and_right (is_name name) (is_new_branch s.history name) named) refl
+    (and_right (is_name name && is_new_branch s.history name) (is_closed (workspace_of s k)) could) kept
 event_kept meta s (Tag name version) begun could spelled kept =
-    tag_kept meta s kept name version (ltb-true version (length s.history.versions) (and_right (is_name name && not (has_tag s.history name)) (nat_lt version (length s.history.versions)) could))
+    let named = and_left (is_name name && not (has_tag s.history name)) (nat_lt version (length s.history.versions)) could in
+    tag_kept meta s kept name version (and_left (is_name name) (not (has_tag s.history name)) named) (not_so (has_tag s.history name) (and_right (is_name name) (not (has_tag s.history name)) named))
+    (ltb-true version (length s.history.versions) (and_right (is_name name && not (has_tag s.history name)) (nat_lt version (length s.history.versions)) could))
 event_kept meta s (Update k letters) begun could spelled kept =
     subst (λ (m : Option Meta). Orderly meta (with_changed (by_meta m (λ n. updated n s.history letters)) k s)) (sym begun)
     (changed_kept meta s (updated meta s.history letters) k kept (λ w at q. updated_in_order meta s kept letters w (found s k (λ o. can_update meta s.history letters o ≡ true) could w at) q))
@@ -420,7 +420,7 @@ effect_keeps s (Some meta) e is could spelled all =
 -- the numbers that every event raises are no part of it
 numbers_kept : (m : Option Meta) (s : State) (events end : ℕ) → AllOrderly m s → AllOrderly m (record s { events = events; end = end })
 numbers_kept None s events end all = all
-numbers_kept (Some meta) s events end all = record { metamodel = all.metamodel; whole = all.whole; heads = all.heads; versions = all.versions; workspaces = all.workspaces }
+numbers_kept (Some meta) s events end all = record { metamodel = all.metamodel; whole = all.whole; heads = all.heads; names = all.names; versions = all.versions; workspaces = all.workspaces }
 
 -- an event that could be made keeps all in order
 pub play_keeps : (s : State) (e : Event) → IsTrue (playable s e) → IsOrderly s → IsOrderly (play s e)

@@ -2,11 +2,16 @@ pub mod Apart
 pub mod Changing
 pub mod Commits
 pub mod DataLines
+pub mod Decided
+pub mod Effects
 pub mod Encodings
+pub mod Following
 pub mod Growth
 pub mod Kept
 pub mod Merged
 pub mod Merging
+pub mod Names
+pub mod Naming
 pub mod Numbers
 pub mod Places
 pub mod Reached

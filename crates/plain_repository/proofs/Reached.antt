@@ -1,6 +1,8 @@
 -- What holds in every state that events lead to.
-use Rattle.std.proofs.Common.{List, ◌++◌, Option, Some, sym, ◌∙◌, ap, subst}
+use Rattle.std.proofs.Common.{ℕ, List, ◌++◌, Option, Some, sym, ◌∙◌, ap, subst}
 use Rattle.std.specs.FinMap.{get}
+use Rattle.std.specs.List.{position}
+use Rattle.std.proofs.lemmas.Option.{same_Some}
 use Rattle.ecore_meta.specs.Meta.{Meta}
 use Rattle.ecore_meta.specs.Sound.{Sound}
 use Rattle.model_state.specs.Good.{Good}
@@ -8,13 +10,15 @@ use Rattle.model_state.specs.State as models
 use Rattle.model_state.specs.State.{nothing}
 use Rattle.model_laws.proofs.Start.{starts_good}
 use Rattle.model_laws.proofs.Runs.{steps_keep_good}
+use Rattle.history_tree.specs.Found.{is_tag_named}
 use Rattle.history_tree.specs.States.{state_of}
 use Rattle.state_form.specs.Spelled.{IsSpelled}
 use Rattle.state_form.proofs.Builds.{live_id}
 use Rattle.state_form.proofs.Keeps.{nothing_is_spelled, run_keeps}
 use Rattle.plain_repository.specs.State.{State, Workspace, empty, recorded_steps, model_of}
-use Rattle.plain_repository.specs.Laws.{StaysInOrder, AllIsInOrder, HasMetamodel, IsThere, OfModels, OfVersions, HasIds, ModelsAreDefined, VersionsAreDefined, MetamodelsHold, HistoriesAreWhole, WorkspacesStand}
+use Rattle.plain_repository.specs.Laws.{StaysInOrder, AllIsInOrder, HasMetamodel, IsThere, OfModels, OfVersions, HasIds, ModelsAreDefined, VersionsAreDefined, MetamodelsHold, HistoriesAreWhole, WorkspacesStand, BranchesAreNamed, TagsAreNamed, TagNamesDiffer}
 use Rattle.plain_repository.specs.Orderly.{IsRun, RunsTo, Runs, steps_to, InOrder, Orderly, AllOrderly, IsOrderly}
+use Rattle.plain_repository.proofs.Names.{first_found}
 use Rattle.plain_repository.proofs.Places.{at_number}
 use Rattle.plain_repository.proofs.Runs.{version_folded, version_model, workspace_folded, workspace_model}
 use Rattle.plain_repository.proofs.Kept.{played_keeps, play_keeps, empty_kept}
@@ -87,3 +91,17 @@ histories_are_whole s meta has = (kept s meta has).whole
 
 pub workspaces_stand : WorkspacesStand
 workspaces_stand s meta w t = (in_order s meta w t).stands
+
+-- ---- names
+pub branches_are_named : BranchesAreNamed
+branches_are_named s meta has k branch at = (kept s meta has).names.branches k branch at
+
+pub tags_are_named : TagsAreNamed
+tags_are_named s meta has k tag at =
+    let is = (kept s meta has).names.tags k tag at in
+    (is.0, first_found (is_tag_named tag.name) s.history.tags k tag is.1 at)
+
+pub tag_names_differ : TagNamesDiffer
+tag_names_differ s meta has k n tag other at there same =
+    let named = (kept s meta has).names.tags in
+    same_Some k n (sym (named k tag at).1 ∙ ap (λ (name : List ℕ). position (is_tag_named name) s.history.tags) same ∙ (named n other there).1)

@@ -20,7 +20,6 @@ use Rattle.plain_repository.specs.Repository.{decide_with, decide_command}
 use Rattle.plain_repository.specs.Laws.{IsThere, shown_as, LookAlike, ShownByOwn, ShownApart}
 use Rattle.plain_repository.proofs.Apart.{workspaces_stay_apart, effect_leaves}
 use Rattle.plain_repository.proofs.Encodings.{and_right}
-use Rattle.plain_repository.proofs.Kept.{same_meta}
 use Rattle.plain_repository.proofs.Reached.{in_order}
 
 -- what is shown of a model and of what is recorded
@@ -48,11 +47,11 @@ shown_by_own s t meta first second ws k w v here there a block more =
 
 pub shown_apart : ShownApart
 unfolding play playable
-shown_apart s meta has ws w there e could apart block =
+shown_apart s meta has ws w there e could apart stays block =
     let t : IsThere s meta w = record { in_state = has; ws = ws; there = there } in
     let could_with : IsTrue (playable_with s (Some meta) e) = subst (λ (m : Option Meta). IsTrue (playable_with s m e)) has.begun (and_right _ (playable_with s s.meta e) could) in
     let leaves = effect_leaves meta s w (in_order s meta w t).stands.base e could_with in
-    shown_by_own (play s e) s meta (same_meta s meta e could_with ∙ has.begun) has.begun ws ws w w (workspaces_stay_apart s ws w there e apart) there
+    shown_by_own (play s e) s meta stays has.begun ws ws w w (workspaces_stay_apart s ws w there e apart) there
     (record {
       operations = refl;
       composite = refl;

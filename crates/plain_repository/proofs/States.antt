@@ -10,7 +10,7 @@ use Rattle.op_form.specs.declared.event.Event.{Event}
 use Rattle.plain_repository.specs.State.{State, untouched}
 use Rattle.plain_repository.specs.Events.{effect, play, playable, playable_with}
 use Rattle.plain_repository.specs.Laws.{StatesStay}
-use Rattle.plain_repository.proofs.Apart.{effect_leaves}
+use Rattle.plain_repository.proofs.Apart.{effect_leaves, meta_stays}
 use Rattle.plain_repository.proofs.Encodings.{and_right}
 use Rattle.plain_repository.proofs.Growth.{grown}
 
@@ -27,5 +27,7 @@ effect_versions_stay meta s e could v within =
 
 pub states_stay : StatesStay
 unfolding play playable
-states_stay s meta has e could =
-    effect_state_stays meta s e (subst (λ (m : Option Meta). IsTrue (playable_with s m e)) has.begun (and_right _ (playable_with s s.meta e) could))
+states_stay s meta now has e could is v within = ap (λ (m : Meta). state_of m (play s e).history v) (meta_stays s meta now e has.begun could is) ∙ stays
+  where
+    stays : state_of meta (play s e).history v ≡ state_of meta s.history v
+    stays = effect_state_stays meta s e (subst (λ (m : Option Meta). IsTrue (playable_with s m e)) has.begun (and_right _ (playable_with s s.meta e) could)) v within

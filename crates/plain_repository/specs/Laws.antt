@@ -1,30 +1,39 @@
 -- What holds in every repository that events make.
-use Rattle.std.specs.Prelude.{◌≡◌, ◌≢◌, ◌↔◌, ℕ, ◌<◌, ◌≤◌, ◌||◌, List, [], ◌∷◌, ◌++◌, All, codes, map, take, Bool, true, false, Option, Some, None, IsTrue, length, slice_get}
+use Rattle.std.specs.Prelude.{◌≡◌, ◌≢◌, ◌↔◌, ℕ, ◌<◌, ◌≤◌, ◌||◌, List, [], ◌∷◌, ◌++◌, All, codes, map, take, Bool, true, false, Option, Some, None, Ok, IsTrue, length, slice_get}
 use Rattle.command_runs.specs.Runs.{played}
 use Rattle.ecore_meta.specs.Meta.{Meta}
 use Rattle.ecore_meta.specs.Promised.{IsMetamodel}
 use Rattle.model_state.specs.Ident.{is_id}
 use Rattle.model_state.specs.Keys.{IdBytes}
+use Rattle.model_state.specs.Names.{is_name}
 use Rattle.model_state.specs.State as models
 use Rattle.model_state.specs.State.{is_live}
 use Rattle.model_state.specs.declared.operation.Operation.{Operation}
+use Rattle.emfjson_model.specs.declared.doc.DocRow.{DocRow}
+use Rattle.emfjson_model.specs.Document.{doc_of}
+use Rattle.model_import.specs.Names.{AreNames, names_of}
+use Rattle.history_tree.specs.declared.version.Branch.{Branch}
+use Rattle.history_tree.specs.declared.version.Tag.{Tag}
 use Rattle.history_tree.specs.History.{History, head}
+use Rattle.history_tree.specs.Found.{branch_named, tag_named}
 use Rattle.history_tree.specs.States.{state_folded, state_of}
 use Rattle.history_tree.specs.Whole.{IsWhole}
 use Rattle.op_form.specs.declared.event.Event.{Event}
-use Rattle.op_form.specs.declared.event.Event.TheVariants.{Edit, Undo, Commit}
+use Rattle.op_form.specs.declared.event.Event.TheVariants.{Init, Checkout, Edit, Undo, Commit, Tag as MadeTag}
+use Rattle.op_form.specs.Formed.{is_event}
 use Rattle.script_lang.specs.declared.command.Command.{Command}
 use Rattle.script_lang.specs.declared.command.Command.TheVariants as commands
 use Rattle.script_lang.specs.declared.reply.Refusal.TheVariants as refusals
 use Rattle.script_lang.specs.declared.reply.Last.{Last}
 use Rattle.script_lang.specs.declared.reply.Last.TheVariants as last
 use Rattle.script_lang.specs.Reply.{last_line}
+use Rattle.script_lang.specs.Spelling.{IsCommand}
 use Rattle.script_lang.specs.Words.{is_word}
 use Rattle.plain_repository.specs.State.{State, Workspace, empty, workspace_of, folded, model_of}
 use Rattle.plain_repository.specs.Orderly.{IsOrderly, StandsInHistory}
 use Rattle.plain_repository.specs.Answers.{Decision, is_refusal}
 use Rattle.plain_repository.specs.Events.{effect, play, playable, are_playable, is_of}
-use Rattle.plain_repository.specs.Repository.{decide_command, decide_line}
+use Rattle.plain_repository.specs.Repository.{block_text, decide_command, decide_line}
 
 -- events that could be made lead to the state
 pub record IsReached (s : State) : Type 0 where
@@ -104,22 +113,53 @@ pub record Grows (before after : History) : Type 0 where
 abbrev pub HistoryOnlyGrows : Type 0
 HistoryOnlyGrows = (s : State) → IsOrderly s → (event : Event) → IsTrue (playable s event) → Grows s.history (play s event).history
 
--- no event that could be made changes the state of a version
+-- No event that could be made changes the state of a version. The state after it is said by the metamodel that is there then.
 abbrev pub StatesStay : Type 0
-StatesStay = (s : State) (meta : Meta) → HasMetamodel s meta → (event : Event) → IsTrue (playable s event) → (v : ℕ) → v < length s.history.versions → state_of meta (play s event).history v ≡ state_of meta s.history v
+StatesStay = (s : State) (meta now : Meta) → HasMetamodel s meta → (event : Event) → IsTrue (playable s event) → (play s event).meta ≡ Some now
+    → (v : ℕ) → v < length s.history.versions → state_of now (play s event).history v ≡ state_of meta s.history v
+
+-- the form of each branch's name is that of a name, and the branch of that name is this one; so no two branches have one name
+abbrev pub BranchesAreNamed : Type 0
+BranchesAreNamed = (s : State) (meta : Meta) → HasMetamodel s meta → (k : ℕ) (branch : Branch) → slice_get s.history.branches k ≡ Some branch
+    → (is_name branch.name ≡ true) × (branch_named s.history branch.name ≡ Some k)
+
+-- the form of each tag's name is that of a name, and the tag of that name is this one
+abbrev pub TagsAreNamed : Type 0
+TagsAreNamed = (s : State) (meta : Meta) → HasMetamodel s meta → (k : ℕ) (tag : Tag) → slice_get s.history.tags k ≡ Some tag
+    → (is_name tag.name ≡ true) × (tag_named s.history tag.name ≡ Some tag)
+
+-- no two tags have one name
+abbrev pub TagNamesDiffer : Type 0
+TagNamesDiffer = (s : State) (meta : Meta) → HasMetamodel s meta → (k n : ℕ) (tag other : Tag) → slice_get s.history.tags k ≡ Some tag → slice_get s.history.tags n ≡ Some other
+    → tag.name ≡ other.name → k ≡ n
 
 -- each event that could be made changes something beside the numbers that every event raises
 abbrev pub EventsChange : Type 0
 EventsChange = (s : State) (event : Event) → IsTrue (playable s event) → effect s event ≢ s
 
 -- ---- workspaces apart
+-- an event is one of one workspace at most
+abbrev pub EventsAreOfOne : Type 0
+EventsAreOfOne = (event : Event) (ws k : ℕ) → is_of ws event ≡ true → is_of k event ≡ true → ws ≡ k
+
+-- the event is one of no workspace
+abbrev pub IsOfNone : Event → Type 0
+IsOfNone event = (ws : ℕ) → is_of ws event ≡ false
+
+-- so are Init, Checkout and Tag
+pub record SomeAreOfNone : Type 0 where
+  pub init : (text : List ℕ) → IsOfNone (Init text)
+  pub checkout : (version branch : ℕ) → IsOfNone (Checkout version branch)
+  pub tag : (name : List ℕ) (version : ℕ) → IsOfNone (MadeTag name version)
+
 -- an event that is not of a workspace leaves its branch, base, operations, open composite and pending list
 abbrev pub WorkspacesStayApart : Type 0
 WorkspacesStayApart = (s : State) (ws : ℕ) (workspace : Workspace) → workspace_of s ws ≡ Some workspace → (event : Event) → is_of ws event ≡ false → workspace_of (play s event) ws ≡ Some workspace
 
--- and no event changes the model of a workspace that stays as it is
+-- And no event changes the model of a workspace that stays as it is. The model after it is said by the metamodel that is there then.
 abbrev pub ModelsStayApart : Type 0
-ModelsStayApart = (s : State) (meta : Meta) (workspace : Workspace) → IsThere s meta workspace → (event : Event) → IsTrue (playable s event) → model_of meta (play s event).history workspace ≡ model_of meta s.history workspace
+ModelsStayApart = (s : State) (meta now : Meta) (workspace : Workspace) → IsThere s meta workspace → (event : Event) → IsTrue (playable s event) → (play s event).meta ≡ Some now
+    → model_of now (play s event).history workspace ≡ model_of meta s.history workspace
 
 -- the replies to the commands that show a workspace
 abbrev pub shown_as : State → Option (List ℕ) → ℕ → List Decision
@@ -137,10 +177,10 @@ abbrev pub ShownByOwn : Type 0
 ShownByOwn = (s t : State) (meta : Meta) → s.meta ≡ Some meta → t.meta ≡ Some meta → (ws k : ℕ) (w v : Workspace) → workspace_of s ws ≡ Some w → workspace_of t k ≡ Some v → LookAlike meta s.history t.history w v
     → (block more : Option (List ℕ)) → shown_as s block ws ≡ shown_as t more k
 
--- so an event that is not of a workspace leaves what is shown of it
+-- So an event that is not of a workspace, and leaves the metamodel, leaves what is shown of the workspace.
 abbrev pub ShownApart : Type 0
 ShownApart = (s : State) (meta : Meta) → HasMetamodel s meta → (ws : ℕ) (w : Workspace) → workspace_of s ws ≡ Some w → (event : Event) → IsTrue (playable s event) → is_of ws event ≡ false
-    → (block : Option (List ℕ)) → shown_as (play s event) block ws ≡ shown_as s block ws
+    → (play s event).meta ≡ Some meta → (block : Option (List ℕ)) → shown_as (play s event) block ws ≡ shown_as s block ws
 
 -- no event takes a place of the list of workspaces away, so each checkout makes a new number
 abbrev pub NumbersOnlyGrow : Type 0
@@ -158,6 +198,24 @@ pub record NoneIfRefused (decision : Decision) : Type 0 where
 -- a line that is refused makes no event, so the repository and its file stay as they are
 abbrev pub RefusalsMakeNone : Type 0
 RefusalsMakeNone = (s : State) (line : List ℕ) (block : Option (List ℕ)) → NoneIfRefused (decide_line s line block)
+
+-- The ids that an import gives to the elements of its block have numbers of 64 bits. In a model of fewer than 2^64 - 1 ids it can
+-- give no others.
+abbrev pub GivesNumbers : State → Option (List ℕ) → Command → Type 0
+GivesNumbers s block (commands.Import ws) = (meta : Meta) (w : Workspace) (rows : List DocRow) → s.meta ≡ Some meta → workspace_of s ws ≡ Some w → doc_of meta (block_text block) ≡ Ok rows
+    → let m = model_of meta s.history w in AreNames m rows ws 1 rows (names_of m ws rows)
+GivesNumbers s block command = Unit {0}
+
+-- a command that a line can spell is answered with an event that has an encoding
+pub record MakesEvent (s : State) (block : Option (List ℕ)) (command : Command) (event : Event) : Type 0 where
+  pub form : IsCommand command
+  pub numbers : GivesNumbers s block command
+  pub makes : (decide_command s block command).event ≡ Some event
+  pub encoded : is_event event ≡ true
+
+-- in a state in order, such an event could be made
+abbrev pub DecidedCouldBe : Type 0
+DecidedCouldBe = (s : State) → IsOrderly s → (block : Option (List ℕ)) (command : Command) (event : Event) → MakesEvent s block command event → IsTrue (playable s event)
 
 -- the line begins as the last line of a reply does: with the bytes of `ok` or of `no`
 abbrev pub looks_last : List ℕ → Bool

@@ -5,6 +5,7 @@ pub mod Choices
 pub mod Commits
 pub mod Composites
 pub mod Edits
+pub mod EffectLaws
 pub mod Events
 pub mod Laws
 pub mod Lines

@@ -1,14 +1,19 @@
--- What every event keeps: a history that is whole, and steps that can be taken, of each version and in each workspace.
-use Rattle.std.specs.Prelude.{◌≡◌, ℕ, ◌<◌, List, [], ◌++◌, Option, None, Some, All, Contains, length, slice_get}
-use Rattle.std.specs.List.{AllByRecursion}
+-- What every event keeps: a history that is whole, names that differ, and steps that can be taken, of each version and in each
+-- workspace.
+use Rattle.std.specs.Prelude.{◌≡◌, ℕ, nat_eq, ◌<◌, List, [], ◌++◌, Bool, true, Option, None, Some, All, Contains, length, slice_get}
+use Rattle.std.specs.Cmp.Lexicographic.{pointwise}
+use Rattle.std.specs.List.{AllByRecursion, position}
 use Rattle.ecore_meta.specs.Meta.{Meta}
 use Rattle.ecore_meta.specs.Promised.{IsMetamodel}
+use Rattle.model_state.specs.Names.{is_name}
 use Rattle.model_state.specs.State as models
 use Rattle.model_state.specs.State.{nothing}
 use Rattle.model_state.specs.Steps.{fold}
 use Rattle.model_state.specs.Packages.{steps_all}
 use Rattle.model_state.specs.declared.step.Step.{Step}
 use Rattle.op_form.specs.Formed.{IsStep}
+use Rattle.history_tree.specs.declared.version.Branch.{Branch}
+use Rattle.history_tree.specs.declared.version.Tag.{Tag}
 use Rattle.history_tree.specs.declared.version.Version.{Version}
 use Rattle.history_tree.specs.History.{History, no_history, path, head}
 use Rattle.history_tree.specs.States.{operations_to}
@@ -49,6 +54,19 @@ pub record InOrder (meta : Meta) (h : History) (w : Workspace) : Type 0 where
 abbrev pub HeadsLead : History → Type 0
 HeadsLead h = (v : ℕ) (version : Version) → slice_get h.versions v ≡ Some version → Contains (path h (head h version.branch)) v
 
+-- the item has that name
+abbrev pub has_that_name : {X : Type 0} → (X → List ℕ) → List ℕ → X → Bool
+has_that_name name_of name x = pointwise nat_eq (name_of x) name
+
+-- the name of each item has the form of a name, and the item is the first that has it, so no two have one
+abbrev pub AreNamed : {X : Type 0} → (X → List ℕ) → List X → Type 0
+AreNamed name_of xs = (k : ℕ) (x : _) → slice_get xs k ≡ Some x → (is_name (name_of x) ≡ true) × (position (has_that_name name_of (name_of x)) xs ≡ Some k)
+
+-- so it is with branches, and with tags
+pub record HasNames (h : History) : Type 0 where
+  pub branches : AreNamed (λ (b : Branch). b.name) h.branches
+  pub tags : AreNamed (λ (t : Tag). t.name) h.tags
+
 -- what holds of a workspace, where it is there
 abbrev pub IfThere : (Workspace → Type 0) → Option Workspace → Type 0
 IfThere P None = Unit {0}
@@ -59,6 +77,7 @@ pub record Orderly (meta : Meta) (s : State) : Type 0 where
   pub metamodel : IsMetamodel meta
   pub whole : IsWhole s.history
   pub heads : HeadsLead s.history
+  pub names : HasNames s.history
   pub versions : (v : ℕ) → v < length s.history.versions → RunsTo meta s.history v
   pub workspaces : AllByRecursion (IfThere (InOrder meta s.history)) s.workspaces
 

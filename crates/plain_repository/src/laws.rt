@@ -1,7 +1,8 @@
 //! The laws of the plain repository: each is a function without a body, whose contract is the law.
 ghost use Rattle.model_state.specs.Good.{Good};
 ghost use Rattle.state_form.specs.Spelled.{IsSpelled};
-ghost use Rattle.plain_repository.specs.Laws.{StartsInOrder, StaysInOrder, AllIsInOrder, OfModels, OfVersions, HasIds, ModelsAreDefined, VersionsAreDefined, MetamodelsHold, HistoriesAreWhole, WorkspacesStand, HistoryOnlyGrows, StatesStay, WorkspacesStayApart, ModelsStayApart, NumbersOnlyGrow, DroppedStayDropped, RefusalsMakeNone, LastLinesLook, DataLinesAreApart, EventsChange, CommitsAreStale, UndoGivesBack, CommitsKeepModels, ShownByOwn, ShownApart};
+ghost use Rattle.plain_repository.specs.Laws.{StartsInOrder, StaysInOrder, AllIsInOrder, OfModels, OfVersions, HasIds, ModelsAreDefined, VersionsAreDefined, MetamodelsHold, HistoriesAreWhole, WorkspacesStand, HistoryOnlyGrows, StatesStay, BranchesAreNamed, TagsAreNamed, TagNamesDiffer, EventsAreOfOne, SomeAreOfNone, WorkspacesStayApart, ModelsStayApart, NumbersOnlyGrow, DroppedStayDropped, RefusalsMakeNone, DecidedCouldBe, LastLinesLook, DataLinesAreApart, EventsChange, CommitsAreStale, UndoGivesBack, CommitsKeepModels, ShownByOwn, ShownApart};
+ghost use Rattle.plain_repository.specs.EffectLaws.{CheckoutsShowVersions, BeginsKeepModels, EndsKeepModels, EndsAreUndone, DiscardsGoBack, DropsTakeAway, CommitsKeepStates, BranchesKeepModels, BranchesStartAtBases, TagsNameVersions};
 ghost use Rattle.plain_repository.specs.MergeLaws.{TidyingKeepsModels, UpdatesMerge, MergesMerge, MergesCount, RevertsTakeOut};
 
 /// The law of order: all is in order in the empty repository, and each event that could be made keeps it so. The other laws are
@@ -42,10 +43,21 @@ pub fn law_of_growth()
     ensures stand { WorkspacesStand }
 {}
 
-/// The law of workspaces apart: an event of another workspace leaves what is recorded in this one, and its model. The replies to
-/// `show`, `changes` and `validate` go by the metamodel, the state of the base and what is recorded in the workspace. So such an
-/// event leaves them. No number of a workspace is used again.
+/// The law of names: the names of branches and of tags have the form of names, and a name is that of one branch and of one tag at
+/// most. It finds that one.
+pub fn law_of_names()
+    ensures branches { BranchesAreNamed }
+    ensures tags { TagsAreNamed }
+    ensures differ { TagNamesDiffer }
+{}
+
+/// The law of workspaces apart: an event is of one workspace at most; Init, Checkout and Tag are of none. An event of another
+/// workspace leaves what is recorded in this one, and its model. The replies to `show`, `changes` and `validate` go by the metamodel,
+/// the state of the base and what is recorded in the workspace. So such an event leaves them, where it leaves the metamodel. No
+/// number of a workspace is used again.
 pub fn law_of_workspaces_apart()
+    ensures own { EventsAreOfOne }
+    ensures others { SomeAreOfNone }
     ensures workspaces { WorkspacesStayApart }
     ensures models { ModelsStayApart }
     ensures shown { ShownByOwn }
@@ -59,6 +71,28 @@ pub fn law_of_workspaces_apart()
 pub fn law_of_events()
     ensures none { RefusalsMakeNone }
     ensures change { EventsChange }
+{}
+
+/// The law of decisions: in a state in order, each event with an encoding that a command is answered with could be made there.
+pub fn law_of_decisions()
+    ensures could { DecidedCouldBe }
+{}
+
+/// The law of effects: a checkout shows the state of its version. The beginning and the end of a composite and a new branch leave
+/// the working model. A discard goes back to the state of the base, and one undo takes back a composite that was ended. A workspace
+/// that is dropped is gone. The working model of a workspace that is committed is the state of the new version. A new branch is
+/// found by its name, and its head is the workspace's base. The name of a new tag names its version.
+pub fn law_of_effects()
+    ensures checkouts { CheckoutsShowVersions }
+    ensures begins { BeginsKeepModels }
+    ensures ends { EndsKeepModels }
+    ensures composites { EndsAreUndone }
+    ensures discards { DiscardsGoBack }
+    ensures drops { DropsTakeAway }
+    ensures commits { CommitsKeepStates }
+    ensures models { BranchesKeepModels }
+    ensures branches { BranchesStartAtBases }
+    ensures tags { TagsNameVersions }
 {}
 
 /// The law of replies: the last line of a reply begins with `ok` or `no`. No data line begins so but those of

@@ -1,8 +1,14 @@
 -- By cases on the event.
-use Rattle.plain_repository.proofs.Apart.{workspaces_stay_apart, models_stay_apart}
+use Rattle.plain_repository.proofs.Apart.{events_are_of_one, some_are_of_none, workspaces_stay_apart, models_stay_apart}
 use Rattle.plain_repository.proofs.Numbers.{numbers_only_grow, dropped_stay_dropped}
 use Rattle.plain_repository.proofs.Shown.{shown_by_own, shown_apart}
 use Rattle.plain_repository.proofs.laws.law_of_workspaces_apart.Goals as goal
+
+pub returns-clause-own : goal.returns-clause-own
+returns-clause-own c = events_are_of_one
+
+pub returns-clause-others : goal.returns-clause-others
+returns-clause-others c = some_are_of_none
 
 pub returns-clause-workspaces : goal.returns-clause-workspaces
 returns-clause-workspaces c = workspaces_stay_apart
