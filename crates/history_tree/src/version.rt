@@ -22,6 +22,13 @@ pub struct Version {
     pub package: Package,
 }
 
+/// Who makes a version, and when: a number that the author gives, of any unit.
+#[derive(Drop)]
+pub struct Signature {
+    pub author: Text,
+    pub moment: u64,
+}
+
 /// A line of versions under a name, and the version where it starts.
 #[derive(Drop)]
 pub struct Branch {
