@@ -17,6 +17,7 @@ use Rattle.commit_journal.specs.declared.fit.Fit.TheVariants as fits
 use Rattle.op_form.specs.declared.event.Event.{Event}
 use Rattle.op_form.specs.declared.event.Event.TheVariants.{Commit, Signed}
 use Rattle.op_form.specs.Events.{event_encoding}
+use Rattle.op_form.specs.Formed.{is_event}
 use Rattle.script_lang.specs.declared.command.Command.TheVariants as commands
 use Rattle.script_lang.specs.declared.reply.Refusal.{Refusal}
 use Rattle.script_lang.specs.declared.reply.Refusal.TheVariants as refusals
@@ -53,13 +54,14 @@ no_same a b e = cc
 -- so an event for which there may be no room is not refused by it
 room_not : (s : State) (lines : List (List ℕ)) (words : List ℕ) (event : Event) (refusal : Refusal) → IsOfNoRoom refusal → Says (with_room s lines words event) refusal → ⊥
 unfolding with_room
-room_not s lines words event refusal other = by (nat_le most_events s.events) (fit_of s.end (length (event_encoding event)))
+room_not s lines words event refusal other = by (nat_le most_events s.events) (is_event event) (fit_of s.end (length (event_encoding event)))
   where
-    by : (full : Bool) (fit : Fit) → Says (cond full (refused refusals.HistoryFull) (by_fit fit lines words event)) refusal → ⊥
-    by true fit e = other.full (no_same refusals.HistoryFull refusal e)
-    by false fits.Yes e = cc
-    by false fits.TooLarge e = other.large (no_same refusals.TooLarge refusal e)
-    by false fits.Full e = other.journal (no_same refusals.JournalFull refusal e)
+    by : (full formed : Bool) (fit : Fit) → Says (cond full (refused refusals.HistoryFull) (cond formed (by_fit fit lines words event) (refused refusals.TooLarge))) refusal → ⊥
+    by true formed fit e = other.full (no_same refusals.HistoryFull refusal e)
+    by false false fit e = other.large (no_same refusals.TooLarge refusal e)
+    by false true fits.Yes e = cc
+    by false true fits.TooLarge e = other.large (no_same refusals.TooLarge refusal e)
+    by false true fits.Full e = other.journal (no_same refusals.JournalFull refusal e)
 
 stale_of_no_room : (base at : ℕ) → IsOfNoRoom (refusals.Stale base at)
 stale_of_no_room base at = record { full = λ e. cc; large = λ e. cc; journal = λ e. cc }

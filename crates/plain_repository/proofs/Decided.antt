@@ -80,9 +80,9 @@ use Rattle.plain_repository.proofs.Naming.{named_there}
 use Rattle.plain_repository.proofs.Reached.{in_order, kept, models_are_good}
 use Rattle.plain_repository.proofs.Reverting.{revert_follows}
 
--- an event of the decision could be made on the state, where it has an encoding
+-- an event of the decision could be made on the state
 record Could (s : State) (d : Decision) : Type 0 where
-  holds : (event : Event) → d.event ≡ Some event → is_event event ≡ true → IsTrue (playable s event)
+  holds : (event : Event) → d.event ≡ Some event → IsTrue (playable s event)
 
 -- ---- room
 below : (n m : ℕ) → nat_le m n ≡ false → nat_lt n m ≡ true
@@ -98,35 +98,34 @@ fit_short end n is = by (nat_lt most_bytes n) refl is
 
 -- an event that passes the test of its kind could be made where there is room for it
 fits_there : (s : State) (lines : List (List ℕ)) (words : List ℕ) (e : Event) → suits s.upgraded e ≡ true → playable_with s s.meta e ≡ true → (event : Event)
-    → (with_room s lines words e).event ≡ Some event → is_event event ≡ true
-    → IsTrue (playable s event)
+    → (with_room s lines words e).event ≡ Some event → IsTrue (playable s event)
 unfolding with_room playable
-fits_there s lines words e suited can event is formed = by (nat_le most_events s.events) refl (fit_of s.end (length (event_encoding e))) refl is
+fits_there s lines words e suited can event is = by (nat_le most_events s.events) refl (is_event e) refl (fit_of s.end (length (event_encoding e))) refl is
   where
-    fitting : nat_le most_events s.events ≡ false → fit_of s.end (length (event_encoding e)) ≡ fits.Yes → e ≡ event
+    fitting : nat_le most_events s.events ≡ false → is_event e ≡ true → fit_of s.end (length (event_encoding e)) ≡ fits.Yes → e ≡ event
         → (nat_lt s.events most_events && fits_record event && suits s.upgraded event && playable_with s s.meta event) ≡ true
-    fitting few fit same =
-        let spelled = subst (λ (x : Event). is_event x ≡ true) (sym same) formed in
-        let short = and_from (is_event e) (nat_le (length (event_encoding e)) most_bytes) spelled (fit_short s.end (length (event_encoding e)) fit) in
+    fitting few formed fit same =
+        let short = and_from (is_event e) (nat_le (length (event_encoding e)) most_bytes) formed (fit_short s.end (length (event_encoding e)) fit) in
         let room = and_from (nat_lt s.events most_events) (fits_record e) (below s.events most_events few) short in
         subst (λ (x : Event). (nat_lt s.events most_events && fits_record x && suits s.upgraded x && playable_with s s.meta x) ≡ true) same
         (and_from (nat_lt s.events most_events && fits_record e && suits s.upgraded e) (playable_with s s.meta e)
         (and_from (nat_lt s.events most_events && fits_record e) (suits s.upgraded e) room suited) can)
 
-    by : (full : Bool) → nat_le most_events s.events ≡ full → (fit : Fit) → fit_of s.end (length (event_encoding e)) ≡ fit
-        → (cond full (refused refusals.HistoryFull) (by_fit fit lines words e)).event ≡ Some event
+    by : (full : Bool) → nat_le most_events s.events ≡ full → (formed : Bool) → is_event e ≡ formed → (fit : Fit) → fit_of s.end (length (event_encoding e)) ≡ fit
+        → (cond full (refused refusals.HistoryFull) (cond formed (by_fit fit lines words e) (refused refusals.TooLarge))).event ≡ Some event
         → (nat_lt s.events most_events && fits_record event && suits s.upgraded event && playable_with s s.meta event) ≡ true
-    by true few fit fits_is is = absurd cc
-    by false few fits.Yes fits_is is = fitting few fits_is (same_Some e event is)
-    by false few fits.TooLarge fits_is is = absurd cc
-    by false few fits.Full fits_is is = absurd cc
+    by true few formed formed_is fit fits_is is = absurd cc
+    by false few false formed_is fit fits_is is = absurd cc
+    by false few true formed_is fits.Yes fits_is is = fitting few formed_is fits_is (same_Some e event is)
+    by false few true formed_is fits.TooLarge fits_is is = absurd cc
+    by false few true formed_is fits.Full fits_is is = absurd cc
 
 could_with : (s : State) (lines : List (List ℕ)) (words : List ℕ) (e : Event) → suits s.upgraded e ≡ true → playable_with s s.meta e ≡ true → Could s (with_room s lines words e)
 could_with s lines words e suited can = record { holds = fits_there s lines words e suited can }
 
 -- a decision without an event
 none : {s : State} {d : Decision} → d.event ≡ None → Could s d
-none without = record { holds = λ event is formed. absurd (none-some event (sym without ∙ is)) }
+none without = record { holds = λ event is. absurd (none-some event (sym without ∙ is)) }
 
 -- one of two decisions, by a test
 either : {s : State} (b : Bool) {x y : Decision} → (b ≡ true → Could s x) → (b ≡ false → Could s y) → Could s (if b then x else y)
@@ -493,7 +492,7 @@ module _ (s : State) (begun_none : s.meta ≡ None) where
 
 pub decided_could_be : DecidedCouldBe
 unfolding decide_command
-decided_could_be s orderly block command event made = (by s.meta refl).holds event made.makes made.encoded
+decided_could_be s orderly block command event made = (by s.meta refl).holds event made.makes
   where
     by : (m : Option Meta) → s.meta ≡ m → Could s (decide_with s m block command)
     by None is = before_could s is block command

@@ -42,7 +42,7 @@ use Rattle.op_reading.specs.declared.fault.FormFault.{FormFault}
 use Rattle.op_reading.specs.Packages.{package_at as package_form_at}
 use Rattle.op_form.specs.Events.{event_encoding}
 use Rattle.op_reading.specs.Events.{whole_of}
-use Rattle.op_form.specs.Formed.{is_package}
+use Rattle.op_form.specs.Formed.{is_event, is_package}
 use Rattle.script_lang.specs.declared.command.Command.{Command}
 use Rattle.script_lang.specs.declared.command.Command.TheVariants as commands
 use Rattle.script_lang.specs.Command.{command_of}
@@ -100,7 +100,9 @@ chosen_told (b ∷ bs) (Some letters) rest = either (are_choices letters (b ∷ 
 module _ (s : State) where
   room_for : (lines : List (List ℕ)) (words : List ℕ) (event : Event) → All Apart lines → Told false (with_room s lines words event)
   unfolding with_room
-  room_for lines words event all = either (nat_le most_events s.events) (silent refl refl) (fit_told (fit_of s.end (length (event_encoding event))) lines words event all)
+  room_for lines words event all =
+      either (nat_le most_events s.events) (silent refl refl)
+      (either (is_event event) (fit_told (fit_of s.end (length (event_encoding event))) lines words event all) (silent refl refl))
 
   room : (words : List ℕ) (event : Event) → Told false (with_room s [] words event)
   room words event = room_for [] words event no_lines

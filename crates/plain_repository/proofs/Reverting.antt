@@ -36,6 +36,7 @@ use Rattle.commit_journal.specs.declared.fit.Fit.TheVariants as fits
 use Rattle.op_form.specs.declared.event.Event.{Event}
 use Rattle.op_form.specs.declared.event.Event.TheVariants.{Edit}
 use Rattle.op_form.specs.Events.{event_encoding}
+use Rattle.op_form.specs.Formed.{is_event}
 use Rattle.script_lang.specs.declared.command.Command.TheVariants as commands
 use Rattle.script_lang.specs.declared.reply.Refusal.TheVariants as refusals
 use Rattle.plain_repository.specs.State.{State, Workspace, Composite as Open, workspace_of, recorded_steps, model_of, is_closed, is_open}
@@ -185,13 +186,14 @@ more_model meta h more w n r leads (Some c) is =
 -- an event for which there is room is the one that was asked for
 room_event : (s : State) (lines : List (List ℕ)) (words : List ℕ) (event made : Event) → (with_room s lines words event).event ≡ Some made → event ≡ made
 unfolding with_room
-room_event s lines words event made = by (nat_le most_events s.events) (fit_of s.end (length (event_encoding event)))
+room_event s lines words event made = by (nat_le most_events s.events) (is_event event) (fit_of s.end (length (event_encoding event)))
   where
-    by : (full : Bool) (fit : Fit) → (cond full (refused refusals.HistoryFull) (by_fit fit lines words event)).event ≡ Some made → event ≡ made
-    by true fit e = cc
-    by false fits.Yes e = cc
-    by false fits.TooLarge e = cc
-    by false fits.Full e = cc
+    by : (full formed : Bool) (fit : Fit) → (cond full (refused refusals.HistoryFull) (cond formed (by_fit fit lines words event) (refused refusals.TooLarge))).event ≡ Some made → event ≡ made
+    by true formed fit e = cc
+    by false false fit e = cc
+    by false true fits.Yes e = cc
+    by false true fits.TooLarge e = cc
+    by false true fits.Full e = cc
 
 -- what an accepted revert shows of its workspace and its version
 record Accepted (s : State) (meta : Meta) (ws v : ℕ) (w : Workspace) (event : Event) : Type 0 where

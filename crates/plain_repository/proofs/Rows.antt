@@ -1,12 +1,16 @@
 -- Worked rows: what the definitions say of a few lines, computed.
-use Rattle.std.proofs.Common.{◌≡◌, [], ◌∷◌, false, None, Some, refl, codes}
+use Rattle.std.proofs.Common.{◌≡◌, [], ◌∷◌, true, false, None, Some, refl, codes, arith}
 use Rattle.std.specs.Fmt.{digits}
 use lib.Utf8.{encode}
 use Rattle.byte_form.specs.Fields.{u32_encoding, u64_encoding, text_encoding}
 use Rattle.op_form.specs.Events.{event_encoding}
+use Rattle.op_form.specs.Formed.{is_event}
 use Rattle.op_form.specs.Packages.{package_encoding, operation_encoding}
 use Rattle.op_form.specs.Steps.{step_encoding}
 use Rattle.command_runs.specs.Runs.{played}
+use Rattle.std.specs.Str.{is_utf8}
+use Rattle.std.proofs.lemmas.Str.{is_utf8-from_IsUtf8, IsUtf8-from_ascii}
+use Rattle.std.proofs.lemmas.Str.Ascii.{IsAscii-nil, IsAscii-cons}
 use Rattle.ecore_meta.specs.Meta.{Meta}
 use Rattle.model_state.specs.declared.step.Step.TheVariants.{RerankPlace}
 use Rattle.model_state.specs.declared.operation.OpKind.TheVariants.{Move}
@@ -83,9 +87,12 @@ no_version : (meta : Meta) → said (four meta) (commands.Revert 2 9) ≡ last.N
 unfolding decide_command play decide_revert
 no_version meta = refl
 
+message_is : is_utf8 (codes "k") ≡ true
+message_is = is_utf8-from_IsUtf8 (codes "k") (IsUtf8-from_ascii (codes "k") (IsAscii-cons 107 [] (omega arith) IsAscii-nil))
+
 third : (meta : Meta) → said (four meta) (commands.Commit 2 (Some (codes "k"))) ≡ last.Ok (codes "3")
-unfolding decide_command play decide_commit with_room event_encoding u32_encoding u64_encoding text_encoding package_encoding operation_encoding step_encoding digits encode
-third meta = refl
+unfolding decide_command play decide_commit with_room is_event event_encoding u32_encoding u64_encoding text_encoding package_encoding operation_encoding step_encoding digits encode
+third meta = rw (said, message_is) refl
 
 -- paths and heads
 abbrev five : Meta → State
@@ -112,11 +119,11 @@ unfolding decide_command play decide_commit
 gone meta = refl
 
 checked_out : (meta : Meta) → said (five meta) (commands.Checkout (specs.Tag (codes "t"))) ≡ last.Ok (codes "3 1 trunk")
-unfolding decide_command play decide_checkout with_room event_encoding u32_encoding u64_encoding text_encoding package_encoding operation_encoding step_encoding digits
+unfolding decide_command play decide_checkout with_room is_event event_encoding u32_encoding u64_encoding text_encoding package_encoding operation_encoding step_encoding digits
 checked_out meta = refl
 
 on_dev : (meta : Meta) → said (five meta) (commands.Checkout (specs.Branch (codes "dev"))) ≡ last.Ok (codes "3 3 dev")
-unfolding decide_command play decide_checkout with_room event_encoding u32_encoding u64_encoding text_encoding package_encoding operation_encoding step_encoding digits
+unfolding decide_command play decide_checkout with_room is_event event_encoding u32_encoding u64_encoding text_encoding package_encoding operation_encoding step_encoding digits
 on_dev meta = refl
 
 -- a version is signed once the store is upgraded, and not before
@@ -127,10 +134,24 @@ old_form meta = refl
 abbrev upgraded : Meta → State
 upgraded meta = play (four meta) Upgrade
 
-unsigned : (meta : Meta) → said (upgraded meta) (commands.Commit 2 None) ≡ last.No refusals.Unsigned
+unauthor_is : is_utf8 (codes "ann") ≡ true
+author_is = is_utf8-from_IsUtf8 (codes "ann") (IsUtf8-from_ascii (codes "ann") (IsAscii-cons 97 (codes "nn") (omega arith)
+    (IsAscii-cons 110 (codes "n") (omega arith) (IsAscii-cons 110 [] (omega arith) IsAscii-nil))))
+
+nothing_is : is_utf8 [] ≡ true
+nothing_is = is_utf8-from_IsUtf8 [] (IsUtf8-from_ascii [] IsAscii-nil)
+
+signed : (meta : Meta) → said (upgraded meta) (commands.Commit 2 None) ≡ last.No refusals.Unsigned
 unfolding decide_command play decide_commit
 unsigned meta = refl
 
+author_is : is_utf8 (codes "ann") ≡ true
+author_is = is_utf8-from_IsUtf8 (codes "ann") (IsUtf8-from_ascii (codes "ann") (IsAscii-cons 97 (codes "nn") (omega arith)
+    (IsAscii-cons 110 (codes "n") (omega arith) (IsAscii-cons 110 [] (omega arith) IsAscii-nil))))
+
+nothing_is : is_utf8 [] ≡ true
+nothing_is = is_utf8-from_IsUtf8 [] (IsUtf8-from_ascii [] IsAscii-nil)
+
 signed : (meta : Meta) → said (upgraded meta) (commands.Signed 2 (codes "ann") 5 None) ≡ last.Ok (codes "3")
-unfolding decide_command play decide_signed with_room event_encoding u32_encoding u64_encoding text_encoding package_encoding operation_encoding step_encoding digits encode
-signed meta = refl
+unfolding decide_command play decide_signed with_room is_event event_encoding u32_encoding u64_encoding text_encoding package_encoding operation_encoding step_encoding digits encode
+signed meta = rw (said, author_is, nothing_is) refl

@@ -48,11 +48,12 @@ by_fit Yes lines words event = accepted lines words event
 by_fit TooLarge lines words event = refused refusals.TooLarge
 by_fit Full lines words event = refused refusals.JournalFull
 
--- the event is made where the history and the journal have room for it
+-- the event is made where the history and the journal have room for it; one that has no encoding is too large
 unfoldable pub with_room : State → List (List ℕ) → List ℕ → Event → Decision
 with_room s lines words event =
     if nat_le most_events s.events then refused refusals.HistoryFull
-    else by_fit (fit_of s.end (length (event_encoding event))) lines words event
+    else if is_event event then by_fit (fit_of s.end (length (event_encoding event))) lines words event
+    else refused refusals.TooLarge
 
 -- the last line is a refusal
 abbrev pub ends_refused : Last → Bool

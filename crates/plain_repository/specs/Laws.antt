@@ -23,7 +23,6 @@ use Rattle.history_tree.specs.States.{state_folded, state_of}
 use Rattle.history_tree.specs.Whole.{IsWhole}
 use Rattle.op_form.specs.declared.event.Event.{Event}
 use Rattle.op_form.specs.declared.event.Event.TheVariants.{Init, Checkout, Edit, Undo, Tag as MadeTag, Evolve, Upgrade, Signed}
-use Rattle.op_form.specs.Formed.{is_event}
 use Rattle.script_lang.specs.declared.command.Spec.{Spec}
 use Rattle.script_lang.specs.declared.command.Command.{Command}
 use Rattle.script_lang.specs.declared.command.Command.TheVariants as commands
@@ -227,12 +226,11 @@ GivesNumbers s block (commands.Import ws) = (meta : Meta) (w : Workspace) (rows 
     → let m = model_of meta s.history w in AreNames m rows ws 1 rows (names_of m ws rows)
 GivesNumbers s block command = Unit {0}
 
--- a command that a line can spell is answered with an event that has an encoding
+-- a command that a line can spell is answered with an event
 pub record MakesEvent (s : State) (block : Option (List ℕ)) (command : Command) (event : Event) : Type 0 where
   pub form : IsCommand command
   pub numbers : GivesNumbers s block command
   pub makes : (decide_command s block command).event ≡ Some event
-  pub encoded : is_event event ≡ true
 
 -- in a state in order, such an event could be made
 abbrev pub DecidedCouldBe : Type 0

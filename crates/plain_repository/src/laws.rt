@@ -73,7 +73,7 @@ pub fn law_of_events()
     ensures change { EventsChange }
 {}
 
-/// The law of decisions: in a state in order, each event with an encoding that a command is answered with could be made there.
+/// The law of decisions: in a state in order, each event that a command is answered with could be made there.
 pub fn law_of_decisions()
     ensures could { DecidedCouldBe }
 {}
