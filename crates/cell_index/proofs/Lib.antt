@@ -2,3 +2,4 @@ pub mod Rows
 pub mod Far
 pub mod Rises
 pub mod Touching
+pub mod NoneMeets

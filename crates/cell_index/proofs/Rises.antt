@@ -32,7 +32,7 @@ rise_low low high [] i inside h = absurd (omega (arith, inside))
 rise_low low high (x ∷ xs) zero inside h = h.0
 rise_low low high (x ∷ xs) (suc i) inside h = let first = h.0 in let rest = rise_low x high xs i (omega (arith, inside)) h.1 in omega (arith, first, rest)
 
-first_or_rest : (x : ℕ) (xs : List ℕ) (k : ℕ) → Contains (x ∷ xs) k → (x ≡ k) ⊎ Contains xs k
+pub first_or_rest : (x : ℕ) (xs : List ℕ) (k : ℕ) → Contains (x ∷ xs) k → (x ≡ k) ⊎ Contains xs k
 first_or_rest x xs k h = elim (Contains-append_cases (x ∷ []) xs k h) [
   | inl here ↦ inl (only here)
   | inr there ↦ inr there

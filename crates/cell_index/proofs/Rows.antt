@@ -1,4 +1,4 @@
--- Lists of places by slots, and flags.
+-- Lists of places by slots.
 use Rattle.std.proofs.Common.{◌≡◌, ℕ, zero, suc, ◌+◌, ◌<◌, ◌≤◌, Bool, List, [], ◌∷◌, ◌++◌, refl, sym, ap, subst, inl, inr, ◌∙◌, take, length, get_or, set, arith, length-set, ◌%◌}
 use Rattle.std.specs.List.{Contains}
 use Rattle.std.specs.Prelude.{◌⊎◌}
@@ -11,7 +11,7 @@ use Rattle.footprint.specs.declared.cell.Cell.{Cell as Held}
 use Rattle.footprint.specs.declared.cell.Print.{Print}
 use Rattle.footprint.specs.Prints.{seen}
 use Rattle.cell_index.specs.Keys.{cell_key}
-use Rattle.cell_index.specs.Near.{list_at, row_of, Listed, Wider, Grows, Marked}
+use Rattle.cell_index.specs.Near.{list_at, row_of, Listed, Wider}
 
 -- ---- what a loop has gone over
 pub taken : {X : Type 0} (xs : List X) (i : ℕ) (x y : X) → i < length xs → y ≡ get_or xs i y → Contains (take (i + 1) xs) x → Contains (take i xs) x ⊎ (y ≡ x)
@@ -93,10 +93,3 @@ print_more which t made prints i q cs low is all w put before k p below p_is = s
   where
     less : (k i : ℕ) → k < i + 1 → (k ≡ i → ⊥) → k < i
     less k i h f = same_or_not k i (λ e. absurd (f e)) (λ g. omega (arith, h, g))
-
--- ---- flags
-pub grows_on : (a b c : List Bool) → Grows a b → Grows b c → Grows a c
-grows_on a b c x y = record { size = y.size ∙ x.size; kept = λ k h. y.kept k (x.kept k h) }
-
-pub marked_on : (a b : List Bool) (places : List ℕ) → Grows a b → Marked a places → Marked b places
-marked_on a b places g h k in_places low = g.kept k (h k in_places (subst (λ n. k < n) g.size low))

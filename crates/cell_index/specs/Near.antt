@@ -1,5 +1,5 @@
 -- What an index of prints keeps, and what is near a print by it.
-use Rattle.std.specs.Prelude.{◌≡◌, ℕ, zero, suc, ◌<◌, ◌%◌, Bool, true, false, List, [], ◌∷◌, length, get_or}
+use Rattle.std.specs.Prelude.{◌≡◌, ℕ, zero, suc, ◌<◌, ◌%◌, Bool, true, List, [], ◌∷◌, length, get_or}
 use Rattle.std.specs.List.{Contains}
 use Rattle.std.specs.declared.vec.Vec.{Vec}
 use Rattle.std.specs.declared.alloc.Global.{Global}
@@ -9,6 +9,19 @@ use Rattle.footprint.specs.Interference.{cells_interfere}
 use Rattle.footprint.specs.Prints.{seen, cells}
 use Rattle.cell_index.specs.Keys.{cell_key}
 use Rattle.cell_index.specs.declared.listing.CellIndex.{CellIndex}
+
+-- the operations of the prints interfere
+abbrev pub prints_interfere : Print → Print → Bool
+prints_interfere p q = cells_interfere (cells p.writes) (cells p.reads) (cells q.writes) (cells q.reads)
+
+-- the operation at the place interferes with that of the print
+pub record IsMet (prints : List Print) (p : Print) (k : ℕ) : Type 0 where
+  pub low : k < length prints
+  pub meets : prints_interfere p (get_or prints k p) ≡ true
+
+-- so do those at all the places
+abbrev pub AllMet : List Print → Print → List ℕ → Type 0
+AllMet prints p places = (k : ℕ) → Contains places k → IsMet prints p k
 
 -- the list at the slot
 abbrev pub list_at : List (Vec ℕ Global) → ℕ → List ℕ
@@ -35,17 +48,3 @@ pub record Indexes (index : CellIndex) (prints : List Print) : Type 0 where
   pub some_readers : 0 < length index.readers.items
   pub writers : (k : ℕ) (p : Print) → k < length prints → p ≡ get_or prints k p → Listed index.writers.items p.writes k
   pub readers : (k : ℕ) (p : Print) → k < length prints → p ≡ get_or prints k p → Listed index.readers.items p.reads k
-
--- as many flags, and each that was set is
-pub record Grows (old new : List Bool) : Type 0 where
-  pub size : length new ≡ length old
-  pub kept : (k : ℕ) → get_or old k false ≡ true → get_or new k false ≡ true
-
--- the flags of the places are set
-abbrev pub Marked : List Bool → List ℕ → Type 0
-Marked flags places = (k : ℕ) → Contains places k → k < length flags → get_or flags k false ≡ true
-
--- of a print that interferes with the one at the place the flag is set
-pub record Near (p : Print) (prints : List Print) (flags : List Bool) : Type 0 where
-  pub size : length flags ≡ length prints
-  pub far : (k : ℕ) (q : Print) → k < length prints → q ≡ get_or prints k q → get_or flags k false ≡ false → cells_interfere (cells p.writes) (cells p.reads) (cells q.writes) (cells q.reads) ≡ false

@@ -4,10 +4,9 @@
 
 mod keys;
 mod listing;
-mod marking;
+mod meeting;
 mod seeking;
 mod staying;
 
-pub use listing::{CellIndex, index_of};
-pub use marking::{interferes_near, near};
+pub use listing::{CellIndex, index_of, lists_of};
 pub use staying::Standing;

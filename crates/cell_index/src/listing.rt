@@ -44,8 +44,8 @@ pub(crate) fn put_cells(
     Ok(())
 }
 
-/// A table of empty lists.
-pub(crate) fn lists_of(alloc: Global, size: usize) -> Result<Vec<Vec<u64>>, AllocError>
+/// A table of so many lists, all empty.
+pub fn lists_of(alloc: Global, size: usize) -> Result<Vec<Vec<u64>>, AllocError>
     ensures size { IfOk result (λ v. length v.items ≡ size) }
     ensures empty { IfOk result (λ v. (s : ℕ) → list_at v.items s ≡ []) }
 {

@@ -1,89 +1,167 @@
 //! The label of each operation: the place of the first operation of its component.
-ghost use Rattle.std.specs.Prelude.{◌≡◌, ℕ, suc, ◌+◌, ◌<◌, ◌∷◌, ◌||◌, List, false, IfOk, length, map, cond, get_or};
-ghost use Rattle.std.specs.List.{All};
+ghost use Rattle.std.specs.Prelude.{◌≡◌, ℕ, ◌+◌, ◌<◌, ◌++◌, ◌∷◌, [], List, true, false, IfOk, OnOk, length, set, get_or};
+ghost use Rattle.std.specs.List.{Contains};
 ghost use Rattle.ecore_meta.specs.Meta.{Meta};
 ghost use Rattle.model_state.specs.declared.operation.Operation.{Operation};
-ghost use Rattle.footprint.specs.Interference.{cells_interfere};
-ghost use Rattle.footprint.specs.Prints.{cells, shown, printed};
-ghost use Rattle.footprint.specs.Buckets.{labels, places};
+ghost use Rattle.footprint.specs.Prints.{shown, printed};
+ghost use Rattle.footprint.specs.Buckets.{labels};
 ghost use Rattle.cell_index.specs.Near.{Indexes};
-ghost use Rattle.conflict_buckets.specs.Hits.{AreHits};
+ghost use Rattle.conflict_buckets.specs.Spread.{AreLinked, AreSpread, Further};
 
-use cell_index::{CellIndex, index_of, interferes_near, near};
-use ecore_meta::List;
+use cell_index::{CellIndex, index_of};
 use footprint::Print;
 use std::alloc::{AllocError, Global};
 
-/// Whether a label is hit: it is already, or the two interfere, which those that aren't near don't.
-fn is_hit(already: bool, is_near: bool, a: &Print, b: &Print) -> bool
-    requires { is_near ≡ false → cells_interfere (cells a.now.writes) (cells a.now.reads) (cells b.now.writes) (cells b.now.reads) ≡ false }
-    ensures { result ≡ already || cells_interfere (cells a.now.writes) (cells a.now.reads) (cells b.now.writes) (cells b.now.reads) }
-{
-    already || interferes_near(is_near, a, b)
+/// Labels as they are spread from operation to operation.
+#[derive(Drop)]
+pub(crate) struct Labels {
+    /// The label of each operation. It is its own place until the operation is reached.
+    labels: Vec<u64>,
+    /// Whether an operation is reached, and has its label for good.
+    reached: Vec<bool>,
+    /// The places of those that are, in the order in which they were reached.
+    order: Vec<u64>,
 }
 
-/// Which labels of the later operations are those of operations that interfere with the one at i.
-fn hit_labels(
-    alloc: Global,
-    prints: &[Print],
-    i: usize,
-    later: &[u64],
-    index: &CellIndex,
-) -> Result<Vec<bool>, AllocError>
-    requires index { Indexes index.now prints.now }
-    requires place { i + 1 + length later.now ≡ length prints.now }
-    requires low { All (λ l. l < length later.now) later.now }
-    ensures size { IfOk result (λ h. length h.items ≡ length later.now) }
-    ensures hits { IfOk result (λ h. (meta : Meta) (ops : List Operation) → shown prints.now ≡ printed meta ops → AreHits meta ops i later.now h.items) }
+/// So many places, from 0.
+fn places_below(alloc: Global, size: usize) -> Result<Vec<u64>, AllocError>
+    ensures size { IfOk result (λ v. length v.items ≡ size) }
+    ensures own { IfOk result (λ v. (k : ℕ) → k < size → get_or v.items k 0 ≡ k) }
 {
-    let mut hit = vec![in alloc; false; later.len()]?;
-    let print = &prints[i];
-    let flags = near(alloc, index, print, prints.len())?;
-    let close = flags.as_slice();
-    for k in 0..later.len() {
-        let label = later[k] as usize;
-        hit[label] = is_hit(hit[label], close[i + 1 + k], print, &prints[i + 1 + k]);
+    let mut places = Vec::new(alloc);
+    for place in 0..size {
+        places.push(place as u64)?;
     }
-    Ok(hit)
+    Ok(places)
 }
 
-/// The labels once an operation stands before the labelled ones: its own, and theirs moved on, or taken in where they are hit.
-fn moved_labels(alloc: Global, hit: &[bool], later: &[u64]) -> Result<Vec<u64>, AllocError>
-    requires { All (λ l. l < length hit.now) later.now }
-    ensures { IfOk result (λ v. v.items ≡ 0 ∷ map (λ l. cond (get_or hit.now l false) 0 (suc l)) later.now) }
-{
-    let mut moved = vec![in alloc; 0]?;
-    for l in later {
-        moved.push(if hit[*l as usize] { 0 } else { *l + 1 })?;
+impl Labels {
+    /// No operation is reached yet.
+    fn new(alloc: Global, prints: &[Print]) -> Result<Labels, AllocError>
+        ensures { IfOk result (λ s. AreSpread prints.now 0 (length s.order.items) s.labels.items s.reached.items s.order.items) }
+    {
+        let labels = places_below(alloc, prints.len())?;
+        let reached = vec![in alloc; false; prints.len()]?;
+        Ok(Labels {
+            labels,
+            reached,
+            order: Vec::new(alloc),
+        })
     }
-    Ok(moved)
+
+    /// An operation is reached, and gets its label.
+    fn reach(&mut self, label: u64, place: u64) -> Result<(), AllocError>
+        requires labels { place < length self.old.labels.items }
+        requires reached { place < length self.old.reached.items }
+        ensures labels { OnOk result (self.new.labels.items ≡ set self.old.labels.items place label) }
+        ensures reached { OnOk result (self.new.reached.items ≡ set self.old.reached.items place true) }
+        ensures order { OnOk result (self.new.order.items ≡ self.old.order.items ++ place ∷ []) }
+    {
+        self.order.push(place)?;
+        self.labels[place as usize] = label;
+        self.reached[place as usize] = true;
+        Ok(())
+    }
+
+    /// The operation of a place that is linked with the label is reached, if it isn't yet.
+    fn reach_new(
+        &mut self,
+        prints: &[Print],
+        label: u64,
+        place: u64,
+        _at: usize,
+    ) -> Result<(), AllocError>
+        requires spread { AreSpread prints.now label _at self.old.labels.items self.old.reached.items self.old.order.items }
+        requires there { place < length prints.now }
+        requires linked { AreLinked prints.now label place }
+        ensures spread { OnOk result (AreSpread prints.now label _at self.new.labels.items self.new.reached.items self.new.order.items) }
+        ensures here { OnOk result (get_or self.new.reached.items place false ≡ true) }
+        ensures further { OnOk result (Further self.old.reached.items self.new.reached.items self.old.order.items self.new.order.items) }
+    {
+        if self.reached[place as usize] {
+            return Ok(());
+        }
+        self.reach(label, place)?;
+        Ok(())
+    }
+
+    /// All these are reached.
+    fn reach_all(
+        &mut self,
+        prints: &[Print],
+        label: u64,
+        near: &[u64],
+        _at: usize,
+    ) -> Result<(), AllocError>
+        requires spread { AreSpread prints.now label _at self.old.labels.items self.old.reached.items self.old.order.items }
+        requires there { (k : ℕ) → Contains near.now k → k < length prints.now }
+        requires linked { (k : ℕ) → Contains near.now k → AreLinked prints.now label k }
+        ensures spread { OnOk result (AreSpread prints.now label _at self.new.labels.items self.new.reached.items self.new.order.items) }
+        ensures all { OnOk result ((k : ℕ) → Contains near.now k → get_or self.new.reached.items k false ≡ true) }
+        ensures further { OnOk result (Further self.old.reached.items self.new.reached.items self.old.order.items self.new.order.items) }
+    {
+        for place in near {
+            self.reach_new(prints, label, *place, _at)?;
+        }
+        Ok(())
+    }
+
+    /// All that interfere with the operation at a place of the order are reached.
+    fn pass(
+        &mut self,
+        alloc: Global,
+        prints: &[Print],
+        index: &CellIndex,
+        label: u64,
+        at: usize,
+    ) -> Result<(), AllocError>
+        requires index { Indexes index.now prints.now }
+        requires spread { AreSpread prints.now label at self.old.labels.items self.old.reached.items self.old.order.items }
+        requires there { at < length self.old.order.items }
+        ensures spread { OnOk result (AreSpread prints.now label (at + 1) self.new.labels.items self.new.reached.items self.new.order.items) }
+        ensures further { OnOk result (Further self.old.reached.items self.new.reached.items self.old.order.items self.new.order.items) }
+    {
+        let place = self.order[at] as usize;
+        let near = index.met(alloc, prints, &prints[place], &self.reached)?;
+        self.reach_all(prints, label, &near, at)?;
+        Ok(())
+    }
+
+    /// All that are linked with the operation of a place are reached, and labelled by it. It does nothing where that one is reached already.
+    fn spread(
+        &mut self,
+        alloc: Global,
+        prints: &[Print],
+        index: &CellIndex,
+        start: u64,
+    ) -> Result<(), AllocError>
+        requires index { Indexes index.now prints.now }
+        requires spread { AreSpread prints.now start (length self.old.order.items) self.old.labels.items self.old.reached.items self.old.order.items }
+        requires there { start < length prints.now }
+        ensures { OnOk result (AreSpread prints.now (start + 1) (length self.new.order.items) self.new.labels.items self.new.reached.items self.new.order.items) }
+    {
+        if self.reached[start as usize] {
+            return Ok(());
+        }
+        let mut at = self.order.len();
+        self.reach_new(prints, start, start, at)?;
+        while at < self.order.len() {
+            self.pass(alloc, prints, index, start, at)?;
+            at += 1;
+        }
+        Ok(())
+    }
 }
 
-/// The label of each operation: the least place linked to it.
+/// The label of each operation: the least place linked to it. Each operation is passed once, and its cells looked up in the index.
 pub(crate) fn labels_of(alloc: Global, prints: &[Print]) -> Result<Vec<u64>, AllocError>
     ensures labels { IfOk result (λ v. (meta : Meta) (ops : List Operation) → shown prints.now ≡ printed meta ops → v.items ≡ labels meta ops) }
     ensures size { IfOk result (λ v. length v.items ≡ length prints.now) }
 {
     let index = index_of(alloc, prints)?;
-    let mut found = Vec::new(alloc);
-    let mut i = prints.len();
-    while i > 0 {
-        i -= 1;
-        let hit = hit_labels(alloc, prints, i, &found, &index)?;
-        found = moved_labels(alloc, &hit, &found)?;
+    let mut found = Labels::new(alloc, prints)?;
+    for start in 0..prints.len() {
+        found.spread(alloc, prints, &index, start as u64)?;
     }
-    Ok(found)
-}
-
-/// The places with the label, rising.
-pub(crate) fn places_of(alloc: Global, label: u64, found: &[u64]) -> Result<List<u64>, AllocError>
-    ensures { IfOk result (λ v. v ≡ places label found.now) }
-{
-    let mut at = List::new(alloc);
-    for (i, l) in found.iter().enumerate() {
-        if *l == label {
-            at.push(i as u64)?;
-        }
-    }
-    Ok(at)
+    Ok(found.labels)
 }

@@ -1,9 +1,10 @@
 -- The path of a version goes on from that of each version on it, and so do the operations.
-use Rattle.std.proofs.Common.{◌≡◌, ◌⊎◌, inl, inr, ℕ, zero, suc, ◌<◌, ◌≤◌, nat_lt, Bool, true, false, cond, List, [], ◌∷◌, ◌++◌, length, get_or, refl, sym, ◌∙◌, ap, subst, arith, append-nil, append_assoc}
+use Rattle.std.proofs.Common.{◌≡◌, ◌⊎◌, inl, inr, ℕ, zero, suc, ◌<◌, ◌≤◌, nat_lt, Bool, true, false, cond, List, [], ◌∷◌, ◌++◌, length, get_or, refl, sym, ◌∙◌, ap, subst, arith, append-nil, append_assoc, reverse}
 use Rattle.std.specs.Prelude.{All, Contains, Option, None, Some, slice_get}
 use Rattle.std.specs.List.{filter}
 use Rattle.std.proofs.lemmas.Bool.{ltb-true, ltb-false}
-use Rattle.std.proofs.lemmas.List.Elements.{All-cons, All-head, All-tail, All-contains, Contains-append_cases, Contains-append_left, Contains-push_cases, filter-append}
+use Rattle.std.proofs.lemmas.List.Elements.{All-cons, All-head, All-tail, All-weaker, All-contains, Contains-append_cases, Contains-append_left, Contains-push_cases, filter-append}
+use Rattle.std.proofs.lemmas.List.{reverse-append}
 use Rattle.std.proofs.lemmas.Option.{slice_get-get_or}
 use Rattle.history_tree.specs.declared.version.Version.{Version}
 use Rattle.history_tree.specs.History.{History, first_version, path}
@@ -76,6 +77,18 @@ on_path_low h whole u v there on = omega (arith, All-contains (λ w. w < suc v) 
 -- nothing comes after a version on its own path
 pub nothing_after : (h : History) → IsWhole h → (v : ℕ) → v < length h.versions → path_after h v v ≡ []
 nothing_after h whole v there = none_after v (path h v) (path_upto h whole v there)
+
+-- nor after a greater one
+pub nothing_past : (h : History) → IsWhole h → (u v : ℕ) → v < length h.versions → v ≤ u → path_after h u v ≡ []
+nothing_past h whole u v there low = none_after u (path h v) (All-weaker (λ w. w < suc v) (λ w. w < suc u) (λ w within. omega (arith, within, low)) (path h v) (path_upto h whole v there))
+
+-- as versions are found from the last one back, those that are left are of the parent's path
+pub after_further : (h : History) (u last v parent : ℕ) (back : List ℕ) → path h v ≡ path h parent ++ v ∷ [] → u < v → path_after h u last ≡ path_after h u v ++ reverse back → path_after h u last ≡ path_after h u parent ++ reverse (back ++ v ∷ [])
+after_further h u last v parent back further low so_far =
+    so_far
+    ∙ ap (λ us. us ++ reverse back) (ap (filter (λ w. nat_lt u w)) further ∙ one_after u (path h parent) v low)
+    ∙ append_assoc (path_after h u parent) (v ∷ []) (reverse back)
+    ∙ ap (λ us. path_after h u parent ++ us) (sym (reverse-append back (v ∷ [])))
 
 -- by what the path of the parent is
 splits_by : (h : History) → IsWhole h → (u v : ℕ) → v < length h.versions → ((p : ℕ) → p < v → p < length h.versions → Contains (path h p) u → path h p ≡ path h u ++ path_after h u p) → (v ≡ u) ⊎ ComesFrom h u v

@@ -20,8 +20,8 @@ fn flag_all(flags: &mut Vec<bool>, versions: &[u32])
 }
 
 impl History {
-    /// The parent of a version other than version 0.
-    fn parent_of(&self, v: u32) -> u32
+    /// The parent of a version other than version 0, whose path is the parent's and then the version itself.
+    pub fn parent_of(&self, v: u32) -> u32
         requires there { v < length self.now.history.versions }
         requires later { 0 < v }
         ensures path { path self.now.history v ≡ path self.now.history result ++ v ∷ [] }

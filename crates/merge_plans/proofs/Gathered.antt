@@ -1,10 +1,8 @@
--- Lists that grow by one item a turn: copies, what passes a test, what a function makes, and the operations of versions.
+-- Lists that grow by one item a turn: copies, what a function makes, and the operations of versions.
 use Rattle.std.proofs.Common.{◌≡◌, ℕ, suc, ◌+◌, ◌<◌, Bool, true, false, List, [], ◌∷◌, ◌++◌, map, length, take, refl, sym, ◌∙◌, ap, arith, append_assoc, append-nil}
-use Rattle.std.specs.List.{filter}
 use Rattle.std.proofs.Math.ListN.{get_or}
 use Rattle.std.proofs.Math.Seq.{take-suc}
 use Rattle.std.proofs.lemmas.List.{map-append}
-use Rattle.std.proofs.lemmas.List.Elements.{filter-append}
 use Rattle.model_state.specs.declared.operation.Operation.{Operation}
 use Rattle.history_tree.specs.declared.version.Version.{Version}
 use Rattle.history_tree.specs.States.{package_at, operations_of}
@@ -19,19 +17,6 @@ one_more xs i d within =
 pub copied_more : {A : Type 0} (start out new xs : List A) (i : ℕ) (d x : A) → i < length xs → out ≡ start ++ take i xs → new ≡ out ++ x ∷ [] → x ≡ get_or xs i d → new ≡ start ++ take (i + 1) xs
 copied_more start out new xs i d x within so_far pushed is =
     pushed ∙ ap (λ l. l ++ x ∷ []) so_far ∙ append_assoc start (take i xs) (x ∷ []) ∙ ap (λ l. start ++ l) (ap (λ y. take i xs ++ y ∷ []) is ∙ sym (one_more xs i d within))
-
-module _ (p : ℕ → Bool) (xs : List ℕ) (i d : ℕ) (within : i < length xs) where
-  alone : (b : Bool) → p (get_or xs i d) ≡ b → filter p (get_or xs i d ∷ []) ≡ elim b [ true ↦ get_or xs i d ∷ [] | false ↦ [] ]
-  alone true is = rw is refl
-  alone false is = rw is refl
-
-  pub passed : (out new : List ℕ) → p (get_or xs i d) ≡ true → out ≡ filter p (take i xs) → new ≡ out ++ get_or xs i d ∷ [] → new ≡ filter p (take (i + 1) xs)
-  passed out new is so_far pushed =
-      pushed ∙ ap (λ l. l ++ get_or xs i d ∷ []) so_far ∙ ap (λ l. filter p (take i xs) ++ l) (sym (alone true is)) ∙ sym (filter-append p (take i xs) (get_or xs i d ∷ [])) ∙ ap (filter p) (sym (one_more xs i d within))
-
-  pub skipped : (out : List ℕ) → p (get_or xs i d) ≡ false → out ≡ filter p (take i xs) → out ≡ filter p (take (i + 1) xs)
-  skipped out is so_far =
-      so_far ∙ sym (append-nil (filter p (take i xs))) ∙ ap (λ l. filter p (take i xs) ++ l) (sym (alone false is)) ∙ sym (filter-append p (take i xs) (get_or xs i d ∷ [])) ∙ ap (filter p) (sym (one_more xs i d within))
 
 pub mapped_more : {A B : Type 0} (f : A → B) (xs : List A) (out new : List B) (i : ℕ) (d : A) (y : B) → i < length xs → out ≡ map f (take i xs) → new ≡ out ++ y ∷ [] → y ≡ f (get_or xs i d) → new ≡ map f (take (i + 1) xs)
 mapped_more f xs out new i d y within so_far pushed is =

@@ -30,7 +30,7 @@ pub fn copy_operations(alloc: Global, operations: &[Operation]) -> Result<Packag
     Ok(out)
 }
 
-/// The versions on the path of `last` that come after `v`, in the order of the path.
+/// The versions on the path of `last` that come after `v`, in the order of the path. It goes back from `last` by parents, over these alone.
 pub fn path_after(
     alloc: Global,
     history: &History,
@@ -41,14 +41,15 @@ pub fn path_after(
     ensures path { IfOk result (λ us. us ≡ path_after history.now.history v last) }
     ensures there { IfOk result (λ us. All (λ u. u < length history.now.history.versions) us) }
 {
-    let path = history.path(alloc, last)?;
-    let mut after = List::new(alloc);
-    for u in path.as_slice() {
-        if *u > v {
-            after.push(*u)?;
-        }
+    history.whole();
+    let mut back = Vec::new(alloc);
+    let mut at = last;
+    while at > v {
+        back.push(at)?;
+        at = history.parent_of(at);
     }
-    Ok(after)
+    back.reverse();
+    Ok(List::from_vec(back))
 }
 
 /// Copies of the operations of the versions on the path of `last` that come after `v`, one version after another.

@@ -1,8 +1,9 @@
 //! The plan of an update and of a merge: two packages that begin at one model, and their buckets.
-ghost use Rattle.std.specs.Prelude.{◌≡◌, ◌<◌, ◌^◌, ◌-◌, All, IfOk, length, map, true};
+ghost use Rattle.std.specs.Prelude.{ℕ, List, ◌≡◌, ◌<◌, ◌^◌, ◌-◌, All, IfOk, length, map, true};
 ghost use Rattle.footprint.specs.Buckets.{buckets as buckets_of};
 ghost use Rattle.tidy_laws.specs.Tidy.{tidy as tidy_of};
 ghost use Rattle.merge_laws.specs.Merge.{merge_list, update_list};
+ghost use Rattle.history_tree.specs.MergeBase.{merge_base};
 ghost use Rattle.merge_plans.specs.Choices.{are_choices, side_of};
 ghost use Rattle.merge_plans.specs.Plans.{incoming, mine_of, theirs_of};
 
@@ -62,21 +63,20 @@ pub fn plan_update(
     })
 }
 
-/// The operations that lead from where a merge begins to the working model.
+/// The operations that lead from where a merge begins to the working model. It begins at `start`.
 fn mine_from(
     alloc: Global,
     history: &History,
     base: u32,
-    pending: &List<u32>,
+    start: u32,
     local: &[Operation],
     other: u32,
 ) -> Result<Package, AllocError>
     requires base { base < length history.now.history.versions }
     requires other { other < length history.now.history.versions }
-    requires pending { All (λ v. v < length history.now.history.versions) pending.now }
-    ensures { IfOk result (λ p. p ≡ mine_of history.now.history base pending.now local.now other) }
+    requires start { start < length history.now.history.versions }
+    ensures { IfOk result (λ p. (pending : List ℕ) → start ≡ merge_base history.now.history base pending other → p ≡ mine_of history.now.history base pending local.now other) }
 {
-    let start = history.merge_base(alloc, base, pending, other)?;
     let common = history.last_common(base, other);
     let taken = operations_after(alloc, history, common, start)?;
     let mut mine = reverse(alloc, &taken)?;
@@ -107,7 +107,7 @@ pub fn plan_merge(
 {
     let start = history.merge_base(alloc, base, pending, other)?;
     let theirs = operations_after(alloc, history, start, other)?;
-    let mine = mine_from(alloc, history, base, pending, local, other)?;
+    let mine = mine_from(alloc, history, base, start, local, other)?;
     let mine = tidy(alloc, &mine, meta)?;
     let buckets = buckets(alloc, &theirs, &mine, meta)?;
     numbered(meta, &theirs, &mine, &buckets);

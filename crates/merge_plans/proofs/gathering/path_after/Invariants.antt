@@ -1,7 +1,13 @@
--- those gone over that come after the version
-use Rattle.std.proofs.Common.{◌≡◌, nat_lt, take}
-use Rattle.std.specs.List.{filter}
+-- those that come after the version are those on the path that is left, and then those found
+use Rattle.std.proofs.Common.{◌≡◌, ◌<◌, ◌++◌, length, reverse}
+use Rattle.history_tree.specs.Since.{path_after}
 use Rattle.merge_plans.proofs.gathering.path_after.Given as goal
 
-abbrev pub invariant-loop-u : goal.invariant-loop-u
-invariant-loop-u l = l.after ≡ filter (λ u. nat_lt l.v u) (take l.u-index l.u-items)
+abbrev pub invariant-loop-at : goal.invariant-loop-at
+invariant-loop-at l = record {
+  there : l.at < length l.history.history.versions;
+  found : path_after l.history.history l.v l.last ≡ path_after l.history.history l.v l.at ++ reverse l.back.items;
+}
+
+abbrev pub decreases-loop-at : goal.decreases-loop-at
+decreases-loop-at l = l.at

@@ -1,5 +1,6 @@
-use Rattle.std.proofs.Common.{◌≡◌, ℕ, Bool, [], Option, sym, ◌∙◌, ap, slice_index_or, refl}
+use Rattle.std.proofs.Common.{◌≡◌, ℕ, Bool, List, [], Option, sym, ◌∙◌, ap, slice_index_or, refl}
 use Rattle.std.specs.Option.{option_map_or}
+use Rattle.model_state.specs.declared.operation.Operation.{Operation}
 use Rattle.history_tree.specs.declared.version.Version.{Version}
 use Rattle.history_tree.specs.States.{package_at}
 use Rattle.merge_plans.specs.Pairs.{have_pair}
@@ -15,8 +16,8 @@ returns-then-branch c =
     let us = c.args.versions.now in
     let i = c.loop-u.u-index in
     let p : ℕ → Bool = λ u. have_pair c.args.meta.now c.args.operations.now (package_at vs u) in
-    let at : package_at vs (slice_index_or us i 0) ≡ c.version.result.now.«package» = ap (λ (o : Option Version). option_map_or (λ v. v.«package») o []) c.version.ensures.version in
-    record { first = sym (found_here p us i 0 c.loop-u-test.true c.loop-u.invariant (ap (have_pair c.args.meta.now c.args.operations.now) at ∙ sym c.in_ok-have_pair.ensures.found ∙ c.if-branch.true)) }
+    let at : package_at vs (slice_index_or us i 0) ≡ c.as_slice-others.result.now = ap (λ (o : Option Version). option_map_or (λ v. v.«package») o []) c.version.ensures.version ∙ sym c.as_slice-others.ensures in
+    record { first = sym (found_here p us i 0 c.loop-u-test.true c.loop-u.invariant (ap (have_pair c.args.meta.now c.args.operations.now) at ∙ sym c.in_ok-interferes_with.ensures.found ∙ c.if-branch.true)) }
 
 pub loop-u-preserved : goal.loop-u-preserved
 loop-u-preserved c =
@@ -24,5 +25,5 @@ loop-u-preserved c =
     let us = c.args.versions.now in
     let i = c.loop-u.u-index in
     let p : ℕ → Bool = λ u. have_pair c.args.meta.now c.args.operations.now (package_at vs u) in
-    let at : package_at vs (slice_index_or us i 0) ≡ c.version.result.now.«package» = ap (λ (o : Option Version). option_map_or (λ v. v.«package») o []) c.version.ensures.version in
-    found_later p us i 0 c.loop-u-test.true c.loop-u.invariant (ap (have_pair c.args.meta.now c.args.operations.now) at ∙ sym c.in_ok-have_pair.ensures.found ∙ c.if-branch.false)
+    let at : package_at vs (slice_index_or us i 0) ≡ c.as_slice-others.result.now = ap (λ (o : Option Version). option_map_or (λ v. v.«package») o []) c.version.ensures.version ∙ sym c.as_slice-others.ensures in
+    found_later p us i 0 c.loop-u-test.true c.loop-u.invariant (ap (have_pair c.args.meta.now c.args.operations.now) at ∙ sym c.in_ok-interferes_with.ensures.found ∙ c.if-branch.false)

@@ -1,0 +1,17 @@
+-- the operation that all start from is linked with itself
+use Rattle.std.proofs.Common.{◌≤◌, length, arith}
+use Rattle.bucket_laws.specs.Classes.{here}
+use Rattle.conflict_buckets.proofs.Spreading.{start_on}
+use Rattle.conflict_buckets.proofs.labelling.Labels.spread.Goals as goal
+
+pub reach_new-requires-clause-linked : goal.reach_new-requires-clause-linked
+reach_new-requires-clause-linked c = λ meta ops shows. here
+
+pub returns : goal.returns
+returns c =
+    let order = c.loop-at.self.order.items in
+    let size = c.len.ensures in
+    let long = c.loop-at.self.order.ok.0 in
+    let over = c.loop-at-test.false in
+    let past : length order ≤ c.loop-at.at = omega (arith, size, long, over) in
+    start_on c.args.prints.now c.args.start c.loop-at.at c.loop-at.self.labels.items c.loop-at.self.reached.items order c.loop-at.invariant.spread past c.loop-at.invariant.here
