@@ -1,7 +1,8 @@
 -- What one metamodel has of another, by names.
-use Rattle.std.specs.Prelude.{◌≡◌, ℕ, Bool, true, false, List, [], ◌∷◌, ◌++◌, ◌&&◌, Option, None, Some, cond, codes, map, nat_eq, slice_get, length}
+use Rattle.std.specs.Prelude.{String, ◌≡◌, ℕ, Bool, true, false, List, [], ◌∷◌, ◌++◌, ◌&&◌, Option, None, Some, cond, codes, map, nat_eq, slice_get, length}
 use Rattle.metamodel_growth.specs.declared.fault.EvolveFault.{EvolveFault}
 use Rattle.metamodel_growth.specs.declared.fault.EvolveFault.TheVariants.{Memory, NotExtension}
+use Rattle.std.specs.BTreeMap.{BTreeMap, get_by_text}
 use Rattle.std.specs.List.{list_all, range_with_len}
 use Rattle.std.specs.Option.{option_and_then, option_map_or}
 use Rattle.std.specs.Str.{bytes_eq}
@@ -38,6 +39,10 @@ owner_name meta f = option_map_or (class_name meta) (owner_of meta f) []
 -- the enum of that name
 abbrev pub enum_named : Meta → Name → Option ℕ
 enum_named meta q = number_of q (map (λ x. x.name) meta.enums)
+
+-- the index has the number of each enum under its name
+abbrev pub IsEnumIndex : {Y : Type 0} → BTreeMap (String Y) ℕ → Meta → Type 0
+IsEnumIndex index meta = (q : Name) → get_by_text index q ≡ enum_named meta q
 
 -- the feature of that name that the class declares
 abbrev pub declared_named : Meta → ℕ → Name → Option ℕ

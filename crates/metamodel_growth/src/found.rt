@@ -7,7 +7,7 @@ ghost use Rattle.ecore_meta.specs.Ends.{owner_of};
 ghost use Rattle.ecore_meta.specs.Names.{Name};
 ghost use Rattle.ecore_meta.specs.Values.{or_else};
 ghost use Rattle.finite_maps.specs.Equal.{option_eq};
-ghost use Rattle.metamodel_growth.specs.Extension.{class_in, declared_named, enum_in, enum_named, feature_in};
+ghost use Rattle.metamodel_growth.specs.Extension.{IsEnumIndex, class_in, declared_named, enum_in, feature_in};
 
 use crate::names::{class_name, enum_name, feature_name, owner_name, owner_of};
 use ecore_meta::Metamodel;
@@ -36,7 +36,7 @@ pub(crate) fn enum_index(
     alloc: Global,
     meta: &Metamodel,
 ) -> Result<BTreeMap<String, u32>, AllocError>
-    ensures { IfOk result (λ m. (q : Name) → get_by_text m q ≡ enum_named meta.now q) }
+    ensures { IfOk result (λ m. IsEnumIndex m meta.now) }
 {
     let mut index = BTreeMap::new(alloc);
     for e in 0..meta.enum_count() {
@@ -64,7 +64,7 @@ pub(crate) fn enum_in(
     index: &BTreeMap<String, u32>,
     e: u32,
 ) -> Option<u32>
-    requires { (q : Name) → get_by_text index.now q ≡ enum_named next.now q }
+    requires { IsEnumIndex index.now next.now }
     ensures { result ≡ enum_in old.now next.now e }
 {
     // For the name of the new one, of which the index tells.
@@ -140,7 +140,7 @@ pub(crate) fn enums_in(
     next: &Metamodel,
     index: &BTreeMap<String, u32>,
 ) -> Result<Vec<u32>, AllocError>
-    requires { (q : Name) → get_by_text index.now q ≡ enum_named next.now q }
+    requires { IsEnumIndex index.now next.now }
     ensures { IfOk result (λ v. v.items ≡ filter_map (enum_in old.now next.now) (range_with_len 0 (length old.now.enums))) }
 {
     let mut numbers = Vec::new(alloc);

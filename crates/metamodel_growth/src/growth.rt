@@ -1,9 +1,7 @@
 //! A metamodel in the place of another.
 ghost use Rattle.std.specs.Prelude.{◌≡◌, IfErr, IfOk, None, length};
-ghost use Rattle.std.specs.BTreeMap.{get_by_text};
-ghost use Rattle.ecore_meta.specs.Names.{Name};
 ghost use Rattle.metamodel_growth.specs.Evolved.{evolved, orders};
-ghost use Rattle.metamodel_growth.specs.Extension.{IsMissing, enum_named, missing};
+ghost use Rattle.metamodel_growth.specs.Extension.{IsEnumIndex, IsMissing, missing};
 ghost use Rattle.metamodel_growth.specs.Order.{IsOrder};
 ghost use Rattle.metamodel_growth.specs.Preserves.{Preserves};
 
@@ -49,7 +47,7 @@ fn enum_order(
     next: &Metamodel,
     index: &BTreeMap<String, u32>,
 ) -> Result<Order, AllocError>
-    requires { (q : Name) → get_by_text index.now q ≡ enum_named next.now q }
+    requires { IsEnumIndex index.now next.now }
     ensures numbers { IfOk result (λ o. o ≡ (orders old.now next.now).enums) }
     ensures order { IfOk result (λ o. IsOrder (length next.now.enums) o) }
 {
@@ -69,7 +67,7 @@ fn moved(
     next: &Metamodel,
     index: &BTreeMap<String, u32>,
 ) -> Result<Metamodel, AllocError>
-    requires index { (q : Name) → get_by_text index.now q ≡ enum_named next.now q }
+    requires index { IsEnumIndex index.now next.now }
     requires extends { missing old.now next.now ≡ None }
     ensures evolved { IfOk result (λ m. m ≡ evolved old.now next.now) }
     ensures preserves { IfOk result (λ m. Preserves old.now m) }
@@ -94,9 +92,9 @@ fn moved(
 
 /// The new metamodel in the place of the old one, where it has all parts of the old one by name. Then what has its name in
 /// the old one gets its number there, and the others get the next numbers, in their order in the new one. Else the fault
-/// names the first part that the new one does not have: the URI comes first, then classes, enums and features, each by
-/// number. A class is kept with its flag, below what it was below; an enum with its literals, behind which more may come;
-/// a feature with its owner, its bounds and its kind.
+/// names the first part that the new one does not have. The URI comes first, then classes, enums and features, each by
+/// number. A class is kept with its flag, below what it was below, and a feature with its owner, its bounds and its kind.
+/// An enum is kept with its literals, behind which more may come.
 pub fn evolve(alloc: Global, old: &Metamodel, next: &Metamodel) -> Result<Metamodel, EvolveFault>
     ensures evolved { IfOk result (λ m. m ≡ evolved old.now next.now) }
     ensures extends { IfOk result (λ _. missing old.now next.now ≡ None) }

@@ -1,13 +1,11 @@
 //! Whether a part of a metamodel is kept in another.
 ghost use Rattle.std.specs.Prelude.{◌≡◌, ◌&&◌, IfOk, false, slice_get};
-ghost use Rattle.std.specs.BTreeMap.{get_by_text};
 ghost use Rattle.std.specs.List.{list_all};
 ghost use Rattle.std.specs.Option.{option_and_then, option_copied, option_map_or};
 ghost use Rattle.ecore_meta.specs.Above.{above_of};
 ghost use Rattle.ecore_meta.specs.Meta.{is_a};
-ghost use Rattle.ecore_meta.specs.Names.{Name};
 ghost use Rattle.ecore_meta.specs.Typing.{literals_of};
-ghost use Rattle.metamodel_growth.specs.Extension.{class_in, class_kept, enum_kept, enum_named, feature_in, feature_kept};
+ghost use Rattle.metamodel_growth.specs.Extension.{IsEnumIndex, class_in, class_kept, enum_kept, feature_in, feature_kept};
 
 use crate::compare::{begins, parts_same, same_flag};
 use crate::found::{class_in, enum_in, feature_in};
@@ -84,7 +82,7 @@ pub(crate) fn enum_kept(
     index: &BTreeMap<String, u32>,
     e: u32,
 ) -> bool
-    requires { (q : Name) → get_by_text index.now q ≡ enum_named next.now q }
+    requires { IsEnumIndex index.now next.now }
     ensures { result ≡ enum_kept old.now next.now e }
 {
     match enum_in(old, next, index, e) {

@@ -1,11 +1,9 @@
 //! The first part of a metamodel that another does not have.
 ghost use Rattle.std.specs.Prelude.{◌≡◌, ◌++◌, IfOk, length, map};
-ghost use Rattle.std.specs.BTreeMap.{get_by_text};
 ghost use Rattle.std.specs.List.{range_with_len};
 ghost use Rattle.std.specs.Option.{option_map};
 ghost use Rattle.std.specs.Str.{bytes_eq};
-ghost use Rattle.ecore_meta.specs.Names.{Name};
-ghost use Rattle.metamodel_growth.specs.Extension.{class_kept, class_name, enum_kept, enum_name, enum_named, feature_kept, first_lost, full_name, missing};
+ghost use Rattle.metamodel_growth.specs.Extension.{IsEnumIndex, class_kept, class_name, enum_kept, enum_name, feature_kept, first_lost, full_name, missing};
 
 use crate::kept::{class_kept, enum_kept, feature_kept};
 use crate::names::{class_name, enum_name, feature_name, owner_name};
@@ -27,7 +25,7 @@ fn lost_class(alloc: Global, old: &Metamodel, next: &Metamodel) -> Result<Option
 
 /// The same of enums.
 fn lost_enum(old: &Metamodel, next: &Metamodel, index: &BTreeMap<String, u32>) -> Option<u32>
-    requires { (q : Name) → get_by_text index.now q ≡ enum_named next.now q }
+    requires { IsEnumIndex index.now next.now }
     ensures { option_map (enum_name old.now) result ≡ first_lost (map (λ e. (enum_name old.now e, enum_kept old.now next.now e)) (range_with_len 0 (length old.now.enums))) }
 {
     for e in 0..old.enum_count() {
@@ -81,7 +79,7 @@ fn missing_enum(
     next: &Metamodel,
     index: &BTreeMap<String, u32>,
 ) -> Result<Option<Text>, AllocError>
-    requires { (q : Name) → get_by_text index.now q ≡ enum_named next.now q }
+    requires { IsEnumIndex index.now next.now }
     ensures { IfOk result (λ o. o ≡ first_lost (map (λ e. (enum_name old.now e, enum_kept old.now next.now e)) (range_with_len 0 (length old.now.enums)))) }
 {
     match lost_enum(old, next, index) {
@@ -112,7 +110,7 @@ fn missing_later(
     next: &Metamodel,
     index: &BTreeMap<String, u32>,
 ) -> Result<Option<Text>, AllocError>
-    requires { (q : Name) → get_by_text index.now q ≡ enum_named next.now q }
+    requires { IsEnumIndex index.now next.now }
     ensures { IfOk result (λ o. o ≡ first_lost (map (λ e. (enum_name old.now e, enum_kept old.now next.now e)) (range_with_len 0 (length old.now.enums)) ++ map (λ f. (full_name old.now f, feature_kept old.now next.now f)) (range_with_len 0 (length old.now.features)))) }
 {
     match missing_enum(alloc, old, next, index)? {
@@ -135,7 +133,7 @@ pub(crate) fn missing(
     next: &Metamodel,
     index: &BTreeMap<String, u32>,
 ) -> Result<Option<Text>, AllocError>
-    requires { (q : Name) → get_by_text index.now q ≡ enum_named next.now q }
+    requires { IsEnumIndex index.now next.now }
     ensures { IfOk result (λ o. o ≡ missing old.now next.now) }
 {
     if !same_uri(old, next) {

@@ -9,11 +9,14 @@ use thiserror::Error;
 pub enum TimesFault {
     /// A word is none of the program's, no number of elements from 1,000 on, or no number of models from 1 to 500. Or there are
     /// too few elements for targets beside them.
-    #[error("usage: model_times plain|graph ELEMENTS [timed [MODELS]]")]
+    #[error("usage: model_times plain|graph ELEMENTS [timed [MODELS]], or model_times growth DOCUMENT DOCUMENT")]
     Usage,
     /// The metamodel was not read.
     #[error("no metamodel")]
     Metamodel,
+    /// The first metamodel didn't evolve to the second, or what came of it isn't the same as itself.
+    #[error("no growth")]
+    Growth,
     /// A step of the measurement can't be taken.
     #[error("a step can't be taken")]
     Step,

@@ -1,10 +1,12 @@
 //! Times the steps and the queries of a model, over ordered maps or over elements in slots. It does so three times over
 //! the same elements. The first time finds them untouched since the model was built. There may be several such models
-//! side by side, which take turns: so many small models have the memory of a large one.
+//! side by side, which take turns: so many small models have the memory of a large one. Or it times how a metamodel is read
+//! and evolves.
 #![tactic(auto)]
 
 mod batches;
 mod fault;
+mod growth;
 mod queries;
 mod spread;
 
@@ -14,9 +16,9 @@ ghost use Rattle.model_times.specs.Models.{AreGood};
 
 use anyhow::Result;
 use batches::{BATCHES, Batch, batch_of, building, pieces, steps_of_one};
-use ecore_json::read_metamodel;
 use ecore_meta::{List, Metamodel};
 use fault::TimesFault;
+use growth::{measure_growth, read};
 use model_graph::Graph;
 use model_laws::replay;
 use model_state::{Change, Id, Look, Operation, Package, Step};
@@ -50,14 +52,7 @@ const METAMODEL: &str =
 fn metamodel(alloc: Global) -> Result<Metamodel, TimesFault>
     ensures { IfOk result Sound }
 {
-    if METAMODEL.len() >= u32::MAX as usize {
-        return Err(TimesFault::Metamodel);
-    }
-    let Ok(meta) = read_metamodel(alloc, METAMODEL) else {
-        return Err(TimesFault::Metamodel);
-    };
-    meta.sound();
-    Ok(meta)
+    read(alloc, METAMODEL)
 }
 
 fn print_time(rt: &HostRuntime, is_timed: bool, taken: Duration) -> Result<()> {
@@ -346,18 +341,26 @@ fn spread_of(elements: &String, rest: &[String]) -> Result<Spread, TimesFault> {
     }
 }
 
-/// Measures what the words after the program's name say.
-fn run(rt: &HostRuntime, words: &[String]) -> Result<()> {
-    let [kind, elements, rest @ ..] = words else {
-        return Err(TimesFault::Usage.into());
-    };
+/// Measures the steps and queries of models of so many elements.
+fn measure_kind(rt: &HostRuntime, kind: &str, elements: &String, rest: &[String]) -> Result<()> {
     let spread = spread_of(elements, rest)?;
     let meta = metamodel(rt.alloc())?;
     let is_timed = !rest.is_empty();
-    match kind.as_str() {
+    match kind {
         "plain" => measure_plain(rt, is_timed, &meta, spread),
         "graph" => measure_graph(rt, is_timed, &meta, spread),
         _ => Err(TimesFault::Usage.into()),
+    }
+}
+
+/// Measures what the words after the program's name say.
+fn run(rt: &HostRuntime, words: &[String]) -> Result<()> {
+    let [kind, second, rest @ ..] = words else {
+        return Err(TimesFault::Usage.into());
+    };
+    match (kind.as_str(), rest) {
+        ("growth", [next]) => measure_growth(rt, second.as_str(), next.as_str()),
+        _ => measure_kind(rt, kind.as_str(), second, rest),
     }
 }
 
