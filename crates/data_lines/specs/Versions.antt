@@ -23,12 +23,12 @@ listed [] = codes "-"
 listed (word ∷ words) = word ++ after_commas words
 
 -- The line of the version of the number n: its number, its branch, its parent, and what was merged into it. Then come how many
--- operations it has, its tags, and its message as JSON.
+-- operations it has, its tags, its author, its moment, and its message as JSON.
 abbrev pub version_line : History → ℕ → Version → List ℕ
 version_line h n v =
     decimal n
     ++ after_spaces (branch_name h v.branch ∷ optional decimal v.parent ∷ listed (map decimal v.merged) ∷ decimal (length v.«package»)
-    ∷ listed (tags_of h n) ∷ compact_text (string v.message) ∷ [])
+    ∷ listed (tags_of h n) ∷ optional (λ author. author) v.author ∷ optional decimal v.moment ∷ compact_text (string v.message) ∷ [])
 
 -- the lines of versions, the first of them with the number n
 abbrev pub version_lines : History → ℕ → List Version → List (List ℕ)

@@ -20,9 +20,9 @@ use op_form::encode;
 use serde_json::Value as Json;
 use std::alloc::{AllocError, Global};
 
-/// The lines of a history, a line for each version in the order of numbers: `N BRANCH PARENT MERGED OPS TAGS MESSAGE`. PARENT, MERGED and
-/// TAGS are `-` where there is none, and lists have commas between their items. OPS is the number of operations of the version, and
-/// MESSAGE its message as a JSON text.
+/// The lines of a history, a line for each version in the order of numbers: `N BRANCH PARENT MERGED OPS TAGS AUTHOR MOMENT
+/// MESSAGE`. PARENT, MERGED, TAGS, AUTHOR and MOMENT are `-` where there is none, and lists have commas between their items. OPS is the
+/// number of operations of the version, and MESSAGE its message as a JSON text.
 #[tactic(auto, unfolding(crate::specs::Versions::log_lines))]
 pub fn log_lines(alloc: Global, history: &History) -> Result<List<Text>, AllocError>
     ensures lines { IfOk result (λ lines. lines ≡ log_lines history.now.history) }
@@ -98,7 +98,7 @@ fn push_origin(
     push_list(line, merged.as_slice())
 }
 
-/// Adds how many operations a version has, its tags, and its message.
+/// Adds how many operations a version has, its tags, its author, its moment, and its message.
 fn push_content(
     alloc: Global,
     line: &mut Line,
@@ -107,11 +107,13 @@ fn push_content(
     version: &Version,
 ) -> Result<(), AllocError>
     requires { n < length history.now.history.versions }
-    ensures { OnOk result (line.new ≡ line.old ++ after_spaces (decimal (length version.now.«package») ∷ listed (tags_of history.now.history n) ∷ compact_text (string version.now.message) ∷ [])) }
+    ensures { OnOk result (line.new ≡ line.old ++ after_spaces (decimal (length version.now.«package») ∷ listed (tags_of history.now.history n) ∷ optional (λ author. author) version.now.author ∷ optional decimal version.now.moment ∷ compact_text (string version.now.message) ∷ [])) }
 {
     line.push_number(version.package.len() as u64)?;
     let tags = history.tags_of(alloc, n)?;
     push_list(line, tags.as_slice())?;
+    push_author(line, &version.author)?;
+    push_moment(line, version.moment)?;
     push_json(alloc, line, version.message.as_str())
 }
 
@@ -134,6 +136,26 @@ fn push_number_if_any(line: &mut Line, number: Option<u32>) -> Result<(), AllocE
     match number {
         None => line.push_word("-"),
         Some(number) => line.push_number(number as u64),
+    }
+}
+
+/// Adds a space and a version's author, or `-` where it has none.
+fn push_author(line: &mut Line, author: &Option<Text>) -> Result<(), AllocError>
+    ensures { OnOk result (line.new ≡ line.old ++ 32 ∷ optional (λ name. name) author.now) }
+{
+    match author {
+        None => line.push_word("-"),
+        Some(name) => line.push_word(name.as_str()),
+    }
+}
+
+/// Adds a space and a version's moment in decimal, or `-` where it has none.
+fn push_moment(line: &mut Line, moment: Option<u64>) -> Result<(), AllocError>
+    ensures { OnOk result (line.new ≡ line.old ++ 32 ∷ optional decimal moment) }
+{
+    match moment {
+        None => line.push_word("-"),
+        Some(moment) => line.push_number(moment),
     }
 }
 

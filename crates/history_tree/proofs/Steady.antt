@@ -1,6 +1,6 @@
 -- What a further version and a further branch leave: operations of versions, heads, and what is on the paths of heads.
 use Rattle.std.proofs.Common.{◌≡◌, ◌≢◌, ℕ, zero, suc, ◌+◌, ◌<◌, ◌≤◌, nat_eq, Bool, true, false, cond, List, [], ◌∷◌, ◌++◌, length, refl, sym, ◌∙◌, ap, subst, arith, length-append, append_assoc, append-nil, true≢false}
-use Rattle.std.specs.Prelude.{All, Contains, Option, None, Some, slice_get}
+use Rattle.std.specs.Prelude.{All, Contains, Option, None, Some, is_some, slice_get}
 use Rattle.std.specs.List.{AllByRecursion}
 use Rattle.std.specs.Option.{option_map_or}
 use Rattle.std.proofs.lemmas.Bool.{eqb-true}
@@ -140,6 +140,7 @@ whole_branch h whole name start within =
       parents = whole.parents;
       branches = All-weaker (λ (v : Version). v.branch < length h.branches) (λ (v : Version). v.branch < length (h.branches ++ b ∷ [])) (λ v on. omega (arith, on, longer)) h.versions whole.branches;
       merged = whole.merged;
+      signed = whole.signed;
       starts = All-push (λ (b : Branch). b.start < length h.versions) h.branches b whole.starts within;
       tags = whole.tags;
     }
@@ -153,6 +154,7 @@ whole_tag h whole name version within =
       parents = whole.parents;
       branches = whole.branches;
       merged = whole.merged;
+      signed = whole.signed;
       starts = whole.starts;
       tags = All-push (λ (t : Tag). t.version < length h.versions) h.tags t whole.tags within;
     }
@@ -165,6 +167,7 @@ whole_first = record {
   parents = (refl, tt);
   branches = All-from_recursion (λ (v : Version). v.branch < 1) first_history.versions (omega arith, tt);
   merged = All-from_recursion (λ (v : Version). All (λ u. u < 1) v.merged) first_history.versions (λ k d within. absurd (omega (arith, within)), tt);
+  signed = All-from_recursion (λ (v : Version). is_some v.author ≡ is_some v.moment) first_history.versions (refl, tt);
   starts = All-from_recursion (λ (b : Branch). b.start < 1) first_history.branches (omega arith, tt);
   tags = λ k d within. absurd (omega (arith, within));
 }

@@ -17,7 +17,7 @@ no_history = record { versions = []; branches = []; tags = [] }
 
 -- version 0, the empty project
 abbrev pub first_version : Version
-first_version = record { branch = 0; parent = None; merged = []; message = []; «package» = [] }
+first_version = record { branch = 0; parent = None; merged = []; author = None; moment = None; message = []; «package» = [] }
 
 -- version 0 on the branch `trunk`
 abbrev pub first_history : History

@@ -44,6 +44,8 @@ fn first_version(alloc: Global) -> Result<Version, AllocError>
         branch: 0,
         parent: None,
         merged: List::new(alloc),
+        author: None,
+        moment: None,
         message,
         package: List::new(alloc),
     })
@@ -310,6 +312,7 @@ impl History {
         requires branch { version.branch < length self.old.history.branches }
         requires parent { version.parent ≡ Some (head self.old.history version.branch) }
         requires merged { All (λ v. v < length self.old.history.versions) version.merged }
+        requires signed { is_some version.author ≡ is_some version.moment }
         ensures added { self.new.history ≡ with_version self.old.history version }
         ensures room { self.old.spare ≤ self.new.spare + 1 }
     {

@@ -11,4 +11,4 @@ mod version;
 pub use found::{FindFault, Found};
 pub use history::History;
 pub use laws::{law_of_histories, law_of_merge_bases};
-pub use version::Version;
+pub use version::{Signature, Version};

@@ -12,10 +12,21 @@ pub struct Version {
     pub parent: Option<u32>,
     /// The heads of other branches that were merged into it. Such a head may be a version of any branch.
     pub merged: List<u32>,
+    /// Who made it, where it is signed. Author and moment are both there or both not.
+    pub author: Option<Text>,
+    /// When it was made, where it is signed: a number that the author gave, of any unit.
+    pub moment: Option<u64>,
     /// What the user says of it.
     pub message: Text,
     /// The operations that lead from the parent's state to its own.
     pub package: Package,
+}
+
+/// Who makes a version, and when: a number that the author gives, of any unit.
+#[derive(Drop)]
+pub struct Signature {
+    pub author: Text,
+    pub moment: u64,
 }
 
 /// A line of versions under a name, and the version where it starts.

@@ -20,7 +20,7 @@ use Rattle.model_state.specs.declared.step.Step.TheVariants.{Put, Ins, Del, Shif
 use Rattle.model_state.specs.declared.operation.Operation.{Operation}
 use Rattle.model_state.specs.declared.operation.Operation.TheVariants.{Simple, Composite}
 use Rattle.op_form.specs.declared.event.Event.{Event}
-use Rattle.op_form.specs.declared.event.Event.TheVariants.{Init, Checkout, Edit, Begin, End, Undo, Discard, Tidy, Commit, Branch, Tag, Update, Merge, Drop}
+use Rattle.op_form.specs.declared.event.Event.TheVariants.{Init, Checkout, Edit, Begin, End, Undo, Discard, Tidy, Commit, Branch, Tag, Update, Merge, Drop, Evolve, Upgrade, Signed}
 use Rattle.op_form.specs.Formed.{IsU32, IsU64, IsIdText, IsNameText, IsGiven, IsList, IsSomeList, IsValue, IsPlace, IsStep, IsOperation, IsPackage, IsEvent, is_u32, is_u64, is_i64, is_short_text, is_given, is_list, is_some_list, is_value, is_place, is_step, is_operation, is_package, is_event}
 
 -- a test holds just where the fact does
@@ -151,6 +151,9 @@ event_told (Tag name version) = two (text_told name) (u32_told version)
 event_told (Update ws choices) = two (u32_told ws) (text_told choices)
 event_told (Merge ws branch choices) = three (u32_told ws) (u32_told branch) (text_told choices)
 event_told (Drop ws) = u32_told ws
+event_told (Evolve text) = text_told text
+event_told Upgrade = always
+event_told (Signed ws author moment message) = four (u32_told ws) (text_told author) (u64_told moment) (text_told message)
 
 -- what passes the test has an encoding, and what has one passes it
 pub is_event_is : (e : Event) → is_event e ≡ true → IsEvent e

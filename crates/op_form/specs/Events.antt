@@ -1,8 +1,8 @@
 -- The encodings of events: a byte for the kind, and the fields in their order.
-use Rattle.std.specs.Prelude.{ℕ, List, ◌∷◌, ◌++◌}
-use Rattle.byte_form.specs.Fields.{text_encoding, u32_encoding}
+use Rattle.std.specs.Prelude.{ℕ, List, [], ◌∷◌, ◌++◌}
+use Rattle.byte_form.specs.Fields.{text_encoding, u32_encoding, u64_encoding}
 use Rattle.op_form.specs.declared.event.Event.{Event}
-use Rattle.op_form.specs.declared.event.Event.TheVariants.{Init, Checkout, Edit, Begin, End, Undo, Discard, Tidy, Commit, Branch, Tag, Update, Merge, Drop}
+use Rattle.op_form.specs.declared.event.Event.TheVariants.{Init, Checkout, Edit, Begin, End, Undo, Discard, Tidy, Commit, Branch, Tag, Update, Merge, Drop, Evolve, Upgrade, Signed}
 use Rattle.op_form.specs.Packages.{package_encoding}
 
 -- the encoding of an event
@@ -21,3 +21,6 @@ event_encoding (Tag name version) = 11 ∷ (text_encoding name ++ u32_encoding v
 event_encoding (Update ws choices) = 12 ∷ (u32_encoding ws ++ text_encoding choices)
 event_encoding (Merge ws branch choices) = 13 ∷ (u32_encoding ws ++ (u32_encoding branch ++ text_encoding choices))
 event_encoding (Drop ws) = 14 ∷ u32_encoding ws
+event_encoding (Evolve text) = 15 ∷ text_encoding text
+event_encoding Upgrade = 16 ∷ []
+event_encoding (Signed ws author moment message) = 17 ∷ (u32_encoding ws ++ (text_encoding author ++ (u64_encoding moment ++ text_encoding message)))

@@ -15,7 +15,7 @@ use Rattle.model_state.specs.declared.step.Step.TheVariants.{Put, Ins, Del, Shif
 use Rattle.model_state.specs.declared.operation.Operation.{Operation}
 use Rattle.model_state.specs.declared.operation.Operation.TheVariants.{Simple, Composite}
 use Rattle.op_form.specs.declared.event.Event.{Event}
-use Rattle.op_form.specs.declared.event.Event.TheVariants.{Init, Checkout, Edit, Begin, End, Undo, Discard, Tidy, Commit, Branch, Tag, Update, Merge, Drop}
+use Rattle.op_form.specs.declared.event.Event.TheVariants.{Init, Checkout, Edit, Begin, End, Undo, Discard, Tidy, Commit, Branch, Tag, Update, Merge, Drop, Evolve, Upgrade, Signed}
 
 -- ---- definitions
 -- a number of 32 bits
@@ -99,6 +99,9 @@ IsEvent (Tag name version) = IsShortText name × IsU32 version
 IsEvent (Update ws choices) = IsU32 ws × IsShortText choices
 IsEvent (Merge ws branch choices) = IsU32 ws × (IsU32 branch × IsShortText choices)
 IsEvent (Drop ws) = IsU32 ws
+IsEvent (Evolve text) = IsShortText text
+IsEvent Upgrade = Unit {0}
+IsEvent (Signed ws author moment message) = IsU32 ws × (IsShortText author × (IsU64 moment × IsShortText message))
 
 -- ---- tests
 -- a number of 32 bits
@@ -183,3 +186,6 @@ is_event (Tag name version) = is_short_text name && is_u32 version
 is_event (Update ws choices) = is_u32 ws && is_short_text choices
 is_event (Merge ws branch choices) = is_u32 ws && is_u32 branch && is_short_text choices
 is_event (Drop ws) = is_u32 ws
+is_event (Evolve text) = is_short_text text
+is_event Upgrade = true
+is_event (Signed ws author moment message) = is_u32 ws && is_short_text author && is_u64 moment && is_short_text message

@@ -37,7 +37,7 @@ pub(crate) fn is_u32(number: u32) -> bool
     true
 }
 
-fn is_u64(number: u64) -> bool
+pub(crate) fn is_u64(number: u64) -> bool
     ensures { result ≡ is_u64 number }
 {
     // Only the contract needs it.

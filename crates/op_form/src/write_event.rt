@@ -1,5 +1,5 @@
 //! Packages and events, as bytes.
-ghost use Rattle.byte_form.specs.Fields.{text_encoding, u32_encoding};
+ghost use Rattle.byte_form.specs.Fields.{text_encoding, u32_encoding, u64_encoding};
 ghost use Rattle.std.specs.Prelude.{◌≡◌, ◌<◌, ◌^◌, ◌++◌, ◌∷◌, IfOk, OnOk, All, length};
 ghost use Rattle.op_form.specs.Lists.{items_encoding, list_encoding};
 ghost use Rattle.op_form.specs.Steps.{step_encoding};
@@ -109,10 +109,7 @@ fn put_event(form: &mut Form, event: &Event) -> Result<(), AllocError>
     ensures { OnOk result (form.new ≡ form.old ++ event_encoding event.now) }
 {
     match event {
-        Event::Init { text } => {
-            form.put_u8(1)?;
-            form.put_text(text.as_str())
-        }
+        Event::Init { text } => put_of_text(form, 1, text.as_str()),
         Event::Checkout { version, branch } => {
             form.put_u8(2)?;
             form.put_u32(*version)?;
@@ -147,7 +144,43 @@ fn put_event(form: &mut Form, event: &Event) -> Result<(), AllocError>
             form.put_text(choices.as_str())
         }
         Event::Drop { ws } => put_of_workspace(form, 14, *ws),
+        Event::Evolve { text } => put_of_text(form, 15, text.as_str()),
+        Event::Upgrade => form.put_u8(16),
+        Event::Signed {
+            ws,
+            author,
+            moment,
+            message,
+        } => put_signed(form, *ws, author.as_str(), *moment, message.as_str()),
     }
+}
+
+/// Appends the encoding of an event of a text alone.
+fn put_of_text(form: &mut Form, kind: u8, text: &str) -> Result<(), AllocError>
+    requires { length text.now < 2 ^ 32 }
+    ensures { OnOk result (form.new ≡ form.old ++ kind ∷ text_encoding text.now) }
+{
+    form.put_u8(kind)?;
+    form.put_text(text)
+}
+
+/// Appends the encoding of a version's event with its author and its moment.
+fn put_signed(
+    form: &mut Form,
+    ws: u32,
+    author: &str,
+    moment: u64,
+    message: &str,
+) -> Result<(), AllocError>
+    requires author { length author.now < 2 ^ 32 }
+    requires message { length message.now < 2 ^ 32 }
+    ensures { OnOk result (form.new ≡ form.old ++ 17 ∷ (u32_encoding ws ++ (text_encoding author.now ++ (u64_encoding moment ++ text_encoding message.now)))) }
+{
+    form.put_u8(17)?;
+    form.put_u32(ws)?;
+    form.put_text(author)?;
+    form.put_u64(moment)?;
+    form.put_text(message)
 }
 
 /// Appends the encoding of an event of a workspace's number and a text.

@@ -11,7 +11,7 @@ use Rattle.byte_form.specs.Laws.{at, IsReadAgain, IsSpelledSo, StoodThere, AreBy
 use Rattle.byte_form.proofs.FieldLemmas.{reached, ok_is, stands, byte_again, byte_spelled, u32_again, u32_spelled, u64_again, u64_spelled, text_again, text_spelled}
 use Rattle.op_reading.specs.declared.fault.FormFault.{FormFault}
 use Rattle.op_reading.specs.declared.fault.FormFault.TheVariants.{NotForm}
-use Rattle.op_reading.specs.Reading.{Reading, field, made, ◌⊗◌, u8_at, u32_at, u64_at, any_text_at, option_at, option_of, items_at, list_at, some_at}
+use Rattle.op_reading.specs.Reading.{Reading, field, made, ◌⊗◌, nothing_at, u8_at, u32_at, u64_at, any_text_at, option_at, option_of, items_at, list_at, some_at}
 use Rattle.op_form.specs.Lists.{option_encoding, items_encoding, list_encoding}
 use Rattle.op_reading.specs.Events.{whole_of}
 use Rattle.op_reading.specs.Laws.{AreReadAgain, AreSpelledSo}
@@ -47,6 +47,13 @@ pub of_field : {X : Type 0} {Is : X → Type 0} {form : X → List ℕ} {read : 
 of_field {read} again spelled = record {
   again = λ x is rest place. ap field (again x is rest place);
   spelled = λ before bytes x after e. spelled before bytes x after (field_back (read before) (x, after) e);
+}
+
+-- a value of no fields, of which no byte is written
+pub nothing_codes : Codes (λ (t : Unit {0}). Unit {0}) (λ t. []) nothing_at
+nothing_codes = record {
+  again = λ x is rest place. ap (λ k. Ok (tt, at rest k)) (omega arith);
+  spelled = λ before bytes x after e. stands (λ (t : Unit {0}). Unit {0}) (λ t. []) before before after tt x (ok_is (tt, before) (x, after) e) (record { is = tt; bytes = refl; place = omega arith });
 }
 
 pub u8_codes : Codes (IsBelow 256) byte_encoding u8_at

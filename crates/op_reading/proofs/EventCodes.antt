@@ -5,18 +5,18 @@ use Rattle.byte_form.specs.Fields.{byte_at}
 use Rattle.byte_form.specs.Laws.{IsReadAgain, IsSpelledSo, StoodThere, AreBytes, IsBelow, byte_encoding}
 use Rattle.byte_form.proofs.FieldLemmas.{reached}
 use Rattle.op_form.specs.declared.event.Event.{Event}
-use Rattle.op_form.specs.declared.event.Event.TheVariants.{Init, Checkout, Edit, Begin, End, Undo, Discard, Tidy, Commit, Branch, Tag, Update, Merge, Drop}
+use Rattle.op_form.specs.declared.event.Event.TheVariants.{Init, Checkout, Edit, Begin, End, Undo, Discard, Tidy, Commit, Branch, Tag, Update, Merge, Drop, Evolve, Upgrade, Signed}
 use Rattle.op_reading.specs.Reading.{Reading, made, u8_at}
-use Rattle.op_reading.specs.Events.{init_at, checkout_at, edit_at, begin_at, commit_at, branch_at, tag_at, update_at, merge_at, events_by_kind, chosen, event_at}
+use Rattle.op_reading.specs.Events.{init_at, checkout_at, edit_at, begin_at, commit_at, branch_at, tag_at, update_at, merge_at, evolve_at, upgrade_at, signed_at, events_by_kind, chosen, event_at}
 use Rattle.op_form.specs.Events.{event_encoding}
 use Rattle.op_form.specs.Formed.{IsEvent}
 use Rattle.op_reading.specs.Laws.{EventsAreTested}
 use Rattle.op_form.proofs.FormedLaws.{is_event_is, is_event_holds}
-use Rattle.op_reading.proofs.Codes.{Codes, both, either, u32_codes, text_codes, made_again, made_spelled, byte_stood}
+use Rattle.op_reading.proofs.Codes.{Codes, both, either, nothing_codes, u32_codes, u64_codes, text_codes, made_again, made_spelled, byte_stood}
 use Rattle.op_reading.proofs.PackageCodes.{package_codes}
 
 event_again : IsReadAgain IsEvent event_encoding event_at
-unfolding event_at event_encoding byte_at init_at checkout_at edit_at begin_at commit_at branch_at tag_at update_at merge_at
+unfolding event_at event_encoding byte_at init_at checkout_at edit_at begin_at commit_at branch_at tag_at update_at merge_at evolve_at upgrade_at signed_at
 event_again (Init text) is rest place = made_again text_codes (λ t. Init t) 1 text is rest place
 event_again (Checkout version branch) is rest place = made_again (both u32_codes u32_codes) (λ t. Checkout t.0 t.1) 2 (version, branch) is rest place
 event_again (Edit ws operations) is rest place = made_again (both u32_codes package_codes) (λ t. Edit t.0 t.1) 3 (ws, operations) is rest place
@@ -32,6 +32,10 @@ event_again (Update ws choices) is rest place = made_again (both u32_codes text_
 event_again (Merge ws branch choices) is rest place =
     made_again (both u32_codes (both u32_codes text_codes)) (λ t. Merge t.0 t.1.0 t.1.1) 13 (ws, (branch, choices)) is rest place
 event_again (Drop ws) is rest place = made_again u32_codes (λ ws. Drop ws) 14 ws is rest place
+event_again (Evolve text) is rest place = made_again text_codes (λ t. Evolve t) 15 text is rest place
+event_again Upgrade is rest place = made_again nothing_codes (λ t. Upgrade) 16 tt is rest place
+event_again (Signed ws author moment message) is rest place =
+    made_again (both u32_codes (both text_codes (both u64_codes text_codes))) (λ t. Signed t.0 t.1.0 t.1.1.0 t.1.1.1) 17 (ws, (author, (moment, message))) is rest place
 
 -- a kind's byte, how its fields are read, and that an event of the kind stood where they are read after that byte
 record Row : Type 0 where
@@ -63,7 +67,7 @@ chosen_spelled (row ∷ rows) before mid after event n bytes stood e =
     ]
 
 event_spelled : IsSpelledSo IsEvent event_encoding event_at
-unfolding event_at event_encoding init_at checkout_at edit_at begin_at commit_at branch_at tag_at update_at merge_at
+unfolding event_at event_encoding init_at checkout_at edit_at begin_at commit_at branch_at tag_at update_at merge_at evolve_at upgrade_at signed_at
 event_spelled before bytes event after e =
     let k = reached (u8_at before) (chosen events_by_kind before.place) (event, after) e in
     let stood = byte_stood before k.0.0 k.0.1 bytes k.1 in
@@ -81,7 +85,10 @@ event_spelled before bytes event after e =
     known (both text_codes u32_codes) (λ t. Tag t.0 t.1) 11 (λ t is. is) (λ t is. refl) ∷
     known (both u32_codes text_codes) (λ t. Update t.0 t.1) 12 (λ t is. is) (λ t is. refl) ∷
     known (both u32_codes (both u32_codes text_codes)) (λ t. Merge t.0 t.1.0 t.1.1) 13 (λ t is. is) (λ t is. refl) ∷
-    known u32_codes (λ t. Drop t) 14 (λ t is. is) (λ t is. refl) ∷ []) before k.0.1 after event k.0.0 bytes stood k.2
+    known u32_codes (λ t. Drop t) 14 (λ t is. is) (λ t is. refl) ∷
+    known text_codes (λ t. Evolve t) 15 (λ t is. is) (λ t is. refl) ∷
+    known nothing_codes (λ t. Upgrade) 16 (λ t is. is) (λ t is. refl) ∷
+    known (both u32_codes (both text_codes (both u64_codes text_codes))) (λ t. Signed t.0 t.1.0 t.1.1.0 t.1.1.1) 17 (λ t is. is) (λ t is. refl) ∷ []) before k.0.1 after event k.0.0 bytes stood k.2
 
 pub event_codes : Codes IsEvent event_encoding event_at
 event_codes = record { again = event_again; spelled = event_spelled }

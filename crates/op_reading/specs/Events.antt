@@ -5,8 +5,8 @@ use Rattle.byte_form.specs.Fields.{◌>>=◌, ends_at}
 use Rattle.op_reading.specs.declared.fault.FormFault.{FormFault}
 use Rattle.op_reading.specs.declared.fault.FormFault.TheVariants.{NotForm}
 use Rattle.op_form.specs.declared.event.Event.{Event}
-use Rattle.op_form.specs.declared.event.Event.TheVariants.{Init, Checkout, Edit, Begin, End, Undo, Discard, Tidy, Commit, Branch, Tag, Update, Merge, Drop}
-use Rattle.op_reading.specs.Reading.{Reading, made, ◌⊗◌, field, u8_at, u32_at, any_text_at}
+use Rattle.op_form.specs.declared.event.Event.TheVariants.{Init, Checkout, Edit, Begin, End, Undo, Discard, Tidy, Commit, Branch, Tag, Update, Merge, Drop, Evolve, Upgrade, Signed}
+use Rattle.op_reading.specs.Reading.{Reading, made, ◌⊗◌, field, nothing_at, u8_at, u32_at, u64_at, any_text_at}
 use Rattle.op_reading.specs.Packages.{package_at}
 
 -- Init: the text of the metamodel
@@ -45,6 +45,18 @@ update_at r = made (λ t. Update t.0 t.1) ((u32_at ⊗ any_text_at) r)
 unfoldable pub merge_at : Reading Event
 merge_at r = made (λ t. Merge t.0 t.1.0 t.1.1) ((u32_at ⊗ u32_at ⊗ any_text_at) r)
 
+-- Evolve: the text of the metamodel
+unfoldable pub evolve_at : Reading Event
+evolve_at r = made (λ t. Evolve t) (any_text_at r)
+
+-- Upgrade: nothing
+unfoldable pub upgrade_at : Reading Event
+upgrade_at r = made (λ t. Upgrade) (nothing_at r)
+
+-- Signed: the workspace, the author, the moment and the message
+unfoldable pub signed_at : Reading Event
+signed_at r = made (λ t. Signed t.0 t.1.0 t.1.1.0 t.1.1.1) ((u32_at ⊗ any_text_at ⊗ u64_at ⊗ any_text_at) r)
+
 -- an event that has a workspace alone
 abbrev pub of_workspace : (ℕ → Event) → Reading Event
 of_workspace make r = made make (u32_at r)
@@ -65,7 +77,10 @@ events_by_kind =
     (11, tag_at) ∷
     (12, update_at) ∷
     (13, merge_at) ∷
-    (14, of_workspace (λ ws. Drop ws)) ∷ []
+    (14, of_workspace (λ ws. Drop ws)) ∷
+    (15, evolve_at) ∷
+    (16, upgrade_at) ∷
+    (17, signed_at) ∷ []
 
 -- what the byte chooses of these
 abbrev pub chosen : List (ℕ × Reading Event) → ℕ → ℕ × Rest → Result (Event × Rest) FormFault

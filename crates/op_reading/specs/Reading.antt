@@ -24,6 +24,10 @@ abbrev pub field : {X : Type 0} → Result X ReadFault → Result X FormFault
 field (Ok x) = Ok x
 field (Err e) = Err (not_form e)
 
+-- no field
+abbrev pub nothing_at : Reading (Unit {0})
+nothing_at r = Ok (tt, r)
+
 -- a byte
 abbrev pub u8_at : Reading ℕ
 u8_at r = field (byte_at r)

@@ -2,7 +2,7 @@
 ghost use Rattle.op_reading.specs.Reading.{list_at, some_at, items_at};
 ghost use Rattle.op_reading.specs.Steps.{step_at};
 ghost use Rattle.op_reading.specs.Packages.{kind_at, name_at, simple_at, composite_at, operation_at, package_at};
-ghost use Rattle.op_reading.specs.Events.{init_at, checkout_at, edit_at, begin_at, commit_at, branch_at, tag_at, update_at, merge_at, event_at, whole_of};
+ghost use Rattle.op_reading.specs.Events.{init_at, checkout_at, edit_at, begin_at, commit_at, branch_at, tag_at, update_at, merge_at, evolve_at, signed_at, event_at, whole_of};
 ghost use Rattle.op_reading.specs.Given.{Gives, GivesWhole};
 
 use crate::FormFault;
@@ -146,7 +146,7 @@ fn operation_items(
     Ok(operations)
 }
 
-#[tactic(auto, unfolding(crate::specs::Events::event_at))]
+#[tactic(auto, unfolding(crate::specs::Events::event_at, crate::specs::Events::upgrade_at))]
 fn take_event(alloc: Global, reader: &mut Reader<'_>) -> Result<Event, FormFault>
     ensures { Gives reader.new result (event_at reader.old) }
 {
@@ -176,6 +176,9 @@ fn take_event(alloc: Global, reader: &mut Reader<'_>) -> Result<Event, FormFault
         14 => Ok(Event::Drop {
             ws: reader.take_u32()?,
         }),
+        15 => take_evolve(alloc, reader),
+        16 => Ok(Event::Upgrade),
+        17 => take_signed(alloc, reader),
         _ => Err(FormFault::NotForm { at }),
     }
 }
@@ -262,5 +265,29 @@ fn take_merge(alloc: Global, reader: &mut Reader<'_>) -> Result<Event, FormFault
         ws,
         branch,
         choices,
+    })
+}
+
+#[tactic(auto, unfolding(crate::specs::Events::evolve_at))]
+fn take_evolve(alloc: Global, reader: &mut Reader<'_>) -> Result<Event, FormFault>
+    ensures { Gives reader.new result (evolve_at reader.old) }
+{
+    let text = take_text(alloc, reader)?;
+    Ok(Event::Evolve { text })
+}
+
+#[tactic(auto, unfolding(crate::specs::Events::signed_at))]
+fn take_signed(alloc: Global, reader: &mut Reader<'_>) -> Result<Event, FormFault>
+    ensures { Gives reader.new result (signed_at reader.old) }
+{
+    let ws = reader.take_u32()?;
+    let author = take_text(alloc, reader)?;
+    let moment = reader.take_u64()?;
+    let message = take_text(alloc, reader)?;
+    Ok(Event::Signed {
+        ws,
+        author,
+        moment,
+        message,
     })
 }

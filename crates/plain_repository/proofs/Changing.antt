@@ -1,7 +1,8 @@
 -- Each event that could be made changes something beside the numbers that every event raises.
 use Rattle.std.proofs.Common.{◌≡◌, refl, ◌∙◌, sym, ap, subst, ℕ, zero, suc, ◌+◌, ◌-◌, ◌<◌, ◌==◌, ◌&&◌, ◌||◌, not, nat_lt, List, [], ◌∷◌, ◌++◌, length, length-append, Bool, true, false, Option, None, Some, ltb-true, arith}
 use Rattle.std.proofs.lemmas.List.{length-take-le}
-use Rattle.std.specs.Prelude.{IsTrue, take, is_some, is_ok, slice_get, Result, Ok, Err}
+use Rattle.std.proofs.lemmas.Option.{same_Some}
+use Rattle.std.specs.Prelude.{IsTrue, take, is_some, is_ok, slice_get, option_map, Result, Ok, Err}
 use Rattle.ecore_meta.specs.Meta.{Meta}
 use Rattle.ecore_json.specs.declared.fault.EcoreFault.{EcoreFault}
 use Rattle.ecore_json.specs.Metamodel.{metamodel_of}
@@ -12,22 +13,24 @@ use Rattle.history_tree.specs.History.{head}
 use Rattle.tidy_laws.specs.Tidy.{is_tidy}
 use Rattle.tidy_laws.proofs.Equal.{tidy_test_is_exact}
 use Rattle.op_form.specs.declared.event.Event.{Event}
-use Rattle.op_form.specs.declared.event.Event.TheVariants.{Init, Checkout, Edit, Begin, End, Undo, Discard, Tidy, Commit, Branch, Tag, Update, Merge, Drop}
+use Rattle.op_form.specs.declared.event.Event.TheVariants.{Init, Checkout, Edit, Begin, End, Undo, Discard, Tidy, Commit, Branch, Tag, Update, Merge, Drop, Evolve, Upgrade, Signed}
 use Rattle.op_form.specs.Formed.{is_event, is_package, is_operation}
 use Rattle.plain_repository.specs.State.{State, Workspace, Composite as Open, untouched, there, workspace_of, open_steps, with_changed, changed_at, changed_by_number, is_closed, is_open}
-use Rattle.plain_repository.specs.Metamodels.{meta_of_read}
+use Rattle.plain_repository.specs.Metamodels.{meta_of_read, can_evolve, grown, with_grown}
 use Rattle.plain_repository.specs.Checkouts.{dropped}
-use Rattle.plain_repository.specs.Commits.{version_of, with_commit, with_new_branch, can_commit}
+use Rattle.history_tree.specs.declared.version.Signature.{Signature}
+use Rattle.plain_repository.specs.Commits.{version_of, with_commit, with_upgrade, with_new_branch, can_commit}
 use Rattle.plain_repository.specs.Edits.{added, with_more, can_follow}
 use Rattle.plain_repository.specs.Composites.{with_open, with_closed}
 use Rattle.plain_repository.specs.Local.{without_last, can_undo, without_any, can_discard}
 use Rattle.plain_repository.specs.Tidying.{tidied, can_tidy}
 use Rattle.plain_repository.specs.Merging.{updated, can_update, merged_with, can_merge}
 use Rattle.plain_repository.specs.Answers.{fits_record}
-use Rattle.plain_repository.specs.Events.{by_meta, effect, playable, playable_with}
+use Rattle.plain_repository.specs.Events.{by_meta, effect, playable, playable_with, suits}
 use Rattle.plain_repository.specs.Laws.{EventsChange}
 use Rattle.finite_maps.proofs.EqualLaws.{nat_equality}
-use Rattle.plain_repository.proofs.Encodings.{and_left, and_right}
+use Rattle.plain_repository.proofs.Encodings.{and_left, and_right, fitting, suiting}
+use Rattle.plain_repository.proofs.Evolving.{grown_other}
 use Rattle.plain_repository.proofs.Merging.{changed_is}
 use Rattle.plain_repository.proofs.Places.{of_number, is_of_number}
 
@@ -65,9 +68,9 @@ has_steps (Composite name []) is = absurd (none _ is)
     none false is = cc
 
 -- operations that are recorded make the list longer, or that of the open composite's steps
-grown : (more : List Operation) (o : Option Open) (w : Workspace) → w.composite ≡ o → 0 < length more → 0 < length (steps_all more) → added more o w ≡ w → ⊥
-grown more None w is some steps same = not_longer w.operations more some (ap (λ (x : Workspace). x.operations) same)
-grown more (Some c) w is some steps same =
+more_recorded : (more : List Operation) (o : Option Open) (w : Workspace) → w.composite ≡ o → 0 < length more → 0 < length (steps_all more) → added more o w ≡ w → ⊥
+more_recorded more None w is some steps same = not_longer w.operations more some (ap (λ (x : Workspace). x.operations) same)
+more_recorded more (Some c) w is some steps same =
     not_longer c.steps (steps_all more) steps (ap (λ (o : Option Open). open_steps o) (ap (λ (x : Workspace). x.composite) same ∙ is))
 
 first_has_steps : (p : Operation) (more : List Operation) → IsTrue (is_package (p ∷ more)) → 0 < length (steps_of p)
@@ -84,7 +87,7 @@ edit_changes : (s : State) (meta : Meta) (k : ℕ) (more : List Operation) (o : 
 edit_changes s meta k more None is could formed same = absurd cc
 edit_changes s meta k [] (Some w) is could formed same = absurd cc
 edit_changes s meta k (p ∷ more) (Some w) is could formed same =
-    grown (p ∷ more) w.composite w refl (omega arith) (some_steps p more (first_has_steps p more formed)) (unchanged s k (with_more (p ∷ more)) w is same)
+    more_recorded (p ∷ more) w.composite w refl (omega arith) (some_steps p more (first_has_steps p more formed)) (unchanged s k (with_more (p ∷ more)) w is same)
 
 opened : (o : Option Open) (c : Open) → IsTrue (not (is_some o)) → Some c ≡ o → ⊥
 opened (Some d) c is same = cc
@@ -132,9 +135,9 @@ module _ (s : State) (meta : Meta) (begun : s.meta ≡ Some meta) (k : ℕ) wher
       let still : tidied meta w ≡ w = subst (λ (m : Option Meta). by_meta m tidied w ≡ w) begun (unchanged s k (by_meta s.meta tidied) w is same) in
       not_both (is_tidy meta w.operations) (and_right _ _ could) ((tidy_test_is_exact meta w.operations).1 (ap (λ (x : Workspace). x.operations) still))
 
-  commit_changes : (message : List ℕ) (o : Option Workspace) → IsTrue (can_commit s.history o) → with_commit k message o s ≡ s → ⊥
-  commit_changes message None could same = absurd cc
-  commit_changes message (Some w) could same = not_longer s.history.versions (version_of w message ∷ []) (omega arith) (ap (λ (x : State). x.history.versions) same)
+  commit_changes : (signature : Option Signature) (message : List ℕ) (o : Option Workspace) → IsTrue (can_commit s.history o) → with_commit k signature message o s ≡ s → ⊥
+  commit_changes signature message None could same = absurd cc
+  commit_changes signature message (Some w) could same = not_longer s.history.versions (version_of w signature message ∷ []) (omega arith) (ap (λ (x : State). x.history.versions) same)
 
   branch_changes : (name : List ℕ) (o : Option Workspace) → IsTrue (is_closed o) → with_new_branch k name o s ≡ s → ⊥
   branch_changes name None could same = absurd cc
@@ -181,41 +184,52 @@ init_changes : (read : Result Meta EcoreFault) → IsTrue (is_ok read) → meta_
 init_changes (Ok meta) could same = cc
 init_changes (Err fault) could same = absurd cc
 
-effect_changes : (s : State) (m : Option Meta) (e : Event) → s.meta ≡ m → IsTrue (is_event e) → IsTrue (playable_with s m e) → effect s e ≡ s → ⊥
+evolve_changes : (s : State) (meta : Meta) (text : List ℕ) → s.meta ≡ Some meta → IsTrue (can_evolve meta text) → with_grown text s ≡ s → ⊥
+evolve_changes s meta text is could same =
+    let still : Some (grown text meta) ≡ Some meta = ap (option_map (grown text)) (sym is) ∙ ap (λ (x : State). x.meta) same ∙ is in
+    grown_other meta text could (same_Some (grown text meta) meta still)
+
+effect_changes : (s : State) (m : Option Meta) (e : Event) → s.meta ≡ m → IsTrue (is_event e) → IsTrue (suits s.upgraded e) → IsTrue (playable_with s m e) → effect s e ≡ s → ⊥
 unfolding is_event
-effect_changes s None (Init text) is formed could same = init_changes (metamodel_of text) could (ap (λ (x : State). x.meta) same ∙ is)
-effect_changes s None (Checkout version branch) is formed could same = absurd cc
-effect_changes s None (Edit k operations) is formed could same = absurd cc
-effect_changes s None (Begin k name) is formed could same = absurd cc
-effect_changes s None (End k) is formed could same = absurd cc
-effect_changes s None (Undo k) is formed could same = absurd cc
-effect_changes s None (Discard k) is formed could same = absurd cc
-effect_changes s None (Tidy k) is formed could same = absurd cc
-effect_changes s None (Commit k message) is formed could same = absurd cc
-effect_changes s None (Branch k name) is formed could same = absurd cc
-effect_changes s None (Tag name version) is formed could same = absurd cc
-effect_changes s None (Update k letters) is formed could same = absurd cc
-effect_changes s None (Merge k branch letters) is formed could same = absurd cc
-effect_changes s None (Drop k) is formed could same = absurd cc
-effect_changes s (Some meta) (Init text) is formed could same = absurd cc
-effect_changes s (Some meta) (Checkout version branch) is formed could same =
+effect_changes s None (Init text) is formed suited could same = init_changes (metamodel_of text) could (ap (λ (x : State). x.meta) same ∙ is)
+effect_changes s None (Checkout version branch) is formed suited could same = absurd cc
+effect_changes s None (Edit k operations) is formed suited could same = absurd cc
+effect_changes s None (Begin k name) is formed suited could same = absurd cc
+effect_changes s None (End k) is formed suited could same = absurd cc
+effect_changes s None (Undo k) is formed suited could same = absurd cc
+effect_changes s None (Discard k) is formed suited could same = absurd cc
+effect_changes s None (Tidy k) is formed suited could same = absurd cc
+effect_changes s None (Commit k message) is formed suited could same = absurd cc
+effect_changes s None (Branch k name) is formed suited could same = absurd cc
+effect_changes s None (Tag name version) is formed suited could same = absurd cc
+effect_changes s None (Update k letters) is formed suited could same = absurd cc
+effect_changes s None (Merge k branch letters) is formed suited could same = absurd cc
+effect_changes s None (Drop k) is formed suited could same = absurd cc
+effect_changes s None (Evolve text) is formed suited could same = absurd cc
+effect_changes s None Upgrade is formed suited could same = absurd cc
+effect_changes s None (Signed k author moment message) is formed suited could same = absurd cc
+effect_changes s (Some meta) (Init text) is formed suited could same = absurd cc
+effect_changes s (Some meta) (Checkout version branch) is formed suited could same =
     not_longer s.workspaces (Some (untouched branch version) ∷ []) (omega arith) (ap (λ (x : State). x.workspaces) same)
-effect_changes s (Some meta) (Edit k operations) is formed could same = edit_changes s meta k operations (workspace_of s k) refl could (and_right _ _ formed) same
-effect_changes s (Some meta) (Begin k name) is formed could same = begin_changes s meta is k name (workspace_of s k) refl (and_right _ _ could) same
-effect_changes s (Some meta) (End k) is formed could same = end_changes s meta is k (workspace_of s k) refl could same
-effect_changes s (Some meta) (Undo k) is formed could same = undo_changes s meta is k (workspace_of s k) refl could same
-effect_changes s (Some meta) (Discard k) is formed could same = discard_changes s meta is k (workspace_of s k) refl could same
-effect_changes s (Some meta) (Tidy k) is formed could same = tidy_changes s meta is k (workspace_of s k) refl could same
-effect_changes s (Some meta) (Commit k message) is formed could same = commit_changes s meta is k message (workspace_of s k) could same
-effect_changes s (Some meta) (Branch k name) is formed could same = branch_changes s meta is k name (workspace_of s k) (and_right _ _ could) same
-effect_changes s (Some meta) (Tag name version) is formed could same =
+effect_changes s (Some meta) (Edit k operations) is formed suited could same = edit_changes s meta k operations (workspace_of s k) refl could (and_right _ _ formed) same
+effect_changes s (Some meta) (Begin k name) is formed suited could same = begin_changes s meta is k name (workspace_of s k) refl (and_right _ _ could) same
+effect_changes s (Some meta) (End k) is formed suited could same = end_changes s meta is k (workspace_of s k) refl could same
+effect_changes s (Some meta) (Undo k) is formed suited could same = undo_changes s meta is k (workspace_of s k) refl could same
+effect_changes s (Some meta) (Discard k) is formed suited could same = discard_changes s meta is k (workspace_of s k) refl could same
+effect_changes s (Some meta) (Tidy k) is formed suited could same = tidy_changes s meta is k (workspace_of s k) refl could same
+effect_changes s (Some meta) (Commit k message) is formed suited could same = commit_changes s meta is k None message (workspace_of s k) could same
+effect_changes s (Some meta) (Branch k name) is formed suited could same = branch_changes s meta is k name (workspace_of s k) (and_right _ _ could) same
+effect_changes s (Some meta) (Tag name version) is formed suited could same =
     not_longer s.history.tags (record { name = name; version = version } ∷ []) (omega arith) (ap (λ (x : State). x.history.tags) same)
-effect_changes s (Some meta) (Update k letters) is formed could same = update_changes s meta is k letters (workspace_of s k) refl could same
-effect_changes s (Some meta) (Merge k branch letters) is formed could same = merge_changes s meta is k branch letters (workspace_of s k) refl could same
-effect_changes s (Some meta) (Drop k) is formed could same = drop_changes s k (workspace_of s k) refl could same
+effect_changes s (Some meta) (Update k letters) is formed suited could same = update_changes s meta is k letters (workspace_of s k) refl could same
+effect_changes s (Some meta) (Merge k branch letters) is formed suited could same = merge_changes s meta is k branch letters (workspace_of s k) refl could same
+effect_changes s (Some meta) (Drop k) is formed suited could same = drop_changes s k (workspace_of s k) refl could same
+effect_changes s (Some meta) (Evolve text) is formed suited could same = evolve_changes s meta text is could same
+effect_changes s (Some meta) Upgrade is formed suited could same = not_both s.upgraded suited (sym (ap (λ (x : State). x.upgraded) same))
+effect_changes s (Some meta) (Signed k author moment message) is formed suited could same =
+    commit_changes s meta is k (Some (record { author = author; moment = moment })) message (workspace_of s k) (and_right _ _ could) same
 
 pub events_change : EventsChange
 unfolding playable
 events_change s e could =
-    let fits : IsTrue (fits_record e) = and_right _ _ (and_left _ _ could) in
-    effect_changes s s.meta e refl (and_left _ _ fits) (and_right _ _ could)
+    effect_changes s s.meta e refl (and_left _ _ (fitting s e could)) (suiting s e could) (and_right _ _ could)

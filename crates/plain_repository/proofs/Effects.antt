@@ -130,15 +130,14 @@ at_base meta h w n (Some c) is closed = absurd (by (ap (λ (c : Option Open). no
 
 pub commits_keep_states : CommitsKeepStates
 unfolding play
-commits_keep_states s meta ws message w c =
+commits_keep_states s meta ws signature message w c =
     let n = length s.history.versions in
     let k = kept s meta c.in_state in
-    let can : can_commit s.history (Some w) ≡ true = subst (λ (o : Option Workspace). can_commit s.history o ≡ true) c.there
-    (tested s meta (Commit ws message) c.in_state.begun c.could) in
-    let closed = commits.closed s meta k ws w message c.there can in
-    ap (λ (o : Option Workspace). state_of meta (with_commit ws message o s).history n) c.there
-    ∙ at_base meta (with_version s.history (version_of w message)) w n w.composite refl closed
-    ∙ commits.commit_model s meta k ws w message c.there can
+    let can = commits.version_could s meta ws signature message w c.in_state.begun c.could c.there in
+    let closed = commits.closed s meta k ws w signature message c.there can in
+    ap (λ (x : State). state_of meta x.history n) (commits.version_effect s ws signature message ∙ ap (λ (o : Option Workspace). with_commit ws signature message o s) c.there)
+    ∙ at_base meta (with_version s.history (version_of w signature message)) w n w.composite refl closed
+    ∙ commits.commit_model s meta k ws w signature message c.there can
 
 moved : (s : State) (ws : ℕ) (name : List ℕ) (w : Workspace) → workspace_of s ws ≡ Some w
     → workspace_of (play s (Branch ws name)) ws ≡ Some (moved_onto (length s.history.branches) w)

@@ -6,7 +6,7 @@ use Rattle.byte_form.proofs.FieldLemmas.{apart}
 use Rattle.byte_form.specs.Fields.{text_encoding, u32_encoding}
 use Rattle.commit_journal.specs.Journal.{most_bytes}
 use Rattle.op_form.specs.declared.event.Event.{Event}
-use Rattle.op_form.specs.declared.event.Event.TheVariants.{Init}
+use Rattle.op_form.specs.declared.event.Event.TheVariants.{Init, Evolve}
 use Rattle.op_form.specs.Events.{event_encoding}
 use Rattle.op_reading.specs.Events.{event_at}
 use Rattle.op_form.specs.Formed.{IsEvent, is_event}
@@ -14,7 +14,7 @@ use Rattle.op_form.proofs.FormedLaws.{is_event_is}
 use Rattle.op_reading.proofs.EventCodes.{event_codes}
 use Rattle.plain_repository.specs.State.{State}
 use Rattle.plain_repository.specs.Answers.{fits_record, most_events}
-use Rattle.plain_repository.specs.Events.{play, playable, playable_with, are_playable}
+use Rattle.plain_repository.specs.Events.{play, playable, playable_with, suits, are_playable}
 
 pub and_left : (a b : Bool) → IsTrue (a && b) → IsTrue a
 and_left true b both = refl
@@ -33,11 +33,22 @@ pub text_shorter : (text : List ℕ) → length text ≤ length (event_encoding 
 unfolding event_encoding text_encoding
 text_shorter text = omega (arith, length-append (u32_encoding (length text)) text)
 
-fitting : (s : State) (e : Event) → IsTrue (playable s e) → IsTrue (fits_record e)
+pub fitting : (s : State) (e : Event) → IsTrue (playable s e) → IsTrue (fits_record e)
 unfolding playable
 fitting s e could =
     let room : Bool = nat_lt s.events most_events in
-    and_right room (fits_record e) (and_left (room && fits_record e) (playable_with s s.meta e) could)
+    and_right room (fits_record e) (and_left (room && fits_record e) (suits s.upgraded e) (and_left (room && fits_record e && suits s.upgraded e) (playable_with s s.meta e) could))
+
+pub evolve_text_shorter : (text : List ℕ) → length text ≤ length (event_encoding (Evolve text))
+unfolding event_encoding text_encoding
+evolve_text_shorter text = omega (arith, length-append (u32_encoding (length text)) text)
+
+-- an event that could be made suits the store
+pub suiting : (s : State) (e : Event) → IsTrue (playable s e) → IsTrue (suits s.upgraded e)
+unfolding playable
+suiting s e could =
+    let fits : Bool = nat_lt s.events most_events && fits_record e in
+    and_right fits (suits s.upgraded e) (and_left (fits && suits s.upgraded e) (playable_with s s.meta e) could)
 
 -- the bytes of an event that could be made fit a record
 pub playable_short : (s : State) (e : Event) → IsTrue (playable s e) → length (event_encoding e) ≤ most_bytes

@@ -26,10 +26,11 @@ use Rattle.history_tree.proofs.Heads.{head_more, head_within}
 use Rattle.history_tree.proofs.Steady.{operations_kept, operations_more, path_ends, on_path_more, head_kept, head_new, whole_branch, whole_tag, whole_first}
 use Rattle.op_form.specs.Formed.{IsOperation, IsEvent}
 use Rattle.op_form.specs.declared.event.Event.{Event}
-use Rattle.op_form.specs.declared.event.Event.TheVariants.{Init, Checkout, Edit, Begin, End, Undo, Discard, Tidy, Commit, Branch, Tag, Update, Merge, Drop}
+use Rattle.op_form.specs.declared.event.Event.TheVariants.{Init, Checkout, Edit, Begin, End, Undo, Discard, Tidy, Commit, Branch, Tag, Update, Merge, Drop, Evolve, Upgrade, Signed}
 use Rattle.plain_repository.specs.State.{State, Workspace, Composite as Open, empty, untouched, workspace_of, recorded_steps, open_steps, with_changed, changed_by_number, is_closed, has_operations, has_local}
-use Rattle.plain_repository.specs.Metamodels.{meta_of_read}
+use Rattle.plain_repository.specs.Metamodels.{meta_of_read, grown}
 use Rattle.plain_repository.specs.Checkouts.{checked_out, can_check_out}
+use Rattle.history_tree.specs.declared.version.Signature.{Signature}
 use Rattle.plain_repository.specs.Commits.{version_of, committed, with_commit, can_commit, moved_onto, with_new_branch, is_new_branch, with_new_tag}
 use Rattle.plain_repository.specs.Edits.{added, with_more, can_follow}
 use Rattle.plain_repository.specs.Composites.{with_open, with_closed}
@@ -38,9 +39,10 @@ use Rattle.tidy_laws.specs.Tidy.{is_tidy}
 use Rattle.merge_plans.specs.Choices.{are_choices}
 use Rattle.plain_repository.specs.Tidying.{tidied, can_tidy}
 use Rattle.plain_repository.specs.Merging.{update_buckets, updated, can_update, merge_buckets, merged_with, is_other_branch, has_theirs, can_merge}
-use Rattle.plain_repository.specs.Events.{by_meta, effect, play, playable, playable_with, are_playable}
+use Rattle.plain_repository.specs.Events.{by_meta, effect, meta_after, play, playable, playable_with, are_playable}
 use Rattle.plain_repository.specs.Orderly.{RunsTo, Runs, steps_to, StandsInHistory, InOrder, HeadsLead, IfThere, Orderly, AllOrderly, IsOrderly}
 use Rattle.plain_repository.proofs.Encodings.{and_left, and_right, not_so, playable_is_event}
+use Rattle.plain_repository.proofs.Evolving.{grown_is, order_stays}
 use Rattle.plain_repository.proofs.Merged.{tidied_led, updated_led, merged_led}
 use Rattle.plain_repository.proofs.Names.{split_last, first_names, version_names, branch_names, tag_names}
 use Rattle.plain_repository.proofs.Places.{both, at_number, all_weaker, number_changed, number_dropped}
@@ -129,8 +131,13 @@ below_more v n within = by (nat_lt v n) refl
     by true is = inl (ltb-true v n is)
     by false is = inr (omega (arith, within, ltb-false v n is))
 
--- ---- Commit
-module _ (meta : Meta) (s : State) (kept : Orderly meta s) (message : List ℕ) (w : Workspace) (r : InOrder meta s.history w) (at_head : w.base ≡ head s.history w.branch) (closed : is_closed (Some w) ≡ true) where
+-- ---- Commit and Signed
+-- there are both an author and a moment, or neither
+signature_whole : (o : Option Signature) → is_some (option_map (λ (x : Signature). x.author) o) ≡ is_some (option_map (λ (x : Signature). x.moment) o)
+signature_whole None = refl
+signature_whole (Some x) = refl
+
+module _ (meta : Meta) (s : State) (kept : Orderly meta s) (signature : Option Signature) (message : List ℕ) (w : Workspace) (r : InOrder meta s.history w) (at_head : w.base ≡ head s.history w.branch) (closed : is_closed (Some w) ≡ true) where
   abbrev h : History
   h = s.history
 
@@ -138,26 +145,26 @@ module _ (meta : Meta) (s : State) (kept : Orderly meta s) (message : List ℕ) 
   n = length s.history.versions
 
   abbrev more : History
-  more = with_version s.history (version_of w message)
+  more = with_version s.history (version_of w signature message)
 
   parent : Some w.base ≡ Some (head s.history w.branch)
   parent = ap Some at_head
 
-  longer : length (s.history.versions ++ version_of w message ∷ []) ≡ length s.history.versions + 1
-  longer = length-append s.history.versions (version_of w message ∷ [])
+  longer : length (s.history.versions ++ version_of w signature message ∷ []) ≡ length s.history.versions + 1
+  longer = length-append s.history.versions (version_of w signature message ∷ [])
 
-  commit_whole : IsWhole (with_version s.history (version_of w message))
-  commit_whole = whole_more s.history (version_of w message) kept.whole r.stands.branch parent r.stands.pending
+  commit_whole : IsWhole (with_version s.history (version_of w signature message))
+  commit_whole = whole_more s.history (version_of w signature message) kept.whole r.stands.branch parent r.stands.pending (signature_whole signature)
 
   on_path : (branch u : ℕ) → Contains (path h (head h branch)) u → Contains (path more (head more branch)) u
-  on_path branch u on = on_path_more s.history (version_of w message) kept.whole parent branch u on
+  on_path branch u on = on_path_more s.history (version_of w signature message) kept.whole parent branch u on
 
   last_on_path : Contains (path more (head more w.branch)) n
-  last_on_path = subst (λ k. Contains (path more k) n) (sym (head_more s.history (version_of w message))) (path_ends more commit_whole n (omega (arith, longer)))
+  last_on_path = subst (λ k. Contains (path more k) n) (sym (head_more s.history (version_of w signature message))) (path_ends more commit_whole n (omega (arith, longer)))
 
-  commit_heads : HeadsLead (with_version s.history (version_of w message))
+  commit_heads : HeadsLead (with_version s.history (version_of w signature message))
   commit_heads v version there =
-      elim (split_last s.history.versions (version_of w message) v version there) [
+      elim (split_last s.history.versions (version_of w signature message) v version there) [
         | inl i ↦ on_path version.branch v (kept.heads v version i)
         | inr i ↦ subst (λ k. Contains (path more (head more version.branch)) k) (sym i.0) (subst (λ (y : Version). Contains (path more (head more y.branch)) n) i.1 last_on_path)
       ]
@@ -165,7 +172,7 @@ module _ (meta : Meta) (s : State) (kept : Orderly meta s) (message : List ℕ) 
   -- the steps up to the new version are those of the workspace
   pub commit_steps : steps_to more n ≡ steps_to h w.base ++ recorded_steps w
   commit_steps =
-      ap steps_all (operations_more s.history (version_of w message) w.base refl r.stands.base)
+      ap steps_all (operations_more s.history (version_of w signature message) w.base refl r.stands.base)
       ∙ steps_append (operations_to h w.base) w.operations
       ∙ ap (λ (l : List Step). steps_to h w.base ++ l) (sym (closed_steps_are w w.composite refl closed))
 
@@ -173,9 +180,9 @@ module _ (meta : Meta) (s : State) (kept : Orderly meta s) (message : List ℕ) 
   commit_run = same_run meta (steps_to more n) (steps_to h w.base ++ recorded_steps w) commit_steps r.runs
 
   old_steps : (v : ℕ) → v < n → steps_to more v ≡ steps_to h v
-  old_steps v within = ap steps_all (operations_kept s.history (version_of w message) v within)
+  old_steps v within = ap steps_all (operations_kept s.history (version_of w signature message) v within)
 
-  commit_versions : (v : ℕ) → v < length (s.history.versions ++ version_of w message ∷ []) → RunsTo meta more v
+  commit_versions : (v : ℕ) → v < length (s.history.versions ++ version_of w signature message ∷ []) → RunsTo meta more v
   commit_versions v within =
       elim (below_more v n (omega (arith, within, longer))) [
         | inl i ↦ same_run meta (steps_to more v) (steps_to h v) (old_steps v i) (kept.versions v i)
@@ -189,7 +196,7 @@ module _ (meta : Meta) (s : State) (kept : Orderly meta s) (message : List ℕ) 
       branch = q.stands.branch;
       base = omega (arith, q.stands.base, longer);
       on_path = on_path v.branch v.base q.stands.on_path;
-      pending = All-weaker (λ u. u < n) (λ u. u < length (s.history.versions ++ version_of w message ∷ [])) (λ u within. omega (arith, within, longer)) v.pending q.stands.pending;
+      pending = All-weaker (λ u. u < n) (λ u. u < length (s.history.versions ++ version_of w signature message ∷ [])) (λ u within. omega (arith, within, longer)) v.pending q.stands.pending;
     };
     runs = same_run meta (steps_to more v.base ++ recorded_steps v) (steps_to h v.base ++ recorded_steps v) (ap (λ (l : List Step). l ++ recorded_steps v) (old_steps v.base q.stands.base)) q.runs;
   }
@@ -205,12 +212,12 @@ module _ (meta : Meta) (s : State) (kept : Orderly meta s) (message : List ℕ) 
       by : false ≡ true → ⊥
       by e = cc
 
-  commit_kept : (k : ℕ) → workspace_of s k ≡ Some w → Orderly meta (with_commit k message (Some w) s)
+  commit_kept : (k : ℕ) → workspace_of s k ≡ Some w → Orderly meta (with_commit k signature message (Some w) s)
   commit_kept k there = record {
     metamodel = kept.metamodel;
     whole = commit_whole;
     heads = commit_heads;
-    names = version_names s.history (version_of w message) kept.names;
+    names = version_names s.history (version_of w signature message) kept.names;
     versions = commit_versions;
     workspaces = number_changed (InOrder meta h) (InOrder meta more) commit_others (committed n) s k
         (λ v at q. let same : w ≡ v = same_Some w v (sym there ∙ at) in subst (λ (u : Workspace). InOrder meta more (committed n u)) same (commit_itself w.composite refl)) kept.workspaces;
@@ -321,11 +328,11 @@ merged_in_order meta s kept branch letters w can q =
     }
 
 -- ---- each event
-commit_by : (meta : Meta) (s : State) (k : ℕ) (message : List ℕ) (o : Option Workspace) → workspace_of s k ≡ o → can_commit s.history o ≡ true → Orderly meta s → Orderly meta (with_commit k message o s)
-commit_by meta s k message None there can kept = absurd cc
-commit_by meta s k message (Some w) there can kept =
+commit_by : (meta : Meta) (s : State) (k : ℕ) (signature : Option Signature) (message : List ℕ) (o : Option Workspace) → workspace_of s k ≡ o → can_commit s.history o ≡ true → Orderly meta s → Orderly meta (with_commit k signature message o s)
+commit_by meta s k signature message None there can kept = absurd cc
+commit_by meta s k signature message (Some w) there can kept =
     let first : (nat_eq w.base (head s.history w.branch) && is_closed (Some w)) ≡ true = and_left _ (has_local (Some w)) can in
-    commit_kept meta s kept message w (at_number (InOrder meta s.history) s k w there kept.workspaces)
+    commit_kept meta s kept signature message w (at_number (InOrder meta s.history) s k w there kept.workspaces)
     (eqb-true w.base (head s.history w.branch) (and_left _ (is_closed (Some w)) first)) (and_right (nat_eq w.base (head s.history w.branch)) (is_closed (Some w)) first) k there
 
 branch_by : (meta : Meta) (s : State) (k : ℕ) (name : List ℕ) (o : Option Workspace) → is_name name ≡ true → is_new_branch s.history name ≡ true → workspace_of s k ≡ o → is_closed o ≡ true → Orderly meta s
@@ -334,7 +341,7 @@ branch_by meta s k name None is new there closed kept = absurd cc
 branch_by meta s k name (Some w) is new there closed kept = branch_kept meta s kept name is new w (at_number (InOrder meta s.history) s k w there kept.workspaces) k there
 
 -- an event that could be made keeps all of it
-pub event_kept : (meta : Meta) (s : State) (e : Event) → s.meta ≡ Some meta → IsTrue (playable_with s (Some meta) e) → IsEvent e → Orderly meta s → Orderly meta (effect s e)
+pub event_kept : (meta : Meta) (s : State) (e : Event) → s.meta ≡ Some meta → IsTrue (playable_with s (Some meta) e) → IsEvent e → Orderly meta s → Orderly (meta_after meta e) (effect s e)
 event_kept meta s (Init text) begun could spelled kept = absurd cc
 event_kept meta s (Checkout version branch) begun could spelled kept = checkout_kept meta s version branch could kept
 event_kept meta s (Edit k operations) begun could spelled kept =
@@ -354,7 +361,7 @@ event_kept meta s (Discard k) begun could spelled kept =
 event_kept meta s (Tidy k) begun could spelled kept =
     subst (λ (m : Option Meta). Orderly meta (with_changed (by_meta m tidied) k s)) (sym begun)
     (changed_kept meta s (tidied meta) k kept (λ w at q. tidied_in_order meta s kept w (found s k (λ o. can_tidy meta o ≡ true) could w at) q))
-event_kept meta s (Commit k message) begun could spelled kept = commit_by meta s k message (workspace_of s k) refl could kept
+event_kept meta s (Commit k message) begun could spelled kept = commit_by meta s k None message (workspace_of s k) refl could kept
 event_kept meta s (Branch k name) begun could spelled kept =
     let named = and_left (is_name name && is_new_branch s.history name) (is_closed (workspace_of s k)) could in
     branch_by meta s k name (workspace_of s k) (and_left (is_name name) (is_new_branch s.history name) named) (and_right (is_name name) (is_new_branch s.history name) named) refl
@@ -372,33 +379,42 @@ event_kept meta s (Merge k branch letters) begun could spelled kept =
     (λ w at q. merged_in_order meta s kept branch letters w (found s k (λ o. can_merge meta s.history branch letters o ≡ true) could w at) q))
 event_kept meta s (Drop k) begun could spelled kept =
     with_workspaces meta s (changed_by_number (λ o. None) s.workspaces k) kept (number_dropped (InOrder meta s.history) s.workspaces k kept.workspaces)
+event_kept meta s (Evolve text) begun could spelled kept =
+    subst (λ (m : Option Meta). Orderly (grown text meta) (record s { meta = option_map (grown text) m })) (sym begun) (order_stays meta (grown text meta) (grown_is meta text kept.metamodel could) s kept)
+event_kept meta s Upgrade begun could spelled kept =
+    record { metamodel = kept.metamodel; whole = kept.whole; heads = kept.heads; names = kept.names; versions = kept.versions; workspaces = kept.workspaces }
+event_kept meta s (Signed k author moment message) begun could spelled kept =
+    commit_by meta s k (Some (record { author = author; moment = moment })) message (workspace_of s k) refl (and_right (is_name author) (can_commit s.history (workspace_of s k)) could) kept
 
--- an event leaves the metamodel that is there
-pub same_meta : (s : State) (meta : Meta) (e : Event) → IsTrue (playable_with s (Some meta) e) → (effect s e).meta ≡ s.meta
-same_meta s meta (Init text) could = absurd cc
-same_meta s meta (Checkout version branch) could = refl
-same_meta s meta (Edit k operations) could = refl
-same_meta s meta (Begin k name) could = refl
-same_meta s meta (End k) could = refl
-same_meta s meta (Undo k) could = refl
-same_meta s meta (Discard k) could = refl
-same_meta s meta (Tidy k) could = refl
-same_meta s meta (Commit k message) could = by (workspace_of s k)
-  where
-    by : (o : Option Workspace) → (with_commit k message o s).meta ≡ s.meta
-    by None = refl
-    by (Some w) = refl
-same_meta s meta (Branch k name) could = by (workspace_of s k)
-  where
-    by : (o : Option Workspace) → (with_new_branch k name o s).meta ≡ s.meta
-    by None = refl
-    by (Some w) = refl
-same_meta s meta (Tag name version) could = refl
-same_meta s meta (Update k letters) could = refl
-same_meta s meta (Merge k branch letters) could = refl
-same_meta s meta (Drop k) could = refl
+commit_meta : (s : State) (k : ℕ) (signature : Option Signature) (message : List ℕ) (o : Option Workspace) → (with_commit k signature message o s).meta ≡ s.meta
+commit_meta s k signature message None = refl
+commit_meta s k signature message (Some w) = refl
 
--- so does one where no metamodel is there yet
+-- which metamodel an event leaves
+pub meta_left : (s : State) (meta : Meta) (e : Event) → s.meta ≡ Some meta → IsTrue (playable_with s (Some meta) e) → (effect s e).meta ≡ Some (meta_after meta e)
+meta_left s meta (Init text) begun could = absurd cc
+meta_left s meta (Checkout version branch) begun could = begun
+meta_left s meta (Edit k operations) begun could = begun
+meta_left s meta (Begin k name) begun could = begun
+meta_left s meta (End k) begun could = begun
+meta_left s meta (Undo k) begun could = begun
+meta_left s meta (Discard k) begun could = begun
+meta_left s meta (Tidy k) begun could = begun
+meta_left s meta (Commit k message) begun could = commit_meta s k None message (workspace_of s k) ∙ begun
+meta_left s meta (Branch k name) begun could = by (workspace_of s k)
+  where
+    by : (o : Option Workspace) → (with_new_branch k name o s).meta ≡ Some meta
+    by None = begun
+    by (Some w) = begun
+meta_left s meta (Tag name version) begun could = begun
+meta_left s meta (Update k letters) begun could = begun
+meta_left s meta (Merge k branch letters) begun could = begun
+meta_left s meta (Drop k) begun could = begun
+meta_left s meta (Evolve text) begun could = ap (option_map (grown text)) begun
+meta_left s meta Upgrade begun could = begun
+meta_left s meta (Signed k author moment message) begun could = commit_meta s k (Some (record { author = author; moment = moment })) message (workspace_of s k) ∙ begun
+
+-- what could be made keeps all in order, with the metamodel that is there then
 pub effect_keeps : (s : State) (m : Option Meta) (e : Event) → s.meta ≡ m → IsTrue (playable_with s m e) → IsEvent e → AllOrderly m s → AllOrderly (effect s e).meta (effect s e)
 effect_keeps s None (Init text) is could spelled all = init_kept s text (metamodel_of text) refl could all.0
 effect_keeps s None (Checkout version branch) is could spelled all = absurd cc
@@ -414,8 +430,11 @@ effect_keeps s None (Tag name version) is could spelled all = absurd cc
 effect_keeps s None (Update k letters) is could spelled all = absurd cc
 effect_keeps s None (Merge k branch letters) is could spelled all = absurd cc
 effect_keeps s None (Drop k) is could spelled all = absurd cc
+effect_keeps s None (Evolve text) is could spelled all = absurd cc
+effect_keeps s None Upgrade is could spelled all = absurd cc
+effect_keeps s None (Signed k author moment message) is could spelled all = absurd cc
 effect_keeps s (Some meta) e is could spelled all =
-    subst (λ (m : Option Meta). AllOrderly m (effect s e)) (sym (same_meta s meta e could ∙ is)) (event_kept meta s e is could spelled all)
+    subst (λ (m : Option Meta). AllOrderly m (effect s e)) (sym (meta_left s meta e is could)) (event_kept meta s e is could spelled all)
 
 -- the numbers that every event raises are no part of it
 numbers_kept : (m : Option Meta) (s : State) (events end : ℕ) → AllOrderly m s → AllOrderly m (record s { events = events; end = end })
@@ -433,4 +452,4 @@ played_keeps s (e ∷ events) could all = played_keeps (play s e) events (and_ri
 
 -- all is in order in the empty repository
 pub empty_kept : IsOrderly empty
-empty_kept = (refl, refl)
+empty_kept = (refl, refl, refl)

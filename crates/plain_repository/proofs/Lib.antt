@@ -6,6 +6,7 @@ pub mod Decided
 pub mod Effects
 pub mod Encodings
 pub mod Following
+pub mod Evolving
 pub mod Growth
 pub mod Kept
 pub mod Merged
@@ -21,7 +22,9 @@ pub mod Reverting
 pub mod Rows
 pub mod Runs
 pub mod Shown
+pub mod Signing
 pub mod Spelled
 pub mod States
 pub mod Stores
+pub mod Texts
 pub mod Undoing

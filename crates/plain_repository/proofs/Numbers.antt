@@ -5,8 +5,9 @@ use Rattle.std.proofs.lemmas.Option.{slice_get_within}
 use Rattle.history_tree.specs.History.{head}
 use Rattle.history_tree.proofs.Paths.{get_left}
 use Rattle.op_form.specs.declared.event.Event.{Event}
-use Rattle.op_form.specs.declared.event.Event.TheVariants.{Init, Checkout, Edit, Begin, End, Undo, Discard, Tidy, Commit, Branch, Tag, Update, Merge, Drop}
+use Rattle.op_form.specs.declared.event.Event.TheVariants.{Init, Checkout, Edit, Begin, End, Undo, Discard, Tidy, Commit, Branch, Tag, Update, Merge, Drop, Evolve, Upgrade, Signed}
 use Rattle.plain_repository.specs.State.{State, Workspace, untouched, workspace_of, changed_at, changed_by_number}
+use Rattle.history_tree.specs.declared.version.Signature.{Signature}
 use Rattle.plain_repository.specs.Commits.{committed, with_commit, moved_onto, with_new_branch}
 use Rattle.plain_repository.specs.Edits.{with_more}
 use Rattle.plain_repository.specs.Composites.{with_open, with_closed}
@@ -43,6 +44,10 @@ changed change none ws (suc k) = record { count = omega (arith, count_at change 
 more : (ws : List (Option Workspace)) (o : Option Workspace) → Keeps ws (ws ++ o ∷ [])
 more ws o = record { count = omega (arith, length-append ws (o ∷ [])); dropped = λ n is. get_left ws (o ∷ []) n (slice_get_within ws n None is) ∙ is }
 
+commit_keeps_numbers : (s : State) (k : ℕ) (signature : Option Signature) (message : List ℕ) (o : Option Workspace) → Keeps s.workspaces (with_commit k signature message o s).workspaces
+commit_keeps_numbers s k signature message None = same s.workspaces
+commit_keeps_numbers s k signature message (Some w) = changed (option_map (committed (length s.history.versions))) refl s.workspaces k
+
 effect_keeps_numbers : (s : State) (e : Event) → Keeps s.workspaces (effect s e).workspaces
 effect_keeps_numbers s (Init text) = same s.workspaces
 effect_keeps_numbers s (Checkout version branch) = more s.workspaces (Some (untouched branch version))
@@ -52,11 +57,7 @@ effect_keeps_numbers s (End k) = changed (option_map with_closed) refl s.workspa
 effect_keeps_numbers s (Undo k) = changed (option_map without_last) refl s.workspaces k
 effect_keeps_numbers s (Discard k) = changed (option_map without_any) refl s.workspaces k
 effect_keeps_numbers s (Tidy k) = changed (option_map (by_meta s.meta tidied)) refl s.workspaces k
-effect_keeps_numbers s (Commit k message) = by (workspace_of s k)
-  where
-    by : (o : Option Workspace) → Keeps s.workspaces (with_commit k message o s).workspaces
-    by None = same s.workspaces
-    by (Some w) = changed (option_map (committed (length s.history.versions))) refl s.workspaces k
+effect_keeps_numbers s (Commit k message) = commit_keeps_numbers s k None message (workspace_of s k)
 effect_keeps_numbers s (Branch k name) = by (workspace_of s k)
   where
     by : (o : Option Workspace) → Keeps s.workspaces (with_new_branch k name o s).workspaces
@@ -66,6 +67,9 @@ effect_keeps_numbers s (Tag name version) = same s.workspaces
 effect_keeps_numbers s (Update k letters) = changed (option_map (by_meta s.meta (λ meta. updated meta s.history letters))) refl s.workspaces k
 effect_keeps_numbers s (Merge k branch letters) = changed (option_map (by_meta s.meta (λ meta. merged_with meta s.history (head s.history branch) letters))) refl s.workspaces k
 effect_keeps_numbers s (Drop k) = changed (λ o. None) refl s.workspaces k
+effect_keeps_numbers s (Evolve text) = same s.workspaces
+effect_keeps_numbers s Upgrade = same s.workspaces
+effect_keeps_numbers s (Signed k author moment message) = commit_keeps_numbers s k (Some (record { author = author; moment = moment })) message (workspace_of s k)
 
 pub numbers_only_grow : NumbersOnlyGrow
 unfolding play

@@ -2,9 +2,14 @@
 use Rattle.std.proofs.Common.{◌≡◌, refl, sym, subst, ℕ, ◌==◌, List, [], ◌∷◌, length, Bool, true, false, Option, Some, None, Result, Ok, Err}
 use Rattle.std.specs.Prelude.{All, nat_le, not, unwrap_or, if◌then◌else◌}
 use Rattle.std.specs.Fmt.{decimal}
+use Rattle.std.specs.List.{slice_split}
+use Rattle.host_port.specs.Cut.{is_lf}
 use Rattle.ecore_meta.specs.Meta.{Meta}
 use Rattle.ecore_json.specs.declared.fault.EcoreFault.{EcoreFault}
 use Rattle.ecore_json.specs.Metamodel.{metamodel_of}
+use Rattle.metamodel_growth.specs.Extension.{missing}
+use Rattle.metamodel_growth.specs.Evolved.{evolved}
+use Rattle.metamodel_growth.specs.Same.{is_same}
 use Rattle.model_state.specs.declared.operation.Operation.{Operation}
 use Rattle.model_state.specs.declared.step.ApplyFault.{ApplyFault}
 use Rattle.model_state.specs.Packages.{rev_package, steps_all}
@@ -32,6 +37,7 @@ use Rattle.commit_journal.specs.Journal.{fit_of}
 use Rattle.commit_journal.specs.declared.fit.Fit.{Fit}
 use Rattle.commit_journal.specs.declared.fit.Fit.TheVariants as fits
 use Rattle.op_form.specs.declared.event.Event.{Event}
+use Rattle.op_form.specs.declared.event.Event.TheVariants.{Commit, Signed}
 use Rattle.op_reading.specs.declared.fault.FormFault.{FormFault}
 use Rattle.op_reading.specs.Packages.{package_at as package_form_at}
 use Rattle.op_form.specs.Events.{event_encoding}
@@ -43,14 +49,14 @@ use Rattle.script_lang.specs.Command.{command_of}
 use Rattle.plain_repository.specs.State.{State, Workspace, workspace_of, model_of, is_open, has_local, has_operations}
 use Rattle.plain_repository.specs.Answers.{Decision, accepted, most_events, by_fit, with_room}
 use Rattle.plain_repository.specs.Specs.{named}
-use Rattle.plain_repository.specs.Metamodels.{with_metamodel, decide_init}
+use Rattle.plain_repository.specs.Metamodels.{with_metamodel, decide_init, extended, evolve_read, decide_evolve}
 use Rattle.plain_repository.specs.Checkouts.{checkout_of, decide_checkout, drop_of, decide_drop}
-use Rattle.plain_repository.specs.Commits.{is_new_branch, commit_of, decide_commit, branch_of, decide_branch, tag_of, decide_tag}
-use Rattle.plain_repository.specs.Edits.{id_words, with_operation, edited, edit_in, decide_edit, imported, import_read, import_in, decide_import}
+use Rattle.plain_repository.specs.Commits.{is_new_branch, version_made, commit_of, decide_commit, signed_of, decide_signed, decide_upgrade, branch_of, decide_branch, tag_of, decide_tag}
+use Rattle.plain_repository.specs.Edits.{takes, id_words, with_operation, edited, edit_in, decide_edit, imported, import_read, import_in, decide_import}
 use Rattle.plain_repository.specs.Composites.{begun, decide_begin, ended, decide_end}
 use Rattle.plain_repository.specs.Local.{can_discard, undone, decide_undo, discarded, decide_discard}
 use Rattle.plain_repository.specs.Tidying.{tidy_of, decide_tidy}
-use Rattle.plain_repository.specs.Applying.{with_operations, applied, apply_read, apply_in, decide_apply, taken_out, revert_found, revert_in, decide_revert}
+use Rattle.plain_repository.specs.Applying.{with_operations, applied, apply_read, apply_in, decide_apply, bytes_of_lines, load_package, load_read, load_bytes, load_in, decide_load, taken_out, revert_found, revert_in, decide_revert}
 use Rattle.plain_repository.specs.Choices.{chosen}
 use Rattle.plain_repository.specs.Merging.{update_buckets, update_in, decide_update, has_theirs, merge_buckets, merge_named, merge_in, decide_merge}
 use Rattle.plain_repository.specs.Views.{changes_of, decide_changes, shown, decide_show, validated, decide_validate, text_of, decide_cat, package_of, decide_package, decide_log}
@@ -111,6 +117,14 @@ module _ (s : State) where
   init_told (Some meta) text = silent refl refl
   init_told None text = init_read text (metamodel_of text)
 
+  extended_told : (text : List ℕ) (old next : Meta) (name : Option (List ℕ)) → Told false (extended s text old next name)
+  extended_told text old next (Some name) = silent refl refl
+  extended_told text old next None = either (is_same old (evolved old next)) (silent refl refl) (room _ _)
+
+  evolve_told : (text : List ℕ) (old : Meta) (read : Result Meta EcoreFault) → Told false (evolve_read s text old read)
+  evolve_told text old (Err fault) = silent refl refl
+  evolve_told text old (Ok next) = extended_told text old next (missing old next)
+
   checkout_told : (meta : Meta) (found : Result Found FindFault) → Told false (checkout_of s meta found)
   checkout_told meta (Err fault) = silent refl refl
   checkout_told meta (Ok found) = room_for _ _ _ (text_apart meta (state_of meta s.history found.version))
@@ -119,10 +133,17 @@ module _ (s : State) where
   drop_told ws None = silent refl refl
   drop_told ws (Some w) = room _ _
 
+  version_told : (w : Workspace) (event : Event) → Told false (version_made s w event)
+  version_told w event =
+      either (not (w.base == head s.history w.branch)) (silent refl refl) (either (is_open (Some w)) (silent refl refl) (either (has_local (Some w)) (room _ event) (silent refl refl)))
+
   commit_told : (ws : ℕ) (message : List ℕ) (o : Option Workspace) → Told false (commit_of s ws message o)
   commit_told ws message None = silent refl refl
-  commit_told ws message (Some w) =
-      either (not (w.base == head s.history w.branch)) (silent refl refl) (either (is_open (Some w)) (silent refl refl) (either (has_local (Some w)) (room _ _) (silent refl refl)))
+  commit_told ws message (Some w) = either s.upgraded (silent refl refl) (version_told w (Commit ws message))
+
+  signed_told : (ws : ℕ) (author : List ℕ) (moment : ℕ) (message : List ℕ) (o : Option Workspace) → Told false (signed_of s ws author moment message o)
+  signed_told ws author moment message None = silent refl refl
+  signed_told ws author moment message (Some w) = either s.upgraded (version_told w (Signed ws author moment message)) (silent refl refl)
 
   branch_told : (ws : ℕ) (name : List ℕ) (o : Option Workspace) → Told false (branch_of s ws name o)
   branch_told ws name None = silent refl refl
@@ -194,6 +215,22 @@ module _ (s : State) where
   apply_told meta ws None bytes = silent refl refl
   apply_told meta ws (Some w) bytes = either (is_open (Some w)) (silent refl refl) (apply_read_told meta ws w (whole_of package_form_at bytes))
 
+  load_package_told : (meta : Meta) (ws : ℕ) (w : Workspace) (operations : List Operation) → Told false (load_package s meta ws w operations)
+  load_package_told meta ws w operations =
+      either (takes w.composite operations) (applied_told ws operations (first_stop meta (model_of meta s.history w) (steps_all operations))) (silent refl refl)
+
+  load_read_told : (meta : Meta) (ws : ℕ) (w : Workspace) (read : Result (List Operation) FormFault) → Told false (load_read s meta ws w read)
+  load_read_told meta ws w (Err fault) = silent refl refl
+  load_read_told meta ws w (Ok operations) = load_package_told meta ws w operations
+
+  load_bytes_told : (meta : Meta) (ws : ℕ) (w : Workspace) (bytes : Option (List ℕ)) → Told false (load_bytes s meta ws w bytes)
+  load_bytes_told meta ws w None = silent refl refl
+  load_bytes_told meta ws w (Some bytes) = load_read_told meta ws w (whole_of package_form_at bytes)
+
+  load_told : (meta : Meta) (ws : ℕ) (o : Option Workspace) (text : List ℕ) → Told false (load_in s meta ws o text)
+  load_told meta ws None text = silent refl refl
+  load_told meta ws (Some w) text = load_bytes_told meta ws w (bytes_of_lines (slice_split is_lf text))
+
   taken_out_told : (meta : Meta) (ws : ℕ) (w : Workspace) (operations : List Operation) (interfering : Option ℕ) → Told false (taken_out s meta ws w operations interfering)
   taken_out_told meta ws w operations (Some u) = silent refl refl
   taken_out_told meta ws w operations None = either (have_pair meta operations w.operations) (silent refl refl) (operations_made ws (rev_package operations))
@@ -247,11 +284,13 @@ module _ (s : State) where
 
   -- ---- each command
   command_told : (meta : Meta) (block : Option (List ℕ)) (command : Command) → Told (is_validate command) (decide_begun s meta block command)
-  unfolding decide_init decide_checkout decide_drop decide_commit decide_branch decide_tag decide_edit decide_import decide_begin decide_end decide_undo decide_discard decide_tidy decide_apply decide_revert decide_update decide_merge decide_changes decide_show decide_validate decide_cat decide_package decide_log
+  unfolding decide_init decide_evolve decide_checkout decide_drop decide_commit decide_signed decide_upgrade decide_branch decide_tag decide_edit decide_import decide_begin decide_end decide_undo decide_discard decide_tidy decide_apply decide_load decide_revert decide_update decide_merge decide_changes decide_show decide_validate decide_cat decide_package decide_log
   command_told meta block commands.Init = silent refl refl
+  command_told meta block commands.Evolve = evolve_told (block_text block) meta (metamodel_of (block_text block))
   command_told meta block (commands.Checkout spec) = checkout_told meta (named s.history spec)
   command_told meta block (commands.Edit ws edit) = edit_told meta ws (workspace_of s ws) edit
   command_told meta block (commands.Import ws) = import_told meta ws (workspace_of s ws) (block_text block)
+  command_told meta block (commands.Load ws) = load_told meta ws (workspace_of s ws) (block_text block)
   command_told meta block (commands.Begin ws name) = begin_told ws name (workspace_of s ws)
   command_told meta block (commands.End ws) = end_told ws (workspace_of s ws)
   command_told meta block (commands.Undo ws) = undo_told ws (workspace_of s ws)
@@ -263,6 +302,7 @@ module _ (s : State) where
   command_told meta block (commands.Cat spec) = text_told meta s.history (named s.history spec)
   command_told meta block (commands.Validate ws) = validated_told meta s.history (workspace_of s ws)
   command_told meta block (commands.Commit ws message) = commit_told ws (unwrap_or message []) (workspace_of s ws)
+  command_told meta block (commands.Signed ws author moment message) = signed_told ws author moment (unwrap_or message []) (workspace_of s ws)
   command_told meta block (commands.Branch ws name) = branch_told ws name (workspace_of s ws)
   command_told meta block (commands.Tag name spec) = either (has_tag s.history name) (silent refl refl) (tag_told name (named s.history spec))
   command_told meta block commands.Log = shows refl (log_apart s.history)
@@ -271,13 +311,16 @@ module _ (s : State) where
   command_told meta block (commands.Merge ws branch choices) = merge_told meta ws branch choices (workspace_of s ws)
   command_told meta block (commands.Revert ws version) = revert_told meta ws (workspace_of s ws) version
   command_told meta block (commands.Drop ws) = drop_told ws (workspace_of s ws)
+  command_told meta block commands.Upgrade = either s.upgraded (silent refl refl) (room _ _)
 
   -- before there is a metamodel
   before_told : (block : Option (List ℕ)) (command : Command) → Told (is_validate command) (decide_with s None block command)
   before_told block commands.Init = init_told None _
+  before_told block commands.Evolve = silent refl refl
   before_told block (commands.Checkout spec) = silent refl refl
   before_told block (commands.Edit ws edit) = silent refl refl
   before_told block (commands.Import ws) = silent refl refl
+  before_told block (commands.Load ws) = silent refl refl
   before_told block (commands.Begin ws name) = silent refl refl
   before_told block (commands.End ws) = silent refl refl
   before_told block (commands.Undo ws) = silent refl refl
@@ -289,6 +332,7 @@ module _ (s : State) where
   before_told block (commands.Cat spec) = silent refl refl
   before_told block (commands.Validate ws) = record { refused_none = record { none = λ refuses. refl }; apart = λ plain. absurd cc }
   before_told block (commands.Commit ws message) = silent refl refl
+  before_told block (commands.Signed ws author moment message) = silent refl refl
   before_told block (commands.Branch ws name) = silent refl refl
   before_told block (commands.Tag name spec) = silent refl refl
   before_told block commands.Log = silent refl refl
@@ -297,6 +341,7 @@ module _ (s : State) where
   before_told block (commands.Merge ws branch choices) = silent refl refl
   before_told block (commands.Revert ws version) = silent refl refl
   before_told block (commands.Drop ws) = silent refl refl
+  before_told block commands.Upgrade = silent refl refl
 
   with_told : (m : Option Meta) (block : Option (List ℕ)) (command : Command) → Told (is_validate command) (decide_with s m block command)
   with_told None block command = before_told block command

@@ -1,5 +1,5 @@
 -- Worked rows: what the definitions say of a few lines, computed.
-use Rattle.std.proofs.Common.{◌≡◌, [], ◌∷◌, true, None, Some, refl, codes, arith}
+use Rattle.std.proofs.Common.{◌≡◌, [], ◌∷◌, true, false, None, Some, refl, codes, arith}
 use Rattle.std.specs.Fmt.{digits}
 use lib.Utf8.{encode}
 use Rattle.byte_form.specs.Fields.{u32_encoding, u64_encoding, text_encoding}
@@ -18,7 +18,7 @@ use Rattle.model_state.specs.declared.operation.Operation.{Operation}
 use Rattle.model_state.specs.declared.operation.Operation.TheVariants.{Simple}
 use Rattle.history_tree.specs.History.{first_history, path, head}
 use Rattle.footprint.specs.Buckets.{labels, buckets}
-use Rattle.op_form.specs.declared.event.Event.TheVariants.{Checkout, Edit, Commit, Branch, Tag, Drop}
+use Rattle.op_form.specs.declared.event.Event.TheVariants.{Checkout, Edit, Commit, Branch, Tag, Drop, Upgrade}
 use Rattle.script_lang.specs.declared.command.Spec.TheVariants as specs
 use Rattle.script_lang.specs.declared.command.Command.{Command}
 use Rattle.script_lang.specs.declared.command.Command.TheVariants as commands
@@ -28,7 +28,7 @@ use Rattle.script_lang.specs.declared.reply.Last.TheVariants as last
 use Rattle.plain_repository.specs.State.{State}
 use Rattle.plain_repository.specs.Answers.{with_room}
 use Rattle.plain_repository.specs.Checkouts.{decide_checkout}
-use Rattle.plain_repository.specs.Commits.{decide_commit, decide_branch, decide_tag}
+use Rattle.plain_repository.specs.Commits.{decide_commit, decide_signed, decide_branch, decide_tag}
 use Rattle.plain_repository.specs.Applying.{decide_revert}
 use Rattle.plain_repository.specs.Merging.{decide_update, decide_merge}
 use Rattle.plain_repository.specs.Events.{play}
@@ -36,7 +36,7 @@ use Rattle.plain_repository.specs.Repository.{decide_command}
 
 -- a repository with any metamodel, right after `init`
 abbrev begun : Meta → State
-begun meta = record { meta = Some meta; history = first_history; workspaces = []; events = 1; end = 100 }
+begun meta = record { meta = Some meta; history = first_history; workspaces = []; upgraded = false; events = 1; end = 100 }
 
 -- some operation
 abbrev some_operation : Operation
@@ -125,3 +125,33 @@ checked_out meta = refl
 on_dev : (meta : Meta) → said (five meta) (commands.Checkout (specs.Branch (codes "dev"))) ≡ last.Ok (codes "3 3 dev")
 unfolding decide_command play decide_checkout with_room is_event event_encoding u32_encoding u64_encoding text_encoding package_encoding operation_encoding step_encoding digits
 on_dev meta = refl
+
+-- a version is signed once the store is upgraded, and not before
+old_form : (meta : Meta) → said (four meta) (commands.Signed 2 (codes "ann") 5 None) ≡ last.No refusals.OldForm
+unfolding decide_command play decide_signed
+old_form meta = refl
+
+abbrev upgraded : Meta → State
+upgraded meta = play (four meta) Upgrade
+
+unauthor_is : is_utf8 (codes "ann") ≡ true
+author_is = is_utf8-from_IsUtf8 (codes "ann") (IsUtf8-from_ascii (codes "ann") (IsAscii-cons 97 (codes "nn") (omega arith)
+    (IsAscii-cons 110 (codes "n") (omega arith) (IsAscii-cons 110 [] (omega arith) IsAscii-nil))))
+
+nothing_is : is_utf8 [] ≡ true
+nothing_is = is_utf8-from_IsUtf8 [] (IsUtf8-from_ascii [] IsAscii-nil)
+
+signed : (meta : Meta) → said (upgraded meta) (commands.Commit 2 None) ≡ last.No refusals.Unsigned
+unfolding decide_command play decide_commit
+unsigned meta = refl
+
+author_is : is_utf8 (codes "ann") ≡ true
+author_is = is_utf8-from_IsUtf8 (codes "ann") (IsUtf8-from_ascii (codes "ann") (IsAscii-cons 97 (codes "nn") (omega arith)
+    (IsAscii-cons 110 (codes "n") (omega arith) (IsAscii-cons 110 [] (omega arith) IsAscii-nil))))
+
+nothing_is : is_utf8 [] ≡ true
+nothing_is = is_utf8-from_IsUtf8 [] (IsUtf8-from_ascii [] IsAscii-nil)
+
+signed : (meta : Meta) → said (upgraded meta) (commands.Signed 2 (codes "ann") 5 None) ≡ last.Ok (codes "3")
+unfolding decide_command play decide_signed with_room is_event event_encoding u32_encoding u64_encoding text_encoding package_encoding operation_encoding step_encoding digits encode
+signed meta = rw (said, author_is, nothing_is) refl

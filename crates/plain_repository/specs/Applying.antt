@@ -1,5 +1,8 @@
--- Packages are applied and reverted: the commands `apply` and `revert`, which make the event Edit.
+-- Packages are applied and reverted: the commands `apply`, `load` and `revert`, which make the event Edit.
 use Rattle.std.specs.Prelude.{ℕ, List, [], ◌∷◌, Option, Some, None, Result, Ok, Err, if◌then◌else◌}
+use Rattle.std.specs.List.{slice_split}
+use Rattle.host_port.specs.Cut.{is_lf}
+use Rattle.hex.specs.Hex.{decode_of}
 use Rattle.ecore_meta.specs.Meta.{Meta}
 use Rattle.model_state.specs.Packages.{rev_package, steps_all}
 use Rattle.model_state.specs.Steps.{first_stop}
@@ -18,10 +21,12 @@ use Rattle.op_reading.specs.declared.fault.FormFault.{FormFault}
 use Rattle.op_reading.specs.declared.fault.FormFault.TheVariants as forms
 use Rattle.op_reading.specs.Packages.{package_at as package_form_at}
 use Rattle.op_reading.specs.Events.{whole_of}
+use Rattle.script_lang.specs.Command.{if_decoded}
 use Rattle.script_lang.specs.declared.reply.Refusal.{Refusal}
 use Rattle.script_lang.specs.declared.reply.Refusal.TheVariants as refusals
 use Rattle.plain_repository.specs.State.{State, Workspace, workspace_of, model_of, is_open}
 use Rattle.plain_repository.specs.Answers.{Decision, refused, told, with_room}
+use Rattle.plain_repository.specs.Edits.{takes}
 use Rattle.plain_repository.specs.Specs.{unknown}
 
 -- operations are recorded, and nothing changes where there is none
@@ -53,6 +58,37 @@ apply_in s meta ws (Some w) bytes = if is_open (Some w) then refused refusals.Co
 -- `apply WS HEX`: the operations of a package, given by its bytes, are recorded
 unfoldable pub decide_apply : State → Meta → ℕ → List ℕ → Decision
 decide_apply s meta ws bytes = apply_in s meta ws (workspace_of s ws) bytes
+
+-- ---- load
+-- the bytes that the lines of a block spell, two hexadecimal digits a byte: those of its one line, behind which nothing stands
+abbrev pub bytes_of_lines : List (List ℕ) → Option (List ℕ)
+bytes_of_lines (line ∷ [] ∷ []) = if_decoded (decode_of line)
+bytes_of_lines lines = None
+
+-- a package is recorded, where its steps can be taken; while a composite is open it takes one operation alone
+abbrev pub load_package : State → Meta → ℕ → Workspace → List Operation → Decision
+load_package s meta ws w operations =
+    if takes w.composite operations then applied s ws operations (first_stop meta (model_of meta s.history w) (steps_all operations))
+    else refused refusals.CompositeOpen
+
+-- the same, by what the bytes read as
+abbrev pub load_read : State → Meta → ℕ → Workspace → Result (List Operation) FormFault → Decision
+load_read s meta ws w (Err fault) = refused (unread fault)
+load_read s meta ws w (Ok operations) = load_package s meta ws w operations
+
+-- the same, where the block spells bytes
+abbrev pub load_bytes : State → Meta → ℕ → Workspace → Option (List ℕ) → Decision
+load_bytes s meta ws w None = refused (refusals.NotForm 0)
+load_bytes s meta ws w (Some bytes) = load_read s meta ws w (whole_of package_form_at bytes)
+
+-- the same, by the workspace
+abbrev pub load_in : State → Meta → ℕ → Option Workspace → List ℕ → Decision
+load_in s meta ws None text = refused refusals.NoWorkspace
+load_in s meta ws (Some w) text = load_bytes s meta ws w (bytes_of_lines (slice_split is_lf text))
+
+-- `load WS`: the operations of a package, given by its bytes in a block, are recorded
+unfoldable pub decide_load : State → Meta → ℕ → List ℕ → Decision
+decide_load s meta ws text = load_in s meta ws (workspace_of s ws) text
 
 -- ---- revert
 -- the reversal of a package is recorded, where nothing later interferes with it: no version after it up to the base, and nothing local

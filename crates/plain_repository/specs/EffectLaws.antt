@@ -1,14 +1,16 @@
 -- What each event makes of the working models and of the history.
-use Rattle.std.specs.Prelude.{◌≡◌, ℕ, suc, ◌<◌, List, Some, None, IsTrue, length}
+use Rattle.std.specs.Prelude.{◌≡◌, ℕ, suc, ◌<◌, List, Option, Some, None, IsTrue, length}
 use Rattle.ecore_meta.specs.Meta.{Meta}
 use Rattle.model_state.specs.State as models
 use Rattle.history_tree.specs.History.{head}
 use Rattle.history_tree.specs.Found.{branch_named}
 use Rattle.history_tree.specs.States.{state_of}
 use Rattle.op_form.specs.declared.event.Event.{Event}
-use Rattle.op_form.specs.declared.event.Event.TheVariants.{Checkout, Begin, End, Undo, Discard, Commit, Branch, Tag, Drop}
+use Rattle.op_form.specs.declared.event.Event.TheVariants.{Checkout, Begin, End, Undo, Discard, Branch, Tag, Drop}
 use Rattle.script_lang.specs.declared.command.Spec.TheVariants as specs
 use Rattle.plain_repository.specs.State.{State, Composite, Workspace, workspace_of, model_of}
+use Rattle.history_tree.specs.declared.version.Signature.{Signature}
+use Rattle.plain_repository.specs.Commits.{version_event}
 use Rattle.plain_repository.specs.Specs.{named}
 use Rattle.plain_repository.specs.Events.{play, playable}
 use Rattle.plain_repository.specs.Laws.{HasMetamodel}
@@ -61,8 +63,8 @@ DropsTakeAway = (s : State) (ws : ℕ) → workspace_of (play s (Drop ws)) ws �
 -- ---- the history
 -- the working model is the state of the new version
 abbrev pub CommitsKeepStates : Type 0
-CommitsKeepStates = (s : State) (meta : Meta) (ws : ℕ) (message : List ℕ) (workspace : Workspace) → CouldBeIn s meta ws workspace (Commit ws message)
-    → state_of meta (play s (Commit ws message)).history (length s.history.versions) ≡ model_of meta s.history workspace
+CommitsKeepStates = (s : State) (meta : Meta) (ws : ℕ) (signature : Option Signature) (message : List ℕ) (workspace : Workspace) → CouldBeIn s meta ws workspace (version_event ws signature message)
+    → state_of meta (play s (version_event ws signature message)).history (length s.history.versions) ≡ model_of meta s.history workspace
 
 -- a new branch leaves the working model
 abbrev pub BranchesKeepModels : Type 0

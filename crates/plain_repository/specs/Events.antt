@@ -1,18 +1,18 @@
 -- What an event makes of the repository, and which events could be made: one line an event. Some of these come of no command, as
 -- a Commit whose message has a line feed.
-use Rattle.std.specs.Prelude.{ℕ, ◌+◌, ◌&&◌, ◌==◌, nat_lt, List, [], ◌∷◌, Bool, true, false, length, Option, Some, None, is_some}
+use Rattle.std.specs.Prelude.{ℕ, ◌+◌, ◌&&◌, ◌==◌, nat_lt, not, List, [], ◌∷◌, Bool, true, false, length, Option, Some, None, is_some}
 use Rattle.commit_journal.specs.Journal.{next_gate}
 use Rattle.ecore_meta.specs.Meta.{Meta}
 use Rattle.model_state.specs.Names.{is_name}
 use Rattle.op_form.specs.declared.event.Event.{Event}
-use Rattle.op_form.specs.declared.event.Event.TheVariants.{Init, Checkout, Edit, Begin, End, Undo, Discard, Tidy, Commit, Branch, Tag, Update, Merge, Drop}
+use Rattle.op_form.specs.declared.event.Event.TheVariants.{Init, Checkout, Edit, Begin, End, Undo, Discard, Tidy, Commit, Branch, Tag, Update, Merge, Drop, Evolve, Upgrade, Signed}
 use Rattle.history_tree.specs.History.{head}
 use Rattle.op_form.specs.Events.{event_encoding}
 use Rattle.plain_repository.specs.State.{State, Workspace, workspace_of, with_changed, is_open, is_closed}
 use Rattle.plain_repository.specs.Answers.{most_events, fits_record}
-use Rattle.plain_repository.specs.Metamodels.{initialized, is_metamodel}
+use Rattle.plain_repository.specs.Metamodels.{initialized, is_metamodel, grown, with_grown, can_evolve}
 use Rattle.plain_repository.specs.Checkouts.{checked_out, can_check_out, dropped}
-use Rattle.plain_repository.specs.Commits.{with_commit, can_commit, with_new_branch, is_new_branch, with_new_tag, can_tag}
+use Rattle.plain_repository.specs.Commits.{with_commit, can_commit, with_upgrade, with_new_branch, is_new_branch, with_new_tag, can_tag}
 use Rattle.plain_repository.specs.Edits.{with_more, can_follow}
 use Rattle.plain_repository.specs.Composites.{with_open, can_begin, with_closed}
 use Rattle.plain_repository.specs.Local.{without_last, can_undo, without_any, can_discard}
@@ -34,12 +34,20 @@ effect s (End ws) = with_changed with_closed ws s
 effect s (Undo ws) = with_changed without_last ws s
 effect s (Discard ws) = with_changed without_any ws s
 effect s (Tidy ws) = with_changed (by_meta s.meta tidied) ws s
-effect s (Commit ws message) = with_commit ws message (workspace_of s ws) s
+effect s (Commit ws message) = with_commit ws None message (workspace_of s ws) s
 effect s (Branch ws name) = with_new_branch ws name (workspace_of s ws) s
 effect s (Tag name version) = with_new_tag name version s
 effect s (Update ws letters) = with_changed (by_meta s.meta (λ meta. updated meta s.history letters)) ws s
 effect s (Merge ws branch letters) = with_changed (by_meta s.meta (λ meta. merged_with meta s.history (head s.history branch) letters)) ws s
 effect s (Drop ws) = dropped ws s
+effect s (Evolve text) = with_grown text s
+effect s Upgrade = with_upgrade s
+effect s (Signed ws author moment message) = with_commit ws (Some (record { author = author; moment = moment })) message (workspace_of s ws) s
+
+-- the metamodel that an event leaves, where there is one before it
+abbrev pub meta_after : Meta → Event → Meta
+meta_after meta (Evolve text) = grown text meta
+meta_after meta event = meta
 
 -- is the event one of that workspace
 abbrev pub is_of : ℕ → Event → Bool
@@ -57,6 +65,9 @@ is_of ws (Tag name version) = false
 is_of ws (Update k letters) = k == ws
 is_of ws (Merge k branch letters) = k == ws
 is_of ws (Drop k) = k == ws
+is_of ws (Evolve text) = false
+is_of ws Upgrade = false
+is_of ws (Signed k author moment message) = k == ws
 
 -- the state that an event makes
 unfoldable pub play : State → Event → State
@@ -78,11 +89,21 @@ playable_with s (Some meta) (Tag name version) = can_tag s.history name version
 playable_with s (Some meta) (Update ws letters) = can_update meta s.history letters (workspace_of s ws)
 playable_with s (Some meta) (Merge ws branch letters) = can_merge meta s.history branch letters (workspace_of s ws)
 playable_with s (Some meta) (Drop ws) = is_some (workspace_of s ws)
+playable_with s (Some meta) (Evolve text) = can_evolve meta text
+playable_with s (Some meta) Upgrade = true
+playable_with s (Some meta) (Signed ws author moment message) = is_name author && can_commit s.history (workspace_of s ws)
 playable_with s meta event = false
+
+-- Does the event suit a store that is upgraded, or one that is not? A version is signed in the one and not in the other.
+abbrev pub suits : Bool → Event → Bool
+suits upgraded (Commit ws message) = not upgraded
+suits upgraded Upgrade = not upgraded
+suits upgraded (Signed ws author moment message) = upgraded
+suits upgraded event = true
 
 -- could the event be made on this state
 unfoldable pub playable : State → Event → Bool
-playable s event = nat_lt s.events most_events && fits_record event && playable_with s s.meta event
+playable s event = nat_lt s.events most_events && fits_record event && suits s.upgraded event && playable_with s s.meta event
 
 -- could each event be made on the state that the events before it leave
 abbrev pub are_playable : State → List Event → Bool

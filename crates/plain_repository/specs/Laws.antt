@@ -1,8 +1,10 @@
 -- What holds in every repository that events make.
-use Rattle.std.specs.Prelude.{◌≡◌, ◌≢◌, ◌↔◌, ℕ, ◌<◌, ◌≤◌, ◌||◌, List, [], ◌∷◌, ◌++◌, All, codes, map, take, Bool, true, false, Option, Some, None, Ok, IsTrue, length, slice_get}
+use Rattle.std.specs.Prelude.{◌≡◌, ◌≢◌, ◌↔◌, ◌⊎◌, ℕ, ◌<◌, ◌≤◌, ◌||◌, ◌&&◌, nat_lt, List, [], ◌∷◌, ◌++◌, All, codes, map, take, Bool, true, false, Option, Some, None, Ok, IsTrue, is_some, length, slice_get}
+use Rattle.std.specs.List.{list_any}
 use Rattle.command_runs.specs.Runs.{played}
 use Rattle.ecore_meta.specs.Meta.{Meta}
 use Rattle.ecore_meta.specs.Promised.{IsMetamodel}
+use Rattle.metamodel_growth.specs.Preserves.{Preserves}
 use Rattle.model_state.specs.Ident.{is_id}
 use Rattle.model_state.specs.Keys.{IdBytes}
 use Rattle.model_state.specs.Names.{is_name}
@@ -14,12 +16,14 @@ use Rattle.emfjson_model.specs.Document.{doc_of}
 use Rattle.model_import.specs.Names.{AreNames, names_of}
 use Rattle.history_tree.specs.declared.version.Branch.{Branch}
 use Rattle.history_tree.specs.declared.version.Tag.{Tag}
+use Rattle.history_tree.specs.declared.version.Version.{Version}
 use Rattle.history_tree.specs.History.{History, head}
 use Rattle.history_tree.specs.Found.{branch_named, tag_named}
 use Rattle.history_tree.specs.States.{state_folded, state_of}
 use Rattle.history_tree.specs.Whole.{IsWhole}
 use Rattle.op_form.specs.declared.event.Event.{Event}
-use Rattle.op_form.specs.declared.event.Event.TheVariants.{Init, Checkout, Edit, Undo, Commit, Tag as MadeTag}
+use Rattle.op_form.specs.declared.event.Event.TheVariants.{Init, Checkout, Edit, Undo, Tag as MadeTag, Evolve, Upgrade, Signed}
+use Rattle.script_lang.specs.declared.command.Spec.{Spec}
 use Rattle.script_lang.specs.declared.command.Command.{Command}
 use Rattle.script_lang.specs.declared.command.Command.TheVariants as commands
 use Rattle.script_lang.specs.declared.reply.Refusal.TheVariants as refusals
@@ -30,8 +34,10 @@ use Rattle.script_lang.specs.Spelling.{IsCommand}
 use Rattle.script_lang.specs.Words.{is_word}
 use Rattle.plain_repository.specs.State.{State, Workspace, empty, workspace_of, folded, model_of}
 use Rattle.plain_repository.specs.Orderly.{IsOrderly, StandsInHistory}
-use Rattle.plain_repository.specs.Answers.{Decision, is_refusal}
-use Rattle.plain_repository.specs.Events.{effect, play, playable, are_playable, is_of}
+use Rattle.plain_repository.specs.Answers.{Decision, fits_record, is_refusal, most_events}
+use Rattle.history_tree.specs.declared.version.Signature.{Signature}
+use Rattle.plain_repository.specs.Commits.{version_event}
+use Rattle.plain_repository.specs.Events.{effect, play, playable, playable_with, are_playable, is_of}
 use Rattle.plain_repository.specs.Repository.{block_text, decide_command, decide_line}
 
 -- events that could be made lead to the state
@@ -145,11 +151,13 @@ EventsAreOfOne = (event : Event) (ws k : ℕ) → is_of ws event ≡ true → is
 abbrev pub IsOfNone : Event → Type 0
 IsOfNone event = (ws : ℕ) → is_of ws event ≡ false
 
--- so are Init, Checkout and Tag
+-- so are Init, Checkout, Tag, Evolve and Upgrade
 pub record SomeAreOfNone : Type 0 where
   pub init : (text : List ℕ) → IsOfNone (Init text)
   pub checkout : (version branch : ℕ) → IsOfNone (Checkout version branch)
   pub tag : (name : List ℕ) (version : ℕ) → IsOfNone (MadeTag name version)
+  pub evolve : (text : List ℕ) → IsOfNone (Evolve text)
+  pub upgrade : IsOfNone Upgrade
 
 -- an event that is not of a workspace leaves its branch, base, operations, open composite and pending list
 abbrev pub WorkspacesStayApart : Type 0
@@ -180,6 +188,19 @@ ShownByOwn = (s t : State) (meta : Meta) → s.meta ≡ Some meta → t.meta ≡
 abbrev pub ShownApart : Type 0
 ShownApart = (s : State) (meta : Meta) → HasMetamodel s meta → (ws : ℕ) (w : Workspace) → workspace_of s ws ≡ Some w → (event : Event) → IsTrue (playable s event) → is_of ws event ≡ false
     → (play s event).meta ≡ Some meta → (block : Option (List ℕ)) → shown_as (play s event) block ws ≡ shown_as s block ws
+
+-- the answers to `show` and `cat` are the same after an event
+pub record ShowsTexts (s : State) (event : Event) : Type 0 where
+  pub show : (block more : Option (List ℕ)) (ws : ℕ) → decide_command (play s event) block (commands.Show ws) ≡ decide_command s more (commands.Show ws)
+  pub cat : (block more : Option (List ℕ)) (spec : Spec) → decide_command (play s event) block (commands.Cat spec) ≡ decide_command s more (commands.Cat spec)
+
+-- So they are where the metamodel is extended. What the new metamodel asks for `validate` may show.
+abbrev pub TextsStay : Type 0
+TextsStay = (s : State) (meta : Meta) → HasMetamodel s meta → (text : List ℕ) → IsTrue (playable s (Evolve text)) → ShowsTexts s (Evolve text)
+
+-- an extended metamodel has all parts of the one before, with their numbers
+abbrev pub MetamodelsGrow : Type 0
+MetamodelsGrow = (s : State) (meta now : Meta) → HasMetamodel s meta → (event : Event) → IsTrue (playable s event) → (play s event).meta ≡ Some now → (now ≡ meta) ⊎ Preserves meta now
 
 -- no event takes a place of the list of workspaces away, so each checkout makes a new number
 abbrev pub NumbersOnlyGrow : Type 0
@@ -242,10 +263,33 @@ pub record IsStale (s : State) (ws base head_of_branch : ℕ) : Type 0 where
   pub head_is : head s.history workspace.branch ≡ head_of_branch
   pub apart : base ≢ head_of_branch
 
--- `commit` is answered Stale just where no earlier refusal applies and the base is not the head
+-- the command by which a workspace makes a version: `signed` where there is a signature
+abbrev pub version_command : ℕ → Option Signature → Option (List ℕ) → Command
+version_command ws None message = commands.Commit ws message
+version_command ws (Some x) message = commands.Signed ws x.author x.moment message
+
+-- `commit` and `signed` are answered Stale just where no earlier refusal applies and the base is not the head
 abbrev pub CommitsAreStale : Type 0
-CommitsAreStale = (s : State) (block : Option (List ℕ)) (ws : ℕ) (message : Option (List ℕ)) (base head_of_branch : ℕ)
-    → ((decide_command s block (commands.Commit ws message)).reply.last ≡ last.No (refusals.Stale base head_of_branch)) ↔ IsStale s ws base head_of_branch
+CommitsAreStale = (s : State) (block : Option (List ℕ)) (ws : ℕ) (signature : Option Signature) (message : Option (List ℕ)) (base head_of_branch : ℕ)
+    → ((decide_command s block (version_command ws signature message)).reply.last ≡ last.No (refusals.Stale base head_of_branch))
+    ↔ ((s.upgraded ≡ is_some signature) × IsStale s ws base head_of_branch)
+
+-- there is a metamodel and the workspace
+pub record IsBegun (s : State) (ws : ℕ) : Type 0 where
+  pub meta : Meta
+  pub begun : s.meta ≡ Some meta
+  pub workspace : Workspace
+  pub there : workspace_of s ws ≡ Some workspace
+
+-- `commit` is answered Unsigned just where no earlier refusal applies and the store is upgraded
+abbrev pub UnsignedAreRefused : Type 0
+UnsignedAreRefused = (s : State) (block : Option (List ℕ)) (ws : ℕ) (message : Option (List ℕ))
+    → ((decide_command s block (commands.Commit ws message)).reply.last ≡ last.No refusals.Unsigned) ↔ (IsBegun s ws × (s.upgraded ≡ true))
+
+-- `signed` is answered OldForm just where no earlier refusal applies and the store is not upgraded
+abbrev pub OldFormsAreRefused : Type 0
+OldFormsAreRefused = (s : State) (block : Option (List ℕ)) (ws : ℕ) (author : List ℕ) (moment : ℕ) (message : Option (List ℕ))
+    → ((decide_command s block (commands.Signed ws author moment message)).reply.last ≡ last.No refusals.OldForm) ↔ (IsBegun s ws × (s.upgraded ≡ false))
 
 -- an operation that is recorded where no composite is open, and undone, leaves the workspace as it was
 abbrev pub UndoGivesBack : Type 0
@@ -254,5 +298,69 @@ UndoGivesBack = (s : State) (ws : ℕ) (workspace : Workspace) → workspace_of 
 
 -- a commit that could be made leaves the working model
 abbrev pub CommitsKeepModels : Type 0
-CommitsKeepModels = (s : State) (meta : Meta) → HasMetamodel s meta → (ws : ℕ) (before after : Workspace) (message : List ℕ) → IsTrue (playable s (Commit ws message))
-    → workspace_of s ws ≡ Some before → workspace_of (play s (Commit ws message)) ws ≡ Some after → model_of meta (play s (Commit ws message)).history after ≡ model_of meta s.history before
+CommitsKeepModels = (s : State) (meta : Meta) → HasMetamodel s meta → (ws : ℕ) (before after : Workspace) (signature : Option Signature) (message : List ℕ) → IsTrue (playable s (version_event ws signature message))
+    → workspace_of s ws ≡ Some before → workspace_of (play s (version_event ws signature message)) ws ≡ Some after
+    → model_of meta (play s (version_event ws signature message)).history after ≡ model_of meta s.history before
+
+-- ---- signatures
+-- the version has an author and a moment
+abbrev pub IsSigned : Version → Type 0
+IsSigned version = (is_some version.author ≡ true) × (is_some version.moment ≡ true)
+
+-- the version has neither
+abbrev pub IsUnsigned : Version → Type 0
+IsUnsigned version = (version.author ≡ None) × (version.moment ≡ None)
+
+-- the versions after the first ones are such
+pub record AddsSuch (Such : Version → Type 0) (before after : History) : Type 0 where
+  pub more : List Version
+  pub is : after.versions ≡ before.versions ++ more
+  pub such : All Such more
+
+-- is the event Upgrade
+abbrev pub is_upgrade : Event → Bool
+is_upgrade Upgrade = true
+is_upgrade event = false
+
+-- a store that is upgraded stays so, and no other event upgrades one
+abbrev pub UpgradesStay : Type 0
+UpgradesStay = (s : State) (event : Event) → (play s event).upgraded ≡ (is_upgrade event || s.upgraded)
+
+-- an event that could be made adds signed versions to a store that is upgraded, and unsigned ones to one that is not
+pub record NewVersionsAreSigned : Type 0 where
+  pub signed : (s : State) → IsOrderly s → s.upgraded ≡ true → (event : Event) → IsTrue (playable s event) → AddsSuch IsSigned s.history (play s event).history
+  pub unsigned : (s : State) → IsOrderly s → s.upgraded ≡ false → (event : Event) → IsTrue (playable s event) → AddsSuch IsUnsigned s.history (play s event).history
+
+-- the versions that events make before Upgrade are unsigned, and those behind it signed
+pub record AreSignedSince (before after : List Event) : Type 0 where
+  pub old : All IsUnsigned (played play empty before).history.versions
+  pub new : AddsSuch IsSigned (played play empty before).history (played play empty (before ++ Upgrade ∷ after)).history
+
+-- so it is with all events that could be made
+abbrev pub SignedSinceUpgrade : Type 0
+SignedSinceUpgrade = (before after : List Event) → IsTrue (are_playable empty (before ++ Upgrade ∷ after)) → AreSignedSince before after
+
+-- is the event one that came with signatures
+abbrev pub is_of_signing : Event → Bool
+is_of_signing Upgrade = true
+is_of_signing (Signed ws author moment message) = true
+is_of_signing event = false
+
+-- what is asked of an event beside that it suits the store
+abbrev pub is_asked : State → Event → Bool
+is_asked s event = nat_lt s.events most_events && fits_record event && playable_with s s.meta event
+
+-- the same of each event, on the state that the events before it leave
+abbrev pub are_asked : State → List Event → Bool
+are_asked s [] = true
+are_asked s (event ∷ events) = is_asked s event && are_asked (play s event) events
+
+-- Events without Upgrade and Signed could be made just where all that is asked of them without signatures holds. The versions that
+-- they make are unsigned.
+pub record OldStoresGoOn (events : List Event) : Type 0 where
+  pub playable : are_playable empty events ≡ are_asked empty events
+  pub unsigned : IsTrue (are_playable empty events) → All IsUnsigned (played play empty events).history.versions
+
+-- so it is with any such events
+abbrev pub OldStoresReadOn : Type 0
+OldStoresReadOn = (events : List Event) → list_any is_of_signing events ≡ false → OldStoresGoOn events

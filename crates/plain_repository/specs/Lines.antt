@@ -10,4 +10,6 @@ is_skipped (b ∷ line) = b == 35
 
 -- the first word is that of a command with a block
 unfoldable pub takes_block : List ℕ → Bool
-takes_block line = let word = before_first is_space line in is_word word (codes "init") || is_word word (codes "import")
+takes_block line =
+    let word = before_first is_space line in
+    is_word word (codes "init") || is_word word (codes "evolve") || is_word word (codes "import") || is_word word (codes "load")

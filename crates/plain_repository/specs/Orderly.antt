@@ -1,6 +1,6 @@
 -- What every event keeps: a history that is whole, names that differ, and steps that can be taken, of each version and in each
 -- workspace.
-use Rattle.std.specs.Prelude.{◌≡◌, ℕ, nat_eq, ◌<◌, List, [], ◌++◌, Bool, true, Option, None, Some, All, Contains, length, slice_get}
+use Rattle.std.specs.Prelude.{◌≡◌, ℕ, nat_eq, ◌<◌, List, [], ◌++◌, Bool, true, false, Option, None, Some, All, Contains, length, slice_get}
 use Rattle.std.specs.Cmp.Lexicographic.{pointwise}
 use Rattle.std.specs.List.{AllByRecursion, position}
 use Rattle.ecore_meta.specs.Meta.{Meta}
@@ -81,9 +81,9 @@ pub record Orderly (meta : Meta) (s : State) : Type 0 where
   pub versions : (v : ℕ) → v < length s.history.versions → RunsTo meta s.history v
   pub workspaces : AllByRecursion (IfThere (InOrder meta s.history)) s.workspaces
 
--- before there is one, there is no workspace and no version
+-- before there is one, there is no workspace and no version, and the store is not upgraded
 abbrev pub AllOrderly : Option Meta → State → Type 0
-AllOrderly None s = (s.workspaces ≡ []) × (s.history ≡ no_history)
+AllOrderly None s = (s.workspaces ≡ []) × (s.history ≡ no_history) × (s.upgraded ≡ false)
 AllOrderly (Some meta) s = Orderly meta s
 
 -- a state in which all is in order

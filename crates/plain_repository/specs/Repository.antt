@@ -12,14 +12,14 @@ use Rattle.script_lang.specs.Reply.{printed}
 use Rattle.plain_repository.specs.Lines.{is_skipped}
 use Rattle.plain_repository.specs.State.{State}
 use Rattle.plain_repository.specs.Answers.{Decision, refused, is_refusal}
-use Rattle.plain_repository.specs.Metamodels.{decide_init}
+use Rattle.plain_repository.specs.Metamodels.{decide_init, decide_evolve}
 use Rattle.plain_repository.specs.Checkouts.{decide_checkout, decide_drop}
-use Rattle.plain_repository.specs.Commits.{decide_commit, decide_branch, decide_tag}
+use Rattle.plain_repository.specs.Commits.{decide_commit, decide_signed, decide_upgrade, decide_branch, decide_tag}
 use Rattle.plain_repository.specs.Edits.{decide_edit, decide_import}
 use Rattle.plain_repository.specs.Composites.{decide_begin, decide_end}
 use Rattle.plain_repository.specs.Local.{decide_undo, decide_discard}
 use Rattle.plain_repository.specs.Tidying.{decide_tidy}
-use Rattle.plain_repository.specs.Applying.{decide_apply, decide_revert}
+use Rattle.plain_repository.specs.Applying.{decide_apply, decide_load, decide_revert}
 use Rattle.plain_repository.specs.Merging.{decide_update, decide_merge}
 use Rattle.plain_repository.specs.Views.{decide_changes, decide_show, decide_validate, decide_cat, decide_package, decide_log}
 
@@ -31,9 +31,11 @@ block_text (Some text) = text
 -- a command where there is a metamodel
 abbrev pub decide_begun : State → Meta → Option (List ℕ) → Command → Decision
 decide_begun s meta block commands.Init = decide_init s (Some meta) (block_text block)
+decide_begun s meta block commands.Evolve = decide_evolve s meta (block_text block)
 decide_begun s meta block (commands.Checkout spec) = decide_checkout s meta spec
 decide_begun s meta block (commands.Edit ws edit) = decide_edit s meta ws edit
 decide_begun s meta block (commands.Import ws) = decide_import s meta ws (block_text block)
+decide_begun s meta block (commands.Load ws) = decide_load s meta ws (block_text block)
 decide_begun s meta block (commands.Begin ws name) = decide_begin s ws name
 decide_begun s meta block (commands.End ws) = decide_end s ws
 decide_begun s meta block (commands.Undo ws) = decide_undo s ws
@@ -45,6 +47,7 @@ decide_begun s meta block (commands.Show ws) = decide_show s meta ws
 decide_begun s meta block (commands.Cat spec) = decide_cat s meta spec
 decide_begun s meta block (commands.Validate ws) = decide_validate s meta ws
 decide_begun s meta block (commands.Commit ws message) = decide_commit s ws message
+decide_begun s meta block (commands.Signed ws author moment message) = decide_signed s ws author moment message
 decide_begun s meta block (commands.Branch ws name) = decide_branch s ws name
 decide_begun s meta block (commands.Tag name spec) = decide_tag s name spec
 decide_begun s meta block commands.Log = decide_log s
@@ -53,6 +56,7 @@ decide_begun s meta block (commands.Update ws choices) = decide_update s meta ws
 decide_begun s meta block (commands.Merge ws branch choices) = decide_merge s meta ws branch choices
 decide_begun s meta block (commands.Revert ws version) = decide_revert s meta ws version
 decide_begun s meta block (commands.Drop ws) = decide_drop s ws
+decide_begun s meta block commands.Upgrade = decide_upgrade s
 
 -- before there is a metamodel, `init` alone is answered otherwise than so
 abbrev pub decide_with : State → Option Meta → Option (List ℕ) → Command → Decision

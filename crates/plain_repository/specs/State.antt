@@ -26,17 +26,19 @@ pub record Workspace : Type 0 where
   pub pending : List ℕ
 
 -- The metamodel, once there is one, and the history, which has no version before. The workspaces, the one of the number n at the
--- place n - 1, None where it was dropped. How many events were played, and the offset of the journal's end after them.
+-- place n - 1, None where it was dropped. Whether the store is upgraded, so that each new version is signed. How many events were
+-- played, and the offset of the journal's end after them.
 pub record State : Type 0 where
   pub meta : Option Meta
   pub history : History
   pub workspaces : List (Option Workspace)
+  pub upgraded : Bool
   pub events : ℕ
   pub end : ℕ
 
 -- the repository before its first event
 abbrev pub empty : State
-empty = record { meta = None; history = no_history; workspaces = []; events = 0; end = first_gate }
+empty = record { meta = None; history = no_history; workspaces = []; upgraded = false; events = 0; end = first_gate }
 
 -- the one of these, where it is there
 abbrev pub there : Option (Option Workspace) → Option Workspace

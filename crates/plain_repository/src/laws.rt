@@ -1,7 +1,7 @@
 //! The laws of the plain repository: each is a function without a body, whose contract is the law.
 ghost use Rattle.model_state.specs.Good.{Good};
 ghost use Rattle.state_form.specs.Spelled.{IsSpelled};
-ghost use Rattle.plain_repository.specs.Laws.{StartsInOrder, StaysInOrder, AllIsInOrder, OfModels, OfVersions, HasIds, ModelsAreDefined, VersionsAreDefined, MetamodelsHold, HistoriesAreWhole, WorkspacesStand, HistoryOnlyGrows, StatesStay, BranchesAreNamed, TagsAreNamed, TagNamesDiffer, EventsAreOfOne, SomeAreOfNone, WorkspacesStayApart, ModelsStayApart, NumbersOnlyGrow, DroppedStayDropped, RefusalsMakeNone, DecidedCouldBe, LastLinesLook, DataLinesAreApart, EventsChange, CommitsAreStale, UndoGivesBack, CommitsKeepModels, ShownByOwn, ShownApart};
+ghost use Rattle.plain_repository.specs.Laws.{StartsInOrder, StaysInOrder, AllIsInOrder, OfModels, OfVersions, HasIds, ModelsAreDefined, VersionsAreDefined, MetamodelsHold, HistoriesAreWhole, WorkspacesStand, HistoryOnlyGrows, StatesStay, BranchesAreNamed, TagsAreNamed, TagNamesDiffer, EventsAreOfOne, SomeAreOfNone, WorkspacesStayApart, ModelsStayApart, NumbersOnlyGrow, DroppedStayDropped, RefusalsMakeNone, DecidedCouldBe, LastLinesLook, DataLinesAreApart, EventsChange, CommitsAreStale, TextsStay, MetamodelsGrow, UnsignedAreRefused, OldFormsAreRefused, UpgradesStay, NewVersionsAreSigned, SignedSinceUpgrade, OldStoresReadOn, UndoGivesBack, CommitsKeepModels, ShownByOwn, ShownApart};
 ghost use Rattle.plain_repository.specs.EffectLaws.{CheckoutsShowVersions, BeginsKeepModels, EndsKeepModels, EndsAreUndone, DiscardsGoBack, DropsTakeAway, CommitsKeepStates, BranchesKeepModels, BranchesStartAtBases, TagsNameVersions};
 ghost use Rattle.plain_repository.specs.MergeLaws.{TidyingKeepsModels, UpdatesMerge, MergesMerge, MergesCount, RevertsTakeOut};
 
@@ -51,10 +51,10 @@ pub fn law_of_names()
     ensures differ { TagNamesDiffer }
 {}
 
-/// The law of workspaces apart: an event is of one workspace at most; Init, Checkout and Tag are of none. An event of another
-/// workspace leaves what is recorded in this one, and its model. The replies to `show`, `changes` and `validate` go by the metamodel,
-/// the state of the base and what is recorded in the workspace. So such an event leaves them, where it leaves the metamodel. No
-/// number of a workspace is used again.
+/// The law of workspaces apart: an event is of one workspace at most; Init, Checkout, Tag, Evolve and Upgrade are of none. An event of
+/// another workspace leaves what is recorded in this one, and its model. The replies to `show`, `changes` and `validate` go by the
+/// metamodel, the state of the base and what is recorded in the workspace. So such an event leaves them, where it leaves the
+/// metamodel. No number of a workspace is used again.
 pub fn law_of_workspaces_apart()
     ensures own { EventsAreOfOne }
     ensures others { SomeAreOfNone }
@@ -102,11 +102,31 @@ pub fn law_of_replies()
     ensures lines { DataLinesAreApart }
 {}
 
-/// The law of commits: one is refused as stale just where the base is not the head and no earlier refusal applies. One that is
-/// made leaves the working model.
+/// The law of commits, signed or not: one is refused as stale just where the base is not the head and no earlier refusal applies.
+/// An unsigned one is refused just where the store is upgraded, a signed one just where it is not, and no earlier refusal applies.
+/// One that is made leaves the working model.
 pub fn law_of_commits()
     ensures stale { CommitsAreStale }
+    ensures unsigned { UnsignedAreRefused }
+    ensures old_forms { OldFormsAreRefused }
     ensures models { CommitsKeepModels }
+{}
+
+/// The law of metamodels that grow: an event leaves the metamodel or extends it to one that has all its parts, with their numbers.
+/// What `show` and `cat` answer stays then, of all workspaces and versions.
+pub fn law_of_metamodels()
+    ensures grow { MetamodelsGrow }
+    ensures texts { TextsStay }
+{}
+
+/// The law of signatures: a store that is upgraded stays so, and Upgrade alone upgrades one. Each version that an event behind
+/// Upgrade makes has an author and a moment, and no other version has. Events without Upgrade and Signed could be made just where
+/// they could be made if there were no signatures, so old stores read on.
+pub fn law_of_signatures()
+    ensures stays { UpgradesStay }
+    ensures signed { NewVersionsAreSigned }
+    ensures since { SignedSinceUpgrade }
+    ensures old { OldStoresReadOn }
 {}
 
 /// The law of undoing: an operation that is recorded where no composite is open, and undone, leaves the workspace as it

@@ -1,11 +1,11 @@
 -- Each kind of word: read where it stands first, and standing first where it was read.
-use Rattle.std.proofs.Common.{◌≡◌, ℕ, ◌+◌, ◌≤◌, List, [], ◌∷◌, ◌++◌, length, refl, sym, ap, subst, ◌∙◌, true, false, Bool, cond, Option, None, Some, Result, Ok, arith, nat_eq, nat_le, codes}
+use Rattle.std.proofs.Common.{◌≡◌, ℕ, ◌+◌, ◌≤◌, ◌^◌, List, [], ◌∷◌, ◌++◌, length, refl, sym, ap, subst, ◌∙◌, true, false, Bool, cond, Option, None, Some, Result, Ok, arith, nat_eq, nat_le, codes}
 use Rattle.std.specs.Fmt.{decimal}
 use Rattle.std.proofs.lemmas.Bool.{leb-true, le-leb, eqb-true}
 use Rattle.std.proofs.lemmas.List.{append-nil}
 use Rattle.script_lang.specs.Left.{Left}
-use Rattle.script_lang.specs.Words.{◌>>=◌, is_word, word_at, number_of, number_at, not_below, optional_at, optional_number_at, rest_at, rest_from, optional_rest_at, optional_rest_from, index_or_end, index_from, index_or_end_at, end_at}
-use Rattle.script_lang.specs.Spelling.{IsWord, IsNumber, IsText, IsOptionalText, IsOptionalNumber, IsOptionalWord, optional_word, index_word, index_if_any}
+use Rattle.script_lang.specs.Words.{◌>>=◌, is_word, word_at, number_of, number_at, not_below, optional_at, optional_number_at, rest_at, rest_from, optional_rest_at, optional_rest_from, index_or_end, index_from, index_or_end_at, number_below, moment_at, end_at}
+use Rattle.script_lang.specs.Spelling.{IsWord, IsNumber, IsMoment, IsText, IsOptionalText, IsOptionalNumber, IsOptionalWord, optional_word, index_word, index_if_any}
 use Rattle.script_lang.proofs.Numbers.{both, number_decimal, number_back, decimal_word}
 use Rattle.script_lang.proofs.WordLemmas.{behind, word_last, word_back}
 use Rattle.script_lang.proofs.Readings.{Kind, named_kind, joined, ok_is, some_is, reached}
@@ -23,23 +23,29 @@ at_least least (Some m) n e = by (nat_le least m) refl e
     by false t e = cc
 
 number_named : (least n : ℕ) → IsFrom least n → not_below least (number_of (decimal n)) ≡ Some n
-number_named least n is = rw (number_decimal n is.1) (rw (le-leb least n is.0) refl)
+number_named least n is = rw (number_decimal (2 ^ 32) (omega arith) n is.1) (rw (le-leb least n is.0) refl)
 
 number_only : (least : ℕ) (word : List ℕ) (n : ℕ) → not_below least (number_of word) ≡ Some n → IsFrom least n × (word ≡ decimal n)
 number_only least word n e =
     let a = at_least least (number_of word) n e in
-    let d = number_back word n a.0 in
+    let d = number_back (2 ^ 32) (omega arith) word n a.0 in
     ((a.1, d.1), d.0)
 
 pub number_kind : (least : ℕ) → Kind (number_at least) (IsFrom least) decimal
 unfolding number_at
-number_kind least = named_kind (λ word. not_below least (number_of word)) (IsFrom least) decimal (λ n is. decimal_word n is.1) (number_named least) (number_only least)
+number_kind least = named_kind (λ word. not_below least (number_of word)) (IsFrom least) decimal (λ n is. decimal_word n (omega (arith, is.1))) (number_named least) (number_only least)
 
 pub index_kind : Kind (number_at 0) IsNumber decimal
 index_kind = record {
   read = λ n is rest column. (number_kind 0).read n (omega arith, is) rest column;
   told = λ left n next e. let t = (number_kind 0).told left n next e in (t.0.1, t.1);
 }
+
+-- a number of 64 bits
+pub moment_kind : Kind moment_at IsMoment decimal
+unfolding moment_at
+moment_kind = named_kind (number_below (2 ^ 64)) IsMoment decimal (λ n is. decimal_word n is) (λ n is. number_decimal (2 ^ 64) (omega arith) n is)
+    (λ word n e. let d = number_back (2 ^ 64) (omega arith) word n e in (d.1, d.0))
 
 -- two texts that are found equal are
 pub same_word : (xs ys : List ℕ) → is_word xs ys ≡ true → xs ≡ ys
@@ -53,15 +59,15 @@ same_word (x ∷ xs) (y ∷ ys) e =
 -- an index, or `end`
 index_is_word : (at : Option ℕ) → IsOptionalNumber at → IsWord (index_word at)
 index_is_word None is = (omega arith, refl)
-index_is_word (Some n) is = decimal_word n is
+index_is_word (Some n) is = decimal_word n (omega (arith, is))
 
 end_no_number : number_of (codes "end") ≡ None
-unfolding number_of
+unfolding number_below
 end_no_number = refl
 
 index_named : (at : Option ℕ) → IsOptionalNumber at → index_or_end (index_word at) ≡ Some at
 index_named None is = rw end_no_number refl
-index_named (Some n) is = rw (number_decimal n is) refl
+index_named (Some n) is = rw (number_decimal (2 ^ 32) (omega arith) n is) refl
 
 end_only : (word : List ℕ) (at : Option ℕ) (b : Bool) → is_word word (codes "end") ≡ b → cond b (Some None) None ≡ Some at → IsOptionalNumber at × (word ≡ index_word at)
 end_only word at true t e = let same = some_is None at e in (subst IsOptionalNumber same tt, same_word word (codes "end") t ∙ ap index_word same)
@@ -70,7 +76,7 @@ end_only word at false t e = cc
 index_only : (word : List ℕ) (o at : Option ℕ) → number_of word ≡ o → index_from o word ≡ Some at → IsOptionalNumber at × (word ≡ index_word at)
 index_only word None at is e = end_only word at (is_word word (codes "end")) refl e
 index_only word (Some n) at is e =
-    let d = number_back word n is in
+    let d = number_back (2 ^ 32) (omega arith) word n is in
     let same = some_is (Some n) at e in
     (subst IsOptionalNumber same d.1, d.0 ∙ ap index_word same)
 

@@ -12,7 +12,7 @@ use Rattle.edits.specs.declared.edit.Edit.{Edit}
 use Rattle.edits.specs.declared.edit.Edit.TheVariants.{Create, Delete, Set, Unset, Add, Remove, Shift, Link, Unlink, Reorder, Move}
 use Rattle.script_lang.specs.Left.{Left}
 use Rattle.script_lang.specs.Words.{is_space, is_word, word_at}
-use Rattle.script_lang.specs.Command.{init_at, import_at, checkout_at, create_at, delete_at, move_at, set_at, unset_at, add_at, remove_at, shift_at, link_at, unlink_at, reorder_at, begin_at, end_line_at, undo_at, discard_at, tidy_at, apply_at, changes_at, show_at, cat_at, validate_at, commit_at, branch_at, tag_at, log_at, package_at, update_at, merge_at, revert_at, drop_at, chosen, feature_commands, work_commands, version_commands, command_of}
+use Rattle.script_lang.specs.Command.{init_at, evolve_at, import_at, load_at, checkout_at, create_at, delete_at, move_at, set_at, unset_at, add_at, remove_at, shift_at, link_at, unlink_at, reorder_at, begin_at, end_line_at, undo_at, discard_at, tidy_at, apply_at, changes_at, show_at, cat_at, validate_at, commit_at, signed_at, branch_at, tag_at, log_at, package_at, update_at, merge_at, revert_at, drop_at, upgrade_at, chosen, feature_commands, work_commands, version_commands, command_of}
 use Rattle.script_lang.specs.Spelling.{IsWord, IsCommand, IsLineOf, CommandsHaveLines, LinesAreSpelled, edit_word, edit_fields, spec_word, optional_word, spaced, Spells}
 use Rattle.script_lang.proofs.WordLemmas.{word_back}
 use Rattle.script_lang.proofs.Readings.{reads, reached, word_kind, joined, spaced_joined, Tells}
@@ -20,9 +20,9 @@ use Rattle.script_lang.proofs.FieldLemmas.{same_word}
 use Rattle.script_lang.proofs.ElementLines.{create_read, create_spelled, delete_read, delete_spelled, move_read, move_spelled}
 use Rattle.script_lang.proofs.EditLines.{set_read, set_spelled, unset_read, unset_spelled, add_read, add_spelled, remove_read, remove_spelled, shift_read, shift_spelled}
 use Rattle.script_lang.proofs.ReferenceLines.{link_read, link_spelled, unlink_read, unlink_spelled, reorder_read, reorder_spelled}
-use Rattle.script_lang.proofs.WorkspaceLines.{init_read, init_spelled, import_read, import_spelled, checkout_read, checkout_spelled, begin_read, begin_spelled, end_read, end_spelled, undo_read, undo_spelled, discard_read, discard_spelled, changes_read, changes_spelled, show_read, show_spelled, cat_read, cat_spelled, validate_read, validate_spelled}
+use Rattle.script_lang.proofs.WorkspaceLines.{init_read, init_spelled, evolve_read, evolve_spelled, import_read, import_spelled, load_read, load_spelled, checkout_read, checkout_spelled, begin_read, begin_spelled, end_read, end_spelled, undo_read, undo_spelled, discard_read, discard_spelled, changes_read, changes_spelled, show_read, show_spelled, cat_read, cat_spelled, validate_read, validate_spelled}
 use Rattle.script_lang.proofs.MergingLines.{tidy_read, tidy_spelled, apply_read, apply_spelled, update_read, update_spelled, merge_read, merge_spelled, revert_read, revert_spelled}
-use Rattle.script_lang.proofs.VersionLines.{commit_read, commit_spelled, branch_read, branch_spelled, tag_read, tag_spelled, log_read, log_spelled, package_read, package_spelled, drop_read, drop_spelled}
+use Rattle.script_lang.proofs.VersionLines.{commit_read, commit_spelled, signed_read, signed_spelled, branch_read, branch_spelled, tag_read, tag_spelled, log_read, log_spelled, package_read, package_spelled, drop_read, drop_spelled, upgrade_read, upgrade_spelled}
 
 -- a line is what is left of it before its first word
 pub line_joined : (line first : List ℕ) (words : List (List ℕ)) → line ≡ spaced (first ∷ words) → Some line ≡ joined (first ∷ words)
@@ -58,8 +58,11 @@ edit_read line ws (Reorder id feature target index) is words =
 pub line_read : (line : List ℕ) (command : Command) → Spells line command → command_of line ≡ Ok command
 unfolding command_of feature_commands work_commands version_commands
 line_read line commands.Init spells = rw (line_joined line (codes "init") [] spells.words) (reads word_kind (codes "init") (omega arith, refl) [] 1 _ _ init_read)
+line_read line commands.Evolve spells = rw (line_joined line (codes "evolve") [] spells.words) (reads word_kind (codes "evolve") (omega arith, refl) [] 1 _ _ evolve_read)
 line_read line (commands.Import ws) spells =
     rw (line_joined line (codes "import") (decimal ws ∷ []) spells.words) (reads word_kind (codes "import") (omega arith, refl) (decimal ws ∷ []) 1 _ _ (import_read ws spells.form))
+line_read line (commands.Load ws) spells =
+    rw (line_joined line (codes "load") (decimal ws ∷ []) spells.words) (reads word_kind (codes "load") (omega arith, refl) (decimal ws ∷ []) 1 _ _ (load_read ws spells.form))
 line_read line (commands.Checkout spec) spells =
     rw (line_joined line (codes "checkout") (spec_word spec ∷ []) spells.words)
     (reads word_kind (codes "checkout") (omega arith, refl) (spec_word spec ∷ []) 1 _ _ (checkout_read spec spells.form))
@@ -91,6 +94,9 @@ line_read line (commands.Validate ws) spells =
 line_read line (commands.Commit ws message) spells =
     rw (line_joined line (codes "commit") (decimal ws ∷ optional_word message) spells.words)
     (reads word_kind (codes "commit") (omega arith, refl) (decimal ws ∷ optional_word message) 1 _ _ (commit_read ws message spells.form))
+line_read line (commands.Signed ws author moment message) spells =
+    rw (line_joined line (codes "signed") (decimal ws ∷ author ∷ decimal moment ∷ optional_word message) spells.words)
+    (reads word_kind (codes "signed") (omega arith, refl) (decimal ws ∷ author ∷ decimal moment ∷ optional_word message) 1 _ _ (signed_read ws author moment message spells.form))
 line_read line (commands.Branch ws name) spells =
     rw (line_joined line (codes "branch") (decimal ws ∷ name ∷ []) spells.words)
     (reads word_kind (codes "branch") (omega arith, refl) (decimal ws ∷ name ∷ []) 1 _ _ (branch_read ws name spells.form))
@@ -112,6 +118,7 @@ line_read line (commands.Revert ws version) spells =
     (reads word_kind (codes "revert") (omega arith, refl) (decimal ws ∷ decimal version ∷ []) 1 _ _ (revert_read ws version spells.form))
 line_read line (commands.Drop ws) spells =
     rw (line_joined line (codes "drop") (decimal ws ∷ []) spells.words) (reads word_kind (codes "drop") (omega arith, refl) (decimal ws ∷ []) 1 _ _ (drop_read ws spells.form))
+line_read line commands.Upgrade spells = rw (line_joined line (codes "upgrade") [] spells.words) (reads word_kind (codes "upgrade") (omega arith, refl) [] 1 _ _ upgrade_read)
 
 -- a first word is the one that was looked for, or reading went on to the next
 chosen_or : (first word : List ℕ) (left : Left) (command : Command) (read next : Result Command ℕ) (b : Bool) → is_word first word ≡ b
@@ -140,7 +147,9 @@ chosen_spelled (row ∷ rows) first left command e =
 abbrev all_rows : List Row
 all_rows =
     known (codes "init") init_at init_spelled ∷
+    known (codes "evolve") evolve_at evolve_spelled ∷
     known (codes "import") import_at import_spelled ∷
+    known (codes "load") load_at load_spelled ∷
     known (codes "checkout") checkout_at checkout_spelled ∷
     known (codes "create") create_at create_spelled ∷
     known (codes "delete") delete_at delete_spelled ∷
@@ -164,6 +173,7 @@ all_rows =
     known (codes "cat") cat_at cat_spelled ∷
     known (codes "validate") validate_at validate_spelled ∷
     known (codes "commit") commit_at commit_spelled ∷
+    known (codes "signed") signed_at signed_spelled ∷
     known (codes "branch") branch_at branch_spelled ∷
     known (codes "tag") tag_at tag_spelled ∷
     known (codes "log") log_at log_spelled ∷
@@ -171,7 +181,8 @@ all_rows =
     known (codes "update") update_at update_spelled ∷
     known (codes "merge") merge_at merge_spelled ∷
     known (codes "revert") revert_at revert_spelled ∷
-    known (codes "drop") drop_at drop_spelled ∷ []
+    known (codes "drop") drop_at drop_spelled ∷
+    known (codes "upgrade") upgrade_at upgrade_spelled ∷ []
 
 -- a line that is read as a command has its words
 pub line_tells : (line : List ℕ) (command : Command) → command_of line ≡ Ok command → IsCommand command × IsLineOf line command

@@ -1,12 +1,12 @@
 -- The words that name versions.
-use Rattle.std.proofs.Common.{◌≡◌, ℕ, List, [], ◌∷◌, ap, subst, ◌∙◌, refl, true, false, Bool, ◌&&◌, cond, Option, None, Some, arith, nat_eq, nat_le, length}
+use Rattle.std.proofs.Common.{◌≡◌, ℕ, ◌^◌, List, [], ◌∷◌, ap, subst, ◌∙◌, refl, true, false, Bool, ◌&&◌, cond, Option, None, Some, arith, nat_eq, nat_le, length}
 use Rattle.std.specs.Char.{is_ascii_digit, is_ascii_alphabetic}
 use Rattle.std.specs.List.{list_all, list_any}
 use Rattle.std.proofs.lemmas.Bool.{eqb-true}
 use Rattle.script_lang.specs.declared.command.Spec.{Spec}
 use Rattle.script_lang.specs.declared.command.Spec.TheVariants.{Number, Branch, Tag}
 use Rattle.model_state.specs.Names.{is_name, is_name_byte}
-use Rattle.script_lang.specs.Words.{is_space, number_of, name_at}
+use Rattle.script_lang.specs.Words.{is_space, number_below, number_of, name_at}
 use Rattle.script_lang.specs.Command.{spec_of, spec_from, tag_of, spec_at}
 use Rattle.script_lang.specs.Spelling.{IsWord, IsSpec, spec_word}
 use Rattle.script_lang.proofs.Numbers.{both, chosen, number_decimal, number_back, decimal_word}
@@ -27,7 +27,7 @@ never false b n = refl
 
 -- a word that is not all digits is no number
 no_number : (word : List ℕ) → list_all is_ascii_digit word ≡ false → number_of word ≡ None
-unfolding number_of
+unfolding number_below
 no_number word e = rw e (never _ _ _)
 
 -- a name holds no space, and is no number
@@ -66,14 +66,14 @@ tag_no_number : (name : List ℕ) → number_of (64 ∷ name) ≡ None
 tag_no_number name = no_number (64 ∷ name) refl
 
 spec_word_is : (spec : Spec) → IsSpec spec → IsWord (spec_word spec)
-spec_word_is (Number n) is = decimal_word n is
+spec_word_is (Number n) is = decimal_word n (omega (arith, is))
 spec_word_is (Branch name) is = name_word name is
 spec_word_is (Tag name) is = (omega arith, (name_word name is).1)
 
 -- a version's word names it
 spec_named : (spec : Spec) → IsSpec spec → spec_of (spec_word spec) ≡ Some spec
 unfolding spec_of
-spec_named (Number n) is = rw (number_decimal n is) refl
+spec_named (Number n) is = rw (number_decimal (2 ^ 32) (omega arith) n is) refl
 spec_named (Branch name) is = rw (name_no_number name is) (rw is refl)
 spec_named (Tag name) is = rw (tag_no_number name) (rw is refl)
 
@@ -91,7 +91,7 @@ name_told word spec false is e = tag_told word spec e
 
 number_told : (word : List ℕ) (spec : Spec) (o : Option ℕ) → number_of word ≡ o → spec_from o word ≡ Some spec → IsSpec spec × (word ≡ spec_word spec)
 number_told word spec (Some n) is e =
-    let d = number_back word n is in
+    let d = number_back (2 ^ 32) (omega arith) word n is in
     let same = some_is (Number n) spec e in
     (subst IsSpec same d.1, d.0 ∙ ap spec_word same)
 number_told word spec None is e = name_told word spec (is_name word) refl e

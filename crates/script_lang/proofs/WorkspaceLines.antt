@@ -6,7 +6,7 @@ use Rattle.script_lang.specs.declared.command.Spec.{Spec}
 use Rattle.script_lang.specs.declared.command.Command.{Command}
 use Rattle.script_lang.specs.declared.command.Command.TheVariants as commands
 use Rattle.script_lang.specs.Left.{Left}
-use Rattle.script_lang.specs.Command.{init_at, import_at, checkout_at, begin_at, end_line_at, undo_at, discard_at, changes_at, show_at, cat_at, validate_at}
+use Rattle.script_lang.specs.Command.{init_at, evolve_at, import_at, load_at, checkout_at, begin_at, end_line_at, undo_at, discard_at, changes_at, show_at, cat_at, validate_at}
 use Rattle.script_lang.specs.Spelling.{IsCommand, spec_word}
 use Rattle.script_lang.proofs.Readings.{reads, tells, joined, Tells, told_as}
 use Rattle.script_lang.proofs.FieldLemmas.{number_kind, end_tells}
@@ -21,6 +21,16 @@ unfolding init_at
 init_spelled left command e =
     let end = end_tells left _ command e in
     told_as (codes "init") left commands.Init command [] tt end.0 (λ l e. e) end.1
+
+pub evolve_read : (column : ℕ) → evolve_at (record { rest = joined []; column = column }) ≡ Ok commands.Evolve
+unfolding evolve_at
+evolve_read column = refl
+
+pub evolve_spelled : (left : Left) (command : Command) → evolve_at left ≡ Ok command → Tells (codes "evolve") left command
+unfolding evolve_at
+evolve_spelled left command e =
+    let end = end_tells left _ command e in
+    told_as (codes "evolve") left commands.Evolve command [] tt end.0 (λ l e. e) end.1
 
 pub checkout_read : (spec : Spec) → IsCommand (commands.Checkout spec) → (column : ℕ) → checkout_at (record { rest = joined (spec_word spec ∷ []); column = column }) ≡ Ok (commands.Checkout spec)
 unfolding checkout_at
@@ -70,6 +80,17 @@ import_spelled left command e =
     tells (number_kind 1) left _ command e (λ ws a is_ws at_ws e1.
     let end = end_tells a _ command e1 in
     told_as (codes "import") left (commands.Import ws) command (decimal ws ∷ []) is_ws (at_ws [] end.0) (λ l e. e) end.1)
+
+pub load_read : (ws : ℕ) → IsCommand (commands.Load ws) → (column : ℕ) → load_at (record { rest = joined (decimal ws ∷ []); column = column }) ≡ Ok (commands.Load ws)
+unfolding load_at
+load_read ws is column = reads (number_kind 1) ws is [] column _ _ (λ a. refl)
+
+pub load_spelled : (left : Left) (command : Command) → load_at left ≡ Ok command → Tells (codes "load") left command
+unfolding load_at
+load_spelled left command e =
+    tells (number_kind 1) left _ command e (λ ws a is_ws at_ws e1.
+    let end = end_tells a _ command e1 in
+    told_as (codes "load") left (commands.Load ws) command (decimal ws ∷ []) is_ws (at_ws [] end.0) (λ l e. e) end.1)
 
 pub undo_read : (ws : ℕ) → IsCommand (commands.Undo ws) → (column : ℕ) → undo_at (record { rest = joined (decimal ws ∷ []); column = column }) ≡ Ok (commands.Undo ws)
 unfolding undo_at

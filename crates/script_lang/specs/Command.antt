@@ -12,7 +12,7 @@ use Rattle.script_lang.specs.Left.{Left}
 use Rattle.model_state.specs.Names.{is_name}
 use Rattle.hex.specs.Hex.{decode_of}
 use Rattle.hex.specs.declared.error.FromHexError.{FromHexError}
-use Rattle.script_lang.specs.Words.{◌>>=◌, word_at, number_of, number_at, found_at, end_at, name_at, optional_at, optional_number_at, rest_at, optional_rest_at, index_or_end_at, is_word, IsBad}
+use Rattle.script_lang.specs.Words.{◌>>=◌, word_at, number_of, number_at, found_at, end_at, name_at, optional_at, optional_number_at, rest_at, optional_rest_at, index_or_end_at, moment_at, is_word, IsBad}
 
 -- `@` and a name is a tag's
 abbrev pub tag_of : List ℕ → Option Spec
@@ -44,12 +44,25 @@ init_at left = do
   end ← end_at left
   Ok commands.Init
 
+-- after `evolve`: nothing
+unfoldable pub evolve_at : Left → Result Command ℕ
+evolve_at left = do
+  end ← end_at left
+  Ok commands.Evolve
+
 -- after `import`: WS
 unfoldable pub import_at : Left → Result Command ℕ
 import_at left = do
   ws ← number_at 1 left
   end ← end_at ws.1
   Ok (commands.Import ws.0)
+
+-- after `load`: WS
+unfoldable pub load_at : Left → Result Command ℕ
+load_at left = do
+  ws ← number_at 1 left
+  end ← end_at ws.1
+  Ok (commands.Load ws.0)
 
 -- after `checkout`: SPEC
 unfoldable pub checkout_at : Left → Result Command ℕ
@@ -267,6 +280,15 @@ commit_at left = do
   message ← optional_rest_at ws.1
   Ok (commands.Commit ws.0 message)
 
+-- after `signed`: WS AUTHOR MOMENT [MESSAGE]
+unfoldable pub signed_at : Left → Result Command ℕ
+signed_at left = do
+  ws ← number_at 1 left
+  author ← name_at ws.1
+  moment ← moment_at author.1
+  message ← optional_rest_at moment.1
+  Ok (commands.Signed ws.0 author.0 moment.0 message)
+
 -- after `branch`: WS NAME
 unfoldable pub branch_at : Left → Result Command ℕ
 branch_at left = do
@@ -328,10 +350,17 @@ drop_at left = do
   end ← end_at ws.1
   Ok (commands.Drop ws.0)
 
+-- after `upgrade`: nothing
+unfoldable pub upgrade_at : Left → Result Command ℕ
+upgrade_at left = do
+  end ← end_at left
+  Ok commands.Upgrade
+
 -- the commands by which versions are shared: each its word, and how what stands after it is read
 unfoldable pub version_commands : List (List ℕ × (Left → Result Command ℕ))
 version_commands =
     (codes "commit", commit_at) ∷
+    (codes "signed", signed_at) ∷
     (codes "branch", branch_at) ∷
     (codes "tag", tag_at) ∷
     (codes "log", log_at) ∷
@@ -339,7 +368,8 @@ version_commands =
     (codes "update", update_at) ∷
     (codes "merge", merge_at) ∷
     (codes "revert", revert_at) ∷
-    (codes "drop", drop_at) ∷ []
+    (codes "drop", drop_at) ∷
+    (codes "upgrade", upgrade_at) ∷ []
 
 -- those of a workspace's local work and of what is shown, and those after them
 unfoldable pub work_commands : List (List ℕ × (Left → Result Command ℕ))
@@ -371,7 +401,9 @@ feature_commands =
 abbrev pub commands_by_word : List (List ℕ × (Left → Result Command ℕ))
 commands_by_word =
     (codes "init", init_at) ∷
+    (codes "evolve", evolve_at) ∷
     (codes "import", import_at) ∷
+    (codes "load", load_at) ∷
     (codes "checkout", checkout_at) ∷
     (codes "create", create_at) ∷
     (codes "delete", delete_at) ∷

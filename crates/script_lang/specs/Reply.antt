@@ -1,8 +1,10 @@
 -- What a command is answered.
-use Rattle.std.specs.Prelude.{ℕ, List, [], ◌∷◌, ◌++◌, codes, Option, Some, None}
+use Rattle.std.specs.Prelude.{ℕ, List, [], ◌∷◌, ◌++◌, codes, Some, None}
 use Rattle.std.specs.Fmt.{decimal}
 use Rattle.script_lang.specs.declared.reply.Refusal.{Refusal}
-use Rattle.script_lang.specs.declared.reply.Refusal.TheVariants.{BadLine, NotInit, AlreadyInit, BadMetamodel, NoWorkspace, NoVersion, NoBranch, BranchExists, TagExists, NoElement, IdInUse, BadId, NoClass, Abstract, NoFeature, WrongKind, BadValue, WrongType, Bound, AlreadyThere, NoEntry, WouldCycle, NothingLocal, Stale, Conflicts, BadChoice, CompositeOpen, NoComposite, BadModel, Interferes, SameBranch, NotOnPath, HistoryFull, TooLarge, JournalFull, NotApplicable, NotForm}
+use Rattle.script_lang.specs.declared.reply.Refusal.TheVariants.{BadLine, NotInit, AlreadyInit, BadMetamodel, NoWorkspace, NoVersion, NoBranch, BranchExists, TagExists, NoElement, IdInUse, BadId, NoClass, Abstract, NoFeature, WrongKind, BadValue, WrongType, Bound, AlreadyThere, NoEntry, WouldCycle, NothingLocal, Stale, Conflicts, BadChoice, CompositeOpen, NoComposite, BadModel, Interferes, SameBranch, NotOnPath, HistoryFull, TooLarge, JournalFull, NotApplicable, NotForm, NotExtension, OldForm, Unsigned}
+use Rattle.script_lang.specs.declared.reply.Fields.{Fields}
+use Rattle.script_lang.specs.declared.reply.Fields.TheVariants as fields
 use Rattle.script_lang.specs.declared.reply.Last.{Last}
 use Rattle.script_lang.specs.declared.reply.Last.TheVariants as last
 use Rattle.script_lang.specs.declared.reply.Reply.{Reply}
@@ -47,12 +49,16 @@ refusal_text TooLarge = codes "34 TooLarge"
 refusal_text JournalFull = codes "35 JournalFull"
 refusal_text (NotApplicable step) = codes "36 NotApplicable " ++ decimal step
 refusal_text (NotForm place) = codes "37 NotForm " ++ decimal place
+refusal_text (NotExtension name) = codes "38 NotExtension " ++ name
+refusal_text OldForm = codes "39 OldForm"
+refusal_text Unsigned = codes "40 Unsigned"
 
--- a title, and the numbers that stand after it, with single spaces
-abbrev pub with_numbers : List ℕ → Option ℕ → Option ℕ → List ℕ
-with_numbers title None second = title
-with_numbers title (Some a) None = title ++ (codes " " ++ decimal a)
-with_numbers title (Some a) (Some b) = title ++ (codes " " ++ (decimal a ++ (codes " " ++ decimal b)))
+-- a title, and the fields that stand after it, with single spaces
+abbrev pub with_fields : List ℕ → Fields → List ℕ
+with_fields title fields.Nothing = title
+with_fields title (fields.One a) = title ++ (codes " " ++ decimal a)
+with_fields title (fields.Two a b) = title ++ (codes " " ++ (decimal a ++ (codes " " ++ decimal b)))
+with_fields title (fields.Name name) = title ++ (codes " " ++ name.now)
 
 -- `ok`, with its words where there are any
 abbrev pub ok_line : List ℕ → List ℕ

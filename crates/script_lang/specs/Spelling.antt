@@ -31,6 +31,10 @@ IsWord word = (0 < length word) × (list_any is_space word ≡ false)
 abbrev pub IsNumber : ℕ → Type 0
 IsNumber n = n < 2 ^ 32
 
+-- a number of 64 bits
+abbrev pub IsMoment : ℕ → Type 0
+IsMoment n = n < 2 ^ 64
+
 -- a version as a word can name it
 abbrev pub IsSpec : Spec → Type 0
 IsSpec (Number n) = IsNumber n
@@ -86,7 +90,9 @@ IsWorkspace ws = (1 ≤ ws) × IsNumber ws
 -- a command that a line can spell
 abbrev pub IsCommand : Command → Type 0
 IsCommand commands.Init = Unit {0}
+IsCommand commands.Evolve = Unit {0}
 IsCommand (commands.Import ws) = IsWorkspace ws
+IsCommand (commands.Load ws) = IsWorkspace ws
 IsCommand (commands.Checkout spec) = IsSpec spec
 IsCommand (commands.Edit ws edit) = IsWorkspace ws × IsEdit edit
 IsCommand (commands.Begin ws name) = IsWorkspace ws × (is_name name ≡ true)
@@ -100,6 +106,7 @@ IsCommand (commands.Show ws) = IsWorkspace ws
 IsCommand (commands.Cat spec) = IsSpec spec
 IsCommand (commands.Validate ws) = IsWorkspace ws
 IsCommand (commands.Commit ws message) = IsWorkspace ws × IsOptionalText message
+IsCommand (commands.Signed ws author moment message) = IsWorkspace ws × (is_name author ≡ true) × IsMoment moment × IsOptionalText message
 IsCommand (commands.Branch ws name) = IsWorkspace ws × (is_name name ≡ true)
 IsCommand (commands.Tag name spec) = (is_name name ≡ true) × IsSpec spec
 IsCommand commands.Log = Unit {0}
@@ -108,6 +115,7 @@ IsCommand (commands.Update ws choices) = IsWorkspace ws × IsOptionalWord choice
 IsCommand (commands.Merge ws branch choices) = IsWorkspace ws × (is_name branch ≡ true) × IsOptionalWord choices
 IsCommand (commands.Revert ws version) = IsWorkspace ws × IsNumber version
 IsCommand (commands.Drop ws) = IsWorkspace ws
+IsCommand commands.Upgrade = Unit {0}
 
 -- the word that names a version
 abbrev pub spec_word : Spec → List ℕ
@@ -166,7 +174,9 @@ edit_fields (Reorder id feature target index) = id ∷ feature ∷ target ∷ de
 -- the words of a command's line; bytes are in digits of lower case
 abbrev pub words_of : Command → List (List ℕ)
 words_of commands.Init = codes "init" ∷ []
+words_of commands.Evolve = codes "evolve" ∷ []
 words_of (commands.Import ws) = codes "import" ∷ decimal ws ∷ []
+words_of (commands.Load ws) = codes "load" ∷ decimal ws ∷ []
 words_of (commands.Checkout spec) = codes "checkout" ∷ spec_word spec ∷ []
 words_of (commands.Edit ws edit) = edit_word edit ∷ decimal ws ∷ edit_fields edit
 words_of (commands.Begin ws name) = codes "begin" ∷ decimal ws ∷ name ∷ []
@@ -180,6 +190,7 @@ words_of (commands.Show ws) = codes "show" ∷ decimal ws ∷ []
 words_of (commands.Cat spec) = codes "cat" ∷ spec_word spec ∷ []
 words_of (commands.Validate ws) = codes "validate" ∷ decimal ws ∷ []
 words_of (commands.Commit ws message) = codes "commit" ∷ decimal ws ∷ optional_word message
+words_of (commands.Signed ws author moment message) = codes "signed" ∷ decimal ws ∷ author ∷ decimal moment ∷ optional_word message
 words_of (commands.Branch ws name) = codes "branch" ∷ decimal ws ∷ name ∷ []
 words_of (commands.Tag name spec) = codes "tag" ∷ name ∷ spec_word spec ∷ []
 words_of commands.Log = codes "log" ∷ []
@@ -188,6 +199,7 @@ words_of (commands.Update ws choices) = codes "update" ∷ decimal ws ∷ option
 words_of (commands.Merge ws branch choices) = codes "merge" ∷ decimal ws ∷ branch ∷ optional_word choices
 words_of (commands.Revert ws version) = codes "revert" ∷ decimal ws ∷ decimal version ∷ []
 words_of (commands.Drop ws) = codes "drop" ∷ decimal ws ∷ []
+words_of commands.Upgrade = codes "upgrade" ∷ []
 
 -- words with single spaces between them
 abbrev pub spaced : List (List ℕ) → List ℕ

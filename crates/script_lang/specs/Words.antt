@@ -46,9 +46,13 @@ word_at left = word_from left.rest left.column
 abbrev pub is_numeral : List ℕ → Bool
 is_numeral word = nat_lt 0 (length word) && ((length word == 1) || not (slice_index word 0 == 48)) && list_all is_ascii_digit word
 
--- a decimal number without needless zeros, below 2 ^ 32
-unfoldable pub number_of : List ℕ → Option ℕ
-number_of word = if is_numeral word && nat_lt (digits_value 10 word) (2 ^ 32) then Some (digits_value 10 word) else None
+-- a decimal number without needless zeros, below the limit
+unfoldable pub number_below : ℕ → List ℕ → Option ℕ
+number_below limit word = if is_numeral word && nat_lt (digits_value 10 word) limit then Some (digits_value 10 word) else None
+
+-- a number of 32 bits
+abbrev pub number_of : List ℕ → Option ℕ
+number_of word = number_below (2 ^ 32) word
 
 -- the value of a word that began at the column, where it has one
 abbrev pub found_at : {X : Type 0} → ℕ → Option X → Left → Result (X × Left) ℕ
@@ -65,6 +69,12 @@ unfoldable pub number_at : ℕ → Left → Result (ℕ × Left) ℕ
 number_at least left = do
   word ← word_at left
   found_at left.column (not_below least (number_of word.0)) word.1
+
+-- the next word, a number of 64 bits
+unfoldable pub moment_at : Left → Result (ℕ × Left) ℕ
+moment_at left = do
+  word ← word_at left
+  found_at left.column (number_below (2 ^ 64) word.0) word.1
 
 -- no word is left
 abbrev pub end_from : Option (List ℕ) → ℕ → Result (Unit {0}) ℕ

@@ -19,8 +19,14 @@ pub enum Spec {
 pub enum Command {
     /// `init`: the block after the line is the metamodel.
     Init,
+    /// `evolve`: the block after the line is a metamodel that extends the present one.
+    Evolve,
     /// `import WS`: the elements of the document in the block after the line are created in the workspace's model.
     Import {
+        ws: u32,
+    },
+    /// `load WS`: the block after the line has the bytes of a package in hexadecimal digits; its operations are recorded.
+    Load {
         ws: u32,
     },
     /// `checkout SPEC`: a new workspace at that version.
@@ -83,6 +89,13 @@ pub enum Command {
         ws: u32,
         message: Option<Text>,
     },
+    /// `signed WS AUTHOR MOMENT [MESSAGE]`: what is local is a new version, with that author and that moment.
+    Signed {
+        ws: u32,
+        author: Text,
+        moment: u64,
+        message: Option<Text>,
+    },
     /// `branch WS NAME`: a branch that starts at the workspace's base.
     Branch {
         ws: u32,
@@ -120,4 +133,6 @@ pub enum Command {
     Drop {
         ws: u32,
     },
+    /// `upgrade`: each later version is signed.
+    Upgrade,
 }

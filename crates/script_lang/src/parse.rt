@@ -1,7 +1,7 @@
 //! A line as a command: one private function a command.
 ghost use Rattle.std.specs.Prelude.{◌≡◌, ◌-◌, ◌<◌, ◌^◌, length, IfOk, IfNone, IfSome, None, Some};
 ghost use Rattle.script_lang.specs.Words.{Gives};
-ghost use Rattle.script_lang.specs.Command.{GivesCommand, GivesSpec, command_of, chosen, feature_commands, work_commands, version_commands, init_at, import_at, checkout_at, create_at, delete_at, move_at, destination_at, set_at, unset_at, add_at, remove_at, shift_at, link_at, unlink_at, reorder_at, begin_at, end_line_at, undo_at, discard_at, tidy_at, apply_at, bytes_at, changes_at, show_at, cat_at, validate_at, commit_at, branch_at, tag_at, log_at, package_at, update_at, merge_at, revert_at, drop_at, spec_of, spec_at, tag_of};
+ghost use Rattle.script_lang.specs.Command.{GivesCommand, GivesSpec, command_of, chosen, feature_commands, work_commands, version_commands, init_at, evolve_at, import_at, load_at, checkout_at, create_at, delete_at, move_at, destination_at, set_at, unset_at, add_at, remove_at, shift_at, link_at, unlink_at, reorder_at, begin_at, end_line_at, undo_at, discard_at, tidy_at, apply_at, bytes_at, changes_at, show_at, cat_at, validate_at, commit_at, signed_at, branch_at, tag_at, log_at, package_at, update_at, merge_at, revert_at, drop_at, upgrade_at, spec_of, spec_at, tag_of};
 ghost use Rattle.script_lang.specs.declared.command.Spec.TheVariants.{Tag};
 
 use crate::words::{Words, bad_line, number_of};
@@ -27,7 +27,9 @@ pub fn parse_line(alloc: Global, line: &str) -> Result<Command, ParseFault>
     let first = words.word()?;
     match first {
         "init" => init(&words),
+        "evolve" => evolve(&words),
         "import" => import(&mut words),
+        "load" => load(&mut words),
         "checkout" => checkout(alloc, &mut words),
         "create" => create(alloc, &mut words),
         "delete" => delete(alloc, &mut words),
@@ -81,6 +83,7 @@ fn version_line(alloc: Global, word: &str, words: &mut Words<'_>) -> Result<Comm
 {
     match word {
         "commit" => commit(alloc, words),
+        "signed" => signed(alloc, words),
         "branch" => branch(alloc, words),
         "tag" => tag(alloc, words),
         "log" => log(words),
@@ -89,6 +92,7 @@ fn version_line(alloc: Global, word: &str, words: &mut Words<'_>) -> Result<Comm
         "merge" => merge(alloc, words),
         "revert" => revert(words),
         "drop" => drop_workspace(words),
+        "upgrade" => upgrade(words),
         _ => Err(ParseFault::BadLine { column: 1 }),
     }
 }
@@ -101,6 +105,14 @@ fn init(words: &Words<'_>) -> Result<Command, ParseFault>
     Ok(Command::Init)
 }
 
+#[tactic(auto, unfolding(crate::specs::Command::evolve_at))]
+fn evolve(words: &Words<'_>) -> Result<Command, ParseFault>
+    ensures { GivesCommand result (evolve_at words.now) }
+{
+    words.end()?;
+    Ok(Command::Evolve)
+}
+
 #[tactic(auto, unfolding(crate::specs::Command::import_at))]
 fn import(words: &mut Words<'_>) -> Result<Command, ParseFault>
     ensures { GivesCommand result (import_at words.old) }
@@ -108,6 +120,15 @@ fn import(words: &mut Words<'_>) -> Result<Command, ParseFault>
     let ws = words.workspace()?;
     words.end()?;
     Ok(Command::Import { ws })
+}
+
+#[tactic(auto, unfolding(crate::specs::Command::load_at))]
+fn load(words: &mut Words<'_>) -> Result<Command, ParseFault>
+    ensures { GivesCommand result (load_at words.old) }
+{
+    let ws = words.workspace()?;
+    words.end()?;
+    Ok(Command::Load { ws })
 }
 
 #[tactic(auto, unfolding(crate::specs::Command::checkout_at))]
@@ -472,6 +493,25 @@ fn commit(alloc: Global, words: &mut Words<'_>) -> Result<Command, ParseFault>
     })
 }
 
+#[tactic(auto, unfolding(crate::specs::Command::signed_at))]
+fn signed(alloc: Global, words: &mut Words<'_>) -> Result<Command, ParseFault>
+    ensures { GivesCommand result (signed_at words.old) }
+{
+    let ws = words.workspace()?;
+    let author = words.name()?;
+    let moment = words.moment()?;
+    let message = words.optional_rest()?;
+    Ok(Command::Signed {
+        ws,
+        author: Text::new(alloc, author)?,
+        moment,
+        message: match message {
+            None => None,
+            Some(message) => Some(Text::new(alloc, message)?),
+        },
+    })
+}
+
 #[tactic(auto, unfolding(crate::specs::Command::branch_at))]
 fn branch(alloc: Global, words: &mut Words<'_>) -> Result<Command, ParseFault>
     ensures { GivesCommand result (branch_at words.old) }
@@ -566,6 +606,14 @@ fn drop_workspace(words: &mut Words<'_>) -> Result<Command, ParseFault>
     let ws = words.workspace()?;
     words.end()?;
     Ok(Command::Drop { ws })
+}
+
+#[tactic(auto, unfolding(crate::specs::Command::upgrade_at))]
+fn upgrade(words: &Words<'_>) -> Result<Command, ParseFault>
+    ensures { GivesCommand result (upgrade_at words.now) }
+{
+    words.end()?;
+    Ok(Command::Upgrade)
 }
 
 /// Two words as texts.

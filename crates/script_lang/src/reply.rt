@@ -1,13 +1,13 @@
 //! A reply, and the bytes that are printed of it.
 ghost use Rattle.std.specs.Prelude.{◌≡◌, ◌++◌, ◌∷◌, [], IfOk, OnOk, string_bytes};
-ghost use Rattle.script_lang.specs.Reply.{refusal_text, with_numbers, printed, printed_lines, last_line, ok_line};
+ghost use Rattle.script_lang.specs.Reply.{refusal_text, with_fields, printed, printed_lines, last_line, ok_line};
 
 use ecore_meta::{List, Text};
 use std::alloc::{AllocError, Global};
 use std::fmt;
 
 /// Why a command is refused, with the number and the name that its reply has. After each of them the repository and the file are as before.
-#[derive(Clone, Copy)]
+#[derive(Drop)]
 pub enum Refusal {
     /// 1: the line spells no command. The column is a byte's, from 1.
     BadLine { column: u32 },
@@ -84,6 +84,20 @@ pub enum Refusal {
     NotApplicable { step: u64 },
     /// 37: the bytes are no package: the offset is that of the first field that can't be read, or of the first byte left over.
     NotForm { at: u64 },
+    /// 38: the document's metamodel doesn't have the part of that name as the store's has it.
+    NotExtension { name: Text },
+    /// 39: versions are not signed before the store is upgraded.
+    OldForm,
+    /// 40: each version is signed since the store is upgraded.
+    Unsigned,
+}
+
+/// What stands after a refusal's name.
+enum Fields<'a> {
+    Nothing,
+    One(u64),
+    Two(u64, u64),
+    Name(&'a str),
 }
 
 impl fmt::Display for Refusal {
@@ -93,68 +107,69 @@ impl fmt::Display for Refusal {
     ghost output = { λ refusal. Some (refusal_text refusal) };
 
     fn fmt<W: fmt::Write>(&self, f: &mut fmt::Formatter<W>) -> fmt::Result {
-        let (title, first, second) = self.parts();
-        match first {
-            None => f.write_str(title),
-            Some(first) => match second {
-                None => write!(f, "{title} {first}"),
-                Some(second) => write!(f, "{title} {first} {second}"),
-            },
+        let (title, fields) = self.parts();
+        match fields {
+            Fields::Nothing => f.write_str(title),
+            Fields::One(first) => write!(f, "{title} {first}"),
+            Fields::Two(first, second) => write!(f, "{title} {first} {second}"),
+            Fields::Name(name) => write!(f, "{title} {name}"),
         }
     }
 }
 
 impl Refusal {
-    /// The number and the name that the reply has, and the numbers that stand after them.
+    /// The number and the name that the reply has, and what stands after them.
     #[tactic(auto, unfolding(crate::specs::Reply::refusal_text))]
-    fn parts(&self) -> (&'static str, Option<u64>, Option<u64>)
-        ensures { with_numbers result.0.now result.1 result.2 ≡ refusal_text self.now }
+    fn parts(&self) -> (&'static str, Fields<'_>)
+        ensures { with_fields result.0.now result.1 ≡ refusal_text self.now }
     {
         match self {
-            Refusal::BadLine { column } => ("1 BadLine", Some(u64::from(*column)), None),
-            Refusal::NotInit => ("2 NotInit", None, None),
-            Refusal::AlreadyInit => ("3 AlreadyInit", None, None),
-            Refusal::BadMetamodel { n } => ("4 BadMetamodel", Some(u64::from(*n)), None),
-            Refusal::NoWorkspace => ("5 NoWorkspace", None, None),
-            Refusal::NoVersion => ("6 NoVersion", None, None),
-            Refusal::NoBranch => ("7 NoBranch", None, None),
-            Refusal::BranchExists => ("8 BranchExists", None, None),
-            Refusal::TagExists => ("9 TagExists", None, None),
-            Refusal::NoElement => ("10 NoElement", None, None),
-            Refusal::IdInUse => ("11 IdInUse", None, None),
-            Refusal::BadId => ("12 BadId", None, None),
-            Refusal::NoClass => ("13 NoClass", None, None),
-            Refusal::Abstract => ("14 Abstract", None, None),
-            Refusal::NoFeature => ("15 NoFeature", None, None),
-            Refusal::WrongKind => ("16 WrongKind", None, None),
-            Refusal::BadValue => ("17 BadValue", None, None),
-            Refusal::WrongType => ("18 WrongType", None, None),
-            Refusal::Bound => ("19 Bound", None, None),
-            Refusal::AlreadyThere => ("20 AlreadyThere", None, None),
-            Refusal::NoEntry => ("21 NoEntry", None, None),
-            Refusal::WouldCycle => ("22 WouldCycle", None, None),
-            Refusal::NothingLocal => ("23 NothingLocal", None, None),
+            Refusal::BadLine { column } => ("1 BadLine", Fields::One(u64::from(*column))),
+            Refusal::NotInit => ("2 NotInit", Fields::Nothing),
+            Refusal::AlreadyInit => ("3 AlreadyInit", Fields::Nothing),
+            Refusal::BadMetamodel { n } => ("4 BadMetamodel", Fields::One(u64::from(*n))),
+            Refusal::NoWorkspace => ("5 NoWorkspace", Fields::Nothing),
+            Refusal::NoVersion => ("6 NoVersion", Fields::Nothing),
+            Refusal::NoBranch => ("7 NoBranch", Fields::Nothing),
+            Refusal::BranchExists => ("8 BranchExists", Fields::Nothing),
+            Refusal::TagExists => ("9 TagExists", Fields::Nothing),
+            Refusal::NoElement => ("10 NoElement", Fields::Nothing),
+            Refusal::IdInUse => ("11 IdInUse", Fields::Nothing),
+            Refusal::BadId => ("12 BadId", Fields::Nothing),
+            Refusal::NoClass => ("13 NoClass", Fields::Nothing),
+            Refusal::Abstract => ("14 Abstract", Fields::Nothing),
+            Refusal::NoFeature => ("15 NoFeature", Fields::Nothing),
+            Refusal::WrongKind => ("16 WrongKind", Fields::Nothing),
+            Refusal::BadValue => ("17 BadValue", Fields::Nothing),
+            Refusal::WrongType => ("18 WrongType", Fields::Nothing),
+            Refusal::Bound => ("19 Bound", Fields::Nothing),
+            Refusal::AlreadyThere => ("20 AlreadyThere", Fields::Nothing),
+            Refusal::NoEntry => ("21 NoEntry", Fields::Nothing),
+            Refusal::WouldCycle => ("22 WouldCycle", Fields::Nothing),
+            Refusal::NothingLocal => ("23 NothingLocal", Fields::Nothing),
             Refusal::Stale { base, head } => (
                 "24 Stale",
-                Some(u64::from(*base)),
-                Some(u64::from(*head)),
+                Fields::Two(u64::from(*base), u64::from(*head)),
             ),
-            Refusal::Conflicts { buckets } => ("25 Conflicts", Some(*buckets), None),
-            Refusal::BadChoice { want, got } => ("26 BadChoice", Some(*want), Some(*got)),
-            Refusal::CompositeOpen => ("27 CompositeOpen", None, None),
-            Refusal::NoComposite => ("28 NoComposite", None, None),
-            Refusal::BadModel { n } => ("29 BadModel", Some(u64::from(*n)), None),
-            Refusal::Interferes { version: None } => ("30 Interferes local", None, None),
+            Refusal::Conflicts { buckets } => ("25 Conflicts", Fields::One(*buckets)),
+            Refusal::BadChoice { want, got } => ("26 BadChoice", Fields::Two(*want, *got)),
+            Refusal::CompositeOpen => ("27 CompositeOpen", Fields::Nothing),
+            Refusal::NoComposite => ("28 NoComposite", Fields::Nothing),
+            Refusal::BadModel { n } => ("29 BadModel", Fields::One(u64::from(*n))),
+            Refusal::Interferes { version: None } => ("30 Interferes local", Fields::Nothing),
             Refusal::Interferes {
                 version: Some(version),
-            } => ("30 Interferes", Some(u64::from(*version)), None),
-            Refusal::SameBranch => ("31 SameBranch", None, None),
-            Refusal::NotOnPath => ("32 NotOnPath", None, None),
-            Refusal::HistoryFull => ("33 HistoryFull", None, None),
-            Refusal::TooLarge => ("34 TooLarge", None, None),
-            Refusal::JournalFull => ("35 JournalFull", None, None),
-            Refusal::NotApplicable { step } => ("36 NotApplicable", Some(*step), None),
-            Refusal::NotForm { at } => ("37 NotForm", Some(*at), None),
+            } => ("30 Interferes", Fields::One(u64::from(*version))),
+            Refusal::SameBranch => ("31 SameBranch", Fields::Nothing),
+            Refusal::NotOnPath => ("32 NotOnPath", Fields::Nothing),
+            Refusal::HistoryFull => ("33 HistoryFull", Fields::Nothing),
+            Refusal::TooLarge => ("34 TooLarge", Fields::Nothing),
+            Refusal::JournalFull => ("35 JournalFull", Fields::Nothing),
+            Refusal::NotApplicable { step } => ("36 NotApplicable", Fields::One(*step)),
+            Refusal::NotForm { at } => ("37 NotForm", Fields::One(*at)),
+            Refusal::NotExtension { name } => ("38 NotExtension", Fields::Name(name.as_str())),
+            Refusal::OldForm => ("39 OldForm", Fields::Nothing),
+            Refusal::Unsigned => ("40 Unsigned", Fields::Nothing),
         }
     }
 }

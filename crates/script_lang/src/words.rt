@@ -1,7 +1,7 @@
 //! The words of a line, one after another.
 ghost use Rattle.std.specs.Prelude.{◌≡◌, ◌-◌, ◌<◌, ◌^◌, length, OnOk, Some};
 ghost use Rattle.std.specs.List.{list_all};
-ghost use Rattle.script_lang.specs.Words.{Gives, GivesText, GivesEnd, GivesOptional, GivesRest, GivesOptionalRest, name_at, optional_at, optional_number_at, rest_at, optional_rest_at, index_or_end_at, word_at, number_at, number_of, is_numeral, end_at};
+ghost use Rattle.script_lang.specs.Words.{Gives, GivesText, GivesEnd, GivesOptional, GivesRest, GivesOptionalRest, name_at, optional_at, optional_number_at, rest_at, optional_rest_at, index_or_end_at, moment_at, word_at, number_at, number_below, number_of, is_numeral, end_at};
 ghost use Rattle.std.specs.Char.{is_ascii_digit};
 
 use crate::ParseFault;
@@ -168,6 +168,19 @@ impl<'a> Words<'a> {
         }
     }
 
+    /// The next word, a moment: a number of 64 bits.
+    #[tactic(auto, unfolding(crate::specs::Words::moment_at))]
+    pub(crate) fn moment(&mut self) -> Result<u64, ParseFault>
+        ensures { Gives self.new result (moment_at self.old) }
+    {
+        let column = self.column;
+        let word = self.word()?;
+        match moment_of(word) {
+            Some(moment) => Ok(moment),
+            None => Err(bad_line(column)),
+        }
+    }
+
     /// That no word is left.
     pub(crate) fn end(&self) -> Result<(), ParseFault>
         ensures { GivesEnd result (end_at self.now) }
@@ -190,7 +203,7 @@ pub(crate) fn bad_line(column: usize) -> ParseFault
 }
 
 /// The number that a word is, in decimal and without needless zeros.
-#[tactic(auto, unfolding(crate::specs::Words::number_of))]
+#[tactic(auto, unfolding(crate::specs::Words::number_below))]
 pub(crate) fn number_of(word: &str) -> Option<u32>
     ensures { result ≡ number_of word.now }
 {
@@ -199,6 +212,20 @@ pub(crate) fn number_of(word: &str) -> Option<u32>
     }
     match word.parse::<u32>() {
         Ok(number) => Some(number),
+        Err(_) => None,
+    }
+}
+
+/// The moment that a word is: a number as above, of 64 bits.
+#[tactic(auto, unfolding(crate::specs::Words::number_below))]
+fn moment_of(word: &str) -> Option<u64>
+    ensures { result ≡ number_below (2 ^ 64) word.now }
+{
+    if !is_numeral(word.as_bytes()) {
+        return None;
+    }
+    match word.parse::<u64>() {
+        Ok(moment) => Some(moment),
         Err(_) => None,
     }
 }

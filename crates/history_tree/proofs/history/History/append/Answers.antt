@@ -22,7 +22,8 @@ invariant_of-self c =
       subst (λ (vs : List Version). IsWhole (record { versions = vs; branches = c.self.inside.branches.items; tags = c.self.inside.tags.items })) added
           (whole_more h v c.self.invariant.0 on
           (subst (λ (s : Held). v.parent ≡ Some (head s.history v.branch)) seen c.requires.parent)
-          (subst (λ (s : Held). All (λ u. u < length s.history.versions) v.merged) seen c.requires.merged)),
+          (subst (λ (s : Held). All (λ u. u < length s.history.versions) v.merged) seen c.requires.merged)
+          c.requires.signed),
       omega (arith, count, c.push_reserved.ensures.len, c.self.inside.versions.ok.0),
       c.self.invariant.2,
       c.self.invariant.3,
