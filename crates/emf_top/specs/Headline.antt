@@ -1,5 +1,6 @@
 -- How a run ends.
-use Rattle.std.specs.Prelude.{◌≡◌, ◌⊎◌, ℕ, ◌-◌, List, [], ◌∷◌, ◌++◌, false, length, IsSome, IsTrue}
+use Rattle.std.specs.Prelude.{◌≡◌, ◌⊎◌, ℕ, ◌-◌, List, [], ◌∷◌, ◌++◌, false, length, codes, IsSome, IsTrue}
+use Rattle.std.specs.Fmt.{decimal}
 use Rattle.host_port.specs.Host.{Told, disk_now, said_now, Rose, Throughout, KeepsInput, KeepsSaid, AddsPart}
 use Rattle.command_runs.specs.Runs.{Answer, replies, events, events_due}
 use Rattle.command_runs.specs.Crashes.{StandsForAtLeast}
@@ -86,6 +87,18 @@ code_of DiskFault = 5
 code_of (Damaged at) = 6
 code_of Memory = 7
 code_of (Input fault at) = 8
+
+-- what the program's line on standard error says after its name; of the first two there is none
+abbrev pub text_of : Status → List ℕ
+text_of Accepted = codes "accepted"
+text_of Refused = codes "refused"
+text_of BadWords = codes "bad words"
+text_of ReadFault = codes "read fault"
+text_of WriteFault = codes "write fault"
+text_of DiskFault = codes "disk fault"
+text_of (Damaged at) = codes "damaged at " ++ decimal at
+text_of Memory = codes "out of memory"
+text_of (Input fault at) = codes "input fault " ++ (decimal fault ++ (codes " at " ++ decimal at))
 
 -- a run that does not read its input leaves it as it is
 abbrev pub KeepsUnread : Task → Told → Told → Type 0

@@ -22,6 +22,8 @@ use crate::session::Session;
 use host_port::{Host, LineFault, Lines};
 use script_items::{Request, generated, next_item, request_of};
 use std::alloc::Global;
+use std::fmt;
+use std::fmt::{Display, Formatter};
 
 /// How a run ended.
 #[derive(Clone, Copy, Debug, PartialEq, Eq)]
@@ -63,6 +65,28 @@ impl Status {
             Status::Damaged { .. } => 6,
             Status::Memory => 7,
             Status::Input { .. } => 8,
+        }
+    }
+}
+
+/// What a program writes to standard error of a run that ended so, after its own name. Of the first two it writes nothing.
+impl Display for Status {
+    ghost use Rattle.std.specs.Prelude.{Some};
+    ghost use Rattle.emf_top.specs.Headline.{text_of};
+
+    ghost output = { λ status. Some (text_of status) };
+
+    fn fmt<W: fmt::Write>(&self, f: &mut Formatter<W>) -> fmt::Result {
+        match self {
+            Status::Accepted => f.write_str("accepted"),
+            Status::Refused => f.write_str("refused"),
+            Status::BadWords => f.write_str("bad words"),
+            Status::ReadFault => f.write_str("read fault"),
+            Status::WriteFault => f.write_str("write fault"),
+            Status::DiskFault => f.write_str("disk fault"),
+            Status::Damaged { at } => write!(f, "damaged at {at}"),
+            Status::Memory => f.write_str("out of memory"),
+            Status::Input { fault, at } => write!(f, "input fault {fault} at {at}"),
         }
     }
 }
