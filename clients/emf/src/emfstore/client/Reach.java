@@ -114,6 +114,9 @@ final class Reach {
         } else if (generic.getETypeParameter() != null || !generic.getETypeArguments().isEmpty()) {
             remark(feature, "a generic type: " + feature.getEType().getName() + " stands for it");
         }
+        if (feature.getDefaultValueLiteral() != null && feature.getDefaultValue() == null && Profile.isStored(feature)) {
+            remark(feature, "its default is no value of its type, and is left out");
+        }
         if (feature.isUnsettable() && Profile.isStored(feature)) {
             remark(feature, "unsettable: what is set to its default counts as not set");
         }
