@@ -29,3 +29,20 @@ pub(crate) fn read_some<R: Read>(reader: &mut R, into: &mut [u8]) -> io::Result<
     }
     Err(io::Error::from(ErrorKind::Interrupted))
 }
+
+/// Prints all of the bytes, and goes on where signals interrupt it.
+pub(crate) fn print_all<P: Print>(to: &P, bytes: &[u8]) -> io::Result<()> {
+    let mut rest = bytes;
+    for _ in 0..u64::MAX {
+        if rest.is_empty() {
+            return Ok(());
+        }
+        match to.write_some(rest) {
+            Ok(0) => return Err(io::Error::from(ErrorKind::WriteZero)),
+            Ok(count) => rest = &rest[count..],
+            Err(error) if error.kind() == ErrorKind::Interrupted => {}
+            Err(error) => return Err(error),
+        }
+    }
+    Err(io::Error::from(ErrorKind::Interrupted))
+}

@@ -2,7 +2,7 @@
 ghost use Rattle.std.specs.Prelude.{◌≡◌, ◌≤◌, Ok, IfOk, OnOk, OnErr};
 ghost use Rattle.host_port.specs.Host.{Rose};
 
-use crate::again::read_some;
+use crate::again::{print_all, read_some};
 use crate::store::LazyStore;
 use host_port::{Failed, Host};
 use std::fs::File;
@@ -71,7 +71,7 @@ impl<R: Files<File = File> + Input + Print + AllocGlobal> Host for FileHost<'_, 
     }
 
     fn say(&mut self, bytes: &[u8]) -> Result<(), Failed> {
-        counted(self.rt.write_all(bytes), &mut self.say_faults)
+        counted(print_all(self.rt, bytes), &mut self.say_faults)
     }
 
     fn len(&mut self) -> Result<u64, Failed> {

@@ -16,8 +16,8 @@ import org.eclipse.emf.ecore.EObject;
 import org.eclipse.emf.ecore.EReference;
 
 /**
- * A model as blocks of `import`, and the lines that join them. A piece is an element with what it contains, but for the pieces cut out of it. Pieces are
- * gathered into blocks in their order. What was cut out is moved into its place afterwards, and then the links between blocks are made.
+ * A model as blocks of `import`, and the lines that join them. A piece is an element with what it contains, but for the pieces cut out of it. Pieces
+ * are gathered into blocks in their order. What was cut out is moved into its place afterwards, and then the links between blocks are made.
  */
 final class Blocks {
     /** The limits of one block. An item is an element, a value or a target; an event has at most so many bytes for it beside those of its text. */

@@ -4,6 +4,7 @@ import java.util.Collection;
 import java.util.HashMap;
 import java.util.IdentityHashMap;
 import java.util.Map;
+import java.util.WeakHashMap;
 import org.eclipse.emf.ecore.EObject;
 import org.eclipse.emf.ecore.resource.Resource;
 import org.eclipse.emf.ecore.util.EcoreUtil;
@@ -13,6 +14,8 @@ import org.eclipse.emf.ecore.xmi.XMLResource;
 final class Ids {
     private final Map<EObject, String> ids = new IdentityHashMap<>();
     private final Map<String, EObject> elements = new HashMap<>();
+    /** The ids of elements that are gone, which they get again where they come back. */
+    private final Map<EObject, String> before = new WeakHashMap<>();
 
     /** Whether the program takes the text as an id. */
     static boolean isId(String text) {
@@ -37,12 +40,13 @@ final class Ids {
     }
 
     void remove(EObject element) {
-        elements.remove(ids.remove(element));
+        before.put(element, ids.remove(element));
+        elements.remove(before.get(element));
     }
 
-    /** Gives an element its `xmi:id`, where the program takes it and no other element has it, or else a new id. */
+    /** Gives an element its `xmi:id`, or the id that it had before, where the program takes it and no other element has it. Else it gets a new one. */
     void name(EObject element) {
-        String own = own(element);
+        String own = own(element) == null ? before.get(element) : own(element);
         put(element, isId(own) && !elements.containsKey(own) ? own : EcoreUtil.generateUUID());
     }
 

@@ -17,8 +17,8 @@ import org.eclipse.emf.ecore.EObject;
 import org.eclipse.emf.ecore.EReference;
 
 /**
- * The lists of plain references as the store has them, and the lines that make them those of the model. EMF tells of both ends of a pair of opposites,
- * and the store has one link of them. So what is already there is found here, and not in what EMF tells.
+ * The lists of plain references as the store has them, and the lines that make them those of the model. EMF tells of both ends of a pair of
+ * opposites, and the store has one link of them. So what is already there is found here, and not in what EMF tells.
  */
 final class Links {
     private final Profile profile;

@@ -76,7 +76,7 @@ final class ModelText {
         return false;
     }
 
-    /** The element of a resource that contains this one, or null. EMF's list of roots may have one that stands elsewhere too, as in a cut-out parent. */
+    /** The element of a resource that contains this one, or null. An element of EMF's list of roots may stand in a parent that was cut out, too. */
     static EObject parent(Resource resource, EObject element) {
         EObject around = element.eContainer();
         return around != null && isIn(resource, around) ? around : null;

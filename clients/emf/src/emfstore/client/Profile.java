@@ -19,8 +19,8 @@ import org.eclipse.emf.ecore.EStructuralFeature;
 import org.eclipse.emf.ecore.EcorePackage;
 
 /**
- * What stands for each class and feature of Ecore packages in the one metamodel of a project. It depends on the packages and their order alone, so all
- * tools that are given the same files have the same names.
+ * What stands for each class and feature of Ecore packages in the one metamodel of a project. It depends on the packages and their order alone, so
+ * all tools that are given the same files have the same names.
  */
 public final class Profile {
     /** What a feature is to the program. A skipped one is known by name and holds nothing; neither does the reference to the container. */

@@ -22,8 +22,8 @@ import org.eclipse.emf.ecore.InternalEObject;
 import org.eclipse.emf.ecore.util.EcoreUtil;
 
 /**
- * The classifiers of packages and all that these reach: a package of another document comes whole, and of Ecore what is named. On the way it tells what
- * the program hasn't.
+ * The classifiers of packages and all that these reach: a package of another document comes whole, and of Ecore what is named. On the way it tells
+ * what the program hasn't.
  */
 final class Reach {
     private final Set<EClassifier> found = new LinkedHashSet<>();
@@ -113,6 +113,9 @@ final class Reach {
             remark(feature, "its upper bound is " + feature.getUpperBound() + ", and it holds nothing here");
         } else if (generic.getETypeParameter() != null || !generic.getETypeArguments().isEmpty()) {
             remark(feature, "a generic type: " + feature.getEType().getName() + " stands for it");
+        }
+        if (feature.getDefaultValueLiteral() != null && feature.getDefaultValue() == null && Profile.isStored(feature)) {
+            remark(feature, "its default is no value of its type: here it has that of the type");
         }
         if (feature.isUnsettable() && Profile.isStored(feature)) {
             remark(feature, "unsettable: what is set to its default counts as not set");

@@ -19,6 +19,7 @@ import org.eclipse.emf.ecore.EStructuralFeature;
 import org.eclipse.emf.ecore.resource.Resource;
 import org.eclipse.emf.ecore.util.EContentAdapter;
 import org.eclipse.emf.ecore.util.EcoreUtil;
+import org.eclipse.emf.ecore.xmi.XMLResource;
 
 /**
  * Records each change of a live resource in a workspace of the store.
@@ -31,7 +32,8 @@ import org.eclipse.emf.ecore.util.EcoreUtil;
  * <tr><td>REMOVE, REMOVE_MANY of one</td><td>{@code remove} for each value, the last first; {@code unset} where all go</td></tr>
  * <tr><td>MOVE of one</td><td>{@code shift}</td></tr>
  * <tr><td>SET of one, at an index</td><td>{@code remove}, {@code add}</td></tr>
- * <tr><td>any of a plain reference</td><td>{@code set}, {@code unset}, {@code link}, {@code unlink}, {@code reorder}: what the store's links lack</td></tr>
+ * <tr><td>any of a plain reference</td><td>{@code set}, {@code unset}, {@code link}, {@code unlink}, {@code reorder}: what makes the store's links
+ * those of the element now</td></tr>
  * <tr><td>ADD, ADD_MANY, SET of a place, an element from outside</td><td>{@code create} for it and all inside it, {@code move} where it isn't last;
  * then {@code set} and {@code add} for the values, and the links</td></tr>
  * <tr><td>the same, an element of the store</td><td>{@code move}</td></tr>
@@ -39,11 +41,11 @@ import org.eclipse.emf.ecore.util.EcoreUtil;
  * <tr><td>MOVE of a place</td><td>{@code move}</td></tr>
  * </table>
  *
- * Several lines of one notification are a composite. Where a line is refused, all of the notification is taken back, in the store and in the resource,
- * and the call that changed the resource ends by a {@link RefusedException}.
+ * Several lines of one notification are a composite. Where a line is refused, all of the notification is taken back, in the store and in the
+ * resource, and the call that changed the resource ends by a {@link RefusedException}. The test's {@code notifications.txt} has an example of each.
  */
 public final class Recorder extends EContentAdapter implements AutoCloseable {
-    /** Operations that conflict, by their numbers: theirs of the new versions, mine as {@code changes} numbers them. One side is kept. */
+    /** Operations that conflict, by their numbers: theirs of the new versions, mine as {@code changes} has them. One side is kept. */
     public record Bucket(int number, List<Integer> theirs, List<Integer> mine) { }
 
     /** Which side of a bucket is kept. */
@@ -95,9 +97,7 @@ public final class Recorder extends EContentAdapter implements AutoCloseable {
         return store.send(message.isEmpty() ? lines.command("commit") : lines.command("commit", message)).number(0);
     }
 
-    /**
-     * Brings workspace and resource to the head of the branch, whose number it gives. For each bucket of operations that conflict a side is asked for.
-     */
+    /** Brings workspace and resource to the branch's head, whose number it gives. A side is asked for of each bucket of operations that conflict. */
     public int update(Function<Bucket, Choice> chooser) {
         Reply reply = store.ask(lines.command("update"));
         if (reply.refusal() == CONFLICTS) {
@@ -117,7 +117,7 @@ public final class Recorder extends EContentAdapter implements AutoCloseable {
     }
 
     /**
-     * Records all changes of some edits as one operation of that name. Where the edits end by an exception, or one of them is refused, all are taken back.
+     * Records all changes of some edits as one operation of that name. Where the edits end by an exception, or one is refused, all are taken back.
      *
      * @throws RefusedException where the program takes no such name, or a composite is open
      */
@@ -309,6 +309,9 @@ public final class Recorder extends EContentAdapter implements AutoCloseable {
         }
         profile.features(element.eClass()).values().stream().filter(it -> it.kind() == Kind.REFERENCE).forEach(it -> checkTargets(element, it));
         ids.name(element);
+        if (resource instanceof XMLResource file) {
+            file.setID(element, ids.id(element));
+        }
         idsBefore.push(() -> ids.remove(element));
         arrived.add(element);
         planned.add(lines.create(element, parent, containment));

@@ -25,7 +25,8 @@ public final class Store implements AutoCloseable {
      * @throws IOException where it can't be started
      */
     public Store(Path program, Path folder) throws IOException {
-        process = new ProcessBuilder(program.toAbsolutePath().toString()).directory(folder.toFile()).redirectError(ProcessBuilder.Redirect.INHERIT).start();
+        ProcessBuilder builder = new ProcessBuilder(program.toAbsolutePath().toString()).directory(folder.toFile());
+        process = builder.redirectError(ProcessBuilder.Redirect.INHERIT).start();
         input = process.outputWriter(StandardCharsets.UTF_8);
         output = process.inputReader(StandardCharsets.UTF_8);
     }

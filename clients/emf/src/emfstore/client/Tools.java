@@ -65,7 +65,7 @@ public final class Tools {
 
     private void store2Xmi(List<String> files) throws IOException {
         BufferedReader input = new BufferedReader(new InputStreamReader(System.in, StandardCharsets.UTF_8));
-        String text = input.lines().filter(it -> it.equals("[]") || it.startsWith("[{") || it.startsWith("{")).findFirst().orElse(null);
+        String text = input.lines().filter(it -> it.equals("[]") || it.startsWith("[{") || it.startsWith("{")).reduce(null, (before, it) -> it);
         if (text == null) {
             throw new IOException("no model on the input");
         }

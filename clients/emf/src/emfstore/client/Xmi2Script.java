@@ -78,7 +78,7 @@ final class Xmi2Script {
             if (element.eIsSet(feature.ecore()) && ModelText.list(element, feature).size() > targets.size()) {
                 remark(where + ": a target that comes twice is left out");
             }
-        } else if (feature.kind() == Kind.SKIPPED && feature.ecore().getEType() == EcorePackage.Literals.EFEATURE_MAP_ENTRY && element.eIsSet(feature.ecore())) {
+        } else if (feature.ecore().getEType() == EcorePackage.Literals.EFEATURE_MAP_ENTRY && element.eIsSet(feature.ecore())) {
             remark(where + ": the entries of a feature map are left out");
         } else if (feature.ecore().isUnsettable() && element.eIsSet(feature.ecore()) && isDefault(element, feature)) {
             remark(where + ": it is set to its default, which counts as not set");

@@ -46,6 +46,7 @@ public final class ClientsTest {
         ClientsTest test = new ClientsTest(Path.of(words[0]), Path.of(words[1]), Path.of(words[2]));
         test.metamodels();
         test.models();
+        test.notifications();
         test.edits();
         test.conflicts();
         test.refusals();
@@ -120,6 +121,22 @@ public final class ClientsTest {
         }
         model.save(Map.of());
         return folder.resolve(name + ".xmi").toString();
+    }
+
+    /** What is sent for a change of each kind is what the file of examples has. */
+    private void notifications() throws IOException {
+        Metamodels metamodels = new Metamodels(List.of(kinds));
+        Profile profile = new Profile(metamodels.packages());
+        Path written = Files.writeString(folder.resolve("written"), "#!/bin/sh\nsed -u 'w sent' | " + program + "\n");
+        check(written.toFile().setExecutable(true), "no program that writes down what is sent");
+        XMLResource live = metamodels.create("live.xmi");
+        try (Store store = start(written, profile); Recorder recorder = Recorder.checkout(store, profile, "trunk", live)) {
+            List<String> told = new Notifications(profile, live, folder.resolve("store" + stores).resolve("sent")).lines();
+            check(recorder.text().equals(store.send("show 1").data().get(0)), "the program shows another model");
+            Path wanted = Path.of(kinds).resolveSibling("notifications.txt");
+            check(told.equals(Files.readAllLines(wanted)), wanted + " has other lines than\n" + String.join("\n", told));
+        }
+        tell("a notification of each kind");
     }
 
     /** Random edits of a live resource: it, the program's text and a second resource filled from that are equal after each hundred. */
@@ -304,8 +321,12 @@ public final class ClientsTest {
 
     /** The program over a new store, with a metamodel. */
     private Store start(Profile profile) throws IOException {
+        return start(program, profile);
+    }
+
+    private Store start(Path started, Profile profile) throws IOException {
         Path place = Files.createDirectory(folder.resolve("store" + ++stores));
-        Store store = new Store(program, place);
+        Store store = new Store(started, place);
         store.send("init", new MetamodelText(profile).text());
         return store;
     }

@@ -17,7 +17,8 @@ import org.eclipse.emf.ecore.util.EcoreUtil;
 
 /** Random edits of a resource, of each kind that Ecore has, always the same for one seed. */
 final class RandomEdits {
-    private static final List<String> TEXTS = List.of("", "a", "b c", "7", "tab\tand \"quotes\"", "back\\slash\nline", "größe \ud83d\ude00 <&>", "true");
+    private static final List<String> TEXTS =
+            List.of("", "a", "b c", "7", "tab\tand \"quotes\"", "back\\slash\nline", "größe \ud83d\ude00 <&>", "true");
 
     private final Profile profile;
     private final Resource resource;
@@ -91,7 +92,8 @@ final class RandomEdits {
         for (EObject other : made) {
             for (Feature feature : editable(other)) {
                 if (feature.kind() == Kind.REFERENCE) {
-                    ModelText.targets(other, feature.reference()).stream().filter(gone::contains).forEach(it -> EcoreUtil.remove(other, feature.ecore(), it));
+                    List<EObject> targets = ModelText.targets(other, feature.reference());
+                    targets.stream().filter(gone::contains).forEach(it -> EcoreUtil.remove(other, feature.ecore(), it));
                 }
             }
         }

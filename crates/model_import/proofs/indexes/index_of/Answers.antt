@@ -1,4 +1,4 @@
-use Rattle.std.proofs.Common.{◌∙◌, get_or, sym, ap, cond, nat_eq, take}
+use Rattle.std.proofs.Common.{◌∙◌, get_or, sym, ap, cond, nat_eq}
 use Rattle.std.specs.Prelude.{None, Some}
 use Rattle.std.proofs.lemmas.List.{take_all}
 use Rattle.emfjson_drafts.specs.Finder.{first_of}

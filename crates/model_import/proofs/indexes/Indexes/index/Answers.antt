@@ -1,5 +1,4 @@
 use Rattle.std.proofs.Common.{◌∙◌, sym, ap}
-use Rattle.std.specs.Prelude.{Some}
 use Rattle.emfjson_model.specs.Merged.{targets_at}
 use Rattle.model_import.specs.Links.{index_in, refs_at}
 use Rattle.model_import.proofs.indexes.Indexes.index.Goals as goal
