@@ -1,0 +1,4 @@
+pub mod Loading
+pub mod Remaking
+pub mod Scripts
+pub mod Replay
