@@ -134,14 +134,7 @@ old_form meta = refl
 abbrev upgraded : Meta → State
 upgraded meta = play (four meta) Upgrade
 
-unauthor_is : is_utf8 (codes "ann") ≡ true
-author_is = is_utf8-from_IsUtf8 (codes "ann") (IsUtf8-from_ascii (codes "ann") (IsAscii-cons 97 (codes "nn") (omega arith)
-    (IsAscii-cons 110 (codes "n") (omega arith) (IsAscii-cons 110 [] (omega arith) IsAscii-nil))))
-
-nothing_is : is_utf8 [] ≡ true
-nothing_is = is_utf8-from_IsUtf8 [] (IsUtf8-from_ascii [] IsAscii-nil)
-
-signed : (meta : Meta) → said (upgraded meta) (commands.Commit 2 None) ≡ last.No refusals.Unsigned
+unsigned : (meta : Meta) → said (upgraded meta) (commands.Commit 2 None) ≡ last.No refusals.Unsigned
 unfolding decide_command play decide_commit
 unsigned meta = refl
 

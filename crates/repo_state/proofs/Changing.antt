@@ -19,7 +19,7 @@ use Rattle.repo_state.specs.Working.{IsWorkingModel}
 use Rattle.plain_repository.specs.State.{State, Workspace, workspace_of, there, folded, model_of}
 use Rattle.repo_state.specs.declared.repo.Begun.{Begun}
 use Rattle.repo_state.specs.declared.workspace.Workspace.{Workspace as Kept}
-use Rattle.repo_state.specs.Keeping.{FitsAny, ModelFits, AllFit, meta_of, history_of, plain_any, plain_of}
+use Rattle.repo_state.specs.Keeping.{FitsAny, ModelFits, AllFit, meta_of, history_of, upgraded_of, plain_any, plain_of}
 use Rattle.model_state.specs.State as models
 
 pub below_is : (s : State) (ws : List (Option Kept)) (i : ℕ) → map plain_any ws ≡ s.workspaces → i < length s.workspaces → i < length ws
@@ -70,7 +70,7 @@ fit_at b begun ws i old d is below old_is all =
 
 -- what contracts see of a repository
 abbrev pub held : Option Begun → List (Option Workspace) → ℕ → ℕ → State
-held b l events end = record { meta = meta_of b; history = history_of b; workspaces = l; events = events; end = end }
+held b l events end = record { meta = meta_of b; history = history_of b; workspaces = l; upgraded = upgraded_of b; events = events; end = end }
 
 -- a workspace set to one that stands for the same
 pub same_at : (ws : List (Option Kept)) (i : ℕ) (old d : Option Kept) (w new : Kept) → i < length ws → old ≡ get_or ws i d → old ≡ Some w → plain_of new ≡ plain_of w → map plain_any (set ws i (Some new)) ≡ map plain_any ws

@@ -13,11 +13,11 @@ use Rattle.op_form.specs.Formed.{IsEvent}
 use Rattle.plain_repository.specs.State.{State, Workspace, untouched, changed_at, changed_by_number, with_changed, workspace_of}
 use Rattle.plain_repository.specs.Orderly.{AllOrderly, IsOrderly}
 use Rattle.plain_repository.specs.Events.{effect, playable_with}
-use Rattle.plain_repository.proofs.Kept.{event_kept, same_meta}
+use Rattle.plain_repository.proofs.Kept.{event_kept, meta_left}
 use Rattle.repo_state.specs.declared.repo.Begun.{Begun}
 use Rattle.repo_state.specs.declared.workspace.Workspace.{Workspace as Kept}
 use Rattle.std.specs.List.{Contains}
-use Rattle.repo_state.specs.Keeping.{AllFit, KeepersAmong, ModelFits, FitsAny, history_of, keeps_model, meta_of, plain_any, plain_of}
+use Rattle.repo_state.specs.Keeping.{AllFit, KeepersAmong, ModelFits, FitsAny, history_of, keeps_model, meta_of, upgraded_of, plain_any, plain_of}
 use Rattle.repo_state.proofs.Changing.{at_is, below_is, fit_at, held, none_fits, set_same}
 
 -- ---- what a call gives by its result
@@ -116,7 +116,7 @@ could_with s meta e begun could = subst (λ (m : Option Meta). playable_with s m
 pub effect_orderly : (s new : State) (meta : Meta) (e : Event) → s.meta ≡ Some meta → playable_with s s.meta e ≡ true → IsEvent e → IsOrderly s → new ≡ effect s e → IsOrderly new
 effect_orderly s new meta e begun could spelled orderly is =
     let can = could_with s meta e begun could in
-    subst IsOrderly (sym is) (subst (λ (m : Option Meta). AllOrderly m (effect s e)) (sym (same_meta s meta e can ∙ begun)) (event_kept meta s e begun can spelled (subst (λ (m : Option Meta). AllOrderly m s) begun orderly)))
+    subst IsOrderly (sym is) (subst (λ (m : Option Meta). AllOrderly m (effect s e)) (sym (meta_left s meta e begun can)) (event_kept meta s e begun can spelled (subst (λ (m : Option Meta). AllOrderly m s) begun orderly)))
 
 -- so it is by the result of the call that made it
 pub either_orderly : {T E : Type 0} (r : Result T E) (s new : State) (meta : Meta) (e : Event) → s.meta ≡ Some meta → playable_with s s.meta e ≡ true → IsEvent e → IsOrderly s → OnOk r (new ≡ effect s e) → OnErr r (new ≡ s) → IsOrderly new
@@ -124,10 +124,12 @@ either_orderly r s new meta e begun could spelled orderly done same = either r d
 
 -- ---- the history
 -- what contracts see of a repository whose history is another one
-pub grown : (b : Option Begun) (begun new : Begun) (h : History) (l : List (Option Workspace)) (events end : ℕ) (t : State) → b ≡ Some begun → new.meta ≡ begun.meta → new.history.history ≡ h → held b l events end ≡ t → held (Some new) l events end ≡ record t { history = h }
-grown b begun new h l events end t is meta hist view =
-    ap (λ (g : History). record { meta = Some new.meta; history = g; workspaces = l; events = events; end = end }) hist
-    ∙ ap (λ (m : Option Meta). record { meta = m; history = h; workspaces = l; events = events; end = end }) (ap Some meta ∙ sym (ap meta_of is))
+pub grown : (b : Option Begun) (begun new : Begun) (h : History) (l : List (Option Workspace)) (events end : ℕ) (t : State) → b ≡ Some begun → new.meta ≡ begun.meta → new.upgraded ≡ begun.upgraded → new.history.history ≡ h
+    → held b l events end ≡ t → held (Some new) l events end ≡ record t { history = h }
+grown b begun new h l events end t is meta form hist view =
+    ap (λ (g : History). record { meta = Some new.meta; history = g; workspaces = l; upgraded = new.upgraded; events = events; end = end }) hist
+    ∙ ap (λ (m : Option Meta). record { meta = m; history = h; workspaces = l; upgraded = new.upgraded; events = events; end = end }) (ap Some meta ∙ sym (ap meta_of is))
+    ∙ ap (λ (u : Bool). record { meta = meta_of b; history = h; workspaces = l; upgraded = u; events = events; end = end }) (form ∙ sym (ap upgraded_of is))
     ∙ ap (λ (t : State). record t { history = h }) view
 
 pub grown_fit : (begun new : Begun) (h : History) (ws : List (Option Kept)) → new.meta ≡ begun.meta → new.history.history ≡ h → All (FitsAny begun.meta h) ws → AllFit (Some new) ws

@@ -2,6 +2,7 @@ pub mod Caching
 pub mod Changing
 pub mod Could
 pub mod Effects
+pub mod Evolved
 pub mod Folding
 pub mod Grown
 pub mod Initial

@@ -14,6 +14,7 @@ use Rattle.model_state.specs.Packages.{fold_package, steps_of, steps_all, rev_op
 use Rattle.model_state.specs.declared.step.Step.{Step}
 use Rattle.model_state.specs.declared.operation.Operation.{Operation}
 use Rattle.model_laws.proofs.Runs.{fold_append, steps_keep_good}
+use Rattle.history_tree.specs.declared.version.Signature.{Signature}
 use Rattle.history_tree.specs.History.{History, with_version}
 use Rattle.history_tree.specs.States.{operations_to, state_of}
 use Rattle.op_form.proofs.Reversals.{packages_undone}
@@ -82,15 +83,15 @@ undone_fits meta sound h w front o m (Some x) n is back good can items base fits
 
 -- ---- Commit
 -- a commit that could be made leaves what is folded
-pub commit_folded : (s : State) (meta : Meta) (k : Orderly meta s) (ws : ℕ) (w : Workspace) (message : List ℕ) (there : workspace_of s ws ≡ Some w) (can : can_commit s.history (Some w) ≡ true)
-    → folded meta (with_version s.history (version_of w message)) (committed (length s.history.versions) w) ≡ folded meta s.history w
-commit_folded s meta k ws w message there can =
-    let order = commits.order s meta k ws w message there can in
-    let more = with_version s.history (version_of w message) in
+pub commit_folded : (s : State) (meta : Meta) (k : Orderly meta s) (ws : ℕ) (w : Workspace) (signature : Option Signature) (message : List ℕ) (there : workspace_of s ws ≡ Some w) (can : can_commit s.history (Some w) ≡ true)
+    → folded meta (with_version s.history (version_of w signature message)) (committed (length s.history.versions) w) ≡ folded meta s.history w
+commit_folded s meta k ws w signature message there can =
+    let order = commits.order s meta k ws w signature message there can in
+    let more = with_version s.history (version_of w signature message) in
     let n = length s.history.versions in
-    let after : InOrder meta more (committed n w) = commit_itself meta s k message w order (commits.at_head s meta k ws w message there can) (commits.closed s meta k ws w message there can) w.composite refl in
+    let after : InOrder meta more (committed n w) = commit_itself meta s k signature message w order (commits.at_head s meta k ws w signature message there can) (commits.closed s meta k ws w signature message there can) w.composite refl in
     workspace_folded meta more (committed n w) after.runs
-    ∙ ap Some (sym (workspace_model meta more (committed n w) after.runs) ∙ commits.commit_model s meta k ws w message there can ∙ workspace_model meta s.history w order.runs)
+    ∙ ap Some (sym (workspace_model meta more (committed n w) after.runs) ∙ commits.commit_model s meta k ws w signature message there can ∙ workspace_model meta s.history w order.runs)
     ∙ sym (workspace_folded meta s.history w order.runs)
 
 -- ---- the other workspaces

@@ -43,6 +43,11 @@ abbrev pub history_of : Option Begun → History
 history_of None = no_history
 history_of (Some begun) = begun.history.history
 
+-- whether each new version is signed
+abbrev pub upgraded_of : Option Begun → Bool
+upgraded_of None = false
+upgraded_of (Some begun) = begun.upgraded
+
 -- each model that is kept is its workspace's
 abbrev pub AllFit : Option Begun → List (Option Workspace) → Type 0
 AllFit None workspaces = Unit {0}

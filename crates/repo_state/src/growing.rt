@@ -9,7 +9,7 @@ ghost use Rattle.repo_state.specs.Keeping.{plain_of};
 use crate::repo::Begun;
 use crate::workspace::Workspace;
 use ecore_meta::Text;
-use history_tree::History;
+use history_tree::{History, Signature};
 use std::alloc::{AllocError, Global};
 
 /// Makes room for a version, a branch and a tag. Where 4,294,967,295 of a sort are there it answers out of memory. No
@@ -36,13 +36,15 @@ impl Begun {
         &mut self,
         alloc: Global,
         workspace: &mut Workspace,
+        signature: Option<Signature>,
         message: Text,
     ) -> Result<(), AllocError>
         requires branch { workspace.old.branch < length self.old.history.history.branches }
         requires at_head { workspace.old.base ≡ head self.old.history.history workspace.old.branch }
         requires pending { All (λ v. v < length self.old.history.history.versions) workspace.old.pending }
         ensures meta { self.new.meta ≡ self.old.meta }
-        ensures version { OnOk result (self.new.history.history ≡ with_version self.old.history.history (version_of (plain_of workspace.old) message)) }
+        ensures upgraded { self.new.upgraded ≡ self.old.upgraded }
+        ensures version { OnOk result (self.new.history.history ≡ with_version self.old.history.history (version_of (plain_of workspace.old) signature message)) }
         ensures committed { OnOk result (plain_of workspace.new ≡ committed (length self.old.history.history.versions) (plain_of workspace.old)) }
         ensures model { workspace.new.model ≡ workspace.old.model }
         ensures same { OnErr result (self.new.history.history ≡ self.old.history.history) }
@@ -50,7 +52,7 @@ impl Begun {
     {
         make_room(&mut self.history)?;
         let number = self.history.version_count();
-        let version = workspace.commit(alloc, message, number);
+        let version = workspace.commit(alloc, signature, message, number);
         self.history.append(version);
         Ok(())
     }
@@ -60,6 +62,7 @@ impl Begun {
         requires base { workspace.old.base < length self.old.history.history.versions }
         requires new { branch_named self.old.history.history name ≡ None }
         ensures meta { self.new.meta ≡ self.old.meta }
+        ensures upgraded { self.new.upgraded ≡ self.old.upgraded }
         ensures branch { OnOk result (self.new.history.history ≡ with_branch self.old.history.history name workspace.old.base) }
         ensures moved { OnOk result (plain_of workspace.new ≡ moved_onto (length self.old.history.history.branches) (plain_of workspace.old)) }
         ensures model { workspace.new.model ≡ workspace.old.model }
@@ -78,6 +81,7 @@ impl Begun {
         requires new { has_tag self.old.history.history name ≡ false }
         requires version { version < length self.old.history.history.versions }
         ensures meta { self.new.meta ≡ self.old.meta }
+        ensures upgraded { self.new.upgraded ≡ self.old.upgraded }
         ensures tag { OnOk result (self.new.history.history ≡ with_tag self.old.history.history name version) }
         ensures same { OnErr result (self.new.history.history ≡ self.old.history.history) }
     {

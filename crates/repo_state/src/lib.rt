@@ -1,6 +1,7 @@
 //! The repository in memory: what is kept of it and read again, and what each event makes of it.
 #![tactic(auto)]
 
+mod evolving;
 mod fault;
 mod growing;
 mod making;

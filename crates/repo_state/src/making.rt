@@ -2,8 +2,9 @@
 ghost use Rattle.std.specs.Prelude.{◌≡◌, ◌<◌, ◌-◌, ◌^◌, IfOk, IsErrOf, OnOk, OnErr, Ok, is_some, length, true, false, None};
 ghost use Rattle.ecore_json.specs.Metamodel.{metamodel_of};
 ghost use Rattle.history_tree.specs.History.{first_history};
-ghost use Rattle.op_form.specs.declared.event.Event.TheVariants.{Begin, Branch, Checkout, Commit, Discard, Drop, Edit, End, Init, Tag, Undo};
+ghost use Rattle.op_form.specs.declared.event.Event.TheVariants.{Begin, Branch, Checkout, Discard, Drop, Edit, End, Init, Tag, Undo};
 ghost use Rattle.op_form.specs.Formed.{IsEvent};
+ghost use Rattle.plain_repository.specs.Commits.{version_event};
 ghost use Rattle.plain_repository.specs.Events.{effect, playable_with};
 ghost use Rattle.plain_repository.specs.Metamodels.{is_metamodel};
 ghost use Rattle.plain_repository.specs.State.{workspace_of};
@@ -17,8 +18,8 @@ use crate::recent::to_keep;
 use crate::repo::{Begun, Repo};
 use crate::workspace::Workspace;
 use ecore_json::{EcoreFault, read_metamodel};
-use ecore_meta::Text;
-use history_tree::History;
+use ecore_meta::{Metamodel, Text};
+use history_tree::{History, Signature};
 use model_state::Package;
 use page_pool::Pool;
 use state_cache::Cache;
@@ -26,21 +27,33 @@ use std::alloc::{AllocError, Global};
 use version_states::follow;
 use working_model::Working;
 
+/// The metamodel of a text.
+pub(crate) fn read_meta(alloc: Global, text: &Text) -> Result<Metamodel, ReplayFault>
+    requires short { length text.now < 2 ^ 32 - 1 }
+    ensures meta { IfOk result (λ m. metamodel_of text.now ≡ Ok m) }
+    ensures cannot { IsErrOf result ReplayFault.NotPlayable → is_metamodel text.now ≡ false }
+{
+    match read_metamodel(alloc, text.as_str()) {
+        Ok(meta) => Ok(meta),
+        Err(EcoreFault::Memory) => Err(ReplayFault::Memory),
+        Err(_) => Err(ReplayFault::NotPlayable),
+    }
+}
+
 /// The metamodel of a text, and the history that begins with it.
 fn read_begun(alloc: Global, text: &Text) -> Result<Begun, ReplayFault>
     requires short { length text.now < 2 ^ 32 - 1 }
     ensures meta { IfOk result (λ b. metamodel_of text.now ≡ Ok b.meta) }
     ensures history { IfOk result (λ b. b.history.history ≡ first_history) }
+    ensures fresh { IfOk result (λ b. b.upgraded ≡ false) }
     ensures cannot { IsErrOf result ReplayFault.NotPlayable → is_metamodel text.now ≡ false }
 {
-    match read_metamodel(alloc, text.as_str()) {
-        Ok(meta) => Ok(Begun {
-            meta,
-            history: History::new(alloc)?,
-        }),
-        Err(EcoreFault::Memory) => Err(ReplayFault::Memory),
-        Err(_) => Err(ReplayFault::NotPlayable),
-    }
+    let meta = read_meta(alloc, text)?;
+    Ok(Begun {
+        meta,
+        history: History::new(alloc)?,
+        upgraded: false,
+    })
 }
 
 impl Repo {
@@ -240,12 +253,18 @@ impl Repo {
         workspace.discard(alloc);
     }
 
-    /// The local operations of a workspace are a further version, at which it stands.
-    pub fn commit(&mut self, alloc: Global, ws: u32, message: Text) -> Result<(), AllocError>
+    /// The local operations of a workspace are a further version, at which it stands. It is signed where there is a signature.
+    pub fn commit(
+        &mut self,
+        alloc: Global,
+        ws: u32,
+        signature: Option<Signature>,
+        message: Text,
+    ) -> Result<(), AllocError>
         requires there { is_some (workspace_of self.old ws) ≡ true }
-        requires could { playable_with self.old self.old.meta (Commit ws message) ≡ true }
-        requires spelled { IsEvent (Commit ws message) }
-        ensures done { OnOk result (self.new ≡ effect self.old (Commit ws message)) }
+        requires could { playable_with self.old self.old.meta (version_event ws signature message) ≡ true }
+        requires spelled { IsEvent (version_event ws signature message) }
+        ensures done { OnOk result (self.new ≡ effect self.old (version_event ws signature message)) }
         ensures same { OnErr result (self.new ≡ self.old) }
     {
         let Some(at) = self.place_of(ws) else {
@@ -257,7 +276,7 @@ impl Repo {
         let Some(workspace) = &mut self.workspaces[at] else {
             unreachable!()
         };
-        begun.commit(alloc, workspace, message)
+        begun.commit(alloc, workspace, signature, message)
     }
 
     /// A further branch starts at the base of a workspace, which is on it.

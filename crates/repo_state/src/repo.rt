@@ -26,11 +26,12 @@ use working_model::Working;
 
 const MOST_EVENTS: u32 = u32::MAX;
 
-/// What `init` makes: the metamodel, and the history.
+/// What there is once `init` was sent: the metamodel, the history, and whether each new version is signed.
 #[derive(Drop)]
 pub struct Begun {
     pub meta: Metamodel,
     pub history: History,
+    pub upgraded: bool,
 }
 
 /// The metamodel and the history once there are such, the workspaces, and how much of the journal is used. Contracts see all but the models that
@@ -48,13 +49,13 @@ impl Model for Repo {
     ghost use Rattle.std.specs.Prelude.{◌^◌, ◌≤◌, map};
     ghost use Rattle.plain_repository.specs.State.{State};
     ghost use Rattle.plain_repository.specs.Orderly.{IsOrderly};
-    ghost use Rattle.repo_state.specs.Keeping.{AllFit, KeepersAmong, meta_of, history_of, plain_any};
+    ghost use Rattle.repo_state.specs.Keeping.{AllFit, KeepersAmong, meta_of, history_of, upgraded_of, plain_any};
 
     ghost Value = { State };
 
-    ghost view = { λ r. record { meta = meta_of r.begun; history = history_of r.begun; workspaces = map plain_any r.workspaces.items; events = r.events; end = r.end } };
+    ghost view = { λ r. record { meta = meta_of r.begun; history = history_of r.begun; workspaces = map plain_any r.workspaces.items; upgraded = upgraded_of r.begun; events = r.events; end = r.end } };
 
-    ghost invariant = { λ r. (r.end ≤ 2 ^ 40) × AllFit r.begun r.workspaces.items × IsOrderly (record { meta = meta_of r.begun; history = history_of r.begun; workspaces = map plain_any r.workspaces.items; events = r.events; end = r.end }) × KeepersAmong r.recent r.workspaces.items };
+    ghost invariant = { λ r. (r.end ≤ 2 ^ 40) × AllFit r.begun r.workspaces.items × IsOrderly (record { meta = meta_of r.begun; history = history_of r.begun; workspaces = map plain_any r.workspaces.items; upgraded = upgraded_of r.begun; events = r.events; end = r.end }) × KeepersAmong r.recent r.workspaces.items };
 }
 
 impl Repo {
@@ -104,12 +105,23 @@ impl Repo {
     pub fn begun(&self) -> Option<&Begun>
         ensures meta { IfSome result (λ b. self.now.meta ≡ Some b.now.meta) }
         ensures history { IfSome result (λ b. self.now.history ≡ b.now.history.history) }
+        ensures upgraded { IfSome result (λ b. self.now.upgraded ≡ b.now.upgraded) }
         ensures none { IfNone result (self.now.meta ≡ None) }
         ensures empty { IfNone result (self.now.history ≡ no_history) }
     {
         match &self.begun {
             None => None,
             Some(begun) => Some(begun),
+        }
+    }
+
+    /// Whether the store is upgraded, so that each new version is signed.
+    pub fn is_upgraded(&self) -> bool
+        ensures { result ≡ self.now.upgraded }
+    {
+        match &self.begun {
+            None => false,
+            Some(begun) => begun.upgraded,
         }
     }
 

@@ -1,6 +1,6 @@
 //! A workspace in memory, which may keep its working model.
 ghost use Rattle.std.specs.Prelude.{◌≡◌, ◌≢◌, ◌<◌, ◌++◌, length, is_some, true, None, IfOk, IfSome, OnOk, OnErr, IfErr, Some};
-ghost use Rattle.std.specs.Option.{option_copied};
+ghost use Rattle.std.specs.Option.{option_copied, option_map};
 ghost use Rattle.ecore_meta.specs.Sound.{Sound};
 ghost use Rattle.model_state.specs.Good.{Good};
 ghost use Rattle.model_state.specs.Steps.{fold};
@@ -19,7 +19,7 @@ ghost use Rattle.repo_state.specs.Planning.{restarted, taken_up};
 
 use crate::merged::{Local, Merged};
 use ecore_meta::{List, Metamodel, Text};
-use history_tree::{History, Version};
+use history_tree::{History, Signature, Version};
 use model_state::{Operation, Package, Step, StepFault};
 use page_pool::Pool;
 use state_cache::Cache;
@@ -53,6 +53,18 @@ fn append<T: Drop>(items: &mut Vec<T>, more: List<T>) -> Result<(), AllocError>
 {
     let mut more = more.into_vec();
     items.append(&mut more)
+}
+
+/// The author and the moment of a signature, or neither.
+fn signed_by(signature: Option<Signature>) -> (Option<Text>, Option<u64>)
+    ensures author { result.0 ≡ option_map (λ s. s.author) signature }
+    ensures moment { result.1 ≡ option_map (λ s. s.moment) signature }
+    ensures both { is_some result.0 ≡ is_some result.1 }
+{
+    match signature {
+        None => (None, None),
+        Some(Signature { author, moment }) => (Some(author), Some(moment)),
+    }
 }
 
 impl Workspace {
@@ -230,17 +242,27 @@ impl Workspace {
     }
 
     /// The version that the local operations make. The workspace stands at it from now on, under its number, with nothing local.
-    pub(crate) fn commit(&mut self, alloc: Global, message: Text, number: u32) -> Version
-        ensures version { result ≡ version_of (plain_of self.old) message }
+    pub(crate) fn commit(
+        &mut self,
+        alloc: Global,
+        signature: Option<Signature>,
+        message: Text,
+        number: u32,
+    ) -> Version
+        ensures version { result ≡ version_of (plain_of self.old) signature message }
+        ensures signed { is_some result.author ≡ is_some result.moment }
         ensures committed { plain_of self.new ≡ committed number (plain_of self.old) }
         ensures model { self.new.model ≡ self.old.model }
     {
+        let (author, moment) = signed_by(signature);
         let parent = replace(&mut self.base, number);
         let operations = replace(&mut self.operations, Vec::new(alloc));
         Version {
             branch: self.branch,
             parent: Some(parent),
             merged: replace(&mut self.pending, List::new(alloc)),
+            author,
+            moment,
             message,
             package: List::from_vec(operations),
         }

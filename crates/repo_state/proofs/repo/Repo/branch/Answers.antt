@@ -41,10 +41,10 @@ invariant_of-self c =
     let r = c.branch-begun.result in
     let made = both_ok _ _ r c.branch-begun.ensures.branch c.branch-begun.ensures.moved in
     let not_made = both_err _ _ r c.branch-begun.ensures.same c.branch-begun.ensures.same_workspace in
-    let done = on_ok r (λ is. branch_done c.self.inside.begun begun new c.self.inside.workspaces.items c.self.inside.events c.self.inside.end s c.self.view_is c.in-Some-begun.is c.branch-begun.ensures.meta orderly c.self.invariant.1 p w' c.branch-begun.ensures.model c.args.name is.0 is.1) made in
-    let same = on_err r (λ is. grown_same c.self.inside.begun begun new c.self.inside.workspaces.items c.self.inside.events c.self.inside.end s c.self.view_is c.in-Some-begun.is c.branch-begun.ensures.meta orderly c.self.invariant.1 p w' c.branch-begun.ensures.model is.0 is.1) not_made in (
+    let done = on_ok r (λ is. branch_done c.self.inside.begun begun new c.self.inside.workspaces.items c.self.inside.events c.self.inside.end s c.self.view_is c.in-Some-begun.is c.branch-begun.ensures.meta c.branch-begun.ensures.upgraded orderly c.self.invariant.1 p w' c.branch-begun.ensures.model c.args.name is.0 is.1) made in
+    let same = on_err r (λ is. grown_same c.self.inside.begun begun new c.self.inside.workspaces.items c.self.inside.events c.self.inside.end s c.self.view_is c.in-Some-begun.is c.branch-begun.ensures.meta c.branch-begun.ensures.upgraded orderly c.self.invariant.1 p w' c.branch-begun.ensures.model is.0 is.1) not_made in (
       c.self.invariant.0,
-      either r made not_made (λ is. branch_fit c.self.inside.begun begun new c.self.inside.workspaces.items c.self.inside.events c.self.inside.end s c.self.view_is c.in-Some-begun.is c.branch-begun.ensures.meta orderly c.self.invariant.1 p w' c.branch-begun.ensures.model c.args.name is.0 is.1) (λ is. grown_same_fit c.self.inside.begun begun new c.self.inside.workspaces.items c.self.inside.events c.self.inside.end s c.self.view_is c.in-Some-begun.is c.branch-begun.ensures.meta orderly c.self.invariant.1 p w' c.branch-begun.ensures.model is.0 is.1),
+      either r made not_made (λ is. branch_fit c.self.inside.begun begun new c.self.inside.workspaces.items c.self.inside.events c.self.inside.end s c.self.view_is c.in-Some-begun.is c.branch-begun.ensures.meta c.branch-begun.ensures.upgraded orderly c.self.invariant.1 p w' c.branch-begun.ensures.model c.args.name is.0 is.1) (λ is. grown_same_fit c.self.inside.begun begun new c.self.inside.workspaces.items c.self.inside.events c.self.inside.end s c.self.view_is c.in-Some-begun.is c.branch-begun.ensures.meta c.branch-begun.ensures.upgraded orderly c.self.invariant.1 p w' c.branch-begun.ensures.model is.0 is.1),
       either_orderly r s _ begun.meta (Branch c.args.ws c.args.name) is_begun c.requires.could c.requires.spelled orderly done same,
       keepers_set c.self.inside.recent c.self.inside.workspaces.items c.in-Some.at (Some w') (λ keeps. keeper_before p c.self.inside.recent c.self.invariant.3 (same_keeps w w' c.branch-begun.ensures.model keeps)) c.self.invariant.3,
     )
@@ -63,6 +63,6 @@ returns c =
     let r = c.branch-begun.result in
     let made = both_ok _ _ r c.branch-begun.ensures.branch c.branch-begun.ensures.moved in
     let not_made = both_err _ _ r c.branch-begun.ensures.same c.branch-begun.ensures.same_workspace in
-    let done = on_ok r (λ is. branch_done c.self.inside.begun begun new c.self.inside.workspaces.items c.self.inside.events c.self.inside.end s c.self.view_is c.in-Some-begun.is c.branch-begun.ensures.meta orderly c.self.invariant.1 p w' c.branch-begun.ensures.model c.args.name is.0 is.1) made in
-    let same = on_err r (λ is. grown_same c.self.inside.begun begun new c.self.inside.workspaces.items c.self.inside.events c.self.inside.end s c.self.view_is c.in-Some-begun.is c.branch-begun.ensures.meta orderly c.self.invariant.1 p w' c.branch-begun.ensures.model is.0 is.1) not_made in
+    let done = on_ok r (λ is. branch_done c.self.inside.begun begun new c.self.inside.workspaces.items c.self.inside.events c.self.inside.end s c.self.view_is c.in-Some-begun.is c.branch-begun.ensures.meta c.branch-begun.ensures.upgraded orderly c.self.invariant.1 p w' c.branch-begun.ensures.model c.args.name is.0 is.1) made in
+    let same = on_err r (λ is. grown_same c.self.inside.begun begun new c.self.inside.workspaces.items c.self.inside.events c.self.inside.end s c.self.view_is c.in-Some-begun.is c.branch-begun.ensures.meta c.branch-begun.ensures.upgraded orderly c.self.invariant.1 p w' c.branch-begun.ensures.model is.0 is.1) not_made in
     record { done = done; same = same }
