@@ -12,6 +12,7 @@ import java.util.HashMap;
 import java.util.List;
 import java.util.Map;
 import java.util.function.Function;
+import java.util.stream.Stream;
 import org.eclipse.emf.common.notify.Notification;
 import org.eclipse.emf.ecore.EObject;
 import org.eclipse.emf.ecore.EReference;
@@ -253,12 +254,24 @@ public final class Recorder extends EContentAdapter implements AutoCloseable {
                 freed.add(element);
             }
         }
-        planRoots(freed);
         List<EObject> added = arriving(notification, parent);
         added.stream().filter(it -> gone.stream().anyMatch(above -> EcoreUtil.isAncestor(above, parentsBefore.get(it))))
                 .forEach(it -> planned.add(lines.move(it, null, null, Lines.END)));
-        gone.stream().filter(it -> ids.id(it) != null).forEach(this::planDeletion);
+        if (!added.isEmpty()) {
+            freed.forEach(it -> planned.add(lines.move(it, null, null, Lines.END)));
+        }
+        gone.stream().filter(it -> ids.id(it) != null).forEach(it -> planDeletion(it, freed));
         planArrivals(added, parent, containment);
+        planRoots(freed);
+        Stream.of(notification.getOldValue(), notification.getNewValue()).flatMap(it -> elements(it).stream()).forEach(this::keepId);
+    }
+
+    /** Gives an element of the resource, and all inside it, its id there too. EMF drops it where an element leaves the list of roots. */
+    private void keepId(EObject element) {
+        if (resource instanceof XMLResource file && ids.id(element) != null) {
+            file.setID(element, ids.id(element));
+            ModelText.children(profile, element).forEach(this::keepId);
+        }
     }
 
     /** What a notification brings to a place. What comes to the root from a container was moved when it left that. */
@@ -276,6 +289,7 @@ public final class Recorder extends EContentAdapter implements AutoCloseable {
         return isLast ? Lines.END : at;
     }
 
+    /** Brings elements to their places at the root. */
     private void planRoots(List<EObject> elements) {
         List<EObject> roots = ModelText.roots(resource);
         planArrivals(elements.stream().sorted(Comparator.comparing(roots::indexOf)).toList(), null, null);
@@ -309,9 +323,6 @@ public final class Recorder extends EContentAdapter implements AutoCloseable {
         }
         profile.features(element.eClass()).values().stream().filter(it -> it.kind() == Kind.REFERENCE).forEach(it -> checkTargets(element, it));
         ids.name(element);
-        if (resource instanceof XMLResource file) {
-            file.setID(element, ids.id(element));
-        }
         idsBefore.push(() -> ids.remove(element));
         arrived.add(element);
         planned.add(lines.create(element, parent, containment));
@@ -338,14 +349,14 @@ public final class Recorder extends EContentAdapter implements AutoCloseable {
         }
     }
 
-    /** Deletes an element that isn't in the resource any more. What it contains may be, by a place of its own, and is moved there before. */
-    private void planDeletion(EObject element) {
+    /** Deletes an element that isn't in the resource any more. What it contains may be, by a place at the root, and comes to the freed ones. */
+    private void planDeletion(EObject element, List<EObject> freed) {
         List<EObject> gone = new ArrayList<>();
         List<EObject> kept = new ArrayList<>();
         part(element, gone, kept);
         kept.forEach(it -> planned.add(lines.move(it, null, null, Lines.END)));
         planned.add(lines.delete(element));
-        planRoots(kept);
+        freed.addAll(kept);
         for (EObject inside : gone) {
             String id = ids.id(inside);
             links.forget(inside);

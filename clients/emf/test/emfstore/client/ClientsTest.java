@@ -64,20 +64,21 @@ public final class ClientsTest {
 
     /** Models go in and come out equal, also in many blocks. */
     private void models() throws IOException {
-        model("Ecore", ofEmf("Ecore"), ofEmf("Ecore"));
+        model("Ecore", ofEmf("Ecore"), ofEmf("Ecore"), MODEL_BYTES);
         for (String name : List.of("Change", "ExtendedMetaData")) {
-            model(name, ofEmf(name), randomModel(name, ofEmf(name)));
+            model(name, ofEmf(name), randomModel(name, ofEmf(name)), MODEL_BYTES);
         }
     }
 
-    private void model(String name, String ecore, String model) throws IOException {
-        String first = roundTrip(ecore, model, Blocks.Limits.OF_PROGRAM, name + "1.xmi");
-        roundTrip(ecore, first, SMALL, name + "2.xmi");
+    /** Brings a model in, once in one block and once in many; what the program prints for it has so many bytes at least. */
+    private void model(String name, String ecore, String model, int least) throws IOException {
+        String first = roundTrip(ecore, model, Blocks.Limits.OF_PROGRAM, name + "1.xmi", least);
+        roundTrip(ecore, first, SMALL, name + "2.xmi", least);
         tell("a model of " + name + ", " + Files.size(Path.of(first)) + " bytes of XMI");
     }
 
     /** Brings a model in, and what the program shows into a file; the file as EMF loads it must be equal to the model. */
-    private String roundTrip(String ecore, String model, Blocks.Limits limits, String file) throws IOException {
+    private String roundTrip(String ecore, String model, Blocks.Limits limits, String file, int least) throws IOException {
         Metamodels metamodels = new Metamodels(List.of(ecore));
         Profile profile = new Profile(metamodels.packages());
         Resource original = metamodels.load(model);
@@ -96,7 +97,7 @@ public final class ClientsTest {
             }
             XMLResource shown = metamodels.create(folder.resolve(file).toString());
             String text = store.send("show 1").data().get(0);
-            check(text.length() >= MODEL_BYTES, file + ": " + text.length() + " bytes are few");
+            check(text.length() >= least, file + ": " + text.length() + " bytes are few");
             ModelFiller.fill(shown, profile, new Ids(), text);
             shown.save(Map.of());
             shown.getResourceSet().getResources().remove(shown);
@@ -168,7 +169,7 @@ public final class ClientsTest {
         tell(EDITS + " edits recorded, " + refused + " refused");
         live.getContents().retainAll(ModelText.roots(live));
         live.save(Map.of());
-        model("kinds", kinds, folder.resolve("live.xmi").toString());
+        model("kinds", kinds, folder.resolve("live.xmi").toString(), 1);
     }
 
     /** Two people give one element a name, and one of them chooses: the first time mine, then theirs. What doesn't conflict stays. */
@@ -272,6 +273,10 @@ public final class ClientsTest {
     private void checkShown(Store store, Recorder recorder, Profile profile, XMLResource live, String when) throws IOException {
         String text = store.send("show 1").data().get(0);
         check(recorder.text().equals(text), when + " the program shows another model");
+        for (TreeIterator<EObject> all = live.getAllContents(); all.hasNext(); ) {
+            EObject element = all.next();
+            check(recorder.id(element).equals(live.getID(element)), when + " an element has another id in its resource");
+        }
         XMLResource second = new Metamodels(List.of(kinds)).create("second.xmi");
         ModelFiller.fill(second, profile, new Ids(), text);
         checkEqual(live, second, when);

@@ -12,6 +12,7 @@ import org.eclipse.emf.ecore.EClass;
 import org.eclipse.emf.ecore.EDataType;
 import org.eclipse.emf.ecore.EEnum;
 import org.eclipse.emf.ecore.EObject;
+import org.eclipse.emf.ecore.EReference;
 import org.eclipse.emf.ecore.resource.Resource;
 import org.eclipse.emf.ecore.util.EcoreUtil;
 
@@ -19,6 +20,8 @@ import org.eclipse.emf.ecore.util.EcoreUtil;
 final class RandomEdits {
     private static final List<String> TEXTS =
             List.of("", "a", "b c", "7", "tab\tand \"quotes\"", "back\\slash\nline", "größe \ud83d\ude00 <&>", "true");
+
+    private static final int TRIES = 10;
 
     private final Profile profile;
     private final Resource resource;
@@ -103,14 +106,14 @@ final class RandomEdits {
 
     /** Puts an element, new or known, to the root or into a containment that may hold it. */
     private void put(EObject element) {
-        List<EObject> parents = made.stream().filter(it -> !EcoreUtil.isAncestor(element, it) && !containments(it, element).isEmpty()).toList();
-        if (parents.isEmpty() || random.nextInt(8) == 0) {
-            if (element.eContainer() == null && element.eResource() == null || random.nextBoolean()) {
-                insert(resource.getContents(), element);
-            }
+        EObject parent = any();
+        for (int i = 0; i < TRIES && (EcoreUtil.isAncestor(element, parent) || containments(parent, element).isEmpty()); i++) {
+            parent = any();
+        }
+        if (EcoreUtil.isAncestor(element, parent) || containments(parent, element).isEmpty() || random.nextInt(8) == 0) {
+            insert(resource.getContents(), element);
             return;
         }
-        EObject parent = one(parents);
         Feature feature = one(containments(parent, element));
         if (feature.isMany()) {
             insert(list(parent, feature), element);
@@ -199,12 +202,16 @@ final class RandomEdits {
             return value(feature.attribute().getEAttributeType());
         }
         boolean isNew = feature.kind() == Kind.CONTAINMENT && random.nextInt(3) > 0;
-        // EMF leaves one end of a reference that is its own opposite where an element was its own target.
-        boolean isSelf = feature.reference().getEOpposite() == feature.reference();
         List<EObject> found = isNew ? List.of(create(depth)) : List.copyOf(made);
-        found = found.stream().filter(it -> feature.reference().getEReferenceType().isInstance(it) && !(isSelf && it == element)
+        found = found.stream().filter(it -> feature.reference().getEReferenceType().isInstance(it) && !(it == element && isOdd(feature.reference()))
                 && (feature.kind() == Kind.REFERENCE || !EcoreUtil.isAncestor(it, element))).toList();
         return found.isEmpty() ? null : one(found);
+    }
+
+    /** Whether EMF itself doesn't keep a link of an element to itself: it leaves one end of it, or loads it at another index than it was saved. */
+    private static boolean isOdd(EReference reference) {
+        EReference opposite = reference.getEOpposite();
+        return opposite == reference || opposite != null && opposite.isMany() && reference.isMany();
     }
 
     private Object value(EDataType type) {
