@@ -3,7 +3,7 @@ use Rattle.std.proofs.Common.{◌≡◌, refl, ℕ, true, List, Option, Some, No
 use Rattle.std.specs.Prelude.{◌&&◌}
 use Rattle.ecore_meta.specs.Meta.{Meta}
 use Rattle.model_state.specs.Names.{is_name}
-use Rattle.op_form.specs.declared.event.Event.TheVariants.{Begin, Branch, Commit, Discard, Drop, End, Undo}
+use Rattle.op_form.specs.declared.event.Event.TheVariants.{Begin, Branch, Commit, Discard, Drop, End, Signed, Undo}
 use Rattle.plain_repository.specs.State.{State, is_closed, is_open, workspace_of}
 use Rattle.plain_repository.specs.Commits.{can_commit, is_new_branch}
 use Rattle.plain_repository.specs.Events.{playable_with}
@@ -30,6 +30,10 @@ discard_there s (Some meta) ws could = tested can_discard refl (workspace_of s w
 pub commit_there : (s : State) (m : Option Meta) (ws : ℕ) (message : List ℕ) → playable_with s m (Commit ws message) ≡ true → is_some (workspace_of s ws) ≡ true
 commit_there s None ws message could = absurd cc
 commit_there s (Some meta) ws message could = tested (can_commit s.history) refl (workspace_of s ws) could
+
+pub signed_there : (s : State) (m : Option Meta) (ws : ℕ) (author : List ℕ) (moment : ℕ) (message : List ℕ) → playable_with s m (Signed ws author moment message) ≡ true → is_some (workspace_of s ws) ≡ true
+signed_there s None ws author moment message could = absurd cc
+signed_there s (Some meta) ws author moment message could = tested (can_commit s.history) refl (workspace_of s ws) (and_right (is_name author) (can_commit s.history (workspace_of s ws)) could)
 
 pub branch_there : (s : State) (m : Option Meta) (ws : ℕ) (name : List ℕ) → playable_with s m (Branch ws name) ≡ true → is_some (workspace_of s ws) ≡ true
 branch_there s None ws name could = absurd cc

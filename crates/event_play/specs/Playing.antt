@@ -2,7 +2,7 @@
 use Rattle.std.specs.Prelude.{◌==◌, Bool, Option, Some, None, true, false}
 use Rattle.history_tree.specs.History.{History, head}
 use Rattle.op_form.specs.declared.event.Event.{Event}
-use Rattle.op_form.specs.declared.event.Event.TheVariants.{Init, Edit, Tidy, Update, Merge}
+use Rattle.op_form.specs.declared.event.Event.TheVariants.{Init, Edit, Tidy, Update, Merge, Evolve}
 use Rattle.plain_repository.specs.State.{Workspace}
 
 -- the events whose test is a part of making them: a text is read, steps are taken, or operations are compared
@@ -12,6 +12,7 @@ is_tested_late (Edit ws operations) = true
 is_tested_late (Tidy ws) = true
 is_tested_late (Update ws letters) = true
 is_tested_late (Merge ws branch letters) = true
+is_tested_late (Evolve text) = true
 is_tested_late event = false
 
 -- the workspace is there, and its base is the head of its branch

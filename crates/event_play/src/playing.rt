@@ -2,11 +2,11 @@
 ghost use Rattle.std.specs.Prelude.{◌≡◌, ◌≢◌, ◌+◌, ◌<◌, ◌≤◌, ◌^◌, ◌||◌, OnOk, OnErr, IsErrOf, IsTrue, length, is_some, true, false};
 ghost use Rattle.commit_journal.specs.Journal.{most_bytes, next_gate};
 ghost use Rattle.op_form.specs.declared.event.Event.{Event};
-ghost use Rattle.op_form.specs.declared.event.Event.TheVariants.{Begin, Branch, Checkout, Commit, Drop, End, Tag, Undo, Discard};
+ghost use Rattle.op_form.specs.declared.event.Event.TheVariants.{Begin, Branch, Checkout, Commit, Drop, End, Signed, Tag, Undo, Discard, Upgrade};
 ghost use Rattle.op_form.specs.Events.{event_encoding};
 ghost use Rattle.op_form.specs.Formed.{is_event, IsEvent};
 ghost use Rattle.plain_repository.specs.State.{workspace_of, is_closed, is_open, has_operations, has_local};
-ghost use Rattle.plain_repository.specs.Events.{effect, play, playable, playable_with};
+ghost use Rattle.plain_repository.specs.Events.{effect, play, playable, playable_with, suits};
 ghost use Rattle.version_states.specs.Cached.{MayUse, Uses};
 ghost use Rattle.repo_state.specs.Cached.{HasForms};
 ghost use Rattle.event_play.specs.Playing.{is_at_head, is_tested_late};
@@ -14,6 +14,7 @@ ghost use Rattle.event_play.specs.Playing.{is_at_head, is_tested_late};
 use crate::merged::{merge, tidy, update};
 use commit_journal::{MOST_BYTES, next_gate};
 use ecore_meta::Text;
+use history_tree::Signature;
 use model_state::is_name;
 use op_form::Event;
 use op_reading::{FormFault, decode_event};
@@ -108,6 +109,25 @@ fn could_commit(repo: &Repo, ws: u32, message: &Text) -> bool
     repo.begun().is_some() && is_at_head(repo, ws) && is_closed(repo, ws) && has_local(repo, ws)
 }
 
+/// The same, of a version that is signed.
+fn could_sign(repo: &Repo, ws: u32, author: &Text, moment: u64, message: &Text) -> bool
+    ensures { result ≡ playable_with repo.now repo.now.meta (Signed ws author.now moment message.now) }
+{
+    // The moment may be any number, and the message any text.
+    let _moment = moment;
+    let _message = message;
+    repo.begun().is_some()
+        && is_name(author.as_str())
+        && (is_at_head(repo, ws) && is_closed(repo, ws) && has_local(repo, ws))
+}
+
+/// Whether a command could upgrade the store, as far as it is not upgraded.
+fn could_upgrade(repo: &Repo) -> bool
+    ensures { result ≡ playable_with repo.now repo.now.meta Upgrade }
+{
+    repo.begun().is_some()
+}
+
 /// Whether a workspace is there, and its base is the head of its branch.
 fn is_at_head(repo: &Repo, ws: u32) -> bool
     ensures { result ≡ is_at_head repo.now.history (workspace_of repo.now ws) }
@@ -172,6 +192,39 @@ fn could(repo: &Repo, event: &Event) -> bool
         Event::Update { .. } => true,
         Event::Merge { .. } => true,
         Event::Drop { ws } => could_drop(repo, *ws),
+        Event::Evolve { .. } => true,
+        Event::Upgrade => could_upgrade(repo),
+        Event::Signed {
+            ws,
+            author,
+            moment,
+            message,
+        } => could_sign(repo, *ws, author, *moment, message),
+    }
+}
+
+/// Whether an event suits the store: a version is signed in one that is upgraded, and in no other.
+fn suits(repo: &Repo, event: &Event) -> bool
+    ensures { result ≡ suits repo.now.upgraded event.now }
+{
+    match event {
+        Event::Commit { .. } => !repo.is_upgraded(),
+        Event::Upgrade => !repo.is_upgraded(),
+        Event::Signed { .. } => repo.is_upgraded(),
+        Event::Init { .. } => true,
+        Event::Checkout { .. } => true,
+        Event::Edit { .. } => true,
+        Event::Begin { .. } => true,
+        Event::End { .. } => true,
+        Event::Undo { .. } => true,
+        Event::Discard { .. } => true,
+        Event::Tidy { .. } => true,
+        Event::Branch { .. } => true,
+        Event::Tag { .. } => true,
+        Event::Update { .. } => true,
+        Event::Merge { .. } => true,
+        Event::Drop { .. } => true,
+        Event::Evolve { .. } => true,
     }
 }
 
@@ -214,7 +267,7 @@ fn change(
             Ok(())
         }
         Event::Tidy { ws } => tidy(alloc, repo, ws),
-        Event::Commit { ws, message } => Ok(repo.commit(alloc, ws, message)?),
+        Event::Commit { ws, message } => Ok(repo.commit(alloc, ws, None, message)?),
         Event::Branch { ws, name } => Ok(repo.branch(ws, name)?),
         Event::Tag { name, version } => Ok(repo.tag(name, version)?),
         Event::Update { ws, choices } => update(alloc, repo, ws, &choices),
@@ -226,6 +279,21 @@ fn change(
         Event::Drop { ws } => {
             repo.drop_workspace(ws);
             Ok(())
+        }
+        Event::Evolve { text } => repo.evolve(alloc, &text),
+        Event::Upgrade => {
+            repo.upgrade();
+            Ok(())
+        }
+        Event::Signed {
+            ws,
+            author,
+            moment,
+            message,
+        } => {
+            let signature = Some(Signature { author, moment });
+            let signed = repo.commit(alloc, ws, signature, message);
+            Ok(signed?)
         }
     }
 }
@@ -255,9 +323,10 @@ fn make(
     if repo.is_full() || size as u64 > MOST_BYTES {
         return Err(ReplayFault::NotPlayable);
     }
-    if !could(repo, &event) {
+    if !suits(repo, &event) || !could(repo, &event) {
         return Err(ReplayFault::NotPlayable);
     }
+    repo.orderly();
     let events = repo.event_count() + 1;
     let end = next_gate(repo.end(), size as u64);
     change(alloc, cache, pool, repo, event)?;

@@ -3,6 +3,7 @@
 
 mod evolving;
 mod fault;
+mod following;
 mod growing;
 mod making;
 mod merged;
@@ -12,6 +13,6 @@ mod repo;
 mod workspace;
 
 pub use fault::ReplayFault;
-pub use merged::{Local, Merged};
+pub use merged::{Merged, Updated};
 pub use repo::{Begun, Repo};
 pub use workspace::{Composite, Workspace};

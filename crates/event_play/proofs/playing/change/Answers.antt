@@ -2,10 +2,10 @@ use Rattle.std.proofs.Common.{◌≡◌, ap, arith, length, subst, true}
 use Rattle.std.specs.Prelude.{◌||◌}
 use Rattle.op_form.specs.Events.{event_encoding}
 use Rattle.op_form.specs.declared.event.Event.{Event}
-use Rattle.plain_repository.proofs.Encodings.{text_shorter}
+use Rattle.plain_repository.proofs.Encodings.{evolve_text_shorter, text_shorter}
 use Rattle.plain_repository.specs.Events.{playable_with}
 use Rattle.event_play.specs.Playing.{is_tested_late}
-use Rattle.event_play.proofs.There.{begin_there, branch_there, commit_there, discard_there, drop_there, end_there, undo_there}
+use Rattle.event_play.proofs.There.{begin_there, branch_there, commit_there, discard_there, drop_there, end_there, signed_there, undo_there}
 use Rattle.event_play.proofs.playing.change.Goals as goal
 
 pub begin-requires-clause-short : goal.begin-requires-clause-short
@@ -38,3 +38,11 @@ branch-repo-requires-clause-there c =
 pub drop_workspace-requires-clause-there : goal.drop_workspace-requires-clause-there
 drop_workspace-requires-clause-there c =
     drop_there c.args.repo.now c.args.repo.now.meta c.in-Drop.ws (subst (λ (e : Event). (is_tested_late e || playable_with c.args.repo.now c.args.repo.now.meta e) ≡ true) c.in-Drop.is c.requires.tested)
+
+pub evolve-requires-clause-short : goal.evolve-requires-clause-short
+evolve-requires-clause-short c = omega (arith, evolve_text_shorter c.in-Evolve.text, ap (λ (e : Event). length (event_encoding e)) c.in-Evolve.is, c.requires.short)
+
+pub commit-signed-requires-clause-there : goal.commit-signed-requires-clause-there
+commit-signed-requires-clause-there c =
+    signed_there c.args.repo.now c.args.repo.now.meta c.in-Signed.ws c.in-Signed.author c.in-Signed.moment c.in-Signed.message
+    (subst (λ (e : Event). (is_tested_late e || playable_with c.args.repo.now c.args.repo.now.meta e) ≡ true) c.in-Signed.is c.requires.tested)
