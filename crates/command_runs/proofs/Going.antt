@@ -1,15 +1,16 @@
 -- A loop over commands: what holds between two of them, and how one more is added.
-use Rattle.std.proofs.Common.{◌≡◌, ⊎_elim, ℕ, zero, suc, ◌+◌, ◌-◌, ◌≤◌, min, List, [], ◌∷◌, ◌++◌, length, take, refl, sym, ◌∙◌, ap, subst, append_assoc, length-append, arith}
+use Rattle.std.proofs.Common.{◌≡◌, ⊎_elim, None, Option, Some, ℕ, zero, suc, ◌+◌, ◌-◌, ◌≤◌, min, List, [], ◌∷◌, ◌++◌, length, take, refl, sym, ◌∙◌, ap, subst, append_assoc, length-append, arith}
 use Rattle.std.specs.Prelude.{IsTrue}
 use Rattle.std.proofs.lemmas.List.{append-nil, take_at, length-take, take-append-le, take_min}
 use Rattle.host_port.specs.Host.{Told, MayLeave, GoesOn, Throughout, KeepsDisk, KeepsSaid, AddsPart, disk_now, said_now, CrashLeaves}
-use Rattle.host_port.proofs.Course.{carry_on, told_next, still_disk, still_said, adds_none, said_kept_now}
+use Rattle.host_port.proofs.Course.{carry_on, keeps_disk_on, told_next, still_disk, still_said, adds_none, said_kept_now}
 use Rattle.command_runs.specs.Runs.{Answer, listed, replies, events, events_due}
 use Rattle.command_runs.specs.Crashes.{StandsForAtLeast, IsRunning, IsStepping}
 use Rattle.command_runs.proofs.RunLaws.{replies-append, events-append, events_due-within, replies-more, events-more}
 
 -- Between two commands: these answers are given and the others are left. What they print is printed, and what they make stands.
--- At each moment since the entry a prefix of the whole run's replies was printed and a crash leaves what it may.
+-- At each moment since the entry a prefix of the whole run's replies was printed and a crash leaves what it may. Where the whole run
+-- makes no event, the disk stayed.
 pub record Going {E : Type 0} (stands : List ℕ → List E → Type 0) (entry now : Told) (first : List E) (whole left : List (Answer E)) (rests : List E → Type 0) : Type 0 where
   pub done : List (Answer E)
   pub whole_is : whole ≡ done ++ left
@@ -17,12 +18,19 @@ pub record Going {E : Type 0} (stands : List ℕ → List E → Type 0) (entry n
   pub rest : rests (first ++ events done)
   pub part : Throughout entry now (λ disk said. AddsPart (said_now entry) (replies whole) said)
   pub moments : Throughout entry now (IsRunning stands first (events whole) (events_due whole) (said_now entry))
+  pub still : events whole ≡ [] → KeepsDisk entry now
 
 -- what one command does at each of its moments
 pub record Steps {E : Type 0} (stands : List ℕ → List E → Type 0) (a b : Told) (answer : Answer E) (rests : List E → Type 0) : Type 0 where
   pub course : GoesOn a b
   pub part : Throughout a b (λ disk said. AddsPart (said_now a) answer.reply said)
   pub moments : (first : List E) → rests first → Throughout a b (IsStepping stands first answer.event (said_now a))
+  pub still : answer.event ≡ None → KeepsDisk a b
+
+-- an answer that adds no event to a list has none
+unlisted : {E : Type 0} (event : Option E) → length (listed event) ≡ 0 → event ≡ None
+unlisted None none = refl
+unlisted (Some e) none = absurd (omega (arith, none))
 
 pub take_past : (xs ys : List ℕ) (m n : ℕ) → m ≡ length xs + n → take m (xs ++ ys) ≡ xs ++ take n ys
 take_past [] ys m n is = let same : m ≡ n = omega arith in ap (λ (k : ℕ). take k ys) same
@@ -55,6 +63,7 @@ module _ {E : Type 0} (stands : List ℕ → List E → Type 0) where
       moments = λ told t low high x left. among first whole [] whole x (length (entry.said t) - length (said_now entry)) refl
           (omega (arith, ap length (still_said entry told t low high)))
           (subst (λ (l : List E). stands x l) (sym (append-nil first)) (leaves rest x (subst (λ d. MayLeave d x) (still_disk entry told t low high) left)));
+      still = λ none. still_disk entry;
     }
 
     module _ (a b : Told) (left : List (Answer E)) (rests : List E → Type 0) (going : Going stands entry a first whole left rests) (course : GoesOn entry a) where
@@ -68,6 +77,7 @@ module _ {E : Type 0} (stands : List ℕ → List E → Type 0) where
         rest = stays (first ++ events going.done) going.rest;
         part = quiet_part on said;
         moments = quiet_moments on disk said leaves;
+        still = λ none. keeps_disk_on entry a b course on (going.still none) disk;
       }
         where
           quiet_part : GoesOn a b → KeepsSaid a b → Throughout entry b (λ disk said. AddsPart (said_now entry) (replies whole) said)
@@ -130,6 +140,21 @@ module _ {E : Type 0} (stands : List ℕ → List E → Type 0) where
         pub stepped_moments : Throughout entry b (IsRunning stands first (events whole) (events_due whole) (said_now entry))
         stepped_moments = carry_on entry a b (IsRunning stands first (events whole) (events_due whole) (said_now entry)) course steps.course going.moments moments_here
 
+        -- where the whole run makes no event, this answer makes none
+        pub makes_none : events whole ≡ [] → answer.event ≡ None
+        makes_none none =
+            unlisted answer.event (omega (
+              arith,
+              ap length none,
+              ap length (ap events answers_more ∙ events-append (going.done ++ answer ∷ []) next),
+              length-append (events (going.done ++ answer ∷ [])) (events next),
+              ap length (events-more going.done answer),
+              length-append (events going.done) (listed answer.event),
+            ))
+
+        pub stepped_still : events whole ≡ [] → KeepsDisk entry b
+        stepped_still none = keeps_disk_on entry a b course steps.course (going.still none) (steps.still (makes_none none))
+
         -- and where its reply was printed
         pub one_more : (rests_next : List E → Type 0) → said_now b ≡ said_now a ++ answer.reply
             → ((made : List E) → rests made → rests_next (made ++ listed answer.event)) → Going stands entry b first whole next rests_next
@@ -142,4 +167,5 @@ module _ {E : Type 0} (stands : List ℕ → List E → Type 0) where
               (added (first ++ events going.done) going.rest);
           part = stepped_part;
           moments = stepped_moments;
+          still = stepped_still;
         }

@@ -5,7 +5,7 @@ use Rattle.std.proofs.lemmas.List.{append-nil, drop_all}
 use Rattle.host_port.specs.Host.{Told, Disk, MayLeave, GoesOn, Throughout, KeepsDisk, disk_now, overwritten, written, synced, CrashLeaves}
 use Rattle.host_port.proofs.Course.{carry_on, told_next, course_on, kept_now}
 use Rattle.commit_journal.specs.TornWrites.{IsSettled, IsWriting}
-use Rattle.commit_journal.specs.Journal.{header, new_file, ReadsTo, EndsAt, StandsFor, StandsForSame, IsNoHeader, IsWalked, MountedFrom}
+use Rattle.commit_journal.specs.Journal.{header, new_file, ReadsTo, EndsAt, StandsFor, StandsForSame, IsNoHeader, IsWalked, MountedFrom, IsAtMostSynced}
 use Rattle.commit_journal.proofs.Torn.{left_settled}
 use Rattle.commit_journal.proofs.Append.{synced_settled, left_torn}
 use Rattle.commit_journal.proofs.Walking.{no_header}
@@ -82,6 +82,10 @@ module _ (a s l : Told) (sync_course : GoesOn a s) (sync_moments : Throughout a 
       (λ told t low high. ⊎_elim (ap (λ (d : Disk). d.now)) (ap (λ (d : Disk). d.now)) (sync_moments told t low high))
       (λ told_s t low high. ap (λ (d : Disk). d.now) (len_disk told_s t low high ∙ stable told)) told
 
+  pub synced_to_len : Throughout a l (λ disk said. IsAtMostSynced (disk_now a) disk)
+  synced_to_len told = carry_on a s l (λ disk said. IsAtMostSynced (disk_now a) disk) sync_course len_course sync_moments
+      (λ told_s t low high. inr (len_disk told_s t low high ∙ stable told)) told
+
   -- and after the reading of the header
   module _ (e : Told) (course : GoesOn l e) (disk : KeepsDisk l e) where
     pub up_to_read : Throughout a e (λ disk said. IsMounting (disk_now a) disk)
@@ -91,6 +95,10 @@ module _ (a s l : Told) (sync_course : GoesOn a s) (sync_moments : Throughout a 
     pub now_to_read : Throughout a e (λ disk said. disk.now ≡ (disk_now a).now)
     now_to_read told = carry_on a l e (λ disk said. disk.now ≡ (disk_now a).now) course_to_len course now_to_len
         (λ told_l t low high. ap (λ (d : Disk). d.now) (disk told_l t low high ∙ disk_at_len told)) told
+
+    pub synced_to_read : Throughout a e (λ disk said. IsAtMostSynced (disk_now a) disk)
+    synced_to_read told = carry_on a l e (λ disk said. IsAtMostSynced (disk_now a) disk) course_to_len course synced_to_len
+        (λ told_l t low high. inr (disk told_l t low high ∙ disk_at_len told)) told
 
     pub disk_at_read : IsTrue a.tells → disk_now e ≡ synced (disk_now a)
     disk_at_read told = kept_now l e course disk (told_at_len told) ∙ disk_at_len told

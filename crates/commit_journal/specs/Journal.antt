@@ -1,7 +1,7 @@
 -- What the bytes of a journal stand for.
 use Rattle.std.specs.Prelude.{◌≡◌, ◌≢◌, ◌⊎◌, ℕ, ◌+◌, ◌^◌, ◌<◌, ◌≤◌, nat_lt, Bool, if◌then◌else◌, List, [], ◌∷◌, ◌++◌, length, take, drop, slice_index, All}
 use Rattle.std.specs.Int.{to_be_bytes, w32}
-use Rattle.host_port.specs.Host.{CrashLeaves, Disk}
+use Rattle.host_port.specs.Host.{CrashLeaves, Disk, synced}
 use Rattle.page_pool.specs.Frames.{Frames}
 use Rattle.page_pool.specs.Paged.{PagedState, HoldsBytes}
 use Rattle.commit_journal.specs.TornWrites.{IsSettled}
@@ -115,6 +115,10 @@ IsMounted file = (new_size < length file) ⊎ (file ≡ new_file)
 -- what mounting leaves of a file: all of it, or a new file where it had at most 17 bytes
 abbrev pub MountedFrom : List ℕ → List ℕ → Type 0
 MountedFrom old new = ((new_size < length old) × (new ≡ old)) ⊎ ((length old ≤ new_size) × (new ≡ new_file))
+
+-- the disk is that of the entry, or that one synced
+abbrev pub IsAtMostSynced : Disk → Disk → Type 0
+IsAtMostSynced entry disk = (disk ≡ entry) ⊎ (disk ≡ synced entry)
 
 -- a file while it is read: all of it is stable, and it reads as these byte strings up to an offset
 pub record IsWalked (disk : Disk) (forms : List (List ℕ)) (place : ℕ) : Type 0 where

@@ -2,7 +2,7 @@
 ghost use Rattle.std.specs.Prelude.{◌≡◌, ◌⊎◌, ◌+◌, ◌^◌, ◌<◌, ◌≤◌, ◌++◌, [], ◌∷◌, List, ℕ, length, IsTrue, IfOk, OnOk, IfErr, IfSome, IfNone, OnErr, IsErrOf, true, false};
 ghost use Rattle.host_port.specs.Host.{disk_now, Rose, GoesOn, Throughout, KeepsDisk, KeepsSaid, KeepsInput, RaisesDiskAlone, CrashLeaves};
 ghost use Rattle.std.specs.Bool.{OnTrue, OnFalse};
-ghost use Rattle.commit_journal.specs.Journal.{WalkState, header, four_bytes, IsWalked, IsClosed, IsStuck, IsOpen, IsNoHeader, IsAtRest, IsShort, MountedFrom, StandsForSame, StandsForNone, first_gate, most_bytes, new_size};
+ghost use Rattle.commit_journal.specs.Journal.{WalkState, header, four_bytes, IsWalked, IsClosed, IsStuck, IsOpen, IsNoHeader, IsAtRest, IsShort, IsAtMostSynced, MountedFrom, StandsForSame, StandsForNone, first_gate, most_bytes, new_size};
 ghost use Rattle.commit_journal.specs.Walk.{IfDamaged};
 
 use crate::fault::JournalFault;
@@ -127,8 +127,8 @@ impl Walk {
         ensures damaged { IfErr result (λ fault. IfDamaged fault (λ at. IsTrue (H.told host.old).tells → IsNoHeader (disk_now (H.told host.old)).now at)) }
         ensures nothing { IfErr result (λ fault. IfDamaged fault (λ _. IsTrue (H.told host.old).tells → StandsForNone (disk_now (H.told host.old)).now)) }
         ensures kept { IfErr result (λ fault. IfDamaged fault (λ _. Throughout (H.told host.old) (H.told host.new) (λ disk _. disk.now ≡ (disk_now (H.told host.old)).now))) }
-        // A file of more than 17 bytes reads as it was at each moment, whatever the answer.
-        ensures long { new_size < length (disk_now (H.told host.old)).now → Throughout (H.told host.old) (H.told host.new) (λ disk _. disk.now ≡ (disk_now (H.told host.old)).now) }
+        // A file of more than 17 bytes is at each moment as it was, or that synced, whatever the answer.
+        ensures long { new_size < length (disk_now (H.told host.old)).now → Throughout (H.told host.old) (H.told host.new) (λ disk _. IsAtMostSynced (disk_now (H.told host.old)) disk) }
         ensures cause { IsErrOf result JournalFault.DiskFault → Rose (H.told host.old).disk_faults (H.told host.new).disk_faults }
         ensures memory { ¬ IsErrOf result JournalFault.Memory }
         ensures alone { RaisesDiskAlone (H.told host.old) (H.told host.new) }

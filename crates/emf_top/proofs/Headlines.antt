@@ -2,7 +2,8 @@
 use Rattle.std.proofs.Common.{◌≡◌, ◌⊎◌, inl, inr, ⊎_elim, ℕ, ◌-◌, ◌<◌, ◌≤◌, List, [], ◌++◌, length, refl, sym, ◌∙◌, ap, subst, arith}
 use Rattle.std.specs.Prelude.{IsTrue, map}
 use Rattle.std.proofs.lemmas.List.{append-nil}
-use Rattle.host_port.specs.Host.{Told, MayLeave, GoesOn, Throughout, KeepsSaid, KeepsInput, AddsPart, Rose, disk_now, said_now}
+use Rattle.commit_journal.specs.Journal.{IsAtMostSynced}
+use Rattle.host_port.specs.Host.{Told, MayLeave, GoesOn, Throughout, KeepsDisk, KeepsSaid, KeepsInput, AddsPart, Rose, disk_now, said_now}
 use Rattle.host_port.proofs.Course.{at_last, carry_on, told_next, adds_none, said_kept_now, still_disk, keeps_input_on}
 use Rattle.command_runs.specs.Runs.{played, replies, events, events_due}
 use Rattle.command_runs.specs.Crashes.{IsRunning, IsOpenedRunning}
@@ -16,7 +17,7 @@ use Rattle.plain_repository.proofs.Stores.{same_events}
 use Rattle.emf_top.specs.declared.answered.SessionFault.{SessionFault}
 use Rattle.emf_top.specs.declared.answered.SessionFault.TheVariants as session
 use Rattle.emf_top.specs.Session.{IsStoreOf, AtDamage}
-use Rattle.emf_top.proofs.Opening.{IsMounting, is_long}
+use Rattle.emf_top.proofs.Opening.{IsMounting, is_long, reads_same}
 use Rattle.emf_top.specs.declared.top.Status.{Status}
 use Rattle.emf_top.specs.declared.top.Status.TheVariants.{Accepted, Refused, BadWords, ReadFault, WriteFault, DiskFault, Damaged, Memory, Input}
 use Rattle.emf_top.specs.Headline.{Ends, NothingRose, KeepsFile, IsFoundDamaged, IsUnsaid, IsUnopened, IsUnanswered, IsHalted, IsKept, session_status}
@@ -33,6 +34,10 @@ same_reads (Generate seed count) s t one two = refl
 -- no call at all leaves the file
 pub file_still : (a : Told) → KeepsFile a a
 file_still a told t low high = ap (λ d. d.now) (still_disk a told t low high)
+
+-- a file that is synced at most reads as it was
+pub file_reads : (entry b : Told) → Throughout entry b (λ disk said. IsAtMostSynced (disk_now entry) disk) → KeepsFile entry b
+file_reads entry b moments told t low high = reads_same (disk_now entry) (b.disk t) (moments told t low high)
 
 halted_from : (task : Task) (first : List Event) (entry a b : Told) → said_now a ≡ said_now entry → IsHalted task first a b → IsHalted task first entry b
 halted_from task first entry a b same e = record { done = e.done; left = e.left; whole = e.whole; said = e.said ∙ ap (λ (l : List ℕ). l ++ replies e.done) same; stands = e.stands }
@@ -133,6 +138,15 @@ module _ (entry a : Told) (course : GoesOn entry a) (said : KeepsSaid entry a) (
       subst (λ (l : List ℕ). Throughout a b (IsRunning StandsForEvents first (events (asked (played play empty first) entry.left).answers) (events_due (asked (played play empty first) entry.left).answers) l)) (said_is told)
       (subst (λ (t : Task). Throughout a b (IsRunning StandsForEvents first (events t.answers) (events_due t.answers) (said_now a))) (task_is told) (moments first (holds_first told))) told_a t low high)) told
 
+  -- where the task makes no event, the disk is synced at most
+  pub whole_still : (17 < length (disk_now entry).now → Throughout entry a (λ disk said. IsAtMostSynced (disk_now entry) disk))
+      → ((made : List Event) → IsStoreOf (disk_now a) now made → events (asked now a.left).answers ≡ [] → KeepsDisk a b)
+      → events (asked (played play empty first) entry.left).answers ≡ [] → 17 < length (disk_now entry).now → Throughout entry b (λ disk said. IsAtMostSynced (disk_now entry) disk)
+  whole_still opening still none long told = carry_on entry a b (λ disk said. IsAtMostSynced (disk_now entry) disk) course on (opening long)
+      (λ told_a t low high. subst (IsAtMostSynced (disk_now entry))
+      (sym (still first (holds_first told) (subst (λ (t : Task). events t.answers ≡ []) (sym (task_is told)) none) told_a t low high))
+      (at_last entry a (λ disk said. IsAtMostSynced (disk_now entry) disk) course (opening long) told)) told
+
 -- what stands in the file at the end of a run
 pub stopped : (entry b : Told) (first : List Event) (task : Task) → GoesOn entry b → Throughout entry b (IsOpenedRunning (disk_now entry) StandsForEvents first (events task.answers) (events_due task.answers) (said_now entry))
     → StandsForEvents (disk_now entry).now first → MayLeave (disk_now b) (disk_now b).now → IsTrue entry.tells → IsKept task first entry b
@@ -168,7 +182,7 @@ module _ (entry a : Told) (fault : SessionFault) (never : fault ≡ session.SayF
       go (session.Damaged at) n d = (d told).1 first stood
       go session.Memory n d = none_answered task first entry a ended
 
-  pub unopened_damaged : (17 < length (disk_now entry).now → Throughout entry a (λ disk said. disk.now ≡ (disk_now entry).now)) → KeepsSaid entry a → KeepsInput entry a → (at : ℕ) → session_status fault ≡ Damaged at → IsFoundDamaged entry a at
+  pub unopened_damaged : (17 < length (disk_now entry).now → Throughout entry a (λ disk said. IsAtMostSynced (disk_now entry) disk)) → KeepsSaid entry a → KeepsInput entry a → (at : ℕ) → session_status fault ≡ Damaged at → IsFoundDamaged entry a at
   unopened_damaged long said input at is = go fault damage is
     where
       go : (f : SessionFault) → AtDamage f (λ at. IsTrue entry.tells → IsDamaged (disk_now entry).now at × StandsForNoEvents (disk_now entry).now) → session_status f ≡ Damaged at → IsFoundDamaged entry a at
@@ -176,7 +190,7 @@ module _ (entry a : Told) (fault : SessionFault) (never : fault ≡ session.SayF
       go session.SayFault d e = absurd cc
       go (session.Damaged b) d e =
           let same : b ≡ at = cc in
-          record { place = λ told. subst (λ (n : ℕ). IsDamaged (disk_now entry).now n) same (d told).0; no_events = λ told. (d told).1; file = λ told. long (is_long (disk_now entry).now (d told).1) told; said = said; input = input }
+          record { place = λ told. subst (λ (n : ℕ). IsDamaged (disk_now entry).now n) same (d told).0; no_events = λ told. (d told).1; file = λ told. file_reads entry a (long (is_long (disk_now entry).now (d told).1)) told; said = said; input = input }
       go session.Memory d e = absurd cc
 
   pub unopened_damages : ((at : ℕ) × (session_status fault ≡ Damaged at)) ⊎ (session_status fault ≡ DiskFault) ⊎ (session_status fault ≡ Memory)

@@ -5,7 +5,7 @@ use Rattle.std.proofs.lemmas.Bool.{cases_lt}
 use Rattle.std.proofs.lemmas.List.{append-nil, length-take}
 use Rattle.host_port.specs.Host.{Told, Disk, MayLeave, GoesOn, Throughout, KeepsDisk, KeepsSaid, KeepsInput, disk_now, CrashLeaves}
 use Rattle.host_port.proofs.Course.{carry_on, at_last, told_next, course_on, kept_now, keeps_said_on, keeps_input_on}
-use Rattle.commit_journal.specs.Journal.{WalkState, StandsFor, StandsForSame, StandsForNone, IsWalked, IsAtRest, IsStuck, ReadsTo, MountedFrom, records, header, new_file, open_gate}
+use Rattle.commit_journal.specs.Journal.{WalkState, StandsFor, StandsForSame, StandsForNone, IsWalked, IsAtRest, IsStuck, ReadsTo, MountedFrom, IsAtMostSynced, records, header, new_file, open_gate}
 use Rattle.commit_journal.proofs.Torn.{left_settled}
 use Rattle.commit_journal.proofs.Ends.{records-push, length-record_of, length-header, stands}
 use Rattle.commit_journal.proofs.Mounting.{length-new_file}
@@ -22,6 +22,11 @@ use Rattle.commit_journal.specs.declared.fault.JournalFault.TheVariants.{Damaged
 use Rattle.commit_journal.specs.Walk as journal
 use Rattle.emf_top.specs.Session.{IsStoreOf, IsReplayed, AtDamage, fault_of}
 use Rattle.emf_top.proofs.Playing.{play_end}
+
+-- such a disk reads as it did at the entry
+pub reads_same : (entry disk : Disk) → IsAtMostSynced entry disk → disk.now ≡ entry.now
+reads_same entry disk (inl is) = ap (λ (d : Disk). d.now) is
+reads_same entry disk (inr is) = ap (λ (d : Disk). d.now) is
 
 -- until the first sync the disk is that of the entry; then a crash leaves a file that stands for the same
 abbrev pub IsMounting : Disk → Disk → Type 0
@@ -43,7 +48,7 @@ pub record Replays (entry now : Told) (walk : WalkState) (state : State) : Type 
   pub file : IsTrue entry.tells → MountedFrom (disk_now entry).now (disk_now now).now
   pub same : IsTrue entry.tells → StandsForSame (disk_now entry).now (disk_now now).now
   pub moments : Throughout entry now (λ disk said. IsMounting (disk_now entry) disk)
-  pub long : 17 < length (disk_now entry).now → Throughout entry now (λ disk said. disk.now ≡ (disk_now entry).now)
+  pub long : 17 < length (disk_now entry).now → Throughout entry now (λ disk said. IsAtMostSynced (disk_now entry) disk)
 
 module _ (entry a b : Told) (walk : WalkState) (state : State) (replays : Replays entry a walk state) (course : GoesOn a b) (disk : KeepsDisk a b) (said : KeepsSaid a b) (input : KeepsInput a b) where
   told_a : IsTrue entry.tells → IsTrue a.tells
@@ -68,9 +73,10 @@ module _ (entry a b : Told) (walk : WalkState) (state : State) (replays : Replay
       let is = left_settled (disk_now a) x replayed.1.walked.settled (subst (λ d. MayLeave d x) (disk told_here t low high) left) in
       λ forms stood. subst (λ (l : List ℕ). StandsFor l forms) (sym is) (replays.same told forms stood))) told
 
-  pub keeps_long : 17 < length (disk_now entry).now → Throughout entry b (λ disk said. disk.now ≡ (disk_now entry).now)
-  keeps_long long told = carry_on entry a b (λ disk said. disk.now ≡ (disk_now entry).now) replays.course course (replays.long long)
-      (λ told_here t low high. ap (λ (d : Disk). d.now) (disk told_here t low high) ∙ at_last entry a (λ disk said. disk.now ≡ (disk_now entry).now) replays.course (replays.long long) told) told
+  pub keeps_long : 17 < length (disk_now entry).now → Throughout entry b (λ disk said. IsAtMostSynced (disk_now entry) disk)
+  keeps_long long told = carry_on entry a b (λ disk said. IsAtMostSynced (disk_now entry) disk) replays.course course (replays.long long)
+      (λ told_here t low high. subst (IsAtMostSynced (disk_now entry)) (sym (disk told_here t low high))
+      (at_last entry a (λ disk said. IsAtMostSynced (disk_now entry) disk) replays.course (replays.long long) told)) told
 
   pub keeps_same : IsTrue entry.tells → StandsForSame (disk_now entry).now (disk_now b).now
   keeps_same told forms stood = subst (λ d. StandsFor d.now forms) (sym (same_disk told)) (replays.same told forms stood)
@@ -190,7 +196,7 @@ module _ (entry a b : Told) (walk : WalkState) (state : State) (replays : Replay
 -- a store that is mounted, before its first record
 pub mounted : (entry now : Told) (walk : WalkState) → walk ≡ record { place = 16; next = 16; ended = false } → GoesOn entry now → KeepsSaid entry now → KeepsInput entry now
     → (IsTrue entry.tells → IsWalked (disk_now now) [] 16) → (IsTrue entry.tells → MountedFrom (disk_now entry).now (disk_now now).now) → (IsTrue entry.tells → StandsForSame (disk_now entry).now (disk_now now).now)
-    → Throughout entry now (λ disk said. IsMounting (disk_now entry) disk) → (17 < length (disk_now entry).now → Throughout entry now (λ disk said. disk.now ≡ (disk_now entry).now)) → Replays entry now walk empty
+    → Throughout entry now (λ disk said. IsMounting (disk_now entry) disk) → (17 < length (disk_now entry).now → Throughout entry now (λ disk said. IsAtMostSynced (disk_now entry) disk)) → Replays entry now walk empty
 mounted entry now walk is course said input walked file same moments long = record {
   ended = ap (λ w. w.ended) is;
   low = subst (λ (n : ℕ). n < 2 ^ 40) (sym (ap (λ w. w.next) is)) (omega arith);

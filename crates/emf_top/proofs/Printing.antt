@@ -5,7 +5,7 @@ use Rattle.host_port.specs.Host.{Told, GoesOn, Throughout, KeepsDisk, AddsPart, 
 use Rattle.host_port.proofs.Course.{at_last, kept_now}
 use Rattle.command_runs.specs.Runs.{Answer, replies, events, events_due}
 use Rattle.command_runs.specs.Crashes.{IsRunning}
-use Rattle.command_runs.proofs.Going.{Going, Steps, one_more, stepped_part, stepped_moments, answers_more}
+use Rattle.command_runs.proofs.Going.{Going, Steps, one_more, stepped_part, stepped_moments, stepped_still, answers_more}
 use Rattle.command_runs.proofs.RunLaws.{events-more}
 use Rattle.op_form.specs.declared.event.Event.{Event}
 use Rattle.plain_repository.specs.State.{State}
@@ -26,6 +26,7 @@ module _ (entry b d : Told) (made : List Event) (task : Task) (state : State) (l
     course = on;
     part = line_part;
     moments = λ made holds. say_step b d state made None (said_now b) (none_added (disk_now b) state made holds) disk;
+    still = λ none. disk;
   }
 
   pub printed_part : Throughout entry d (λ disk said. AddsPart (said_now entry) (replies task.answers) said)
@@ -33,6 +34,9 @@ module _ (entry b d : Told) (made : List Event) (task : Task) (state : State) (l
 
   pub printed_moments : Throughout entry d (IsRunning StandsForEvents made (events task.answers) (events_due task.answers) (said_now entry))
   printed_moments = stepped_moments StandsForEvents entry made task.answers b d (printing line ∷ []) (λ events. IsStoreOf (disk_now b) state events) going course (printing line) [] refl steps
+
+  pub printed_still : events task.answers ≡ [] → KeepsDisk entry d
+  printed_still = stepped_still StandsForEvents entry made task.answers b d (printing line ∷ []) (λ events. IsStoreOf (disk_now b) state events) going course (printing line) [] refl steps
 
   whole : task.answers ≡ (going.done ++ printing line ∷ []) ++ []
   whole = answers_more StandsForEvents entry made task.answers b d (printing line ∷ []) (λ events. IsStoreOf (disk_now b) state events) going course (printing line) [] refl steps

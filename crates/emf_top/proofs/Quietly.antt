@@ -1,5 +1,5 @@
 -- The loop over items that are answered quietly.
-use Rattle.std.proofs.Common.{◌≡◌, ◌⊎◌, inl, inr, ⊎_elim, ℕ, suc, ◌+◌, ◌-◌, ◌<◌, ◌≤◌, List, [], ◌∷◌, ◌++◌, Bool, true, false, not, length, drop, get_or, refl, sym, ◌∙◌, ap, subst, append_assoc, add-one, arith}
+use Rattle.std.proofs.Common.{◌≡◌, ◌⊎◌, inl, inr, ⊎_elim, ℕ, suc, ◌+◌, ◌-◌, ◌<◌, ◌≤◌, List, [], ◌∷◌, ◌++◌, Bool, true, false, not, length, drop, get_or, refl, sym, ◌∙◌, ap, subst, append_assoc, add-one, arith, None}
 use Rattle.std.specs.Prelude.{All, IsTrue, IsSome, if◌then◌else◌}
 use Rattle.std.proofs.Math.Seq.{drop-cons}
 use Rattle.std.proofs.lemmas.List.{append-nil, drop_all}
@@ -10,7 +10,7 @@ use Rattle.host_port.proofs.Course.{at_last, course_on, course_still, still_inpu
 use Rattle.command_runs.specs.Runs.{Answer, listed, after, answers, replies, events, played, events_due}
 use Rattle.command_runs.specs.Crashes.{IsRunning}
 use Rattle.command_runs.proofs.RunLaws.{played-append}
-use Rattle.command_runs.proofs.Going.{Going, Steps, quietly, begins, one_more, stepped_part, stepped_moments}
+use Rattle.command_runs.proofs.Going.{Going, Steps, quietly, begins, one_more, stepped_part, stepped_moments, stepped_still}
 use Rattle.op_form.specs.declared.event.Event.{Event}
 use Rattle.plain_repository.specs.Lines.{is_skipped}
 use Rattle.plain_repository.specs.State.{State}
@@ -82,7 +82,8 @@ refusals_more answer rest = sum_by-cons (λ (a : Answer Event). if a.refused the
 -- an item was answered
 module _ (entry b : Told) (s0 : State) (items : List Item) (at refused : ℕ) (state : State) (broken : Bool) (fills : Filling entry b s0 items at refused state broken)
     (item : Item) (low : at < length items) (item_is : item ≡ get_or items at item) (d : Told) (answer : Answer Event) (answer_is : decide state item ≡ answer)
-    (on : GoesOn b d) (said : KeepsSaid b d) (entering : (made : List Event) → IsStoreOf (disk_now b) state made → Throughout b d (λ disk said. IsEntering made answer.event disk)) where
+    (on : GoesOn b d) (said : KeepsSaid b d) (entering : (made : List Event) → IsStoreOf (disk_now b) state made → Throughout b d (λ disk said. IsEntering made answer.event disk))
+    (stays : answer.event ≡ None → KeepsDisk b d) where
   cut : drop at items ≡ item ∷ drop (at + 1) items
   cut = rw (add-one, drop-cons items at item) (ap (λ (x : Item). x ∷ drop (suc at) items) (sym item_is))
 
@@ -97,6 +98,7 @@ module _ (entry b : Told) (s0 : State) (items : List Item) (at refused : ℕ) (s
     course = on;
     part = adds_none b d [] said;
     moments = λ made holds told t low high x left. ⊎_elim (λ stood. inl (stood, said told t low high)) (λ stood. inr stood) (entering made holds told t low high x left);
+    still = stays;
   }
 
   pub fill_part : (made : List Event) → IsStoreOf (disk_now entry) s0 made → Throughout entry d (λ disk said. AddsPart (said_now entry) (replies (filling s0 items).answers) said)
@@ -106,6 +108,10 @@ module _ (entry b : Told) (s0 : State) (items : List Item) (at refused : ℕ) (s
   pub fill_moments : (made : List Event) → IsStoreOf (disk_now entry) s0 made → Throughout entry d (IsRunning StandsForEvents made (events (filling s0 items).answers) (events_due (filling s0 items).answers) (said_now entry))
   fill_moments made holds told = stepped_moments StandsForEvents entry made (filling s0 items).answers b d (ahead s0 items state (drop at items)) (λ events. IsStoreOf (disk_now b) state events) (fills.going told made holds) fills.course
       (silenced answer) (ahead s0 items (after play state answer.event) (drop (at + 1) items)) left_is steps told
+
+  pub fill_still : (made : List Event) → IsStoreOf (disk_now entry) s0 made → events (filling s0 items).answers ≡ [] → KeepsDisk entry d
+  fill_still made holds no_event told = stepped_still StandsForEvents entry made (filling s0 items).answers b d (ahead s0 items state (drop at items)) (λ events. IsStoreOf (disk_now b) state events) (fills.going told made holds) fills.course
+      (silenced answer) (ahead s0 items (after play state answer.event) (drop (at + 1) items)) left_is steps no_event told
 
   going_here : IsTrue entry.tells → (made : List Event) → IsStoreOf (disk_now entry) s0 made
       → Going StandsForEvents entry b made (filling s0 items).answers (silenced answer ∷ ahead s0 items (after play state answer.event) (drop (at + 1) items)) (λ events. IsStoreOf (disk_now b) state events)

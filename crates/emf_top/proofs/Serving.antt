@@ -10,7 +10,7 @@ use Rattle.host_port.proofs.Course.{at_last, course_on, course_still, still_disk
 use Rattle.command_runs.specs.Runs.{Answer, listed, after, answers, replies, events, refuses, events_due}
 use Rattle.command_runs.specs.Crashes.{IsRunning, IsStepping}
 use Rattle.command_runs.proofs.RunLaws.{or_assoc, or_false}
-use Rattle.command_runs.proofs.Going.{Going, Steps, quietly, begins, one_more, stepped_part, stepped_moments, answers_more}
+use Rattle.command_runs.proofs.Going.{Going, Steps, quietly, begins, one_more, stepped_part, stepped_moments, stepped_still, answers_more}
 use Rattle.op_form.specs.declared.event.Event.{Event}
 use Rattle.plain_repository.specs.Lines.{takes_block, is_skipped}
 use Rattle.plain_repository.specs.State.{State}
@@ -110,16 +110,20 @@ module _ (entry a b : Told) (made : List Event) (task : Task) (left : Script) (s
   pub looked_moments : Throughout entry b (IsRunning StandsForEvents made (events task.answers) (events_due task.answers) (said_now entry))
   looked_moments = (looked entry a b made task left state refused between course on disk said told left refl).going.moments
 
+  pub looked_still : events task.answers ≡ [] → KeepsDisk entry b
+  looked_still = (looked entry a b made task left state refused between course on disk said told left refl).going.still
+
 -- an item was answered
 module _ (entry b d : Told) (made : List Event) (task : Task) (next : Script) (item : Item) (state : State) (refused : Bool) (answer : Answer Event) (answer_is : decide state item ≡ answer)
     (between : Between entry b made task (with_item item.line item.block next) state refused) (course : GoesOn entry b) (on : GoesOn b d)
     (part : Throughout b d (λ disk said. AddsPart (said_now b) answer.reply said))
-    (moments : (made : List Event) → IsStoreOf (disk_now b) state made → Throughout b d (IsStepping StandsForEvents made answer.event (said_now b))) where
+    (moments : (made : List Event) → IsStoreOf (disk_now b) state made → Throughout b d (IsStepping StandsForEvents made answer.event (said_now b)))
+    (still : answer.event ≡ None → KeepsDisk b d) where
   left_is : answers decide play state (item ∷ next.items) ≡ answer ∷ answers decide play (after play state answer.event) next.items
   left_is = ap (λ (a : Answer Event). a ∷ answers decide play (after play state a.event) next.items) answer_is
 
   steps : Steps StandsForEvents b d answer (λ events. IsStoreOf (disk_now b) state events)
-  steps = record { course = on; part = part; moments = moments }
+  steps = record { course = on; part = part; moments = moments; still = still }
 
   pub answered_part : Throughout entry d (λ disk said. AddsPart (said_now entry) (replies task.answers) said)
   answered_part = stepped_part StandsForEvents entry made task.answers b d (answers decide play state (item ∷ next.items)) (λ events. IsStoreOf (disk_now b) state events) between.going course answer
@@ -127,6 +131,10 @@ module _ (entry b d : Told) (made : List Event) (task : Task) (next : Script) (i
 
   pub answered_moments : Throughout entry d (IsRunning StandsForEvents made (events task.answers) (events_due task.answers) (said_now entry))
   answered_moments = stepped_moments StandsForEvents entry made task.answers b d (answers decide play state (item ∷ next.items)) (λ events. IsStoreOf (disk_now b) state events) between.going course answer
+      (answers decide play (after play state answer.event) next.items) left_is steps
+
+  pub answered_still : events task.answers ≡ [] → KeepsDisk entry d
+  answered_still = stepped_still StandsForEvents entry made task.answers b d (answers decide play state (item ∷ next.items)) (λ events. IsStoreOf (disk_now b) state events) between.going course answer
       (answers decide play (after play state answer.event) next.items) left_is steps
 
   whole_more : task.answers ≡ (between.going.done ++ answer ∷ []) ++ answers decide play (after play state answer.event) next.items
@@ -204,12 +212,16 @@ module _ (entry a b : Told) (s0 : State) (whole : Script) (failed : Bool) (place
   open_for told = holds_b (subst IsTrue course_b.tells told)
 
   module _ (d : Told) (answer : Answer Event) (answer_is : decide state item ≡ answer) (step_on : GoesOn b d) (part : Throughout b d (λ disk said. AddsPart (said_now b) answer.reply said))
-      (moments : (made : List Event) → IsStoreOf (disk_now b) state made → Throughout b d (IsStepping StandsForEvents made answer.event (said_now b))) where
+      (moments : (made : List Event) → IsStoreOf (disk_now b) state made → Throughout b d (IsStepping StandsForEvents made answer.event (said_now b)))
+      (still : answer.event ≡ None → KeepsDisk b d) where
     pub item_part : (made : List Event) → IsStoreOf (disk_now entry) s0 made → Throughout entry d (λ disk said. AddsPart (said_now entry) (replies (serving s0 whole).answers) said)
-    item_part made holds told = answered_part entry b d made (serving s0 whole) (script_from takes_block place_b (pending_b ++ b.left)) item state refused answer answer_is (item_between told made holds) course_b step_on part moments told
+    item_part made holds told = answered_part entry b d made (serving s0 whole) (script_from takes_block place_b (pending_b ++ b.left)) item state refused answer answer_is (item_between told made holds) course_b step_on part moments still told
 
     pub item_moments : (made : List Event) → IsStoreOf (disk_now entry) s0 made → Throughout entry d (IsRunning StandsForEvents made (events (serving s0 whole).answers) (events_due (serving s0 whole).answers) (said_now entry))
-    item_moments made holds told = answered_moments entry b d made (serving s0 whole) (script_from takes_block place_b (pending_b ++ b.left)) item state refused answer answer_is (item_between told made holds) course_b step_on part moments told
+    item_moments made holds told = answered_moments entry b d made (serving s0 whole) (script_from takes_block place_b (pending_b ++ b.left)) item state refused answer answer_is (item_between told made holds) course_b step_on part moments still told
+
+    pub item_still : (made : List Event) → IsStoreOf (disk_now entry) s0 made → events (serving s0 whole).answers ≡ [] → KeepsDisk entry d
+    item_still made holds none told = answered_still entry b d made (serving s0 whole) (script_from takes_block place_b (pending_b ++ b.left)) item state refused answer answer_is (item_between told made holds) course_b step_on part moments still none told
 
     pub step_fault_ends : (fault : SessionFault) (now : State)
         → IfMade (Err fault) (IsTrue b.tells → (made : List Event) → IsStoreOf (disk_now b) state made → IsStoreOf (disk_now d) now (made ++ listed answer.event))
@@ -217,10 +229,10 @@ module _ (entry a b : Told) (s0 : State) (whole : Script) (failed : Bool) (place
         → IsTrue entry.tells → (made : List Event) → IsStoreOf (disk_now entry) s0 made → Ends (serving s0 whole) made entry d (session_status fault)
     step_fault_ends session.DiskFault now added never quiet unsaid_yet left told made holds =
         let told_b = told_next entry b course_b told in
-        inr (unanswered_here entry b d made (serving s0 whole) (script_from takes_block place_b (pending_b ++ b.left)) item state refused answer answer_is (item_between told made holds) course_b step_on part moments told_b (unsaid_yet refl) (left (told_next b d step_on told_b)))
+        inr (unanswered_here entry b d made (serving s0 whole) (script_from takes_block place_b (pending_b ++ b.left)) item state refused answer answer_is (item_between told made holds) course_b step_on part moments still told_b (unsaid_yet refl) (left (told_next b d step_on told_b)))
     step_fault_ends session.SayFault now added never quiet unsaid_yet left told made holds =
         let told_b = told_next entry b course_b told in
-        unsaid entry b d made (serving s0 whole) (script_from takes_block place_b (pending_b ++ b.left)) item state refused answer answer_is (item_between told made holds) course_b step_on part moments now (added told_b) told_b
+        unsaid entry b d made (serving s0 whole) (script_from takes_block place_b (pending_b ++ b.left)) item state refused answer answer_is (item_between told made holds) course_b step_on part moments still now (added told_b) told_b
     step_fault_ends (session.Damaged at) now added never quiet unsaid_yet left told made holds = absurd (never at refl)
     step_fault_ends session.Memory now added never quiet unsaid_yet left told made holds =
         let item_left = with_item item.line item.block (script_from takes_block place_b (pending_b ++ b.left)) in
@@ -240,11 +252,11 @@ module _ (entry a b : Told) (s0 : State) (whole : Script) (failed : Bool) (place
           let told_b = told_next entry b course_b told in
           subst (λ (l : List ℕ). Between entry d made (serving s0 whole) (script_from takes_block place_b (pending_b ++ l)) now refused_d) (sym input.left)
           (subst (λ (r : Bool). Between entry d made (serving s0 whole) (script_from takes_block place_b (pending_b ++ b.left)) now r) refused_is
-          (answered_one entry b d made (serving s0 whole) (script_from takes_block place_b (pending_b ++ b.left)) item state refused answer answer_is (item_between told made holds) course_b step_on part moments now (added told_b) now_is (replied told_b)));
+          (answered_one entry b d made (serving s0 whole) (script_from takes_block place_b (pending_b ++ b.left)) item state refused answer answer_is (item_between told made holds) course_b step_on part moments still now (added told_b) now_is (replied told_b)));
     }
 
   -- it is skipped
   pub skipped_on : (failed_b : Bool) → failed_b ≡ false → is_skipped item.line ≡ true → Serving entry b s0 whole failed_b place_b pending_b refused state broken
   skipped_on failed_b fresh skipped = serving_on b silent (decide_skipped state item skipped) (course_still b) (adds_none b b [] (still_said b))
-      (λ made holds. quiet_step b b state made None holds (still_disk b) (still_said b)) failed_b state broken refused fresh serving_a.unbroken (still_input b) (or_false refused) refl
+      (λ made holds. quiet_step b b state made None holds (still_disk b) (still_said b)) (λ none. still_disk b) failed_b state broken refused fresh serving_a.unbroken (still_input b) (or_false refused) refl
       (λ told. sym (append-nil (said_now b))) (λ told made holds. none_added (disk_now b) state made holds)

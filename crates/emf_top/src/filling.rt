@@ -1,6 +1,6 @@
 //! What `--generate` does: items are answered quietly, and one line says what came of it.
-ghost use Rattle.std.specs.Prelude.{◌≡◌, ◌≢◌, ◌+◌, ◌<◌, ◌≤◌, ◌^◌, ℕ, List, Bool, All, IfOk, IsTrue, false, if◌then◌else◌, string_bytes};
-ghost use Rattle.host_port.specs.Host.{disk_now, said_now, Rose, GoesOn, Throughout, AddsPart};
+ghost use Rattle.std.specs.Prelude.{◌≡◌, ◌≢◌, ◌+◌, ◌<◌, ◌≤◌, ◌^◌, ℕ, List, [], Bool, All, IfOk, IsTrue, false, if◌then◌else◌, string_bytes};
+ghost use Rattle.host_port.specs.Host.{disk_now, said_now, Rose, GoesOn, Throughout, KeepsDisk, AddsPart};
 ghost use Rattle.command_runs.specs.Runs.{replies, events, events_due};
 ghost use Rattle.command_runs.specs.Crashes.{IsRunning};
 ghost use Rattle.op_form.specs.declared.event.Event.{Event};
@@ -66,6 +66,7 @@ pub(crate) fn fill<H: Host>(
     ensures moments { (made : List Event) → IsStoreOf (disk_now (H.told host.old)) session.old.state made
         → Throughout (H.told host.old) (H.told host.new) (IsRunning StandsForEvents made (events (filling session.old.state items.now).answers)
         (events_due (filling session.old.state items.now).answers) (said_now (H.told host.old))) }
+    ensures still { (made : List Event) → IsStoreOf (disk_now (H.told host.old)) session.old.state made → events (filling session.old.state items.now).answers ≡ [] → KeepsDisk (H.told host.old) (H.told host.new) }
     ensures unread { KeepsUnread (filling session.old.state items.now) (H.told host.old) (H.told host.new) }
     ensures words { result ≢ Status.BadWords }
     ensures read { result ≡ Status.ReadFault → Rose (H.told host.old).take_faults (H.told host.new).take_faults }

@@ -1,6 +1,6 @@
 //! What `--check` prints: how much a store holds.
 ghost use Rattle.std.specs.Prelude.{◌≡◌, ◌≢◌, ◌<◌, ◌^◌, ℕ, List, IfOk, IsTrue, string_bytes};
-ghost use Rattle.host_port.specs.Host.{disk_now, said_now, Rose, GoesOn, Throughout, AddsPart};
+ghost use Rattle.host_port.specs.Host.{disk_now, said_now, Rose, GoesOn, Throughout, KeepsDisk, AddsPart};
 ghost use Rattle.command_runs.specs.Runs.{replies, events, events_due};
 ghost use Rattle.command_runs.specs.Crashes.{IsRunning};
 ghost use Rattle.op_form.specs.declared.event.Event.{Event};
@@ -40,6 +40,7 @@ pub(crate) fn look<H: Host>(alloc: Global, host: &mut H, session: &Session) -> S
     ensures moments { (made : List Event) → IsStoreOf (disk_now (H.told host.old)) session.now.state made
         → Throughout (H.told host.old) (H.told host.new) (IsRunning StandsForEvents made (events (checking session.now.state).answers)
         (events_due (checking session.now.state).answers) (said_now (H.told host.old))) }
+    ensures still { KeepsDisk (H.told host.old) (H.told host.new) }
     ensures unread { KeepsUnread (checking session.now.state) (H.told host.old) (H.told host.new) }
     ensures words { result ≢ Status.BadWords }
     ensures read { result ≡ Status.ReadFault → Rose (H.told host.old).take_faults (H.told host.new).take_faults }

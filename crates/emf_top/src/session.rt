@@ -6,7 +6,7 @@ ghost use Rattle.command_runs.specs.Crashes.{IsStepping};
 ghost use Rattle.op_form.specs.declared.event.Event.{Event};
 ghost use Rattle.plain_repository.specs.Events.{play};
 ghost use Rattle.plain_repository.specs.Store.{StandsForEvents, IsDamaged, StandsForNoEvents};
-ghost use Rattle.commit_journal.specs.Journal.{StandsForSame, new_size};
+ghost use Rattle.commit_journal.specs.Journal.{IsAtMostSynced, StandsForSame, new_size};
 ghost use Rattle.repo_core.specs.Counting.{AreCounts, element_count};
 ghost use Rattle.repo_core.specs.Decisions.{IsShortBlock};
 ghost use Rattle.emf_top.specs.Session.{answer_to, IsStoreOf, IsEntering, IfMade, AtDamage, answered_as};
@@ -54,8 +54,8 @@ impl Session {
         ensures opened { IfOk result (λ s. IsTrue (H.told host.old).tells → ((made : List Event) × IsStoreOf (disk_now (H.told host.new)) s.state made × StandsForEvents (disk_now (H.told host.old)).now made)) }
         ensures moments { Throughout (H.told host.old) (H.told host.new) (λ disk _. (disk ≡ disk_now (H.told host.old)) ⊎ CrashLeaves (StandsForSame (disk_now (H.told host.old)).now) disk) }
         ensures damaged { IfErr result (λ e. AtDamage e (λ at. IsTrue (H.told host.old).tells → IsDamaged (disk_now (H.told host.old)).now at × StandsForNoEvents (disk_now (H.told host.old)).now)) }
-        // A file of more than 17 bytes reads as it was at each moment, whatever the answer.
-        ensures long { new_size < length (disk_now (H.told host.old)).now → Throughout (H.told host.old) (H.told host.new) (λ disk _. disk.now ≡ (disk_now (H.told host.old)).now) }
+        // A file of more than 17 bytes is at each moment as it was, or that synced, whatever the answer.
+        ensures long { new_size < length (disk_now (H.told host.old)).now → Throughout (H.told host.old) (H.told host.new) (λ disk _. IsAtMostSynced (disk_now (H.told host.old)) disk) }
         ensures never { IfErr result (λ e. e ≢ SessionFault.SayFault) }
         ensures cause { IsErrOf result SessionFault.DiskFault → Rose (H.told host.old).disk_faults (H.told host.new).disk_faults }
         ensures course { GoesOn (H.told host.old) (H.told host.new) }

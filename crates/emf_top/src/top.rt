@@ -1,7 +1,8 @@
 //! The top call.
-ghost use Rattle.std.specs.Prelude.{◌≡◌, ◌≢◌, ◌⊎◌, ◌+◌, ◌↔◌, ◌++◌, ◌||◌, true, false, Bool, ℕ, List, map, string_bytes, IsTrue};
-ghost use Rattle.host_port.specs.Host.{disk_now, said_now, Rose, GoesOn, Throughout, AddsPart, KeepsSaid, KeepsInput};
+ghost use Rattle.std.specs.Prelude.{◌≡◌, ◌≢◌, ◌<◌, ◌⊎◌, ◌+◌, ◌↔◌, ◌++◌, ◌||◌, true, false, Bool, ℕ, List, [], length, map, string_bytes, IsTrue};
+ghost use Rattle.host_port.specs.Host.{disk_now, said_now, Rose, GoesOn, Throughout, AddsPart, KeepsDisk, KeepsSaid, KeepsInput};
 ghost use Rattle.host_port.specs.Cut.{script_from};
+ghost use Rattle.commit_journal.specs.Journal.{IsAtMostSynced, new_size};
 ghost use Rattle.command_runs.specs.Runs.{played, replies, events, events_due};
 ghost use Rattle.command_runs.specs.Crashes.{IsRunning, IsOpenedRunning};
 ghost use Rattle.op_form.specs.declared.event.Event.{Event};
@@ -140,6 +141,11 @@ pub fn run<H: Host>(alloc: Global, words: &[String], host: &mut H) -> Status
     // Where no count rises, it ends as the task does, or memory ran out.
     ensures complete { IsTrue (H.told host.old).tells → (request : Request) (first : List Event) → StandsForEvents (disk_now (H.told host.old)).now first → AskFor (map string_bytes words.now) request
         → NothingRose (H.told host.old) (H.told host.new) → (result ≡ (task_of request (played play empty first) (H.told host.old).left).end) ⊎ (result ≡ Status.Memory) }
+    // Where the task makes no event and the file has more than 17 bytes, the disk at each moment is that of the entry, or that one
+    // synced.
+    ensures still { (request : Request) (first : List Event) → StandsForEvents (disk_now (H.told host.old)).now first → AskFor (map string_bytes words.now) request
+        → events (task_of request (played play empty first) (H.told host.old).left).answers ≡ [] → new_size < length (disk_now (H.told host.old)).now
+        → Throughout (H.told host.old) (H.told host.new) (λ disk _. IsAtMostSynced (disk_now (H.told host.old)) disk) }
     // With `--check` and `--generate` the input stays unread.
     ensures unread { (request : Request) (first : List Event) → StandsForEvents (disk_now (H.told host.old)).now first → AskFor (map string_bytes words.now) request → KeepsUnread (task_of request (played play empty first) (H.told host.old).left) (H.told host.old) (H.told host.new) }
     ensures words { result ≡ Status.BadWords ↔ AreBad (map string_bytes words.now) }
@@ -172,6 +178,9 @@ fn run_request<H: Host>(alloc: Global, request: Request, host: &mut H) -> Status
     ensures moments { (first : List Event) → StandsForEvents (disk_now (H.told host.old)).now first
         → Throughout (H.told host.old) (H.told host.new) (IsOpenedRunning (disk_now (H.told host.old)) StandsForEvents first (events (task_of request (played play empty first) (H.told host.old).left).answers)
         (events_due (task_of request (played play empty first) (H.told host.old).left).answers) (said_now (H.told host.old))) }
+    ensures still { (first : List Event) → StandsForEvents (disk_now (H.told host.old)).now first
+        → events (task_of request (played play empty first) (H.told host.old).left).answers ≡ [] → new_size < length (disk_now (H.told host.old)).now
+        → Throughout (H.told host.old) (H.told host.new) (λ disk _. IsAtMostSynced (disk_now (H.told host.old)) disk) }
     ensures unread { (first : List Event) → KeepsUnread (task_of request (played play empty first) (H.told host.old).left) (H.told host.old) (H.told host.new) }
     ensures words { result ≢ Status.BadWords }
     ensures read { result ≡ Status.ReadFault → Rose (H.told host.old).take_faults (H.told host.new).take_faults }
@@ -203,6 +212,8 @@ fn fulfil<H: Host>(alloc: Global, request: Request, host: &mut H, session: &mut 
     ensures moments { (made : List Event) → IsStoreOf (disk_now (H.told host.old)) session.old.state made
         → Throughout (H.told host.old) (H.told host.new) (IsRunning StandsForEvents made (events (task_of request session.old.state (H.told host.old).left).answers)
         (events_due (task_of request session.old.state (H.told host.old).left).answers) (said_now (H.told host.old))) }
+    ensures still { (made : List Event) → IsStoreOf (disk_now (H.told host.old)) session.old.state made
+        → events (task_of request session.old.state (H.told host.old).left).answers ≡ [] → KeepsDisk (H.told host.old) (H.told host.new) }
     ensures unread { KeepsUnread (task_of request session.old.state (H.told host.old).left) (H.told host.old) (H.told host.new) }
     ensures words { result ≢ Status.BadWords }
     ensures read { result ≡ Status.ReadFault → Rose (H.told host.old).take_faults (H.told host.new).take_faults }
@@ -247,6 +258,8 @@ fn serve<H: Host>(alloc: Global, host: &mut H, session: &mut Session, lines: &mu
     ensures moments { (made : List Event) → IsStoreOf (disk_now (H.told host.old)) session.old.state made
         → Throughout (H.told host.old) (H.told host.new) (IsRunning StandsForEvents made (events (serving session.old.state (script_from takes_block lines.old.place (lines.old.pending ++ (H.told host.old).left))).answers)
         (events_due (serving session.old.state (script_from takes_block lines.old.place (lines.old.pending ++ (H.told host.old).left))).answers) (said_now (H.told host.old))) }
+    ensures still { (made : List Event) → IsStoreOf (disk_now (H.told host.old)) session.old.state made
+        → events (serving session.old.state (script_from takes_block lines.old.place (lines.old.pending ++ (H.told host.old).left))).answers ≡ [] → KeepsDisk (H.told host.old) (H.told host.new) }
     ensures words { result ≢ Status.BadWords }
     ensures read { result ≡ Status.ReadFault → Rose (H.told host.old).take_faults (H.told host.new).take_faults }
     ensures write { result ≡ Status.WriteFault → Rose (H.told host.old).say_faults (H.told host.new).say_faults }

@@ -117,7 +117,7 @@ pub(crate) fn number_words(alloc: Global, n: u64) -> Result<Text, AllocError>
     Text::new(alloc, text.as_str())
 }
 
-/// The bytes of an event, where the history and the journal have room for it; else the refusal. Of one without an encoding it is none.
+/// The bytes of an event, where the history and the journal have room for it; else the refusal. When out of memory it is none.
 #[tactic(auto, unfolding(plain_repository::specs::Answers::with_room, plain_repository::specs::Events::playable))]
 fn form_of(alloc: Global, repo: &Repo, event: &Event) -> Result<Vec<u8>, Option<Refusal>>
     requires could { playable_with repo.now repo.now.meta event.now ≡ true }
@@ -128,9 +128,9 @@ fn form_of(alloc: Global, repo: &Repo, event: &Event) -> Result<Vec<u8>, Option<
     if repo.is_full() {
         return Err(Some(Refusal::HistoryFull));
     }
-    // Such an event has a text of 2^32 bytes or a list of 2^32 items. No command makes one.
+    // Such an event has a text of 2^32 bytes, a list of 2^32 items, or a place past them.
     if !has_encoding(event) {
-        return Err(None);
+        return Err(Some(Refusal::TooLarge));
     }
     let form = match encode_event(alloc, event) {
         Ok(form) => form,
@@ -143,7 +143,7 @@ fn form_of(alloc: Global, repo: &Repo, event: &Event) -> Result<Vec<u8>, Option<
     }
 }
 
-/// Makes an event, where the history and the journal have room. Of one that has no encoding it answers out of memory.
+/// Makes an event, where the history and the journal have room. One that has no encoding is too large.
 pub(crate) fn with_room(
     alloc: Global,
     repo: &Repo,

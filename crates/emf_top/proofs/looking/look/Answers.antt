@@ -1,6 +1,6 @@
 use Rattle.std.proofs.Common.{◌≡◌, ◌∙◌, true, false, refl}
 use Rattle.host_port.specs.Host.{disk_now}
-use Rattle.host_port.proofs.Course.{course_still}
+use Rattle.host_port.proofs.Course.{course_still, still_disk}
 use Rattle.emf_top.specs.Tasks.{checking, check_line}
 use Rattle.emf_top.proofs.Few.{few_workspaces}
 use Rattle.emf_top.proofs.Printing.{printed, printed_part, printed_moments, unprinted}
@@ -33,3 +33,6 @@ returns-clause-part g c = λ made holds. printed_part (g.H.Host.told c.args.host
 
 pub returns-clause-moments : goal.returns-clause-moments
 returns-clause-moments g c = λ made holds. printed_moments (g.H.Host.told c.args.host.now) (g.H.Host.told c.args.host.now) (g.H.Host.told c.say.new.self) made (checking c.args.session.now.state) c.args.session.now.state (check_line c.args.session.now.state) c.as_bytes.result.now (c.as_bytes.ensures.value ∙ c.in-Ok.ensures (few_workspaces (disk_now (g.H.Host.told c.args.host.now)) c.args.session.now.state made holds)) (at_start (g.H.Host.told c.args.host.now) c.args.session.now.state (checking c.args.session.now.state) made holds) (course_still (g.H.Host.told c.args.host.now)) c.say.ensures.course c.say.ensures.disk c.say.ensures.part
+
+pub returns-in_default-clause-still : goal.returns-in_default-clause-still
+returns-in_default-clause-still g c = still_disk (g.H.Host.told c.args.host.now)

@@ -1,8 +1,8 @@
-use Rattle.std.proofs.Common.{◌≡◌, ◌∙◌, List, true, false, sym, subst, arith}
+use Rattle.std.proofs.Common.{◌≡◌, ◌∙◌, List, [], true, false, sym, subst, arith}
 use Rattle.std.specs.Prelude.{All}
-use Rattle.host_port.specs.Host.{Throughout, AddsPart, said_now}
+use Rattle.host_port.specs.Host.{Throughout, AddsPart, KeepsDisk, said_now}
 use Rattle.host_port.specs.Cut.{Item}
-use Rattle.host_port.proofs.Course.{still_input}
+use Rattle.host_port.proofs.Course.{still_disk, still_input}
 use Rattle.command_runs.specs.Runs.{replies, events, events_due}
 use Rattle.command_runs.specs.Crashes.{IsRunning}
 use Rattle.plain_repository.specs.Store.{StandsForEvents}
@@ -72,3 +72,20 @@ returns-in-Ok-generated-clause-moments g c = rw c.in-Generate.is (λ made holds.
 
 pub returns-in-Ok-generated-clause-unread : goal.returns-in-Ok-generated-clause-unread
 returns-in-Ok-generated-clause-unread g c = rw c.in-Generate.is (λ unread. c.fill.ensures.unread unread)
+
+pub returns-in_default-clause-still : goal.returns-in_default-clause-still
+returns-in_default-clause-still g c = λ made holds none. still_disk (g.H.Host.told c.args.host.now)
+
+pub returns-in_default-generated-clause-still : goal.returns-in_default-generated-clause-still
+returns-in_default-generated-clause-still g c = λ made holds none. still_disk (g.H.Host.told c.args.host.now)
+
+pub returns-in-Ok-clause-still : goal.returns-in-Ok-clause-still
+returns-in-Ok-clause-still g c = rw c.in-Serve.is (λ made holds. subst (λ (t : Task). events t.answers ≡ [] → KeepsDisk (g.H.Host.told c.args.host.now) (g.H.Host.told c.serve.new.host))
+    (from_start c.args.session.now.state (g.H.Host.told c.args.host.now).left c.in-Ok.lines.place c.in-Ok.lines.pending c.in-Ok.ensures.start.1 c.in-Ok.ensures.start.0) (c.serve.ensures.still made holds))
+
+pub returns-in-Check-clause-still : goal.returns-in-Check-clause-still
+returns-in-Check-clause-still g c = rw c.in-Check.is (λ made holds none. c.look.ensures.still)
+
+pub returns-in-Ok-generated-clause-still : goal.returns-in-Ok-generated-clause-still
+returns-in-Ok-generated-clause-still g c = rw c.in-Generate.is (λ made holds. subst (λ (l : List Item). events (filling c.args.session.now.state l).answers ≡ [] → KeepsDisk (g.H.Host.told c.args.host.now) (g.H.Host.told c.fill.new.host))
+    (c.as_slice.ensures ∙ c.in-Ok-generated.ensures) (c.fill.ensures.still made holds))

@@ -1,7 +1,8 @@
-use Rattle.std.proofs.Common.{◌≡◌, ◌⊎◌, inl, inr, arith, refl, subst}
+use Rattle.std.proofs.Common.{◌≡◌, ◌⊎◌, ◌<◌, [], length, inl, inr, arith, refl, subst}
 use Rattle.std.specs.Prelude.{map, string_bytes}
 use Rattle.host_port.specs.Host.{Throughout, AddsPart, disk_now, said_now}
 use Rattle.host_port.proofs.Course.{told_next, still_said, still_input}
+use Rattle.commit_journal.specs.Journal.{IsAtMostSynced}
 use Rattle.command_runs.specs.Runs.{played, replies, events, events_due}
 use Rattle.command_runs.specs.Crashes.{IsOpenedRunning}
 use Rattle.plain_repository.specs.State.{empty}
@@ -73,3 +74,9 @@ returns-in-None-clause-silent g c = λ told none. (still_said (g.H.Host.told c.a
 
 pub returns-in-None-clause-damages : goal.returns-in-None-clause-damages
 returns-in-None-clause-damages g c = λ told none. inl c.in-None.ensures.bad
+
+pub returns-in-Some-clause-still : goal.returns-in-Some-clause-still
+returns-in-Some-clause-still g c = λ request first stood asks. subst (λ (r : Request). events (task_of r (played play empty first) (g.H.Host.told c.args.host.now).left).answers ≡ [] → 17 < length (disk_now (g.H.Host.told c.args.host.now)).now → Throughout (g.H.Host.told c.args.host.now) (g.H.Host.told c.run_request.new.host) (λ disk said. IsAtMostSynced (disk_now (g.H.Host.told c.args.host.now)) disk)) (same_request (map string_bytes c.args.words.now) c.in-Some.request request c.in-Some.ensures.asked asks) (c.run_request.ensures.still first stood)
+
+pub returns-in-None-clause-still : goal.returns-in-None-clause-still
+returns-in-None-clause-still g c = λ request first stood asks. absurd (c.in-None.ensures.bad request asks)

@@ -6,7 +6,7 @@ use Rattle.plain_repository.specs.State.{empty}
 use Rattle.plain_repository.specs.Events.{play}
 use Rattle.emf_top.proofs.Opening.{is_long}
 use Rattle.emf_top.specs.Tasks.{task_of}
-use Rattle.emf_top.proofs.Headlines.{same_reads, unopened, opening_part, opening_moments, whole_ends, whole_part, whole_moments, unopened_ends, unopened_damaged, unopened_damages, status_disk, status_say}
+use Rattle.emf_top.proofs.Headlines.{same_reads, unopened, opening_part, opening_moments, whole_ends, whole_part, whole_moments, whole_still, file_reads, unopened_ends, unopened_damaged, unopened_damages, status_disk, status_say}
 use Rattle.emf_top.proofs.top.run_request.Goals as goal
 
 pub returns-in-Err-clause-ends : goal.returns-in-Err-clause-ends
@@ -23,7 +23,7 @@ pub returns-in-Err-clause-unread : goal.returns-in-Err-clause-unread
 returns-in-Err-clause-unread g c = λ first unread. c.mount.ensures.input
 
 pub returns-in-Err-clause-kept : goal.returns-in-Err-clause-kept
-returns-in-Err-clause-kept g c = λ none. c.mount.ensures.long (is_long (disk_now (g.H.Host.told c.args.host.now)).now none)
+returns-in-Err-clause-kept g c = λ none. file_reads (g.H.Host.told c.args.host.now) (g.H.Host.told c.mount.new.host) (c.mount.ensures.long (is_long (disk_now (g.H.Host.told c.args.host.now)).now none))
 
 pub returns-in-Err-clause-silent : goal.returns-in-Err-clause-silent
 returns-in-Err-clause-silent g c = λ told none. (c.mount.ensures.said, c.mount.ensures.input)
@@ -72,3 +72,10 @@ returns-clause-read g c = λ is. rose_second (g.H.Host.told c.args.host.now).tak
 
 pub returns-clause-write : goal.returns-clause-write
 returns-clause-write g c = λ is. rose_second (g.H.Host.told c.args.host.now).say_faults (g.H.Host.told c.mount.new.host).say_faults (g.H.Host.told c.fulfil.new.host).say_faults c.mount.ensures.course.say_faults (c.fulfil.ensures.write is)
+
+pub returns-in-Err-clause-still : goal.returns-in-Err-clause-still
+returns-in-Err-clause-still g c = λ first stood none long. c.mount.ensures.long long
+
+pub returns-clause-still : goal.returns-clause-still
+returns-clause-still g c = λ first stood none long. whole_still (g.H.Host.told c.args.host.now) (g.H.Host.told c.mount.new.host) c.mount.ensures.course c.mount.ensures.said c.mount.ensures.moments first stood (g.H.Host.told c.fulfil.new.host)
+    c.mount.ensures.input c.fulfil.ensures.course c.in-Ok.session.state (task_of c.args.request) c.in-Ok.ensures.opened c.mount.ensures.long c.fulfil.ensures.still none long

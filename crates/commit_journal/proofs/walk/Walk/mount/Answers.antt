@@ -1,8 +1,8 @@
-use Rattle.std.proofs.Common.{ℕ, ◌≡◌, ⊎_elim, length, arith, ap, ◌∙◌}
+use Rattle.std.proofs.Common.{ℕ, ◌≡◌, length, arith, ap, ◌∙◌}
 use Rattle.std.specs.Prelude.{IsTrue}
 use Rattle.host_port.specs.Host.{Told, Disk, GoesOn, disk_now, synced}
 use Rattle.host_port.proofs.Course.{told_next}
-use Rattle.commit_journal.proofs.Mounting.{up_to_len, now_to_len, up_to_read, now_to_read, read_mounted, read_walked, differs, up_to_write, written_mounted, written_walked, written_same}
+use Rattle.commit_journal.proofs.Mounting.{up_to_len, synced_to_len, up_to_read, now_to_read, synced_to_read, read_mounted, read_walked, differs, up_to_write, written_mounted, written_walked, written_same}
 use Rattle.commit_journal.proofs.Unique.{headless_for_none}
 use Rattle.commit_journal.proofs.walk.Walk.mount.Goals as goal
 
@@ -53,10 +53,10 @@ pub returns-in-Some-clause-kept : goal.returns-in-Some-clause-kept
 returns-in-Some-clause-kept g c = now_to_read (g.H.Host.told c.args.host.now) (g.H.Host.told c.sync.new.self) (g.H.Host.told c.len.new.self) c.sync.ensures.course c.sync.ensures.before_or_after c.in_ok-sync.ensures.stable c.len.ensures.course c.len.ensures.disk (g.H.Host.told c.read_at.new.self) c.read_at.ensures.course c.read_at.ensures.disk
 
 pub returns-in_err-sync-clause-long : goal.returns-in_err-sync-clause-long
-returns-in_err-sync-clause-long g c = λ long told t low high. ⊎_elim (ap (λ (d : Disk). d.now)) (ap (λ (d : Disk). d.now)) (c.sync.ensures.before_or_after told t low high)
+returns-in_err-sync-clause-long g c = λ long. c.sync.ensures.before_or_after
 
 pub returns-in_err-length-clause-long : goal.returns-in_err-length-clause-long
-returns-in_err-length-clause-long g c = λ long. now_to_len (g.H.Host.told c.args.host.now) (g.H.Host.told c.sync.new.self) (g.H.Host.told c.len.new.self) c.sync.ensures.course c.sync.ensures.before_or_after c.in_ok-sync.ensures.stable c.len.ensures.course c.len.ensures.disk
+returns-in_err-length-clause-long g c = λ long. synced_to_len (g.H.Host.told c.args.host.now) (g.H.Host.told c.sync.new.self) (g.H.Host.told c.len.new.self) c.sync.ensures.course c.sync.ensures.before_or_after c.in_ok-sync.ensures.stable c.len.ensures.course c.len.ensures.disk
 
 pub returns-in_err-write_durably-clause-long : goal.returns-in_err-write_durably-clause-long
 returns-in_err-write_durably-clause-long g c = λ long told t low high. absurd (omega (arith, long, length_read (g.H.Host.told c.args.host.now) (g.H.Host.told c.sync.new.self) c.in_ok-length.length c.sync.ensures.course c.in_ok-sync.ensures.stable c.in_ok-length.ensures.length told, c.if-length-le-NEW_SIZE.true))
@@ -65,10 +65,10 @@ pub returns-then-length-le-NEW_SIZE-clause-long : goal.returns-then-length-le-NE
 returns-then-length-le-NEW_SIZE-clause-long g c = λ long told t low high. absurd (omega (arith, long, length_read (g.H.Host.told c.args.host.now) (g.H.Host.told c.sync.new.self) c.in_ok-length.length c.sync.ensures.course c.in_ok-sync.ensures.stable c.in_ok-length.ensures.length told, c.if-length-le-NEW_SIZE.true))
 
 pub returns-in_err-read_at-clause-long : goal.returns-in_err-read_at-clause-long
-returns-in_err-read_at-clause-long g c = λ long. now_to_read (g.H.Host.told c.args.host.now) (g.H.Host.told c.sync.new.self) (g.H.Host.told c.len.new.self) c.sync.ensures.course c.sync.ensures.before_or_after c.in_ok-sync.ensures.stable c.len.ensures.course c.len.ensures.disk (g.H.Host.told c.read_at.new.self) c.read_at.ensures.course c.read_at.ensures.disk
+returns-in_err-read_at-clause-long g c = λ long. synced_to_read (g.H.Host.told c.args.host.now) (g.H.Host.told c.sync.new.self) (g.H.Host.told c.len.new.self) c.sync.ensures.course c.sync.ensures.before_or_after c.in_ok-sync.ensures.stable c.len.ensures.course c.len.ensures.disk (g.H.Host.told c.read_at.new.self) c.read_at.ensures.course c.read_at.ensures.disk
 
 pub returns-in-Some-clause-long : goal.returns-in-Some-clause-long
-returns-in-Some-clause-long g c = λ long. now_to_read (g.H.Host.told c.args.host.now) (g.H.Host.told c.sync.new.self) (g.H.Host.told c.len.new.self) c.sync.ensures.course c.sync.ensures.before_or_after c.in_ok-sync.ensures.stable c.len.ensures.course c.len.ensures.disk (g.H.Host.told c.read_at.new.self) c.read_at.ensures.course c.read_at.ensures.disk
+returns-in-Some-clause-long g c = λ long. synced_to_read (g.H.Host.told c.args.host.now) (g.H.Host.told c.sync.new.self) (g.H.Host.told c.len.new.self) c.sync.ensures.course c.sync.ensures.before_or_after c.in_ok-sync.ensures.stable c.len.ensures.course c.len.ensures.disk (g.H.Host.told c.read_at.new.self) c.read_at.ensures.course c.read_at.ensures.disk
 
 pub returns-in-None-clause-long : goal.returns-in-None-clause-long
-returns-in-None-clause-long g c = λ long. now_to_read (g.H.Host.told c.args.host.now) (g.H.Host.told c.sync.new.self) (g.H.Host.told c.len.new.self) c.sync.ensures.course c.sync.ensures.before_or_after c.in_ok-sync.ensures.stable c.len.ensures.course c.len.ensures.disk (g.H.Host.told c.read_at.new.self) c.read_at.ensures.course c.read_at.ensures.disk
+returns-in-None-clause-long g c = λ long. synced_to_read (g.H.Host.told c.args.host.now) (g.H.Host.told c.sync.new.self) (g.H.Host.told c.len.new.self) c.sync.ensures.course c.sync.ensures.before_or_after c.in_ok-sync.ensures.stable c.len.ensures.course c.len.ensures.disk (g.H.Host.told c.read_at.new.self) c.read_at.ensures.course c.read_at.ensures.disk
