@@ -4,18 +4,20 @@ ghost use Rattle.op_form.specs.declared.event.Event.TheVariants.{Merge, Tidy, Up
 ghost use Rattle.op_form.specs.Formed.{IsEvent};
 ghost use Rattle.plain_repository.specs.Events.{effect, playable_with};
 ghost use Rattle.plain_repository.specs.State.{with_changed};
-ghost use Rattle.repo_state.specs.Planning.{restarted, taken_up};
+ghost use Rattle.repo_state.specs.Planning.{AreTheirs, KeepModel, replaced, restarted, taken_up};
 
 use canoniser::{is_tidy, tidy as tidy_package};
 use ecore_meta::Text;
 use merge_plans::{are_choices, copy_operations};
-use repo_state::{Local, Merged, ReplayFault, Repo};
+use model_state::Package;
+use repo_state::{Merged, ReplayFault, Repo, Updated};
 use std::alloc::Global;
 
-/// What is local in a workspace once it is tidied.
-fn tidied(alloc: Global, repo: &Repo, ws: u32) -> Result<Local, ReplayFault>
+/// The operations of a workspace once it is tidied.
+fn tidied(alloc: Global, repo: &Repo, ws: u32) -> Result<Package, ReplayFault>
     ensures could { IfOk result (λ _. playable_with repo.now repo.now.meta (Tidy ws) ≡ true) }
-    ensures leads { IfOk result (λ l. with_changed (restarted l.base l.operations.items) ws repo.now ≡ effect repo.now (Tidy ws)) }
+    ensures leads { IfOk result (λ l. with_changed (replaced l) ws repo.now ≡ effect repo.now (Tidy ws)) }
+    ensures model { IfOk result (λ l. KeepModel repo.now ws l) }
     ensures cannot { IsErrOf result ReplayFault.NotPlayable → playable_with repo.now repo.now.meta (Tidy ws) ≡ false }
 {
     let Some(begun) = repo.begun() else {
@@ -31,17 +33,16 @@ fn tidied(alloc: Global, repo: &Repo, ws: u32) -> Result<Local, ReplayFault>
     if is_tidy(alloc, &package, &begun.meta)? {
         return Err(ReplayFault::NotPlayable);
     }
+    repo.orderly();
     let list = tidy_package(alloc, &package, &begun.meta)?;
-    Ok(Local {
-        base: workspace.base,
-        operations: list.into_vec(),
-    })
+    Ok(list)
 }
 
 /// What is local in a workspace once it is updated by choices.
-fn updated(alloc: Global, repo: &Repo, ws: u32, letters: &Text) -> Result<Local, ReplayFault>
+fn updated(alloc: Global, repo: &Repo, ws: u32, letters: &Text) -> Result<Updated, ReplayFault>
     ensures could { IfOk result (λ _. playable_with repo.now repo.now.meta (Update ws letters.now) ≡ true) }
-    ensures leads { IfOk result (λ l. with_changed (restarted l.base l.operations.items) ws repo.now ≡ effect repo.now (Update ws letters.now)) }
+    ensures leads { IfOk result (λ l. with_changed (restarted l.base l.operations) ws repo.now ≡ effect repo.now (Update ws letters.now)) }
+    ensures theirs { IfOk result (λ l. AreTheirs repo.now ws l.base l.theirs) }
     ensures cannot { IsErrOf result ReplayFault.NotPlayable → playable_with repo.now repo.now.meta (Update ws letters.now) ≡ false }
 {
     let Some(begun) = repo.begun() else {
@@ -59,10 +60,11 @@ fn updated(alloc: Global, repo: &Repo, ws: u32, letters: &Text) -> Result<Local,
     if !are_choices(letters.as_str(), plan.buckets.rows.as_slice()) {
         return Err(ReplayFault::NotPlayable);
     }
-    let list = plan.update_list(alloc, &begun.meta, letters.as_str())?;
-    Ok(Local {
+    let operations = plan.update_list(alloc, &begun.meta, letters.as_str())?;
+    Ok(Updated {
         base: head,
-        operations: list.into_vec(),
+        theirs: plan.theirs,
+        operations,
     })
 }
 
@@ -106,8 +108,8 @@ pub(crate) fn tidy(alloc: Global, repo: &mut Repo, ws: u32) -> Result<(), Replay
     ensures cannot { IsErrOf result ReplayFault.NotPlayable → playable_with repo.old repo.old.meta (Tidy ws) ≡ false }
 {
     repo.orderly();
-    let local = tidied(alloc, repo, ws)?;
-    repo.restart(ws, local);
+    let operations = tidied(alloc, repo, ws)?;
+    repo.replace_operations(ws, operations);
     Ok(())
 }
 
@@ -125,8 +127,8 @@ pub(crate) fn update(
     ensures cannot { IsErrOf result ReplayFault.NotPlayable → playable_with repo.old repo.old.meta (Update ws letters.now) ≡ false }
 {
     repo.orderly();
-    let local = updated(alloc, repo, ws, letters)?;
-    repo.restart(ws, local);
+    let updated = updated(alloc, repo, ws, letters)?;
+    repo.update(alloc, ws, updated);
     Ok(())
 }
 

@@ -9,4 +9,5 @@ pub mod Keepers
 pub mod Merges
 pub mod Models
 pub mod Ordered
+pub mod Taken
 pub mod Taking

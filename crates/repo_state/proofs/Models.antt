@@ -10,13 +10,14 @@ use Rattle.model_state.specs.State as models
 use Rattle.model_state.specs.State.{nothing}
 use Rattle.model_state.specs.Good.{Good}
 use Rattle.model_state.specs.Steps.{fold}
-use Rattle.model_state.specs.Packages.{fold_package, steps_of, steps_all, rev_op}
+use Rattle.model_state.specs.Packages.{fold_package, steps_of, steps_all}
 use Rattle.model_state.specs.declared.step.Step.{Step}
 use Rattle.model_state.specs.declared.operation.Operation.{Operation}
 use Rattle.model_laws.proofs.Runs.{fold_append, steps_keep_good}
 use Rattle.history_tree.specs.History.{History, with_version}
 use Rattle.history_tree.specs.States.{operations_to, state_of}
-use Rattle.op_form.proofs.Reversals.{packages_undone}
+use Rattle.version_states.specs.Taking.{LedTo}
+use Rattle.version_states.proofs.Taking.{one_start}
 use Rattle.plain_repository.specs.State.{State, Workspace, Composite, folded, recorded_steps, has_operations, is_closed, workspace_of}
 use Rattle.plain_repository.specs.Commits.{version_of, committed, can_commit}
 use Rattle.plain_repository.specs.Composites.{with_open, with_closed}
@@ -60,25 +61,41 @@ closed_folded meta h w = ap (λ (l : List Step). fold meta (state_of meta h w.ba
 steps_of_one : (o : Operation) → steps_all (o ∷ []) ≡ steps_of o
 steps_of_one o = append-nil (steps_of o)
 
--- the reversal of the last operation leads back
-pub undone_leads : (meta : Meta) → Sound meta → (h : History) (w : Workspace) (front : List Operation) (o : Operation) (m n : models.State) → is_closed (Some w) ≡ true → w.operations ≡ front ++ o ∷ [] → Good meta (state_of meta h w.base)
-    → folded meta h w ≡ Some m → fold meta m (steps_of (rev_op o)) ≡ Some n → folded meta h (record w { operations = front }) ≡ Some n
-undone_leads meta sound h w front o m n closed is good folds back =
-    let base = state_of meta h w.base in
-    let steps : recorded_steps w ≡ steps_all front ++ steps_of o = closed_steps_are w w.composite refl closed ∙ ap steps_all is ∙ steps_append front (o ∷ []) ∙ ap (λ (l : List Step). steps_all front ++ l) (steps_of_one o) in
-    let at : ByWay meta base m (steps_all front) (steps_of o) = by_way meta base m (steps_all front) (steps_of o) (ap (λ (l : List Step). fold meta base l) (sym steps) ∙ folds) in
-    let undone = packages_undone meta sound at.way m (steps_keep_good meta sound base at.way good (steps_all front) at.first) (o ∷ []) (ap (λ (l : List Step). fold meta at.way l) (steps_of_one o) ∙ at.rest) in
-    let same : n ≡ at.way = same_Some n at.way (sym back ∙ ap (λ (l : List Step). fold meta m l) (sym (steps_of_one (rev_op o))) ∙ undone) in
-    ap (λ (l : List Step). fold meta base l) (closed_steps_are (record w { operations = front }) w.composite refl closed) ∙ at.first ∙ ap Some (sym same)
+module _ (meta : Meta) (sound : Sound meta) (h : History) (w : Workspace) (front : List Operation) (o : Operation) (m : models.State)
+    (closed : is_closed (Some w) ≡ true) (is : w.operations ≡ front ++ o ∷ []) (good : Good meta (state_of meta h w.base)) (folds : folded meta h w ≡ Some m) where
+  abbrev base : models.State
+  base = state_of meta h w.base
+
+  all_steps : recorded_steps w ≡ steps_all front ++ steps_of o
+  all_steps = closed_steps_are w w.composite refl closed ∙ ap steps_all is ∙ steps_append front (o ∷ []) ∙ ap (λ (l : List Step). steps_all front ++ l) (steps_of_one o)
+
+  before_last : ByWay meta base m (steps_all front) (steps_of o)
+  before_last = by_way meta base m (steps_all front) (steps_of o) (ap (λ (l : List Step). fold meta base l) (sym all_steps) ∙ folds)
+
+  way_good : Good meta before_last.way
+  way_good = steps_keep_good meta sound base before_last.way good (steps_all front) before_last.first
+
+  last_run : fold_package meta before_last.way (o ∷ []) ≡ Some m
+  last_run = ap (λ (l : List Step). fold meta before_last.way l) (steps_of_one o) ∙ before_last.rest
+
+  -- the last operation led to the model
+  pub last_led : LedTo meta (o ∷ []) m
+  last_led = record { before = before_last.way; good = way_good; run = last_run }
+
+  -- and from the one that the others lead to
+  pub undone_leads : (n : models.State) → fold_package meta n (o ∷ []) ≡ Some m → Good meta n → folded meta h (record w { operations = front }) ≡ Some n
+  undone_leads n back n_good =
+      let same : n ≡ before_last.way = one_start meta sound n before_last.way m n_good way_good (steps_all (o ∷ [])) back last_run in
+      ap (λ (l : List Step). fold meta base l) (closed_steps_are (record w { operations = front }) w.composite refl closed) ∙ before_last.first ∙ ap Some (sym same)
 
 -- what the workspace keeps then
-pub undone_fits : (meta : Meta) → Sound meta → (h : History) (w : Kept) (front : List Operation) (o : Operation) (m : models.State) (r : Option models.State) (n : models.State) → r ≡ Some n → IfSome r (λ n. fold meta m (steps_of (rev_op o)) ≡ Some n)
+pub undone_fits : (meta : Meta) → Sound meta → (h : History) (w : Kept) (front : List Operation) (o : Operation) (m : models.State) (r : Option models.State) (n : models.State) → r ≡ Some n → IfSome r (λ n. fold_package meta n (o ∷ []) ≡ Some m)
     → IfSome r (λ n. Good meta n) → can_undo (Some (plain_of w)) ≡ true → w.operations.items ≡ front ++ o ∷ [] → Good meta (state_of meta h w.base) → ModelFits meta h w → w.model ≡ Some m
     → (folded meta h (record (plain_of w) { operations = front }) ≡ Some n) × Good meta n
-undone_fits meta sound h w front o m None n is back good can items base fits model = absurd cc
-undone_fits meta sound h w front o m (Some x) n is back good can items base fits model =
+undone_fits meta sound h w front o m None n is back good can items base_good fits model = absurd cc
+undone_fits meta sound h w front o m (Some x) n is back good can items base_good fits model =
     subst (λ (x : models.State). (folded meta h (record (plain_of w) { operations = front }) ≡ Some x) × Good meta x) (same_Some x n is)
-    (undone_leads meta sound h (plain_of w) front o m x (and_left (is_closed (Some (plain_of w))) (has_operations (Some (plain_of w))) can) items base (fits m model).0 back, good)
+    (undone_leads meta sound h (plain_of w) front o m (and_left (is_closed (Some (plain_of w))) (has_operations (Some (plain_of w))) can) items base_good (fits m model).0 x back good, good)
 
 -- ---- Commit
 -- a commit that could be made leaves what is folded

@@ -1,12 +1,14 @@
 -- The plans of an update and of a merge, and what they make of what is local.
-use Rattle.std.specs.Prelude.{◌≡◌, ℕ, ◌<◌, ◌-◌, ◌^◌, List, [], ◌∷◌, ◌++◌, All}
+use Rattle.std.specs.Prelude.{◌≡◌, ℕ, ◌<◌, ◌-◌, ◌^◌, List, [], ◌∷◌, ◌++◌, All, Some}
 use Rattle.ecore_meta.specs.Meta.{Meta}
+use Rattle.model_state.specs.Packages.{fold_package}
 use Rattle.model_state.specs.declared.operation.Operation.{Operation}
 use Rattle.footprint.specs.declared.bucket.Bucket.{Bucket}
 use Rattle.history_tree.specs.History.{History}
+use Rattle.history_tree.specs.States.{state_of}
 use Rattle.merge_plans.specs.declared.plan.Plan.{Plan}
 use Rattle.merge_plans.specs.Plans.{incoming}
-use Rattle.plain_repository.specs.State.{Workspace}
+use Rattle.plain_repository.specs.State.{State, Workspace, folded, workspace_of}
 use Rattle.plain_repository.specs.Merging.{update_buckets, merge_buckets, merge_theirs, merge_mine}
 
 -- the places of operations have numbers of 64 bits, counted from 1 too
@@ -27,6 +29,10 @@ pub record IsMergePlan (meta : Meta) (h : History) (w : Workspace) (other : ℕ)
   pub buckets : p.buckets.rows ≡ merge_buckets meta h w other
   pub places : HaveNumbers p.buckets.rows
 
+-- the operations are these
+abbrev pub replaced : List Operation → Workspace → Workspace
+replaced operations w = record w { operations = operations }
+
 -- the workspace stands at the version, with those operations
 abbrev pub restarted : ℕ → List Operation → Workspace → Workspace
 restarted base operations w = record w { base = base; operations = operations }
@@ -34,3 +40,11 @@ restarted base operations w = record w { base = base; operations = operations }
 -- further operations are added last, and the version is pending
 abbrev pub taken_up : List Operation → ℕ → Workspace → Workspace
 taken_up more version w = record w { operations = w.operations ++ more; pending = w.pending ++ version ∷ [] }
+
+-- the operations lead to the working model of the workspace of that number, as its own do
+abbrev pub KeepModel : State → ℕ → List Operation → Type 0
+KeepModel s ws operations = (meta : Meta) (w : Workspace) → s.meta ≡ Some meta → workspace_of s ws ≡ Some w → folded meta s.history (replaced operations w) ≡ folded meta s.history w
+
+-- the operations lead from the state of the base of the workspace of that number to the state of the version
+abbrev pub AreTheirs : State → ℕ → ℕ → List Operation → Type 0
+AreTheirs s ws version theirs = (meta : Meta) (w : Workspace) → s.meta ≡ Some meta → workspace_of s ws ≡ Some w → fold_package meta (state_of meta s.history w.base) theirs ≡ Some (state_of meta s.history version)

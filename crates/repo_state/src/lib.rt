@@ -2,6 +2,7 @@
 #![tactic(auto)]
 
 mod fault;
+mod following;
 mod growing;
 mod making;
 mod merged;
@@ -11,6 +12,6 @@ mod repo;
 mod workspace;
 
 pub use fault::ReplayFault;
-pub use merged::{Local, Merged};
+pub use merged::{Merged, Updated};
 pub use repo::{Begun, Repo};
 pub use workspace::{Composite, Workspace};

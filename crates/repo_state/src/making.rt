@@ -231,13 +231,14 @@ impl Repo {
         let Some(at) = self.place_of(ws) else {
             unreachable!()
         };
-        let Some(_begun) = &self.begun else {
+        let Some(begun) = &self.begun else {
             unreachable!()
         };
+        begun.meta.sound();
         let Some(workspace) = &mut self.workspaces[at] else {
             unreachable!()
         };
-        workspace.discard(alloc);
+        workspace.discard(alloc, &begun.meta, &begun.history);
     }
 
     /// The local operations of a workspace are a further version, at which it stands.

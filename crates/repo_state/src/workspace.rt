@@ -4,9 +4,9 @@ ghost use Rattle.std.specs.Option.{option_copied};
 ghost use Rattle.ecore_meta.specs.Sound.{Sound};
 ghost use Rattle.model_state.specs.Good.{Good};
 ghost use Rattle.model_state.specs.Steps.{fold};
-ghost use Rattle.model_state.specs.Packages.{steps_of, rev_op};
+ghost use Rattle.model_state.specs.Packages.{fold_package};
 ghost use Rattle.history_tree.specs.States.{state_folded, state_of};
-ghost use Rattle.plain_repository.specs.State.{model_of, folded, recorded_steps, untouched, has_operations, has_local, is_open};
+ghost use Rattle.plain_repository.specs.State.{model_of, folded, recorded_steps, untouched, has_operations, has_local, is_closed, is_open};
 ghost use Rattle.plain_repository.specs.Commits.{version_of, committed};
 ghost use Rattle.plain_repository.specs.Composites.{with_open, with_closed};
 ghost use Rattle.plain_repository.specs.Edits.{takes, with_more};
@@ -15,9 +15,10 @@ ghost use Rattle.state_form.specs.Spelled.{IsSpelled};
 ghost use Rattle.state_cache.specs.Entries.{stands};
 ghost use Rattle.version_states.specs.Cached.{AreForms, MayUse, Uses};
 ghost use Rattle.repo_state.specs.Keeping.{plain_of, ModelFits};
-ghost use Rattle.repo_state.specs.Planning.{restarted, taken_up};
+ghost use Rattle.repo_state.specs.Planning.{replaced, restarted, taken_up};
 
-use crate::merged::{Local, Merged};
+use crate::following::{model_after, model_before, model_before_one, updated_model};
+use crate::merged::{Merged, Updated};
 use ecore_meta::{List, Metamodel, Text};
 use history_tree::{History, Version};
 use model_state::{Operation, Package, Step, StepFault};
@@ -25,7 +26,7 @@ use page_pool::Pool;
 use state_cache::Cache;
 use std::alloc::{AllocError, Global};
 use std::mem::replace;
-use version_states::{follow, state_at, steps_out, take_back, take_steps};
+use version_states::{follow, state_at, steps_out, take_steps};
 use working_model::Working;
 
 /// A composite that is open: its name, and the steps recorded in it so far.
@@ -212,21 +213,48 @@ impl Workspace {
         let Some(operation) = self.operations.pop() else {
             unreachable!()
         };
-        self.model = match self.model.take() {
+        let model = match self.model.take() {
             None => None,
-            Some(model) => take_back(alloc, meta, model, &operation),
+            Some(model) => model_before_one(alloc, meta, model, operation),
         };
+        self.model = model;
     }
 
-    /// Drops all that is local. The model is not kept.
-    pub(crate) fn discard(&mut self, alloc: Global)
+    /// Drops all that is local. A model that is kept takes it back, or is not kept when out of memory.
+    pub(crate) fn discard(&mut self, alloc: Global, meta: &Metamodel, history: &History)
+        requires sound { Sound meta.now }
+        requires base { Good meta.now (state_of meta.now history.now.history self.old.base) }
+        requires fits { ModelFits meta.now history.now.history self.old }
         ensures discarded { plain_of self.new ≡ without_any (plain_of self.old) }
-        ensures gone { self.new.model ≡ None }
+        ensures fits { ModelFits meta.now history.now.history self.new }
+        ensures kept { is_some self.new.model ≡ true → is_some self.old.model ≡ true }
     {
+        // What is recorded in an open composite is an operation then.
+        let model = match self.close_composite() {
+            Ok(()) => self.rewind(alloc, meta, history),
+            Err(_) => None,
+        };
         self.operations = Vec::new(alloc);
         self.composite = None;
         self.pending = List::new(alloc);
-        self.model = None;
+        self.model = model;
+    }
+
+    /// The state of the base, by the model that is kept, which takes back the operations; none when out of memory. The
+    /// workspace has neither any more.
+    fn rewind(&mut self, alloc: Global, meta: &Metamodel, _history: &History) -> Option<Working>
+        requires sound { Sound meta.now }
+        requires base { Good meta.now (state_of meta.now _history.now.history self.old.base) }
+        requires closed { is_closed (Some (plain_of self.old)) ≡ true }
+        requires fits { ModelFits meta.now _history.now.history self.old }
+        ensures state { IfSome result (λ m. m ≡ state_of meta.now _history.now.history self.old.base) }
+        ensures kept { is_some result ≡ true → is_some self.old.model ≡ true }
+        ensures branch { self.new.branch ≡ self.old.branch }
+        ensures base { self.new.base ≡ self.old.base }
+    {
+        let operations = List::from_vec(replace(&mut self.operations, Vec::new(alloc)));
+        let model = self.model.take()?;
+        model_before(alloc, meta, model, &operations)
     }
 
     /// The version that the local operations make. The workspace stands at it from now on, under its number, with nothing local.
@@ -246,24 +274,76 @@ impl Workspace {
         }
     }
 
-    /// Stands at a version with other operations. The model is not kept.
-    pub(crate) fn restart(&mut self, local: Local)
-        ensures restarted { plain_of self.new ≡ restarted local.base local.operations.items (plain_of self.old) }
-        ensures gone { self.new.model ≡ None }
+    /// The operations are others, which lead to the same model.
+    pub(crate) fn replace_operations(&mut self, operations: Package)
+        ensures replaced { plain_of self.new ≡ replaced operations (plain_of self.old) }
+        ensures model { self.new.model ≡ self.old.model }
     {
-        self.base = local.base;
-        self.operations = local.operations;
-        self.model = None;
+        self.operations = operations.into_vec();
     }
 
-    /// Takes further operations after the others, of a version that is pending from now on. The model is not kept. When out of memory nothing
-    /// else changes.
-    pub(crate) fn take_up(&mut self, merged: Merged) -> Result<(), AllocError>
+    /// Stands at a version with other operations. A model that is kept goes there too, or is not kept when out of memory.
+    pub(crate) fn update(
+        &mut self,
+        alloc: Global,
+        meta: &Metamodel,
+        history: &History,
+        updated: Updated,
+    )
+        requires sound { Sound meta.now }
+        requires base { Good meta.now (state_of meta.now history.now.history self.old.base) }
+        requires closed { is_closed (Some (plain_of self.old)) ≡ true }
+        requires fits { ModelFits meta.now history.now.history self.old }
+        requires theirs { fold_package meta.now (state_of meta.now history.now.history self.old.base) updated.theirs ≡ Some (state_of meta.now history.now.history updated.base) }
+        requires leads { is_some (fold_package meta.now (state_of meta.now history.now.history updated.base) updated.operations) ≡ true }
+        ensures updated { plain_of self.new ≡ restarted updated.base updated.operations (plain_of self.old) }
+        ensures fits { ModelFits meta.now history.now.history self.new }
+        ensures kept { is_some self.new.model ≡ true → is_some self.old.model ≡ true }
+    {
+        let mine = List::from_vec(replace(&mut self.operations, Vec::new(alloc)));
+        let model = match self.model.take() {
+            None => None,
+            Some(model) => {
+                updated_model(alloc, meta, history, self.base, model, &mine, &updated)
+            }
+        };
+        self.base = updated.base;
+        self.operations = updated.operations.into_vec();
+        self.model = model;
+    }
+
+    /// Takes further operations after the others, of a version that is pending from now on. A model that is kept takes
+    /// them too, or is not kept when out of memory. When out of memory nothing else changes.
+    pub(crate) fn take_up(
+        &mut self,
+        meta: &Metamodel,
+        _history: &History,
+        merged: Merged,
+    ) -> Result<(), AllocError>
+        requires sound { Sound meta.now }
+        requires closed { is_closed (Some (plain_of self.old)) ≡ true }
+        requires fits { ModelFits meta.now _history.now.history self.old }
+        requires leads { is_some (folded meta.now _history.now.history (taken_up merged.more merged.version (plain_of self.old))) ≡ true }
         ensures taken { OnOk result (plain_of self.new ≡ taken_up merged.more merged.version (plain_of self.old)) }
         ensures same { OnErr result (plain_of self.new ≡ plain_of self.old) }
-        ensures gone { self.new.model ≡ None }
+        ensures fits { ModelFits meta.now _history.now.history self.new }
+        ensures kept { is_some self.new.model ≡ true → is_some self.old.model ≡ true }
     {
-        self.model = None;
+        let model = match self.model.take() {
+            None => None,
+            Some(model) => model_after(meta, model, merged.more.as_slice()),
+        };
+        self.append_merged(merged)?;
+        self.model = model;
+        Ok(())
+    }
+
+    /// Puts further operations after the others, of a version that is pending from now on. When out of memory nothing changes.
+    fn append_merged(&mut self, merged: Merged) -> Result<(), AllocError>
+        ensures taken { OnOk result (plain_of self.new ≡ taken_up merged.more merged.version (plain_of self.old)) }
+        ensures same { OnErr result (plain_of self.new ≡ plain_of self.old) }
+        ensures model { self.new.model ≡ self.old.model }
+    {
         let mut more = merged.more.into_vec();
         self.pending.push(merged.version)?;
         match self.operations.append(&mut more) {

@@ -1,3 +1,4 @@
 pub mod Caching
 pub mod Folding
 pub mod Stopping
+pub mod Taking

@@ -4,4 +4,4 @@
 mod cached;
 mod states;
 
-pub use states::{follow, state_at, steps_out, stop_in, take_back, take_steps};
+pub use states::{follow, follow_all, state_at, steps_out, stop_in, take_back, take_steps};

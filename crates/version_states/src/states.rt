@@ -1,20 +1,21 @@
 //! Steps and operations taken one by one, and the state of a version.
-ghost use Rattle.std.specs.Prelude.{◌≡◌, ◌≢◌, ◌<◌, ◌^◌, All, length, is_some, option_map, true, None, Some, IfOk, IfSome, OnOk, IfErr};
+ghost use Rattle.std.specs.Prelude.{◌≡◌, ◌≢◌, ◌<◌, ◌^◌, All, length, is_some, option_map, true, None, Some, IfOk, OnOk, IfErr};
 ghost use Rattle.ecore_meta.specs.Sound.{Sound};
 ghost use Rattle.model_state.specs.Faults.{IsFault};
 ghost use Rattle.model_state.specs.Good.{Good};
-ghost use Rattle.model_state.specs.Packages.{fold_package, rev_op, steps_all, steps_of};
+ghost use Rattle.model_state.specs.Packages.{fold_package, steps_all};
 ghost use Rattle.model_state.specs.Steps.{fault_along, first_stop, fold};
 ghost use Rattle.history_tree.specs.States.{operations_of, state_folded, state_of};
 ghost use Rattle.state_form.specs.Spelled.{IsSpelled};
 ghost use Rattle.state_cache.specs.Entries.{stands};
 ghost use Rattle.version_states.specs.Cached.{AreForms, LeavesFirst, MayUse, Uses};
+ghost use Rattle.version_states.specs.Taking.{LedTo};
 
 use crate::cached::{cached_state, keep_state, nearest};
 use ecore_meta::{List, Metamodel};
 use history_tree::History;
 use model_state::{Operation, Package, Step, StepFault};
-use op_form::reverse_op;
+use op_form::reverse;
 use page_pool::Pool;
 use state_cache::Cache;
 use std::alloc::{AllocError, Global};
@@ -65,27 +66,41 @@ pub fn follow(
     Ok(())
 }
 
-/// The model before an operation, whose steps were the last taken. None when out of memory, or where a step can't be
-/// taken back.
+/// Takes the steps of operations that can all be taken, one by one. After an error the model is of no use.
+pub fn follow_all(
+    model: &mut Working,
+    meta: &Metamodel,
+    operations: &[Operation],
+) -> Result<(), AllocError>
+    requires sound { Sound meta.now }
+    requires good { Good meta.now model.old }
+    requires leads { is_some (fold_package meta.now model.old operations.now) ≡ true }
+    ensures done { OnOk result (fold_package meta.now model.old operations.now ≡ Some model.new) }
+    ensures good { Good meta.now model.new }
+{
+    match follow(model, meta, operations) {
+        Ok(()) => Ok(()),
+        Err(fault) => match fault {
+            StepFault::Memory => Err(AllocError),
+            _ => unreachable!(),
+        },
+    }
+}
+
+/// Takes back the steps of operations, which were the last taken. After an error the model is of no use.
 pub fn take_back(
     alloc: Global,
+    model: &mut Working,
     meta: &Metamodel,
-    model: Working,
-    operation: &Operation,
-) -> Option<Working>
+    package: &Package,
+) -> Result<(), AllocError>
     requires sound { Sound meta.now }
-    requires good { Good meta.now model }
-    ensures back { IfSome result (λ m. fold meta.now model (steps_of (rev_op operation.now)) ≡ Some m) }
-    ensures good { IfSome result (λ m. Good meta.now m) }
+    requires led { LedTo meta.now «package».now model.old }
+    ensures back { OnOk result (fold_package meta.now model.new «package».now ≡ Some model.old) }
+    ensures good { OnOk result (Good meta.now model.new) }
 {
-    let Ok(reversal) = reverse_op(alloc, operation) else {
-        return None;
-    };
-    let mut model = model;
-    match model.replay(meta, reversal.steps()) {
-        Ok(()) => Some(model),
-        Err(_) => None,
-    }
+    let reversal = reverse(alloc, package)?;
+    follow_all(model, meta, reversal.as_slice())
 }
 
 /// The number, from 0 over all operations, of the first step that can't be taken, None where each can. The steps before it are taken on the model.
