@@ -1,5 +1,5 @@
 -- Lists of places by slots.
-use Rattle.std.proofs.Common.{◌≡◌, ℕ, zero, suc, ◌+◌, ◌<◌, ◌≤◌, Bool, List, [], ◌∷◌, ◌++◌, refl, sym, ap, subst, inl, inr, ◌∙◌, take, length, get_or, set, arith, length-set, ◌%◌}
+use Rattle.std.proofs.Common.{◌≡◌, ℕ, zero, suc, ◌+◌, ◌<◌, ◌≤◌, List, [], ◌∷◌, ◌++◌, refl, sym, ap, subst, inl, inr, ◌∙◌, take, length, get_or, set, arith, length-set, ◌%◌}
 use Rattle.std.specs.List.{Contains}
 use Rattle.std.specs.Prelude.{◌⊎◌}
 use Rattle.std.specs.declared.vec.Vec.{Vec}

@@ -1,14 +1,11 @@
 -- Rows by what the code keeps.
-use Rattle.std.proofs.Common.{◌≡◌, ℕ, suc, ◌+◌, ◌<◌, ◌≤◌, Bool, true, false, cond, List, [], ◌∷◌, ◌++◌, refl, sym, ap, ◌∙◌, take, drop, length, get_or, arith, drop-cons, append_assoc, append-nil, length-append}
-use Rattle.std.proofs.lemmas.Option.{get_or_from_slice_get}
+use Rattle.std.proofs.Common.{◌≡◌, ℕ, ◌≤◌, List, ◌++◌, ap, ◌∙◌, take, drop, length, arith, length-append}
 use Rattle.ecore_meta.specs.Meta.{Meta}
 use Rattle.model_state.specs.declared.operation.Operation.{Operation}
-use Rattle.footprint.specs.Interference.{interferes, cells_interfere}
 use Rattle.footprint.specs.declared.cell.Print.{Print}
-use Rattle.footprint.specs.Prints.{cells, shown, printed}
-use Rattle.footprint.proofs.Printed.{as_many, pair_tells}
+use Rattle.footprint.specs.Prints.{shown, printed}
+use Rattle.footprint.proofs.Printed.{as_many}
 use Rattle.footprint.specs.Buckets.{labels, rows, buckets}
-use Rattle.bucket_laws.proofs.Exact.{at_place}
 
 pub rows_are : (meta : Meta) (ts ms : List Operation) (found view left right : List ℕ) (n : ℕ) → view ≡ found → found ≡ labels meta (ts ++ ms) → left ≡ take n view → right ≡ drop n view → length left ≡ n → n ≡ length ts → rows left right (length left) ≡ buckets meta ts ms
 unfolding buckets

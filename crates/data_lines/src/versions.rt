@@ -22,14 +22,16 @@ use std::alloc::{AllocError, Global};
 
 /// The lines of a history, a line for each version in the order of numbers: `N BRANCH PARENT MERGED OPS TAGS AUTHOR MOMENT
 /// MESSAGE`. PARENT, MERGED, TAGS, AUTHOR and MOMENT are `-` where there is none, and lists have commas between their items. OPS is the
-/// number of operations of the version, and MESSAGE its message as a JSON text.
+/// number of operations of the version, and MESSAGE its message as a JSON text. It goes over the tags once.
 #[tactic(auto, unfolding(crate::specs::Versions::log_lines))]
 pub fn log_lines(alloc: Global, history: &History) -> Result<List<Text>, AllocError>
     ensures lines { IfOk result (λ lines. lines ≡ log_lines history.now.history) }
 {
+    let tags = history.tags_by_version(alloc)?;
     let mut lines = List::new(alloc);
     for n in 0..history.version_count() {
-        lines.push(version_line(alloc, history, n, history.version(n))?)?;
+        let names = tags[n as usize].as_slice();
+        lines.push(version_line(alloc, history, n, history.version(n), names)?)?;
     }
     Ok(lines)
 }
@@ -64,21 +66,22 @@ fn hex_line(alloc: Global, package: &Package) -> Result<Text, AllocError>
     line.into_text()
 }
 
-/// The line of a version.
+/// The line of a version, whose tags have these names.
 fn version_line(
     alloc: Global,
     history: &History,
     n: u32,
     version: &Version,
+    tags: &[Text],
 ) -> Result<Text, AllocError>
-    requires there { n < length history.now.history.versions }
+    requires tags { tags.now ≡ tags_of history.now.history n }
     requires branch { version.now.branch < length history.now.history.branches }
     ensures { IfOk result (λ t. t ≡ version_line history.now.history n version.now) }
 {
     let mut line = Line::new(alloc);
     line.push_digits(n as u64)?;
     push_origin(alloc, &mut line, history, version)?;
-    push_content(alloc, &mut line, history, n, version)?;
+    push_content(alloc, &mut line, version, tags)?;
     line.into_text()
 }
 
@@ -102,16 +105,13 @@ fn push_origin(
 fn push_content(
     alloc: Global,
     line: &mut Line,
-    history: &History,
-    n: u32,
     version: &Version,
+    tags: &[Text],
 ) -> Result<(), AllocError>
-    requires { n < length history.now.history.versions }
-    ensures { OnOk result (line.new ≡ line.old ++ after_spaces (decimal (length version.now.«package») ∷ listed (tags_of history.now.history n) ∷ optional (λ author. author) version.now.author ∷ optional decimal version.now.moment ∷ compact_text (string version.now.message) ∷ [])) }
+    ensures { OnOk result (line.new ≡ line.old ++ after_spaces (decimal (length version.now.«package») ∷ listed tags.now ∷ optional (λ author. author) version.now.author ∷ optional decimal version.now.moment ∷ compact_text (string version.now.message) ∷ [])) }
 {
     line.push_number(version.package.len() as u64)?;
-    let tags = history.tags_of(alloc, n)?;
-    push_list(line, tags.as_slice())?;
+    push_list(line, tags)?;
     push_author(line, &version.author)?;
     push_moment(line, version.moment)?;
     push_json(alloc, line, version.message.as_str())

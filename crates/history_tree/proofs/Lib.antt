@@ -8,3 +8,4 @@ pub mod Bases
 mod Flags
 pub mod Greatest
 mod Leading
+mod Tagged

@@ -1,5 +1,5 @@
 //! The history in memory.
-ghost use Rattle.std.specs.Prelude.{◌≡◌, ◌+◌, ◌≤◌, ◌<◌, ◌∷◌, ◌++◌, [], length, None, IfOk, IfSome, OnOk, OnErr, slice_get, Some, is_some, ◌||◌, true, false, All};
+ghost use Rattle.std.specs.Prelude.{ℕ, cond, nat_eq, get_or, ◌≡◌, ◌+◌, ◌≤◌, ◌<◌, ◌∷◌, ◌++◌, [], length, None, IfOk, IfSome, OnOk, OnErr, slice_get, Some, is_some, ◌||◌, true, false, All};
 ghost use Rattle.std.specs.Option.{option_copied, option_map};
 ghost use Rattle.history_tree.specs.Found.{branch_named, branch_name, tag_named, has_tag, tags_of, found_by_number, found_by_branch, found_by_tag, found_by};
 ghost use Rattle.history_tree.specs.History.{first_version, first_history, with_version, with_branch, with_tag, path, head};
@@ -73,6 +73,28 @@ fn begin(
     versions.push(first_version(alloc)?)?;
     branches.push(first_branch(alloc)?)?;
     heads.push(0)?;
+    Ok(())
+}
+
+/// So many lists, all empty.
+fn empty_lists(alloc: Global, size: usize) -> Result<Vec<List<Text>>, AllocError>
+    ensures size { IfOk result (λ lists. length lists.items ≡ size) }
+    ensures empty { IfOk result (λ lists. (v : ℕ) → v < size → get_or lists.items v [] ≡ []) }
+{
+    let mut lists = Vec::new(alloc);
+    for _ in 0..size {
+        lists.push(List::new(alloc))?;
+    }
+    Ok(lists)
+}
+
+/// Puts a name after those in a list.
+fn put_name(lists: &mut Vec<List<Text>>, at: usize, name: Text) -> Result<(), AllocError>
+    requires { at < length lists.old.items }
+    ensures size { OnOk result (length lists.new.items ≡ length lists.old.items) }
+    ensures names { OnOk result ((v : ℕ) → v < length lists.old.items → get_or lists.new.items v [] ≡ cond (nat_eq at v) (get_or lists.old.items v [] ++ name ∷ []) (get_or lists.old.items v [])) }
+{
+    lists[at].push(name)?;
     Ok(())
 }
 
@@ -205,18 +227,17 @@ impl History {
         self.tags.iter().any(|tag| tag.name.as_str() == name)
     }
 
-    /// The names of a version's tags, in the order made.
-    pub fn tags_of(&self, alloc: Global, v: u32) -> Result<List<Text>, AllocError>
-        requires there { v < length self.now.history.versions }
-        ensures names { IfOk result (λ names. names ≡ tags_of self.now.history v) }
+    /// The names of each version's tags, in the order made: one list a version, by the versions' numbers. It goes over the tags once.
+    pub fn tags_by_version(&self, alloc: Global) -> Result<Vec<List<Text>>, AllocError>
+        ensures size { IfOk result (λ lists. length lists.items ≡ length self.now.history.versions) }
+        ensures names { IfOk result (λ lists. (v : ℕ) → v < length self.now.history.versions → slice_get lists.items v ≡ Some (tags_of self.now.history v)) }
     {
-        let mut names = List::new(alloc);
+        self.whole();
+        let mut lists = empty_lists(alloc, self.versions.len())?;
         for tag in &self.tags {
-            if tag.version == v {
-                names.push(tag.name.copy(alloc)?)?;
-            }
+            put_name(&mut lists, tag.version as usize, tag.name.copy(alloc)?)?;
         }
-        Ok(names)
+        Ok(lists)
     }
 
     /// What a version's number, a branch's name or a tag's name names: the first of these that is given.

@@ -1,5 +1,5 @@
 -- one label more
-use Rattle.std.proofs.Common.{◌<◌, refl, sym, subst, ◌∙◌, length, get_or}
+use Rattle.std.proofs.Common.{◌<◌, refl, sym, subst, ◌∙◌, get_or}
 use Rattle.cell_index.specs.Near.{list_at}
 use Rattle.conflict_buckets.proofs.Tables.{places_more}
 use Rattle.conflict_buckets.proofs.grouping.places_by_label.Goals as goal

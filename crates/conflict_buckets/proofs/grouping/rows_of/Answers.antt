@@ -1,5 +1,5 @@
 -- one row more
-use Rattle.std.proofs.Common.{◌<◌, sym, subst, ◌∙◌, length}
+use Rattle.std.proofs.Common.{◌<◌, sym, subst, ◌∙◌}
 use Rattle.cell_index.specs.Near.{list_at}
 use Rattle.cell_index.proofs.Rows.{list_here}
 use Rattle.conflict_buckets.proofs.Tables.{row_on}

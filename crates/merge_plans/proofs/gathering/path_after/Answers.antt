@@ -1,4 +1,4 @@
-use Rattle.std.proofs.Common.{ℕ, Bool, List, ◌≡◌, ◌<◌, ◌++◌, All, length, nat_lt, reverse, arith, sym, ◌∙◌, ap, subst, append-nil}
+use Rattle.std.proofs.Common.{ℕ, List, ◌≡◌, ◌<◌, ◌++◌, All, length, nat_lt, reverse, arith, sym, ◌∙◌, ap, subst, append-nil}
 use Rattle.std.proofs.lemmas.List.Elements.{All-filter}
 use Rattle.history_tree.specs.History.{path}
 use Rattle.history_tree.specs.Since.{path_after}

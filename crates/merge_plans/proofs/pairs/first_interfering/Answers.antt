@@ -1,6 +1,5 @@
-use Rattle.std.proofs.Common.{◌≡◌, ℕ, Bool, List, [], Option, sym, ◌∙◌, ap, slice_index_or, refl}
+use Rattle.std.proofs.Common.{◌≡◌, ℕ, Bool, [], Option, sym, ◌∙◌, ap, slice_index_or, refl}
 use Rattle.std.specs.Option.{option_map_or}
-use Rattle.model_state.specs.declared.operation.Operation.{Operation}
 use Rattle.history_tree.specs.declared.version.Version.{Version}
 use Rattle.history_tree.specs.States.{package_at}
 use Rattle.merge_plans.specs.Pairs.{have_pair}

@@ -1,5 +1,5 @@
-use Rattle.std.proofs.Common.{sym, ap, subst, ◌∙◌}
-use Rattle.footprint.specs.Prints.{shown, printed}
+use Rattle.std.proofs.Common.{ap, subst, ◌∙◌}
+use Rattle.footprint.specs.Prints.{printed}
 use Rattle.cell_index.specs.Near.{Indexes}
 use Rattle.conflict_buckets.proofs.asking.PackageIndex.new.Goals as goal
 

@@ -1,5 +1,5 @@
 -- all that interfere with it are reached
-use Rattle.std.proofs.Common.{◌≡◌, ℕ, Bool, List, false, sym, ap, subst, ◌∙◌, get_or}
+use Rattle.std.proofs.Common.{ℕ, Bool, List, false, sym, ap, subst, ◌∙◌, get_or}
 use Rattle.std.specs.List.{Contains}
 use Rattle.std.proofs.lemmas.Grind.{get_or_default_zero}
 use Rattle.conflict_buckets.proofs.Spreading.{near_linked, passed_one, all_reached}
