@@ -6,6 +6,8 @@
 #[cfg(test)]
 mod cells;
 #[cfg(test)]
+mod evolutions;
+#[cfg(test)]
 mod graphs;
 #[cfg(test)]
 mod metamodels;

@@ -7,6 +7,8 @@
 //! library: classes 0 Library, 1 Book, 2 Writer, 3 Shelf. Features: 0 Library.books, 1 title, 2 pages, 3 tags, 4
 //! authors, 5 sequel, 6 prequel, 7 library. Then 8 Writer.name, 9 Writer.books, 10 pair, 11 Shelf.name, 12 parts, 13
 //! top, which is one.
+//!
+//! parts: classes 0 Named, which is abstract, 1 Part and 2 Tool; enums 0 Size and 1 Mood; a feature of each kind.
 ghost use Rattle.std.specs.Prelude.{IfOk};
 ghost use Rattle.ecore_meta.specs.Sound.{Sound};
 
@@ -53,6 +55,23 @@ library
 {"eClass":"E#//EAttribute","name":"name","eType":{"$ref":"E#//EString"}},
 {"eClass":"E#//EReference","name":"parts","upperBound":-1,"containment":true,"eType":{"$ref":"//Shelf"}},
 {"eClass":"E#//EReference","name":"top","containment":true,"eType":{"$ref":"//Shelf"}}]}
+]}
+
+parts
+{"eClass":"E#//EPackage","name":"parts","nsURI":"http://parts/1","eClassifiers":[
+{"eClass":"E#//EClass","name":"Named","abstract":true,"eStructuralFeatures":[
+{"eClass":"E#//EAttribute","name":"name","lowerBound":1,"eType":{"$ref":"E#//EString"},"defaultValueLiteral":"new"}]},
+{"eClass":"E#//EClass","name":"Part","eSuperTypes":[{"$ref":"//Named"}],"eStructuralFeatures":[
+{"eClass":"E#//EAttribute","name":"size","eType":{"$ref":"//Size"}},
+{"eClass":"E#//EAttribute","name":"marks","upperBound":3,"unique":false,"eType":{"$ref":"E#//EInt"}},
+{"eClass":"E#//EReference","name":"parts","upperBound":-1,"containment":true,"eType":{"$ref":"//Part"},"eOpposite":{"$ref":"//Part/whole"}},
+{"eClass":"E#//EReference","name":"whole","eType":{"$ref":"//Part"},"eOpposite":{"$ref":"//Part/parts"}},
+{"eClass":"E#//EReference","name":"fits","upperBound":2,"eType":{"$ref":"//Part"}},
+{"eClass":"E#//EReference","name":"near","upperBound":-1,"eType":{"$ref":"//Named"}},
+{"eClass":"E#//EAttribute","name":"weight","derived":true,"eType":{"$ref":"E#//EInt"}}]},
+{"eClass":"E#//EClass","name":"Tool","eSuperTypes":[{"$ref":"//Part"}]},
+{"eClass":"E#//EEnum","name":"Size","eLiterals":[{"name":"small"},{"name":"large","value":1,"literal":"L"}]},
+{"eClass":"E#//EEnum","name":"Mood","eLiterals":[{"name":"good"},{"name":"bad","value":1}]}
 ]}"##;
 
 // The text after its name, among parts that have an empty line between them.
@@ -66,24 +85,26 @@ fn named(all: &'static str, name: &str) -> Result<&'static str, Fail> {
     Err("no such metamodel")?
 }
 
-fn read(alloc: Global, text: &str) -> Result<Metamodel, Fail>
+// The metamodel that a document gives, in which `E#` stands for Ecore's own namespace.
+pub(crate) fn read(alloc: Global, document: &str) -> Result<Metamodel, Fail>
     ensures { IfOk result Sound }
 {
+    let text = document.replace(alloc, "E#", "http://www.eclipse.org/emf/2002/Ecore#")?;
     if text.len() >= 4_294_967_295 {
         return Err("a long text")?;
     }
-    let meta = read_metamodel(alloc, text)?;
+    let meta = read_metamodel(alloc, text.as_str())?;
     meta.sound();
     Ok(meta)
+}
+
+// The document of that name.
+pub(crate) fn document(name: &str) -> Result<&'static str, Fail> {
+    named(METAMODELS, name)
 }
 
 pub(crate) fn metamodel(alloc: Global, name: &str) -> Result<Metamodel, Fail>
     ensures { IfOk result Sound }
 {
-    let text = named(METAMODELS, name)?.replace(
-        alloc,
-        "E#",
-        "http://www.eclipse.org/emf/2002/Ecore#",
-    )?;
-    read(alloc, text.as_str())
+    read(alloc, document(name)?)
 }
