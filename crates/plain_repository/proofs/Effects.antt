@@ -4,6 +4,7 @@ use Rattle.std.specs.Prelude.{IsTrue, slice_get, unwrap_or}
 use Rattle.ecore_meta.specs.Meta.{Meta}
 use Rattle.model_state.specs.Names.{is_name}
 use Rattle.model_state.specs.State.{nothing}
+use Rattle.model_state.specs.Packages.{fold_package}
 use Rattle.model_state.specs.Steps.{fold}
 use Rattle.model_state.specs.declared.step.Step.{Step}
 use Rattle.model_state.specs.declared.operation.Operation.{Operation}
@@ -13,19 +14,22 @@ use Rattle.history_tree.specs.Found.{branch_named, has_tag, of_its_version}
 use Rattle.history_tree.specs.States.{state_of}
 use Rattle.history_tree.proofs.Steady.{head_new}
 use Rattle.op_form.specs.declared.event.Event.{Event}
-use Rattle.op_form.specs.declared.event.Event.TheVariants.{Begin, End, Undo, Discard, Commit, Branch, Tag}
+use Rattle.op_form.specs.declared.event.Event.TheVariants.{Edit, Begin, End, Undo, Discard, Commit, Branch, Tag}
 use Rattle.plain_repository.specs.State.{State, Workspace, Composite as Open, untouched, there, workspace_of, open_steps, model_of, changed_at, is_closed}
 use Rattle.plain_repository.specs.Commits.{version_of, committed, with_commit, can_commit, moved_onto, with_new_branch, is_new_branch}
+use Rattle.plain_repository.specs.Metamodels.{meta_of_read}
+use Rattle.plain_repository.specs.Edits.{takes, with_more, can_follow}
 use Rattle.plain_repository.specs.Composites.{with_open, composed, operation_of_open, with_closed}
 use Rattle.plain_repository.specs.Local.{without_last, without_any}
 use Rattle.plain_repository.specs.Events.{play, playable, playable_with}
-use Rattle.plain_repository.specs.EffectLaws.{CheckoutsShowVersions, BeginsKeepModels, EndsKeepModels, EndsAreUndone, DiscardsGoBack, DropsTakeAway, CommitsKeepStates, BranchesKeepModels, BranchesStartAtBases, TagsNameVersions}
+use Rattle.plain_repository.specs.EffectLaws.{InitsBegin, EditsLead, CheckoutsShowVersions, BeginsKeepModels, EndsKeepModels, EndsAreUndone, DiscardsGoBack, DropsTakeAway, CommitsKeepStates, BranchesKeepModels, BranchesStartAtBases, TagsNameVersions}
 use Rattle.plain_repository.proofs.Commits as commits
 use Rattle.plain_repository.proofs.Encodings.{and_left, and_right, not_so}
 use Rattle.plain_repository.proofs.Names.{new_branch_found, new_tag_found}
 use Rattle.plain_repository.proofs.Places.{of_number, is_of_number, same_number}
-use Rattle.plain_repository.proofs.Reached.{kept}
+use Rattle.plain_repository.proofs.Reached.{kept, in_order}
 use Rattle.plain_repository.proofs.Recorded.{opened_steps, closed_steps}
+use Rattle.plain_repository.proofs.Reverting.{more_model}
 use Rattle.plain_repository.proofs.Runs.{not_open}
 use Rattle.plain_repository.proofs.Undoing.{last_gone}
 
@@ -36,6 +40,35 @@ tested s meta e begun could = subst (λ (m : Option Meta). IsTrue (playable_with
 
 before : (s : State) (ws : ℕ) (w : Workspace) → workspace_of s ws ≡ Some w → of_number s.workspaces ws ≡ Some w
 before s ws w is = sym (is_of_number s ws) ∙ is
+
+-- ---- the metamodel and edits
+pub inits_begin : InitsBegin
+unfolding play
+inits_begin s text meta is = record { begun = ap meta_of_read is; state = refl; trunk = refl }
+
+has_value : {X : Type 0} (o : Option X) → is_some o ≡ true → (x : X) × (o ≡ Some x)
+has_value None is = absurd cc
+has_value (Some x) is = (x, refl)
+
+follows : (s : State) (meta : Meta) (w : Workspace) (os : List Operation) → can_follow meta s.history (Some w) os ≡ true → is_some (fold_package meta (model_of meta s.history w) os) ≡ true
+follows s meta w [] can = absurd cc
+follows s meta w (o ∷ os) can = and_right (takes w.composite (o ∷ os)) (is_some (fold_package meta (model_of meta s.history w) (o ∷ os))) can
+
+pub edits_lead : EditsLead
+unfolding play
+edits_lead s meta ws os w c =
+    let can : can_follow meta s.history (Some w) os ≡ true =
+    subst (λ (o : Option Workspace). can_follow meta s.history o os ≡ true) c.there (tested s meta (Edit ws os) c.in_state.begun c.could) in
+    let led = has_value (fold_package meta (model_of meta s.history w) os) (follows s meta w os can) in
+    let runs = (in_order s meta w (record { in_state = c.in_state; ws = ws; there = c.there })).runs in (
+      led.0,
+      led.1,
+      record {
+        workspace = with_more os w;
+        there = is_of_number (play s (Edit ws os)) ws ∙ same_number (with_more os) s.workspaces ws w (before s ws w c.there);
+        model_is = more_model meta s.history os w led.0 runs led.1 w.composite refl;
+      },
+    )
 
 -- ---- workspaces that are made and dropped
 last_there : (ws : List (Option Workspace)) (w : Workspace) → there (slice_get (ws ++ Some w ∷ []) (length ws)) ≡ Some w

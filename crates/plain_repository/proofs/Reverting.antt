@@ -172,7 +172,7 @@ module _ (meta : Meta) (sound : Sound meta) (h : History) (whole : IsWhole h) (r
       (λ i. takes_any w.composite refl (o ∷ os) i && is_some (leads i))
 
 -- further operations lead on from the working model
-more_model : (meta : Meta) (h : History) (more : List Operation) (w : Workspace) (n : models.State) → Runs meta h w → Leads meta (model_of meta h w) more n → (c : Option Open) → w.composite ≡ c → model_of meta h (added more c w) ≡ n
+pub more_model : (meta : Meta) (h : History) (more : List Operation) (w : Workspace) (n : models.State) → Runs meta h w → Leads meta (model_of meta h w) more n → (c : Option Open) → w.composite ≡ c → model_of meta h (added more c w) ≡ n
 more_model meta h more w n r leads None is =
     let known : fold meta (state_of meta h w.base) (recorded_steps w) ≡ Some (model_of meta h w) = workspace_folded meta h w r ∙ ap Some (sym (workspace_model meta h w r)) in
     ap (λ (o : Option models.State). unwrap_or o nothing)

@@ -1,12 +1,16 @@
 -- What each event makes of the working models and of the history.
-use Rattle.std.specs.Prelude.{◌≡◌, ℕ, suc, ◌<◌, List, Option, Some, None, IsTrue, length}
+use Rattle.std.specs.Prelude.{codes, Ok, ◌≡◌, ℕ, suc, ◌<◌, List, Option, Some, None, IsTrue, length}
 use Rattle.ecore_meta.specs.Meta.{Meta}
+use Rattle.ecore_json.specs.Metamodel.{metamodel_of}
+use Rattle.model_state.specs.Packages.{fold_package}
 use Rattle.model_state.specs.State as models
+use Rattle.model_state.specs.State.{nothing}
+use Rattle.model_state.specs.declared.operation.Operation.{Operation}
 use Rattle.history_tree.specs.History.{head}
 use Rattle.history_tree.specs.Found.{branch_named}
 use Rattle.history_tree.specs.States.{state_of}
 use Rattle.op_form.specs.declared.event.Event.{Event}
-use Rattle.op_form.specs.declared.event.Event.TheVariants.{Checkout, Begin, End, Undo, Discard, Branch, Tag, Drop}
+use Rattle.op_form.specs.declared.event.Event.TheVariants.{Init, Checkout, Edit, Begin, End, Undo, Discard, Branch, Tag, Drop}
 use Rattle.script_lang.specs.declared.command.Spec.TheVariants as specs
 use Rattle.plain_repository.specs.State.{State, Composite, Workspace, workspace_of, model_of}
 use Rattle.history_tree.specs.declared.version.Signature.{Signature}
@@ -32,6 +36,21 @@ pub record CouldBeIn (s : State) (meta : Meta) (ws : ℕ) (workspace : Workspace
 abbrev pub KeepsModels : (ℕ → Event) → Type 0
 KeepsModels event_of = (s : State) (meta : Meta) (ws : ℕ) (workspace : Workspace) → CouldBeIn s meta ws workspace (event_of ws)
     → HasModel (play s (event_of ws)) meta ws (model_of meta s.history workspace)
+
+-- the first event brings the metamodel of its text, and version 0, the empty project, on `trunk`
+pub record IsBegun (s : State) (meta : Meta) : Type 0 where
+  pub begun : s.meta ≡ Some meta
+  pub state : state_of meta s.history 0 ≡ nothing
+  pub trunk : named s.history (specs.Branch (codes "trunk")) ≡ Ok (record { version = 0; branch = 0 })
+
+-- so does each Init of a text that reads as a metamodel
+abbrev pub InitsBegin : Type 0
+InitsBegin = (s : State) (text : List ℕ) (meta : Meta) → metamodel_of text ≡ Ok meta → IsBegun (play s (Init text)) meta
+
+-- an edit leads to the model that its operations lead to, one by one, from the working model
+abbrev pub EditsLead : Type 0
+EditsLead = (s : State) (meta : Meta) (ws : ℕ) (operations : List Operation) (workspace : Workspace) → CouldBeIn s meta ws workspace (Edit ws operations)
+    → (model : models.State) × (fold_package meta (model_of meta s.history workspace) operations ≡ Some model) × HasModel (play s (Edit ws operations)) meta ws model
 
 -- a checkout makes the workspace of the next number, whose working model is the state of the version
 abbrev pub CheckoutsShowVersions : Type 0

@@ -219,8 +219,7 @@ pub record NoneIfRefused (decision : Decision) : Type 0 where
 abbrev pub RefusalsMakeNone : Type 0
 RefusalsMakeNone = (s : State) (line : List ℕ) (block : Option (List ℕ)) → NoneIfRefused (decide_line s line block)
 
--- The ids that an import gives to the elements of its block have numbers of 64 bits. In a model of fewer than 2^64 - 1 ids it can
--- give no others.
+-- the ids that an import gives to the elements of its block are the first that are free, and have numbers below 2^64 - 1
 abbrev pub GivesNumbers : State → Option (List ℕ) → Command → Type 0
 GivesNumbers s block (commands.Import ws) = (meta : Meta) (w : Workspace) (rows : List DocRow) → s.meta ≡ Some meta → workspace_of s ws ≡ Some w → doc_of meta (block_text block) ≡ Ok rows
     → let m = model_of meta s.history w in AreNames m rows ws 1 rows (names_of m ws rows)

@@ -2,7 +2,7 @@
 ghost use Rattle.model_state.specs.Good.{Good};
 ghost use Rattle.state_form.specs.Spelled.{IsSpelled};
 ghost use Rattle.plain_repository.specs.Laws.{StartsInOrder, StaysInOrder, AllIsInOrder, OfModels, OfVersions, HasIds, ModelsAreDefined, VersionsAreDefined, MetamodelsHold, HistoriesAreWhole, WorkspacesStand, HistoryOnlyGrows, StatesStay, BranchesAreNamed, TagsAreNamed, TagNamesDiffer, EventsAreOfOne, SomeAreOfNone, WorkspacesStayApart, ModelsStayApart, NumbersOnlyGrow, DroppedStayDropped, RefusalsMakeNone, DecidedCouldBe, LastLinesLook, DataLinesAreApart, EventsChange, CommitsAreStale, TextsStay, MetamodelsGrow, UnsignedAreRefused, OldFormsAreRefused, UpgradesStay, NewVersionsAreSigned, SignedSinceUpgrade, OldStoresReadOn, UndoGivesBack, CommitsKeepModels, ShownByOwn, ShownApart};
-ghost use Rattle.plain_repository.specs.EffectLaws.{CheckoutsShowVersions, BeginsKeepModels, EndsKeepModels, EndsAreUndone, DiscardsGoBack, DropsTakeAway, CommitsKeepStates, BranchesKeepModels, BranchesStartAtBases, TagsNameVersions};
+ghost use Rattle.plain_repository.specs.EffectLaws.{InitsBegin, EditsLead, CheckoutsShowVersions, BeginsKeepModels, EndsKeepModels, EndsAreUndone, DiscardsGoBack, DropsTakeAway, CommitsKeepStates, BranchesKeepModels, BranchesStartAtBases, TagsNameVersions};
 ghost use Rattle.plain_repository.specs.MergeLaws.{TidyingKeepsModels, UpdatesMerge, MergesMerge, MergesCount, RevertsTakeOut};
 
 /// The law of order: all is in order in the empty repository, and each event that could be made keeps it so. The other laws are
@@ -78,11 +78,14 @@ pub fn law_of_decisions()
     ensures could { DecidedCouldBe }
 {}
 
-/// The law of effects: a checkout shows the state of its version. The beginning and the end of a composite and a new branch leave
+/// The law of effects: an Init brings the metamodel of its text and version 0 on `trunk`. An edit leads to the model that its operations
+/// lead to from the working model. A checkout shows the state of its version. The beginning and the end of a composite and a new branch leave
 /// the working model. A discard goes back to the state of the base, and one undo takes back a composite that was ended. A workspace
 /// that is dropped is gone. The working model of a workspace that is committed is the state of the new version. A new branch is
 /// found by its name, and its head is the workspace's base. The name of a new tag names its version.
 pub fn law_of_effects()
+    ensures inits { InitsBegin }
+    ensures edits { EditsLead }
     ensures checkouts { CheckoutsShowVersions }
     ensures begins { BeginsKeepModels }
     ensures ends { EndsKeepModels }

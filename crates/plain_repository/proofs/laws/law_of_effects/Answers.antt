@@ -1,5 +1,5 @@
 -- By what each event changes.
-use Rattle.plain_repository.proofs.Effects.{checkouts_show_versions, begins_keep_models, ends_keep_models, ends_are_undone, discards_go_back, drops_take_away, commits_keep_states, branches_keep_models, branches_start_at_bases, tags_name_versions}
+use Rattle.plain_repository.proofs.Effects.{inits_begin, edits_lead, checkouts_show_versions, begins_keep_models, ends_keep_models, ends_are_undone, discards_go_back, drops_take_away, commits_keep_states, branches_keep_models, branches_start_at_bases, tags_name_versions}
 use Rattle.plain_repository.proofs.laws.law_of_effects.Goals as goal
 
 pub returns-clause-checkouts : goal.returns-clause-checkouts
@@ -31,3 +31,9 @@ returns-clause-branches c = branches_start_at_bases
 
 pub returns-clause-tags : goal.returns-clause-tags
 returns-clause-tags c = tags_name_versions
+
+pub returns-clause-inits : goal.returns-clause-inits
+returns-clause-inits c = inits_begin
+
+pub returns-clause-edits : goal.returns-clause-edits
+returns-clause-edits c = edits_lead
