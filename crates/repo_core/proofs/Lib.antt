@@ -1,3 +1,4 @@
+pub mod Applied
 pub mod Chosen
 pub mod Following
 pub mod Naming

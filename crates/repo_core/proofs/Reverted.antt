@@ -1,4 +1,4 @@
--- The reversal of a version's package could be recorded where nothing later interferes with it; and a package that was tried could be.
+-- The reversal of a version's package could be recorded where nothing later interferes with it.
 use Rattle.std.proofs.Common.{◌≡◌, ◌≢◌, ℕ, true, false, List, [], ◌∷◌, length, None, Some, is_some, refl, sym, ap}
 use Rattle.std.specs.Prelude.{not, ◌&&◌}
 use Rattle.ecore_meta.specs.Meta.{Meta}
@@ -11,9 +11,6 @@ use Rattle.history_tree.specs.States.{package_at}
 use Rattle.history_tree.proofs.Greatest.{of_among}
 use Rattle.merge_plans.specs.Pairs.{first_interfering, have_pair}
 use Rattle.op_form.specs.declared.event.Event.TheVariants.{Edit}
-use Rattle.op_reading.specs.Events.{whole_of}
-use Rattle.op_reading.specs.Packages.{package_at as package_form_at}
-use Rattle.plain_repository.specs.Applying.{apply_read, decide_apply}
 use Rattle.plain_repository.specs.State.{State, Workspace, model_of, workspace_of, is_open}
 use Rattle.plain_repository.specs.Edits.{can_follow}
 use Rattle.plain_repository.specs.Events.{playable_with}
@@ -24,7 +21,7 @@ use Rattle.repo_state.proofs.Ordered.{is_there}
 use Rattle.repo_core.proofs.Playable.{takes_closed}
 
 -- operations that can follow could be recorded
-edit_by : (s : State) (meta : Meta) (ws : ℕ) (w : Workspace) (os : List Operation) → s.meta ≡ Some meta → workspace_of s ws ≡ Some w → can_follow meta s.history (Some w) os ≡ true → playable_with s s.meta (Edit ws os) ≡ true
+pub edit_by : (s : State) (meta : Meta) (ws : ℕ) (w : Workspace) (os : List Operation) → s.meta ≡ Some meta → workspace_of s ws ≡ Some w → can_follow meta s.history (Some w) os ≡ true → playable_with s s.meta (Edit ws os) ≡ true
 edit_by s meta ws w os begun there can = rw (begun, there) can
 
 pub revert_could : (s : State) (meta : Meta) (ws v : ℕ) (w : Workspace) → IsOrderly s → s.meta ≡ Some meta → workspace_of s ws ≡ Some w → is_open (Some w) ≡ false → is_among (path s.history w.base) v ≡ true
@@ -36,14 +33,3 @@ revert_could s meta ws v w orderly begun there shut on free apart (o ∷ os) is 
     let k : Orderly meta s = kept s meta t.in_state in
     let q : InOrder meta s.history w = in_order s meta w t in
     edit_by s meta ws w (o ∷ os) begun there (revert_follows meta k.metamodel.sound s.history k.whole k.versions w q (ap not shut) v (of_among (path s.history w.base) v on) free apart o os (sym is))
-
-pub applied_could : (s : State) (meta : Meta) (ws : ℕ) (w : Workspace) → s.meta ≡ Some meta → workspace_of s ws ≡ Some w → is_open (Some w) ≡ false → (os : List Operation) → is_some (fold_package meta (model_of meta s.history w) os) ≡ true → length os ≢ 0
-    → playable_with s s.meta (Edit ws os) ≡ true
-applied_could s meta ws w begun there shut [] taken some = absurd (some refl)
-applied_could s meta ws w begun there shut (o ∷ os) taken some =
-    edit_by s meta ws w (o ∷ os) begun there (λ i. takes_closed w.composite shut (o ∷ os) i && taken i)
-
--- what is answered to the bytes of a package, where no composite is open
-pub apply_goes : (s : State) (meta : Meta) (ws : ℕ) (w : Workspace) (bytes : List ℕ) → workspace_of s ws ≡ Some w → is_open (Some w) ≡ false → apply_read s meta ws w (whole_of package_form_at bytes) ≡ decide_apply s meta ws bytes
-unfolding decide_apply
-apply_goes s meta ws w bytes there closed = sym (rw (there, closed) refl)

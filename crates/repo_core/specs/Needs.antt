@@ -1,9 +1,13 @@
 -- The working model that a command needs.
-use Rattle.std.specs.Prelude.{◌≡◌, ℕ, List, Option, Some, None}
+use Rattle.std.specs.Prelude.{◌≡◌, ℕ, List, Option, Some, None, option_map}
 use Rattle.script_lang.specs.declared.command.Command.{Command}
 use Rattle.script_lang.specs.declared.command.Command.TheVariants as commands
-use Rattle.plain_repository.specs.State.{State, workspace_of}
+use Rattle.plain_repository.specs.State.{State, Workspace, model_of, workspace_of}
+use Rattle.ecore_meta.specs.Meta.{Meta}
+use Rattle.model_state.specs.Packages.{steps_all}
 use Rattle.model_state.specs.State as models
+use Rattle.model_state.specs.Steps.{first_stop}
+use Rattle.model_state.specs.declared.operation.Operation.{Operation}
 use Rattle.edits.specs.FreshIds.{fresh_id}
 use Rattle.edits.specs.declared.edit.Edit.TheVariants.{Create}
 use Rattle.repo_state.specs.Working.{IsWorkingModel}
@@ -37,3 +41,7 @@ given_id id command = command
 -- the command, in which a creation without an id has the fresh one
 abbrev pub with_id : models.State → Command → Command
 with_id m command = elim (creation_without_id command) [ Some ws ↦ given_id (fresh_id m ws) command | None ↦ command ]
+
+-- the number of the first step of the operations that can't be taken on the working model of the workspace of that number
+abbrev pub IsStop : State → ℕ → List Operation → Option ℕ → Type 0
+IsStop s ws operations found = (meta : Meta) (w : Workspace) → s.meta ≡ Some meta → workspace_of s ws ≡ Some w → found ≡ option_map (λ stop. stop.at) (first_stop meta (model_of meta s.history w) (steps_all operations))

@@ -147,18 +147,19 @@ fn decide_reading(
     alloc: Global,
     cache: &mut Cache,
     pool: &mut Pool,
-    repo: &Repo,
+    repo: &mut Repo,
     command: &Command,
     _block: &Option<Text>,
 ) -> Result<Decision, AllocError>
     requires reads { reads_version command.now ≡ true }
     requires usable { MayUse pool.old cache.old }
-    requires forms { HasForms repo.now pool.old cache.old }
-    ensures decision { IfOk result (λ d. seen d ≡ decide_command repo.now _block.now command.now) }
-    ensures made { IfOk result (λ d. CanMakeIt repo.now d.made) }
-    ensures first { OnOk result (ShownFirst repo.now repo.now.meta command.now cache.new) }
+    requires forms { HasForms repo.old pool.old cache.old }
+    ensures same { repo.new ≡ repo.old }
+    ensures decision { IfOk result (λ d. seen d ≡ decide_command repo.old _block.now command.now) }
+    ensures made { IfOk result (λ d. CanMakeIt repo.old d.made) }
+    ensures first { OnOk result (ShownFirst repo.old repo.old.meta command.now cache.new) }
     ensures uses { Uses pool.old pool.new cache.old cache.new }
-    ensures forms { HasForms repo.now pool.new cache.new }
+    ensures forms { HasForms repo.old pool.new cache.new }
 {
     let Some(begun) = repo.begun() else {
         return Ok(refuse(alloc, Refusal::NotInit));
@@ -167,7 +168,7 @@ fn decide_reading(
         Command::Checkout { spec } => decide_checkout(alloc, cache, pool, repo, begun, spec),
         Command::Cat { spec } => decide_cat(alloc, cache, pool, repo, begun, spec),
         Command::Apply { ws, bytes } => {
-            decide_apply(alloc, cache, pool, repo, begun, *ws, bytes.as_slice())
+            decide_apply(alloc, cache, pool, repo, *ws, bytes.as_slice())
         }
         _ => unreachable!(),
     }

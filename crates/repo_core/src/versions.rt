@@ -1,14 +1,12 @@
-//! The state of a version of a repository, and working models that are made anew.
+//! The state of a version of a repository.
 ghost use Rattle.std.specs.Prelude.{◌≡◌, ◌<◌, IfOk, OnOk, Some, length};
 ghost use Rattle.model_state.specs.Good.{Good};
 ghost use Rattle.history_tree.specs.States.{state_of};
 ghost use Rattle.version_states.specs.Cached.{LeavesFirst, MayUse, Uses};
-ghost use Rattle.plain_repository.specs.State.{model_of, workspace_of};
 ghost use Rattle.repo_state.specs.Cached.{HasForms};
-ghost use Rattle.repo_state.specs.Keeping.{plain_of};
 
 use page_pool::Pool;
-use repo_state::{Begun, Repo, Workspace};
+use repo_state::{Begun, Repo};
 use state_cache::Cache;
 use std::alloc::{AllocError, Global};
 use version_states::state_at;
@@ -37,29 +35,4 @@ pub(crate) fn version_state(
     repo.orderly();
     begun.meta.sound();
     state_at(alloc, cache, pool, &begun.meta, &begun.history, v)
-}
-
-/// The working model of a workspace, made anew.
-pub(crate) fn model_anew(
-    alloc: Global,
-    cache: &mut Cache,
-    pool: &mut Pool,
-    repo: &Repo,
-    begun: &Begun,
-    _ws: u32,
-    workspace: &Workspace,
-) -> Result<Working, AllocError>
-    requires meta { repo.now.meta ≡ Some begun.now.meta }
-    requires history { repo.now.history ≡ begun.now.history.history }
-    requires there { workspace_of repo.now _ws ≡ Some (plain_of workspace.now) }
-    requires usable { MayUse pool.old cache.old }
-    requires forms { HasForms repo.now pool.old cache.old }
-    ensures model { IfOk result (λ m. m ≡ model_of begun.now.meta repo.now.history (plain_of workspace.now)) }
-    ensures good { IfOk result (λ m. Good begun.now.meta m) }
-    ensures uses { Uses pool.old pool.new cache.old cache.new }
-    ensures forms { HasForms repo.now pool.new cache.new }
-{
-    repo.orderly();
-    begun.meta.sound();
-    workspace.fold_model(alloc, cache, pool, &begun.meta, &begun.history)
 }

@@ -1,18 +1,21 @@
--- Steps that are taken back.
-use Rattle.std.proofs.Common.{◌≡◌, List, Some, Result, Ok, Err, sym, ◌∙◌, ap, subst}
+-- Steps that are taken back, and copies of the steps of operations.
+use Rattle.std.proofs.Common.{◌≡◌, ℕ, suc, ◌+◌, ◌<◌, List, [], ◌∷◌, ◌++◌, length, take, take-suc, Option, Some, None, Result, Ok, Err, refl, sym, ◌∙◌, ap, subst, arith, append_assoc, append-nil}
 use Rattle.std.specs.Prelude.{OnOk}
+use Rattle.std.proofs.Math.ListN.{get_or}
 use Rattle.std.proofs.lemmas.Option.{same_Some}
 use Rattle.ecore_meta.specs.Meta.{Meta}
 use Rattle.ecore_meta.specs.Sound.{Sound}
 use Rattle.model_state.specs.Good.{Good}
-use Rattle.model_state.specs.Packages.{fold_package, rev_package}
+use Rattle.model_state.specs.Packages.{fold_package, rev_package, steps_all, steps_of}
 use Rattle.model_state.specs.State.{State}
-use Rattle.model_state.specs.Steps.{fold}
+use Rattle.model_state.specs.Steps.{first_stop, fold}
 use Rattle.model_state.specs.declared.operation.Operation.{Operation}
 use Rattle.model_state.specs.declared.step.Step.{Step}
+use Rattle.model_laws.proofs.Packages.{steps_append}
 use Rattle.model_laws.proofs.Runs.{reversal_undoes, steps_keep_good}
 use Rattle.op_form.proofs.Reversals.{packages_undone}
 use Rattle.version_states.specs.Taking.{LedTo, StepsLedTo}
+use Rattle.version_states.proofs.Stopping.{first_append}
 
 -- ---- taken back
 -- the good state from which steps led to a model is one
@@ -35,3 +38,32 @@ taken_back meta sound os rs m n led is back =
 pub all_taken_back : {T E : Type 0} (meta : Meta) → Sound meta → (os rs : List Operation) (m n : State) (r : Result T E) → LedTo meta os m → rs ≡ rev_package os → OnOk r (fold_package meta m rs ≡ Some n) → OnOk r (fold_package meta n os ≡ Some m)
 all_taken_back meta sound os rs m n (Ok x) led is back = taken_back meta sound os rs m n led is back
 all_taken_back meta sound os rs m n (Err e) led is back = tt
+
+-- the steps of one operation alone
+pub led_pushed : (meta : Meta) (ss : List Step) (m : State) (none all : List Operation) (o : Operation) → none ≡ [] → all ≡ none ++ o ∷ [] → steps_of o ≡ ss → StepsLedTo meta ss m → StepsLedTo meta (steps_all all) m
+led_pushed meta ss m none all o none_is all_are is led =
+    subst (λ (l : List Step). StepsLedTo meta l m) (sym (ap steps_all (all_are ∙ ap (λ (l : List Operation). l ++ o ∷ []) none_is) ∙ append-nil (steps_of o) ∙ is)) led
+
+-- the model is as it was once steps that were taken on it are taken back
+pub put_back : (meta : Meta) → Sound meta → (a b m : State) (ss ts : List Step) → Good meta a → Good meta b → fold meta a ss ≡ Some m → ts ≡ ss → fold meta b ts ≡ Some m → b ≡ a
+put_back meta sound a b m ss ts first second one is two = one_start meta sound b a m second first ss (subst (λ (l : List Step). fold meta b l ≡ Some m) is two) one
+
+-- ---- stops
+-- steps that can all be taken have none
+pub no_stop_in : (meta : Meta) (m n : State) (ss : List Step) → fold meta m ss ≡ Some n → first_stop meta m ss ≡ None
+no_stop_in meta m n ss run = ap (first_stop meta m) (sym (append-nil ss)) ∙ first_append meta m n ss [] run
+
+-- ---- copies
+one_more : {A : Type 0} (xs : List A) (i : ℕ) (d : A) → i < length xs → take (i + 1) xs ≡ take i xs ++ get_or xs i d ∷ []
+one_more xs i d within =
+    let next : i + 1 ≡ suc i = omega arith in
+    ap (λ n. take n xs) next ∙ take-suc xs i d within
+
+pub copied_more : {A : Type 0} (start out new xs : List A) (i : ℕ) (d x : A) → i < length xs → out ≡ start ++ take i xs → new ≡ out ++ x ∷ [] → x ≡ get_or xs i d → new ≡ start ++ take (i + 1) xs
+copied_more start out new xs i d x within so_far pushed is =
+    pushed ∙ ap (λ l. l ++ x ∷ []) so_far ∙ append_assoc start (take i xs) (x ∷ []) ∙ ap (λ l. start ++ l) (ap (λ y. take i xs ++ y ∷ []) is ∙ sym (one_more xs i d within))
+
+pub steps_more : (os : List Operation) (out new steps : List Step) (i : ℕ) (d : Operation) → i < length os → out ≡ steps_all (take i os) → new ≡ out ++ steps → steps ≡ steps_of (get_or os i d) → new ≡ steps_all (take (i + 1) os)
+steps_more os out new steps i d within so_far pushed is =
+    pushed ∙ ap (λ l. l ++ steps) so_far ∙ ap (λ l. steps_all (take i os) ++ l) (is ∙ sym (append-nil (steps_of (get_or os i d))))
+    ∙ sym (steps_append (take i os) (get_or os i d ∷ [])) ∙ ap steps_all (sym (one_more os i d within))

@@ -1,5 +1,5 @@
 //! Steps and operations taken one by one, and the state of a version.
-ghost use Rattle.std.specs.Prelude.{◌≡◌, ◌≢◌, ◌<◌, ◌^◌, All, length, is_some, option_map, true, None, Some, IfOk, OnOk, IfErr};
+ghost use Rattle.std.specs.Prelude.{◌≡◌, ◌≢◌, ◌<◌, ◌++◌, All, length, is_some, option_map, true, None, Some, IfOk, OnOk, IfErr};
 ghost use Rattle.ecore_meta.specs.Sound.{Sound};
 ghost use Rattle.model_state.specs.Faults.{IsFault};
 ghost use Rattle.model_state.specs.Good.{Good};
@@ -9,12 +9,12 @@ ghost use Rattle.history_tree.specs.States.{operations_of, state_folded, state_o
 ghost use Rattle.state_form.specs.Spelled.{IsSpelled};
 ghost use Rattle.state_cache.specs.Entries.{stands};
 ghost use Rattle.version_states.specs.Cached.{AreForms, LeavesFirst, MayUse, Uses};
-ghost use Rattle.version_states.specs.Taking.{LedTo};
+ghost use Rattle.version_states.specs.Taking.{LedTo, StepsLedTo};
 
 use crate::cached::{cached_state, keep_state, nearest};
 use ecore_meta::{List, Metamodel};
 use history_tree::History;
-use model_state::{Operation, Package, Step, StepFault};
+use model_state::{OpKind, Operation, Package, Step, StepFault};
 use op_form::reverse;
 use page_pool::Pool;
 use state_cache::Cache;
@@ -103,29 +103,74 @@ pub fn take_back(
     follow_all(model, meta, reversal.as_slice())
 }
 
-/// The number, from 0 over all operations, of the first step that can't be taken, None where each can. The steps before it are taken on the model.
+/// Puts copies of steps after those that are there.
+fn push_copies(alloc: Global, out: &mut List<Step>, steps: &[Step]) -> Result<(), AllocError>
+    ensures { OnOk result (out.new ≡ out.old ++ steps.now) }
+{
+    for step in steps {
+        out.push(step.copy(alloc)?)?;
+    }
+    Ok(())
+}
+
+/// Copies of the steps of operations, one after another.
+fn copy_steps(alloc: Global, operations: &[Operation]) -> Result<List<Step>, AllocError>
+    ensures { IfOk result (λ steps. steps ≡ steps_all operations.now) }
+{
+    let mut steps = List::new(alloc);
+    for operation in operations {
+        push_copies(alloc, &mut steps, operation.steps())?;
+    }
+    Ok(steps)
+}
+
+/// Takes back steps, which were the last taken. After an error the model is of no use.
+fn untake(
+    alloc: Global,
+    model: &mut Working,
+    meta: &Metamodel,
+    steps: List<Step>,
+) -> Result<(), AllocError>
+    requires sound { Sound meta.now }
+    requires led { StepsLedTo meta.now steps model.old }
+    ensures back { OnOk result (fold meta.now model.new steps ≡ Some model.old) }
+    ensures good { OnOk result (Good meta.now model.new) }
+{
+    // What kind of operation has the steps is nothing to a model.
+    let kind = OpKind::Attribute;
+    let mut package = List::new(alloc);
+    package.push(Operation::Simple { kind, steps })?;
+    take_back(alloc, model, meta, &package)
+}
+
+/// The number, from 0 over all operations, of the first step that can't be taken, None where each can. The model stays
+/// as it is, though the steps before it are taken and taken back. After an error it is of no use.
 pub fn stop_in(
+    alloc: Global,
     model: &mut Working,
     meta: &Metamodel,
     operations: &[Operation],
 ) -> Result<Option<u64>, AllocError>
     requires sound { Sound meta.now }
     requires good { Good meta.now model.old }
-    requires few { length (steps_all operations.now) < 2 ^ 64 }
     ensures stop { IfOk result (λ found. found ≡ option_map (λ x. x.at) (first_stop meta.now model.old (steps_all operations.now))) }
+    ensures same { OnOk result (model.new ≡ model.old) }
 {
-    let mut before = 0;
-    for operation in operations {
-        let steps = operation.steps();
-        if let Err(stop) = model.replay(meta, steps) {
-            return match stop.fault {
-                StepFault::Memory => Err(AllocError),
-                _ => Ok(Some(before + stop.at)),
-            };
+    let mut steps = copy_steps(alloc, operations)?.into_vec();
+    match model.replay(meta, steps.as_slice()) {
+        Ok(()) => {
+            untake(alloc, model, meta, List::from_vec(steps))?;
+            Ok(None)
         }
-        before += steps.len() as u64;
+        Err(stop) => match stop.fault {
+            StepFault::Memory => Err(AllocError),
+            _ => {
+                steps.truncate(stop.at as usize);
+                untake(alloc, model, meta, List::from_vec(steps))?;
+                Ok(Some(stop.at))
+            }
+        },
     }
-    Ok(None)
 }
 
 /// Takes the operations of versions, one version after another. After an error the model is of no use.

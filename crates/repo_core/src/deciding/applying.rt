@@ -1,6 +1,5 @@
 //! The commands `apply` and `revert`.
-ghost use Rattle.std.specs.Prelude.{◌≡◌, ◌≢◌, ◌<◌, ◌^◌, ℕ, IfOk, IfSome, List, Result, Some, false, length, true};
-ghost use Rattle.std.specs.Option.{option_map};
+ghost use Rattle.std.specs.Prelude.{◌≡◌, ◌≢◌, ◌<◌, ℕ, IfOk, IfSome, List, OnOk, Result, Some, false, is_some, length, true};
 ghost use Rattle.history_tree.specs.History.{path};
 ghost use Rattle.history_tree.specs.MergeBase.{is_among};
 ghost use Rattle.history_tree.specs.Since.{path_after};
@@ -12,7 +11,7 @@ ghost use Rattle.model_state.specs.Steps.{first_stop};
 ghost use Rattle.op_form.specs.declared.event.Event.TheVariants.{Edit};
 ghost use Rattle.plain_repository.specs.Applying.{applied, apply_read, decide_apply, decide_revert, taken_out, with_operations};
 ghost use Rattle.plain_repository.specs.Events.{playable_with};
-ghost use Rattle.plain_repository.specs.State.{State, is_open, model_of, workspace_of};
+ghost use Rattle.plain_repository.specs.State.{State, is_closed, is_open, model_of, workspace_of};
 ghost use Rattle.plain_repository.specs.State as plain;
 ghost use Rattle.plain_repository.specs.Answers.{refused};
 ghost use Rattle.ecore_meta.specs.Meta.{Meta};
@@ -20,11 +19,12 @@ ghost use Rattle.op_reading.specs.Given.{IsFault};
 ghost use Rattle.version_states.specs.Cached.{MayUse, Uses};
 ghost use Rattle.repo_state.specs.Cached.{HasForms};
 ghost use Rattle.repo_core.specs.Decisions.{seen, CanMakeIt};
+ghost use Rattle.repo_core.specs.Needs.{IsStop};
 ghost use Rattle.repo_state.specs.Keeping.{plain_of};
+ghost use Rattle.repo_state.specs.Working.{IsWorkingModel};
 
 use crate::deciding::answers::{Decision, refuse, refuse_or_fail, tell_lines, with_event};
 use crate::deciding::naming::unknown;
-use crate::versions::model_anew;
 use ecore_meta::List;
 use merge_plans::{copy_operations, first_interfering, have_pair, path_after};
 use model_state::Package;
@@ -36,6 +36,7 @@ use script_lang::Refusal;
 use state_cache::Cache;
 use std::alloc::{AllocError, Global};
 use version_states::stop_in;
+use working_model::Working;
 
 fn holds(versions: &[u32], version: u32) -> bool
     ensures { result ≡ is_among versions.now version }
@@ -49,19 +50,18 @@ pub(crate) fn decide_apply(
     alloc: Global,
     cache: &mut Cache,
     pool: &mut Pool,
-    repo: &Repo,
-    begun: &Begun,
+    repo: &mut Repo,
     ws: u32,
     bytes: &[u8],
 ) -> Result<Decision, AllocError>
-    requires meta { repo.now.meta ≡ Some begun.now.meta }
-    requires history { repo.now.history ≡ begun.now.history.history }
+    requires begun { is_some repo.old.meta ≡ true }
     requires usable { MayUse pool.old cache.old }
-    requires forms { HasForms repo.now pool.old cache.old }
-    ensures decision { IfOk result (λ d. seen d ≡ decide_apply repo.now begun.now.meta ws bytes.now) }
-    ensures made { IfOk result (λ d. CanMakeIt repo.now d.made) }
+    requires forms { HasForms repo.old pool.old cache.old }
+    ensures same { repo.new ≡ repo.old }
+    ensures decision { (meta : Meta) → repo.old.meta ≡ Some meta → IfOk result (λ d. seen d ≡ decide_apply repo.old meta ws bytes.now) }
+    ensures made { IfOk result (λ d. CanMakeIt repo.old d.made) }
     ensures uses { Uses pool.old pool.new cache.old cache.new }
-    ensures forms { HasForms repo.now pool.new cache.new }
+    ensures forms { HasForms repo.old pool.new cache.new }
 {
     let Some(workspace) = repo.workspace(ws) else {
         return Ok(refuse(alloc, Refusal::NoWorkspace));
@@ -70,7 +70,7 @@ pub(crate) fn decide_apply(
         return Ok(refuse(alloc, Refusal::CompositeOpen));
     }
     match decode(alloc, bytes) {
-        Ok(package) => apply_package(alloc, cache, pool, repo, begun, ws, workspace, package),
+        Ok(package) => apply_package(alloc, cache, pool, repo, ws, package),
         Err(fault) => refuse_or_fail(alloc, unread(fault)),
     }
 }
@@ -90,55 +90,71 @@ fn apply_package(
     alloc: Global,
     cache: &mut Cache,
     pool: &mut Pool,
-    repo: &Repo,
-    begun: &Begun,
+    repo: &mut Repo,
     ws: u32,
-    workspace: &Workspace,
     package: Package,
 ) -> Result<Decision, AllocError>
-    requires meta { repo.now.meta ≡ Some begun.now.meta }
-    requires history { repo.now.history ≡ begun.now.history.history }
-    requires there { workspace_of repo.now ws ≡ Some (plain_of workspace.now) }
-    requires closed { is_open (Some (plain_of workspace.now)) ≡ false }
-    requires few { length (steps_all «package») < 2 ^ 64 }
+    requires begun { is_some repo.old.meta ≡ true }
+    requires closed { is_closed (workspace_of repo.old ws) ≡ true }
     requires usable { MayUse pool.old cache.old }
-    requires forms { HasForms repo.now pool.old cache.old }
-    ensures decision { IfOk result (λ d. seen d ≡ applied repo.now ws «package» (first_stop begun.now.meta (model_of begun.now.meta repo.now.history (plain_of workspace.now)) (steps_all «package»))) }
-    ensures made { IfOk result (λ d. CanMakeIt repo.now d.made) }
+    requires forms { HasForms repo.old pool.old cache.old }
+    ensures same { repo.new ≡ repo.old }
+    ensures decision { (meta : Meta) (w : plain.Workspace) → repo.old.meta ≡ Some meta → workspace_of repo.old ws ≡ Some w → IfOk result (λ d. seen d ≡ applied repo.old ws «package» (first_stop meta (model_of meta repo.old.history w) (steps_all «package»))) }
+    ensures made { IfOk result (λ d. CanMakeIt repo.old d.made) }
     ensures uses { Uses pool.old pool.new cache.old cache.new }
-    ensures forms { HasForms repo.now pool.new cache.new }
+    ensures forms { HasForms repo.old pool.new cache.new }
 {
-    match stop_of(alloc, cache, pool, repo, begun, ws, workspace, &package) {
+    match stop_of(alloc, cache, pool, repo, ws, &package) {
         Ok(None) => with_operations(alloc, repo, ws, package),
         Ok(Some(step)) => Ok(refuse(alloc, Refusal::NotApplicable { step })),
         Err(fault) => Err(fault),
     }
 }
 
-/// The number of the first step of a package that can't be taken on a workspace.
+/// The number of the first step of a package that can't be taken on a workspace, whose working model is kept.
+#[tactic(auto, using(version_states::proofs::Caching::uses_none))]
 fn stop_of(
     alloc: Global,
     cache: &mut Cache,
     pool: &mut Pool,
-    repo: &Repo,
-    begun: &Begun,
+    repo: &mut Repo,
     ws: u32,
-    workspace: &Workspace,
     package: &Package,
 ) -> Result<Option<u64>, AllocError>
-    requires meta { repo.now.meta ≡ Some begun.now.meta }
-    requires history { repo.now.history ≡ begun.now.history.history }
-    requires there { workspace_of repo.now ws ≡ Some (plain_of workspace.now) }
-    requires few { length (steps_all «package».now) < 2 ^ 64 }
+    requires begun { is_some repo.old.meta ≡ true }
+    requires there { is_some (workspace_of repo.old ws) ≡ true }
     requires usable { MayUse pool.old cache.old }
-    requires forms { HasForms repo.now pool.old cache.old }
-    ensures stop { IfOk result (λ found. found ≡ option_map (λ x. x.at) (first_stop begun.now.meta (model_of begun.now.meta repo.now.history (plain_of workspace.now)) (steps_all «package».now))) }
+    requires forms { HasForms repo.old pool.old cache.old }
+    ensures same { repo.new ≡ repo.old }
+    ensures stop { IfOk result (λ found. IsStop repo.old ws «package».now found) }
     ensures uses { Uses pool.old pool.new cache.old cache.new }
-    ensures forms { HasForms repo.now pool.new cache.new }
+    ensures forms { HasForms repo.old pool.new cache.new }
 {
+    let mut model = repo.take_model(alloc, cache, pool, ws)?;
+    let stop = stop_on(alloc, repo, ws, &mut model, package)?;
+    repo.keep_model(ws, model);
+    Ok(stop)
+}
+
+/// The same, on that model, which stays as it is. After an error it is of no use.
+fn stop_on(
+    alloc: Global,
+    repo: &Repo,
+    _ws: u32,
+    model: &mut Working,
+    package: &Package,
+) -> Result<Option<u64>, AllocError>
+    requires begun { is_some repo.now.meta ≡ true }
+    requires there { is_some (workspace_of repo.now _ws) ≡ true }
+    requires model { IsWorkingModel repo.now _ws model.old }
+    ensures same { OnOk result (model.new ≡ model.old) }
+    ensures stop { IfOk result (λ found. IsStop repo.now _ws «package».now found) }
+{
+    let Some(begun) = repo.begun() else {
+        unreachable!()
+    };
     begun.meta.sound();
-    let mut model = model_anew(alloc, cache, pool, repo, begun, ws, workspace)?;
-    stop_in(&mut model, &begun.meta, package.as_slice())
+    stop_in(alloc, model, &begun.meta, package.as_slice())
 }
 
 /// Makes an event of operations that are recorded; where there is none, nothing changes.

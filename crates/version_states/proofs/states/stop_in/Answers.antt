@@ -1,43 +1,47 @@
-use Rattle.std.proofs.Common.{◌≡◌, ◌+◌, List, Option, Some, drop, length, ⊎_elim, ◌∙◌, ap, sym, subst, arith}
+use Rattle.std.proofs.Common.{◌≡◌, List, Option, Some, take, ⊎_elim, ◌∙◌, ap, sym, subst}
 use Rattle.std.specs.Prelude.{option_map}
 use Rattle.model_state.specs.declared.step.ApplyFault.{ApplyFault}
 use Rattle.model_state.specs.declared.step.Step.{Step}
-use Rattle.model_state.specs.Packages.{steps_all, steps_of}
-use Rattle.model_state.specs.Steps.{first_stop, fold, further_on}
-use Rattle.version_states.proofs.Stopping.{stop_fits, stop_here, stop_on, total_on}
+use Rattle.model_state.specs.Steps.{first_stop, fold}
+use Rattle.version_states.proofs.Taking.{no_stop_in, put_back}
 use Rattle.version_states.proofs.states.stop_in.Goals as goal
 
-pub overflow_add-result : goal.overflow_add-result
-overflow_add-result c =
-    let meta = c.args.meta.now in
-    let m = c.loop-operation.model in
-    let at = ⊎_elim (λ memory. absurd (c.in_default-fault.not-Memory memory)) (λ at. at) c.in-Err.ensures.cannot in
-    let fits = stop_fits meta m c.args.operations.now c.loop-operation.operation-index c.loop-operation.before c.operation-item.result c.in-Err.stop c.loop-operation-test.true c.loop-operation.invariant.total c.requires.few
-    (subst (λ (l : List Step). first_stop meta m l ≡ Some c.in-Err.stop) (c.steps-steps.ensures ∙ ap steps_of c.operation-item.is) at) in
-    omega (arith, fits)
+pub untake-requires-clause-led : goal.untake-requires-clause-led
+untake-requires-clause-led c = record {
+  before = c.args.model.now;
+  good = c.requires.good;
+  run = subst (λ (l : List Step). fold c.args.meta.now c.args.model.now l ≡ Some c.replay.new.self) (c.as_slice.ensures.value ∙ sym c.from_vec.ensures) c.in-Ok.ensures.done;
+}
 
-pub returns-in_default-fault : goal.returns-in_default-fault
-returns-in_default-fault c =
-    let meta = c.args.meta.now in
-    let m = c.loop-operation.model in
-    let at = ⊎_elim (λ memory. absurd (c.in_default-fault.not-Memory memory)) (λ at. at) c.in-Err.ensures.cannot in
-    let here = stop_here meta m c.args.operations.now c.loop-operation.operation-index c.loop-operation.before c.operation-item.result c.in-Err.stop c.loop-operation-test.true
-    (subst (λ (l : List Step). first_stop meta m l ≡ Some c.in-Err.stop) (c.steps-steps.ensures ∙ ap steps_of c.operation-item.is) at) in
-    record { stop = sym (ap (λ (o : Option ApplyFault). option_map (λ (x : ApplyFault). x.at) o) (sym c.loop-operation.invariant.stops ∙ here)) }
+pub untake-requires-in_default : goal.untake-requires-in_default
+untake-requires-in_default c = record {
+  sound = c.requires.sound;
+  led = record {
+    before = c.args.model.now;
+    good = c.requires.good;
+    run = subst (λ (l : List Step). fold c.args.meta.now c.args.model.now l ≡ Some c.replay.new.self)
+        (ap (take c.in-Err.stop.at) c.as_slice.ensures.value ∙ sym (c.from_vec-in_default.ensures ∙ c.truncate.ensures.items)) c.in-Err.ensures.taken;
+  };
+}
 
-pub loop-operation-preserved : goal.loop-operation-preserved
-loop-operation-preserved c =
-    let meta = c.args.meta.now in
-    let os = c.args.operations.now in
-    let i = c.loop-operation.operation-index in
-    let before = c.loop-operation.before in
-    let m = c.loop-operation.model in
-    let n = c.replay.new.self in
-    let same = c.steps-steps.ensures ∙ ap steps_of c.operation-item.is in
+pub returns-in_ok-untake-in-Ok-clause-stop : goal.returns-in_ok-untake-in-Ok-clause-stop
+returns-in_ok-untake-in-Ok-clause-stop c =
+    let same = c.as_slice.ensures.value ∙ c.into_vec-steps.ensures ∙ c.in_ok-copy_steps.ensures in
+    sym (ap (λ (o : Option ApplyFault). option_map (λ (x : ApplyFault). x.at) o)
+    (ap (first_stop c.args.meta.now c.args.model.now) (sym same) ∙ no_stop_in c.args.meta.now c.args.model.now c.replay.new.self c.as_slice.result.now c.in-Ok.ensures.done))
+
+pub returns-in_ok-untake-in-Ok-clause-same : goal.returns-in_ok-untake-in-Ok-clause-same
+returns-in_ok-untake-in-Ok-clause-same c =
+    put_back c.args.meta.now c.requires.sound c.args.model.now c.untake.new.model c.replay.new.self c.as_slice.result.now c.from_vec.result c.requires.good c.in_ok-untake-in-Ok.ensures.good c.in-Ok.ensures.done (c.from_vec.ensures ∙ sym c.as_slice.ensures.value)
+    c.in_ok-untake-in-Ok.ensures.back
+
+pub returns-in_ok-untake-in_default : goal.returns-in_ok-untake-in_default
+returns-in_ok-untake-in_default c =
+    let same = c.as_slice.ensures.value ∙ c.into_vec-steps.ensures ∙ c.in_ok-copy_steps.ensures in
+    let at = ⊎_elim (λ memory. absurd (c.in_default.not-Memory memory)) (λ at. at) c.in-Err.ensures.cannot in
+    let steps = take c.in-Err.stop.at c.as_slice.result.now in
+    let left = c.from_vec-in_default.ensures ∙ c.truncate.ensures.items ∙ ap (take c.in-Err.stop.at) (sym c.as_slice.ensures.value) in
     record {
-      good = c.replay.ensures.good;
-      total = omega (arith, total_on os i c.operation-item.result c.loop-operation-test.true, ap (λ (l : List Step). length l) same, c.loop-operation.invariant.total);
-      stops = ap (λ (l : List Step). further_on (before + length l) (first_stop meta n (steps_all (drop (i + 1) os)))) same
-          ∙ stop_on meta m n os i before c.operation-item.result c.loop-operation-test.true (subst (λ (l : List Step). fold meta m l ≡ Some n) same c.in_default.ensures.done)
-          ∙ c.loop-operation.invariant.stops;
+      stop = sym (ap (λ (o : Option ApplyFault). option_map (λ (x : ApplyFault). x.at) o) (ap (first_stop c.args.meta.now c.args.model.now) (sym same) ∙ at));
+      same = put_back c.args.meta.now c.requires.sound c.args.model.now c.untake-in_default.new.model c.replay.new.self steps c.from_vec-in_default.result c.requires.good c.in_ok-untake-in_default.ensures.good c.in-Err.ensures.taken left c.in_ok-untake-in_default.ensures.back;
     }

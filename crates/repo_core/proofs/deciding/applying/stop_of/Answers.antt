@@ -1,17 +1,17 @@
-use Rattle.std.proofs.Common.{◌≡◌, ◌<◌, ◌^◌, List, length, sym, subst}
-use Rattle.std.specs.Option.{option_map}
-use Rattle.std.specs.Prelude.{IfOk}
+use Rattle.std.proofs.Common.{sym, subst}
+use Rattle.plain_repository.specs.State.{State}
+use Rattle.repo_core.specs.Needs.{IsStop}
+use Rattle.repo_state.specs.Working.{IsWorkingModel}
 use Rattle.model_state.specs.State as models
-use Rattle.model_state.specs.Packages.{steps_all}
-use Rattle.model_state.specs.Steps.{first_stop}
-use Rattle.model_state.specs.declared.operation.Operation.{Operation}
 use Rattle.repo_core.proofs.deciding.applying.stop_of.Goals as goal
 
-pub stop_in-requires-clause-few : goal.stop_in-requires-clause-few
-stop_in-requires-clause-few c = subst (λ (os : List Operation). length (steps_all os) < 2 ^ 64) (sym c.as_slice.ensures) c.requires.few
+pub stop_on-requires-clause-model : goal.stop_on-requires-clause-model
+stop_on-requires-clause-model c = subst (λ (s : State). IsWorkingModel s c.args.ws c.in_ok-model.model) (sym c.take_model.ensures.same) c.in_ok-model.ensures.model
+
+pub keep_model-requires-clause-model : goal.keep_model-requires-clause-model
+keep_model-requires-clause-model c =
+    subst (λ (m : models.State). IsWorkingModel c.take_model.new.self c.args.ws m) (sym c.in_ok-stop.ensures.same)
+    (subst (λ (s : State). IsWorkingModel s c.args.ws c.in_ok-model.model) (sym c.take_model.ensures.same) c.in_ok-model.ensures.model)
 
 pub returns-clause-stop : goal.returns-clause-stop
-returns-clause-stop c =
-    let meta = c.args.begun.now.meta in
-    subst (λ (m : models.State). IfOk c.stop_in.result (λ found. found ≡ option_map (λ x. x.at) (first_stop meta m (steps_all c.args.«package».now)))) c.in_ok-model.ensures.model
-    (subst (λ (os : List Operation). IfOk c.stop_in.result (λ found. found ≡ option_map (λ x. x.at) (first_stop meta c.in_ok-model.model (steps_all os)))) c.as_slice.ensures c.stop_in.ensures.stop)
+returns-clause-stop c = subst (λ (s : State). IsStop s c.args.ws c.args.«package».now c.in_ok-stop.stop) c.take_model.ensures.same c.in_ok-stop.ensures.stop
