@@ -16,6 +16,6 @@ invariant_of-self c =
       c.self.invariant.0,
       evolve_fit c.self.inside.begun begun c.self.inside.workspaces.items c.self.inside.events c.self.inside.end s c.self.view_is c.in-Some.is orderly c.self.invariant.1 text meta c.in_ok-meta.ensures.could c.in_ok-meta.ensures.grown,
       effect_orderly s _ begun.meta (Evolve text) is_begun c.in_ok-meta.ensures.could c.requires.spelled orderly
-      (evolve_done c.self.inside.begun begun c.self.inside.workspaces.items c.self.inside.events c.self.inside.end s c.self.view_is c.in-Some.is orderly c.self.invariant.1 text meta c.in_ok-meta.ensures.grown),
+          (evolve_done c.self.inside.begun begun c.self.inside.workspaces.items c.self.inside.events c.self.inside.end s c.self.view_is c.in-Some.is orderly c.self.invariant.1 text meta c.in_ok-meta.ensures.grown),
       c.self.invariant.3,
     )
