@@ -16,11 +16,12 @@ use Rattle.script_lang.specs.declared.reply.Refusal.TheVariants as refusals
 use Rattle.version_states.proofs.Stopping.{none_stops}
 use Rattle.plain_repository.specs.Answers.{refused}
 use Rattle.plain_repository.specs.Applying.{applied, apply_read, decide_apply, with_operations}
+use Rattle.plain_repository.specs.Edits.{takes}
 use Rattle.plain_repository.specs.Events.{playable_with}
 use Rattle.plain_repository.specs.State.{State, Workspace, is_closed, is_open, model_of, workspace_of}
 use Rattle.plain_repository.proofs.Runs.{not_open}
 use Rattle.repo_state.specs.Working.{IsWorkingModel}
-use Rattle.repo_core.specs.Needs.{IsStop}
+use Rattle.repo_core.specs.Needs.{IsStop, takes_in}
 use Rattle.repo_core.proofs.Playable.{takes_closed}
 use Rattle.repo_core.proofs.Reverted.{edit_by}
 
@@ -63,23 +64,27 @@ unfolding decide_apply
 apply_goes s meta ws w bytes there closed = sym (rw (there, closed) refl)
 
 -- ---- a package that can be taken could be recorded
-applied_could : (s : State) (meta : Meta) (ws : ℕ) (w : Workspace) → s.meta ≡ Some meta → workspace_of s ws ≡ Some w → is_open (Some w) ≡ false → (os : List Operation) → is_some (fold_package meta (model_of meta s.history w) os) ≡ true → length os ≢ 0
+applied_could : (s : State) (meta : Meta) (ws : ℕ) (w : Workspace) → s.meta ≡ Some meta → workspace_of s ws ≡ Some w → (os : List Operation) → takes w.composite os ≡ true → is_some (fold_package meta (model_of meta s.history w) os) ≡ true → length os ≢ 0
     → playable_with s s.meta (Edit ws os) ≡ true
-applied_could s meta ws w begun there shut [] taken some = absurd (some refl)
-applied_could s meta ws w begun there shut (o ∷ os) taken some =
-    edit_by s meta ws w (o ∷ os) begun there (λ i. takes_closed w.composite shut (o ∷ os) i && taken i)
+applied_could s meta ws w begun there [] fits taken some = absurd (some refl)
+applied_could s meta ws w begun there (o ∷ os) fits taken some = edit_by s meta ws w (o ∷ os) begun there (λ i. fits i && taken i)
 
-could_by : (s : State) (ws : ℕ) (os : List Operation) (m : Option Meta) (o : Option Workspace) → s.meta ≡ m → workspace_of s ws ≡ o → is_some m ≡ true → is_closed o ≡ true → IsStop s ws os None → length os ≢ 0 → playable_with s s.meta (Edit ws os) ≡ true
-could_by s ws os None o begun there some closed stop many = absurd cc
-could_by s ws os (Some meta) None begun there some closed stop many = absurd cc
-could_by s ws os (Some meta) (Some w) begun there some closed stop many =
-    applied_could s meta ws w begun there (not_open w.composite closed) os (none_stops meta (model_of meta s.history w) os (stop meta w begun there)) many
+could_by : (s : State) (ws : ℕ) (os : List Operation) (m : Option Meta) (o : Option Workspace) → s.meta ≡ m → workspace_of s ws ≡ o → is_some m ≡ true → takes_in o os ≡ true → IsStop s ws os None → length os ≢ 0 → playable_with s s.meta (Edit ws os) ≡ true
+could_by s ws os None o begun there some fits stop many = absurd cc
+could_by s ws os (Some meta) None begun there some fits stop many = absurd cc
+could_by s ws os (Some meta) (Some w) begun there some fits stop many =
+    applied_could s meta ws w begun there os fits (none_stops meta (model_of meta s.history w) os (stop meta w begun there)) many
 
-pub could_apply : (s t : State) (ws : ℕ) (os : List Operation) → t ≡ s → is_some s.meta ≡ true → is_closed (workspace_of s ws) ≡ true → IsStop s ws os None → length os ≢ 0 → playable_with t t.meta (Edit ws os) ≡ true
-could_apply s t ws os same some closed stop many =
-    subst (λ (x : State). playable_with x x.meta (Edit ws os) ≡ true) (sym same) (could_by s ws os s.meta (workspace_of s ws) refl refl some closed stop many)
+pub could_apply : (s t : State) (ws : ℕ) (os : List Operation) → t ≡ s → is_some s.meta ≡ true → takes_in (workspace_of s ws) os ≡ true → IsStop s ws os None → length os ≢ 0 → playable_with t t.meta (Edit ws os) ≡ true
+could_apply s t ws os same some fits stop many =
+    subst (λ (x : State). playable_with x x.meta (Edit ws os) ≡ true) (sym same) (could_by s ws os s.meta (workspace_of s ws) refl refl some fits stop many)
 
--- a workspace in which no composite is open is there
-pub closed_there : (o : Option Workspace) → is_closed o ≡ true → is_some o ≡ true
-closed_there None closed = absurd cc
-closed_there (Some w) closed = refl
+-- a workspace that takes operations is there
+pub taken_there : (o : Option Workspace) (os : List Operation) → takes_in o os ≡ true → is_some o ≡ true
+taken_there None os fits = absurd cc
+taken_there (Some w) os fits = refl
+
+-- one in which no composite is open takes any
+pub closed_takes : (o : Option Workspace) (os : List Operation) → is_closed o ≡ true → takes_in o os ≡ true
+closed_takes None os closed = absurd cc
+closed_takes (Some w) os closed = takes_closed w.composite (not_open w.composite closed) os

@@ -1,6 +1,7 @@
 pub mod Applied
 pub mod Chosen
 pub mod Following
+pub mod Loaded
 pub mod Naming
 pub mod Needed
 pub mod Playable

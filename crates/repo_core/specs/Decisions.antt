@@ -1,6 +1,8 @@
 -- A decision of the repository in memory, beside the plain repository's.
-use Rattle.std.specs.Prelude.{◌≡◌, ℕ, ◌<◌, ◌-◌, ◌^◌, List, length, Option, Some, None, IfSome, IsTrue}
+use Rattle.std.specs.Prelude.{◌≡◌, true, ℕ, ◌<◌, ◌-◌, ◌^◌, List, length, Option, Some, None, IfSome, IsTrue}
 use Rattle.commit_journal.specs.Journal.{RecordFits}
+use Rattle.history_tree.specs.declared.version.Signature.{Signature}
+use Rattle.model_state.specs.Names.{is_name}
 use Rattle.op_form.specs.declared.event.Event.{Event}
 use Rattle.op_form.specs.Events.{event_encoding}
 use Rattle.plain_repository.specs.State.{State}
@@ -28,6 +30,10 @@ pub record CanMake (state : State) (made : Made) : Type 0 where
 abbrev pub CanMakeIt : State → Option Made → Type 0
 CanMakeIt state None = Unit {0}
 CanMakeIt state (Some made) = CanMake state made
+
+-- the author of a signature, where there is one, has the form of a name
+abbrev pub IsAuthor : Option Signature → Type 0
+IsAuthor signature = IfSome signature (λ x. is_name x.author ≡ true)
 
 -- the text of a block is short enough for a metamodel to be read from it
 abbrev pub IsShortBlock : Option (List ℕ) → Type 0

@@ -1,8 +1,9 @@
 -- The working model that a command needs.
-use Rattle.std.specs.Prelude.{◌≡◌, ℕ, List, Option, Some, None, option_map}
+use Rattle.std.specs.Prelude.{◌≡◌, ℕ, Bool, false, List, Option, Some, None, option_map}
 use Rattle.script_lang.specs.declared.command.Command.{Command}
 use Rattle.script_lang.specs.declared.command.Command.TheVariants as commands
 use Rattle.plain_repository.specs.State.{State, Workspace, model_of, workspace_of}
+use Rattle.plain_repository.specs.Edits.{takes}
 use Rattle.ecore_meta.specs.Meta.{Meta}
 use Rattle.model_state.specs.Packages.{steps_all}
 use Rattle.model_state.specs.State as models
@@ -45,3 +46,8 @@ with_id m command = elim (creation_without_id command) [ Some ws ↦ given_id (f
 -- the number of the first step of the operations that can't be taken on the working model of the workspace of that number
 abbrev pub IsStop : State → ℕ → List Operation → Option ℕ → Type 0
 IsStop s ws operations found = (meta : Meta) (w : Workspace) → s.meta ≡ Some meta → workspace_of s ws ≡ Some w → found ≡ option_map (λ stop. stop.at) (first_stop meta (model_of meta s.history w) (steps_all operations))
+
+-- the workspace is there, and takes the operations: while a composite is open it takes one
+abbrev pub takes_in : Option Workspace → List Operation → Bool
+takes_in None operations = false
+takes_in (Some w) operations = takes w.composite operations

@@ -16,6 +16,7 @@ abbrev pub reads_version : Command → Bool
 reads_version (commands.Checkout spec) = true
 reads_version (commands.Cat spec) = true
 reads_version (commands.Apply ws bytes) = true
+reads_version (commands.Load ws) = true
 reads_version command = false
 
 -- where a version was found, its entry stands first, if its state has not too many bytes

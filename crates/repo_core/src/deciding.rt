@@ -16,6 +16,7 @@ mod checkouts;
 mod choosing;
 mod commits;
 mod composites;
+mod loading;
 mod local;
 mod merging;
 mod metamodels;
@@ -29,12 +30,13 @@ use answers::refuse;
 pub use answers::{Decision, Made};
 use applying::{decide_apply, decide_revert};
 use checkouts::{decide_checkout, decide_drop};
-use commits::{decide_branch, decide_commit, decide_tag};
+use commits::{decide_branch, decide_commit, decide_signed, decide_tag, decide_upgrade};
 use composites::{decide_begin, decide_end};
 use ecore_meta::Text;
+use loading::decide_load;
 use local::{decide_discard, decide_undo};
 use merging::{decide_merge, decide_update};
-use metamodels::decide_init;
+use metamodels::{decide_evolve, decide_init};
 use model_graph::Graph;
 use models::{name_creation, reads_version, wanted};
 use page_pool::Pool;
@@ -149,13 +151,14 @@ fn decide_reading(
     pool: &mut Pool,
     repo: &mut Repo,
     command: &Command,
-    _block: &Option<Text>,
+    block: &Option<Text>,
 ) -> Result<Decision, AllocError>
     requires reads { reads_version command.now ≡ true }
+    requires block { IsShortBlock block.now }
     requires usable { MayUse pool.old cache.old }
     requires forms { HasForms repo.old pool.old cache.old }
     ensures same { repo.new ≡ repo.old }
-    ensures decision { IfOk result (λ d. seen d ≡ decide_command repo.old _block.now command.now) }
+    ensures decision { IfOk result (λ d. seen d ≡ decide_command repo.old block.now command.now) }
     ensures made { IfOk result (λ d. CanMakeIt repo.old d.made) }
     ensures first { OnOk result (ShownFirst repo.old repo.old.meta command.now cache.new) }
     ensures uses { Uses pool.old pool.new cache.old cache.new }
@@ -170,6 +173,7 @@ fn decide_reading(
         Command::Apply { ws, bytes } => {
             decide_apply(alloc, cache, pool, repo, *ws, bytes.as_slice())
         }
+        Command::Load { ws } => { decide_load(alloc, cache, pool, repo, *ws, block_text(block)) }
         _ => unreachable!(),
     }
 }
@@ -199,6 +203,7 @@ fn decide_on(
     };
     match command {
         Command::Init => Ok(refuse(alloc, Refusal::AlreadyInit)),
+        Command::Evolve => decide_evolve(alloc, repo, begun, block_text(block)),
         Command::Edit { ws, edit } => decide_edit(alloc, repo, begun, *ws, edit, model),
         Command::Import { ws } => {
             decide_import(alloc, repo, begun, *ws, block_text(block), model)
@@ -212,6 +217,12 @@ fn decide_on(
         Command::Show { ws } => decide_show(alloc, repo, begun, *ws, model),
         Command::Validate { ws } => decide_validate(alloc, repo, begun, *ws, model),
         Command::Commit { ws, message } => decide_commit(alloc, repo, begun, *ws, message),
+        Command::Signed {
+            ws,
+            author,
+            moment,
+            message,
+        } => decide_signed(alloc, repo, begun, *ws, author, *moment, message),
         Command::Branch { ws, name } => decide_branch(alloc, repo, begun, *ws, name),
         Command::Tag { name, spec } => decide_tag(alloc, repo, begun, name, spec),
         Command::Log => decide_log(alloc, repo, begun),
@@ -224,6 +235,10 @@ fn decide_on(
         } => decide_merge(alloc, repo, begun, *ws, branch, choices),
         Command::Revert { ws, version } => decide_revert(alloc, repo, begun, *ws, *version),
         Command::Drop { ws } => decide_drop(alloc, repo, *ws),
-        Command::Checkout { .. } | Command::Cat { .. } | Command::Apply { .. } => { unreachable!() }
+        Command::Upgrade => decide_upgrade(alloc, repo),
+        Command::Checkout { .. }
+        | Command::Cat { .. }
+        | Command::Apply { .. }
+        | Command::Load { .. } => unreachable!(),
     }
 }

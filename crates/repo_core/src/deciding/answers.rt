@@ -4,7 +4,7 @@ ghost use Rattle.std.specs.Fmt.{decimal};
 ghost use Rattle.plain_repository.specs.State.{State};
 ghost use Rattle.plain_repository.specs.Answers as plain;
 ghost use Rattle.plain_repository.specs.Answers.{accepted, refused, refused_with, told, with_room};
-ghost use Rattle.plain_repository.specs.Events.{playable_with};
+ghost use Rattle.plain_repository.specs.Events.{playable_with, suits};
 ghost use Rattle.repo_core.specs.Decisions.{seen, CanMake, CanMakeIt};
 
 use commit_journal::{Fit, fits};
@@ -121,6 +121,7 @@ pub(crate) fn number_words(alloc: Global, n: u64) -> Result<Text, AllocError>
 #[tactic(auto, unfolding(plain_repository::specs::Answers::with_room, plain_repository::specs::Events::playable))]
 fn form_of(alloc: Global, repo: &Repo, event: &Event) -> Result<Vec<u8>, Option<Refusal>>
     requires could { playable_with repo.now repo.now.meta event.now ≡ true }
+    requires suits { suits repo.now.upgraded event.now ≡ true }
     ensures accepted { IfOk result (λ form. (lines : List (List ℕ)) (words : List ℕ) → accepted lines words event.now ≡ with_room repo.now lines words event.now) }
     ensures made { IfOk result (λ form. CanMake repo.now (record { event = event.now; form = form })) }
     ensures refused { IfErr result (λ fault. (lines : List (List ℕ)) (words : List ℕ) → IfSome fault (λ refusal. refused refusal ≡ with_room repo.now lines words event.now)) }
@@ -152,6 +153,7 @@ pub(crate) fn with_room(
     event: Event,
 ) -> Result<Decision, AllocError>
     requires could { playable_with repo.now repo.now.meta event ≡ true }
+    requires suits { suits repo.now.upgraded event ≡ true }
     ensures decision { IfOk result (λ d. seen d ≡ with_room repo.now lines words event) }
     ensures made { IfOk result (λ d. CanMakeIt repo.now d.made) }
 {
@@ -170,6 +172,7 @@ pub(crate) fn with_words(
     event: Event,
 ) -> Result<Decision, AllocError>
     requires could { playable_with repo.now repo.now.meta event ≡ true }
+    requires suits { suits repo.now.upgraded event ≡ true }
     ensures decision { (x : List ℕ) → IfOk words (λ w. w ≡ x) → IfOk result (λ d. seen d ≡ with_room repo.now lines x event) }
     ensures made { IfOk result (λ d. CanMakeIt repo.now d.made) }
 {
@@ -182,6 +185,7 @@ pub(crate) fn with_words(
 /// Makes an event that is answered without data lines and words.
 pub(crate) fn with_event(alloc: Global, repo: &Repo, event: Event) -> Result<Decision, AllocError>
     requires could { playable_with repo.now repo.now.meta event ≡ true }
+    requires suits { suits repo.now.upgraded event ≡ true }
     ensures decision { IfOk result (λ d. seen d ≡ with_room repo.now [] [] event) }
     ensures made { IfOk result (λ d. CanMakeIt repo.now d.made) }
 {
@@ -197,6 +201,7 @@ pub(crate) fn with_number(
     event: Event,
 ) -> Result<Decision, AllocError>
     requires could { playable_with repo.now repo.now.meta event ≡ true }
+    requires suits { suits repo.now.upgraded event ≡ true }
     ensures decision { IfOk result (λ d. seen d ≡ with_room repo.now [] (decimal n) event) }
     ensures made { IfOk result (λ d. CanMakeIt repo.now d.made) }
 {

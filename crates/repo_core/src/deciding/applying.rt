@@ -9,9 +9,9 @@ ghost use Rattle.model_state.specs.Packages.{steps_all};
 ghost use Rattle.model_state.specs.declared.operation.Operation.{Operation};
 ghost use Rattle.model_state.specs.Steps.{first_stop};
 ghost use Rattle.op_form.specs.declared.event.Event.TheVariants.{Edit};
-ghost use Rattle.plain_repository.specs.Applying.{applied, apply_read, decide_apply, decide_revert, taken_out, with_operations};
+ghost use Rattle.plain_repository.specs.Applying.{applied, apply_read, load_read, decide_apply, decide_revert, taken_out, with_operations};
 ghost use Rattle.plain_repository.specs.Events.{playable_with};
-ghost use Rattle.plain_repository.specs.State.{State, is_closed, is_open, model_of, workspace_of};
+ghost use Rattle.plain_repository.specs.State.{State, is_open, model_of, workspace_of};
 ghost use Rattle.plain_repository.specs.State as plain;
 ghost use Rattle.plain_repository.specs.Answers.{refused};
 ghost use Rattle.ecore_meta.specs.Meta.{Meta};
@@ -19,7 +19,7 @@ ghost use Rattle.op_reading.specs.Given.{IsFault};
 ghost use Rattle.version_states.specs.Cached.{MayUse, Uses};
 ghost use Rattle.repo_state.specs.Cached.{HasForms};
 ghost use Rattle.repo_core.specs.Decisions.{seen, CanMakeIt};
-ghost use Rattle.repo_core.specs.Needs.{IsStop};
+ghost use Rattle.repo_core.specs.Needs.{IsStop, takes_in};
 ghost use Rattle.repo_state.specs.Keeping.{plain_of};
 ghost use Rattle.repo_state.specs.Working.{IsWorkingModel};
 
@@ -76,8 +76,9 @@ pub(crate) fn decide_apply(
 }
 
 /// The refusal of bytes that are no package; out of memory is none.
-fn unread(fault: FormFault) -> Option<Refusal>
-    ensures { (read : Result (List Operation) FormFault) (s : State) (meta : Meta) (ws : ℕ) (w : plain.Workspace) → IsFault fault read → IfSome result (λ refusal. refused refusal ≡ apply_read s meta ws w read) }
+pub(crate) fn unread(fault: FormFault) -> Option<Refusal>
+    ensures applied { (read : Result (List Operation) FormFault) (s : State) (meta : Meta) (ws : ℕ) (w : plain.Workspace) → IsFault fault read → IfSome result (λ refusal. refused refusal ≡ apply_read s meta ws w read) }
+    ensures loaded { (read : Result (List Operation) FormFault) (s : State) (meta : Meta) (ws : ℕ) (w : plain.Workspace) → IsFault fault read → IfSome result (λ refusal. refused refusal ≡ load_read s meta ws w read) }
 {
     match fault {
         FormFault::NotForm { at } => Some(Refusal::NotForm { at }),
@@ -86,7 +87,7 @@ fn unread(fault: FormFault) -> Option<Refusal>
 }
 
 /// The operations of a package are recorded, where all their steps can be taken.
-fn apply_package(
+pub(crate) fn apply_package(
     alloc: Global,
     cache: &mut Cache,
     pool: &mut Pool,
@@ -95,7 +96,7 @@ fn apply_package(
     package: Package,
 ) -> Result<Decision, AllocError>
     requires begun { is_some repo.old.meta ≡ true }
-    requires closed { is_closed (workspace_of repo.old ws) ≡ true }
+    requires takes { takes_in (workspace_of repo.old ws) «package» ≡ true }
     requires usable { MayUse pool.old cache.old }
     requires forms { HasForms repo.old pool.old cache.old }
     ensures same { repo.new ≡ repo.old }

@@ -1,35 +1,54 @@
-//! The commands `commit`, `branch` and `tag`.
-ghost use Rattle.std.specs.Prelude.{◌≡◌, IfOk, true, Some};
-ghost use Rattle.plain_repository.specs.Commits.{decide_commit, decide_branch, decide_tag};
+//! The commands `commit`, `signed`, `upgrade`, `branch` and `tag`.
+ghost use Rattle.std.specs.Prelude.{◌≡◌, [], IfOk, is_some, unwrap_or, true, Some};
+ghost use Rattle.plain_repository.specs.Commits.{decide_branch, decide_commit, decide_signed, decide_tag, decide_upgrade, version_event, version_made};
 ghost use Rattle.model_state.specs.Names.{is_name};
-ghost use Rattle.repo_core.specs.Decisions.{seen, CanMakeIt};
+ghost use Rattle.plain_repository.specs.State.{workspace_of};
+ghost use Rattle.repo_state.specs.Keeping.{plain_of};
+ghost use Rattle.repo_core.specs.Decisions.{seen, CanMakeIt, IsAuthor};
 
-use crate::deciding::answers::{Decision, refuse, with_event, with_number};
+use crate::deciding::answers::{Decision, refuse, tell_lines, with_event, with_number};
 use crate::deciding::choosing::text_or_empty;
 use crate::deciding::naming::{find, unknown};
-use ecore_meta::Text;
+use ecore_meta::{List, Text};
+use history_tree::Signature;
 use op_form::Event;
-use repo_state::{Begun, Repo};
+use repo_state::{Begun, Repo, Workspace};
 use script_lang::{Refusal, Spec};
 use std::alloc::{AllocError, Global};
 
-/// `commit WS [MESSAGE]`: what is local is a new version, where the base is the head of its branch.
-#[tactic(auto, unfolding(plain_repository::specs::Commits::decide_commit))]
-pub(crate) fn decide_commit(
+/// The event by which a workspace makes a version: Signed where there is a signature.
+fn version_event(ws: u32, signature: Option<Signature>, message: Text) -> Event
+    ensures { result ≡ version_event ws signature message }
+{
+    match signature {
+        None => Event::Commit { ws, message },
+        Some(Signature { author, moment }) => Event::Signed {
+            ws,
+            author,
+            moment,
+            message,
+        },
+    }
+}
+
+/// What is local is a new version, where the base is the head of its branch.
+fn make_version(
     alloc: Global,
     repo: &Repo,
     begun: &Begun,
     ws: u32,
+    workspace: &Workspace,
+    signature: Option<Signature>,
     message: &Option<Text>,
 ) -> Result<Decision, AllocError>
     requires meta { repo.now.meta ≡ Some begun.now.meta }
     requires history { repo.now.history ≡ begun.now.history.history }
-    ensures decision { IfOk result (λ d. seen d ≡ decide_commit repo.now ws message.now) }
+    requires there { workspace_of repo.now ws ≡ Some (plain_of workspace.now) }
+    requires suits { repo.now.upgraded ≡ is_some signature }
+    requires author { IsAuthor signature }
+    ensures decision { IfOk result (λ d. seen d ≡ version_made repo.now (plain_of workspace.now) (version_event ws signature (unwrap_or message.now []))) }
     ensures made { IfOk result (λ d. CanMakeIt repo.now d.made) }
 {
-    let Some(workspace) = repo.workspace(ws) else {
-        return Ok(refuse(alloc, Refusal::NoWorkspace));
-    };
     repo.orderly();
     let head = begun.history.head(workspace.branch);
     if workspace.base != head {
@@ -49,7 +68,73 @@ pub(crate) fn decide_commit(
     }
     let message = text_or_empty(alloc, message)?;
     let number = begun.history.version_count() as u64;
-    with_number(alloc, repo, number, Event::Commit { ws, message })
+    with_number(alloc, repo, number, version_event(ws, signature, message))
+}
+
+/// `commit WS [MESSAGE]`: what is local is a new version, where the store is not upgraded.
+#[tactic(auto, unfolding(plain_repository::specs::Commits::decide_commit))]
+pub(crate) fn decide_commit(
+    alloc: Global,
+    repo: &Repo,
+    begun: &Begun,
+    ws: u32,
+    message: &Option<Text>,
+) -> Result<Decision, AllocError>
+    requires meta { repo.now.meta ≡ Some begun.now.meta }
+    requires history { repo.now.history ≡ begun.now.history.history }
+    ensures decision { IfOk result (λ d. seen d ≡ decide_commit repo.now ws message.now) }
+    ensures made { IfOk result (λ d. CanMakeIt repo.now d.made) }
+{
+    let Some(workspace) = repo.workspace(ws) else {
+        return Ok(refuse(alloc, Refusal::NoWorkspace));
+    };
+    if repo.is_upgraded() {
+        return Ok(refuse(alloc, Refusal::Unsigned));
+    }
+    make_version(alloc, repo, begun, ws, workspace, None, message)
+}
+
+/// `signed WS AUTHOR MOMENT [MESSAGE]`: the same with author and moment, where the store is upgraded.
+#[tactic(auto, unfolding(plain_repository::specs::Commits::decide_signed))]
+pub(crate) fn decide_signed(
+    alloc: Global,
+    repo: &Repo,
+    begun: &Begun,
+    ws: u32,
+    author: &Text,
+    moment: u64,
+    message: &Option<Text>,
+) -> Result<Decision, AllocError>
+    requires meta { repo.now.meta ≡ Some begun.now.meta }
+    requires history { repo.now.history ≡ begun.now.history.history }
+    requires author { is_name author.now ≡ true }
+    ensures decision { IfOk result (λ d. seen d ≡ decide_signed repo.now ws author.now moment message.now) }
+    ensures made { IfOk result (λ d. CanMakeIt repo.now d.made) }
+{
+    let Some(workspace) = repo.workspace(ws) else {
+        return Ok(refuse(alloc, Refusal::NoWorkspace));
+    };
+    if !repo.is_upgraded() {
+        return Ok(refuse(alloc, Refusal::OldForm));
+    }
+    let signature = Signature {
+        author: author.copy(alloc)?,
+        moment,
+    };
+    make_version(alloc, repo, begun, ws, workspace, Some(signature), message)
+}
+
+/// `upgrade`: each later version is signed.
+#[tactic(auto, unfolding(plain_repository::specs::Commits::decide_upgrade))]
+pub(crate) fn decide_upgrade(alloc: Global, repo: &Repo) -> Result<Decision, AllocError>
+    requires begun { is_some repo.now.meta ≡ true }
+    ensures decision { IfOk result (λ d. seen d ≡ decide_upgrade repo.now) }
+    ensures made { IfOk result (λ d. CanMakeIt repo.now d.made) }
+{
+    if repo.is_upgraded() {
+        return tell_lines(alloc, List::new(alloc));
+    }
+    with_event(alloc, repo, Event::Upgrade)
 }
 
 /// `branch WS NAME`: a branch that starts at the base.

@@ -52,6 +52,7 @@ pub(crate) fn reads_version(command: &Command) -> bool
         Command::Checkout { .. } => true,
         Command::Cat { .. } => true,
         Command::Apply { .. } => true,
+        Command::Load { .. } => true,
         _ => false,
     }
 }

@@ -7,15 +7,15 @@ use Rattle.plain_repository.specs.Applying.{with_operations}
 use Rattle.plain_repository.specs.State.{State, model_of, workspace_of}
 use Rattle.repo_core.specs.Decisions.{seen}
 use Rattle.repo_core.specs.Needs.{IsStop}
-use Rattle.repo_core.proofs.Applied.{closed_there, could_apply, none_applied, some_applied}
+use Rattle.repo_core.proofs.Applied.{could_apply, none_applied, some_applied, taken_there}
 use Rattle.repo_core.proofs.deciding.applying.apply_package.Goals as goal
 
 pub stop_of-requires-clause-there : goal.stop_of-requires-clause-there
-stop_of-requires-clause-there c = closed_there (workspace_of c.args.repo.now c.args.ws) c.requires.closed
+stop_of-requires-clause-there c = taken_there (workspace_of c.args.repo.now c.args.ws) c.args.«package» c.requires.takes
 
 pub with_operations-requires : goal.with_operations-requires
 with_operations-requires c = record {
-  could = could_apply c.args.repo.now c.stop_of.new.repo c.args.ws c.args.«package» c.stop_of.ensures.same c.requires.begun c.requires.closed (subst (IsStop c.args.repo.now c.args.ws c.args.«package») c.in-Ok-None.field-0-is c.in-Ok-None.ensures.stop);
+  could = could_apply c.args.repo.now c.stop_of.new.repo c.args.ws c.args.«package» c.stop_of.ensures.same c.requires.begun c.requires.takes (subst (IsStop c.args.repo.now c.args.ws c.args.«package») c.in-Ok-None.field-0-is c.in-Ok-None.ensures.stop);
 }
 
 pub returns-in-Ok-None-clause-decision : goal.returns-in-Ok-None-clause-decision

@@ -1,4 +1,4 @@
-use Rattle.std.proofs.Common.{◌≡◌, ℕ, List, [], true, sym, ◌∙◌, ap, subst}
+use Rattle.std.proofs.Common.{◌≡◌, ℕ, List, [], true, sym, ◌∙◌, ap, subst, refl}
 use Rattle.std.specs.Prelude.{IfOk, unwrap_or}
 use Rattle.std.specs.Fmt.{decimal}
 use Rattle.footprint.specs.declared.bucket.Bucket.{Bucket}
@@ -64,6 +64,7 @@ with_number-requires c =
     record {
       could = subst (λ (letters : List ℕ). playable_with s s.meta (Merge c.args.ws branch letters) ≡ true) (sym c.in_ok-choices.ensures)
           (merge_could s meta c.args.ws branch (unwrap_or c.args.choices.now []) w c.requires.meta c.requires.there c.requires.closed c.requires.branch c.requires.apart some fit);
+      suits = refl;
     }
 
 pub returns-clause-decision : goal.returns-clause-decision

@@ -1,4 +1,4 @@
-use Rattle.std.proofs.Common.{◌≡◌, ℕ, List, [], true, sym, ◌∙◌, ap, subst}
+use Rattle.std.proofs.Common.{◌≡◌, ℕ, List, [], true, sym, ◌∙◌, ap, subst, refl}
 use Rattle.std.specs.Prelude.{IfOk, unwrap_or}
 use Rattle.std.specs.Fmt.{decimal}
 use Rattle.footprint.specs.declared.bucket.Bucket.{Bucket}
@@ -48,6 +48,7 @@ with_number-requires c =
     record {
       could = subst (λ (l : List ℕ). playable_with s s.meta (Update c.args.ws l) ≡ true) (sym c.in_ok-choices.ensures)
           (update_could s meta c.args.ws letters w c.requires.meta c.requires.there c.requires.closed (λ is. c.if-workspace-head.false (is ∙ sym at)) fit);
+      suits = refl;
     }
 
 pub returns-clause-decision : goal.returns-clause-decision

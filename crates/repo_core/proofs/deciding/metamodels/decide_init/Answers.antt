@@ -1,4 +1,4 @@
-use Rattle.std.proofs.Common.{◌≡◌, List, ℕ, None, ap, ◌∙◌, sym, subst}
+use Rattle.std.proofs.Common.{◌≡◌, List, ℕ, None, refl, ap, ◌∙◌, sym, subst}
 use Rattle.std.specs.Prelude.{IfNone, is_ok}
 use Rattle.ecore_json.specs.Metamodel.{metamodel_of}
 use Rattle.repo_core.proofs.Playable.{init_could}
@@ -10,4 +10,5 @@ with_event-requires c =
     record {
       could = init_could c.args.repo.now c.args.repo.now.meta c.in_ok-text-in-Ok.text (subst (λ r. IfNone r (c.args.repo.now.meta ≡ None)) (none_of c.begun.result (sym c.is_some.ensures ∙ c.if-is_some.false)) c.begun.ensures.none)
           (ap (λ (t : List ℕ). is_ok (metamodel_of t)) c.in_ok-text-in-Ok.ensures ∙ c.in-Ok.ensures.reads);
+      suits = refl;
     }
