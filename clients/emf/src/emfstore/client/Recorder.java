@@ -156,7 +156,8 @@ public final class Recorder extends EContentAdapter implements AutoCloseable {
     @Override
     public void notifyChanged(Notification notification) {
         super.notifyChanged(notification);
-        if (isPaused) {
+        boolean isChange = notification.getEventType() != Notification.RESOLVE && notification.getEventType() != Notification.REMOVING_ADAPTER;
+        if (isPaused || !isChange) {
             return;
         }
         planned.clear();
@@ -210,7 +211,7 @@ public final class Recorder extends EContentAdapter implements AutoCloseable {
 
     private void planAttribute(Notification notification, EObject element, Feature feature) {
         int at = notification.getPosition();
-        if (!element.eIsSet(feature.ecore())) {
+        if (ModelText.list(element, feature).isEmpty() || !element.eIsSet(feature.ecore())) {
             planned.add(lines.unset(element, feature.ecore()));
         } else if (!feature.isMany()) {
             planned.add(lines.set(element, feature, element.eGet(feature.ecore())));
