@@ -129,7 +129,7 @@ class Store:
         return reply
 
     def write(self, text):
-        """Sends lines and waits for nothing. Whoever calls it reads on by `ask` only where no reply to them is to come."""
+        """Sends text as it stands and waits for no reply, as of a block that isn't ended."""
         try:
             self._process.stdin.write(text.encode())
             self._process.stdin.flush()

@@ -47,6 +47,7 @@ final class Blocks {
     private final Limits limits;
     private final Map<EObject, Size> own = new IdentityHashMap<>();
     private final Map<EObject, Size> whole = new IdentityHashMap<>();
+    /** Where the pieces that were cut out are to stand among the children of their parent. */
     private final Map<EObject, Integer> places = new IdentityHashMap<>();
     private final Map<EObject, EObject> pieces = new LinkedHashMap<>();
     private final Map<EObject, Integer> blocks = new IdentityHashMap<>();
@@ -135,7 +136,24 @@ final class Blocks {
                 open.add(child);
             }
         }
+        for (Feature feature : profile.features(element.eClass()).values()) {
+            if (feature.kind() == Kind.CONTAINMENT) {
+                findPlaces(ModelText.targets(element, feature.reference()));
+            }
+        }
         return size;
+    }
+
+    /** Finds where those children are to stand that are cut out: last, where all that come after are cut out too and so come later. */
+    private void findPlaces(List<EObject> children) {
+        boolean isLast = true;
+        for (int i = children.size() - 1; i >= 0; i--) {
+            if (pieces.containsKey(children.get(i))) {
+                isLast = false;
+            } else {
+                places.put(children.get(i), isLast ? Lines.END : i);
+            }
+        }
     }
 
     private List<List<EObject>> gathered(Map<EObject, Size> cut) {
@@ -149,19 +167,9 @@ final class Blocks {
             }
             gathered.get(gathered.size() - 1).add(piece.getKey());
             blocks.put(piece.getKey(), gathered.size());
-            findPlace(piece.getKey());
         }
+        places.keySet().stream().flatMap(it -> Stream.of(it, it.eContainer())).filter(it -> ids.id(it) == null).forEach(ids::name);
         return gathered;
-    }
-
-    /** Finds where a piece is to be moved, and names it and its parent. */
-    private void findPlace(EObject piece) {
-        EObject parent = piece.eContainer();
-        if (pieces.containsKey(parent)) {
-            List<EObject> siblings = ModelText.targets(parent, (EReference) piece.eContainingFeature());
-            places.put(piece, siblings.get(siblings.size() - 1) == piece ? Lines.END : siblings.indexOf(piece));
-            Stream.of(piece, parent).filter(it -> ids.id(it) == null).forEach(ids::name);
-        }
     }
 
     private void link(List<String> script) {

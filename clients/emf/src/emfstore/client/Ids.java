@@ -44,7 +44,7 @@ final class Ids {
         elements.remove(before.get(element));
     }
 
-    /** Gives an element its `xmi:id`, or the id that it had before, where the program takes it and no other element has it. Else it gets a new one. */
+    /** Gives an element its `xmi:id`, or the id that it had before, where the program takes it and no other element has it. Else it is a new one. */
     void name(EObject element) {
         String own = own(element) == null ? before.get(element) : own(element);
         put(element, isId(own) && !elements.containsKey(own) ? own : EcoreUtil.generateUUID());

@@ -109,12 +109,13 @@ final class ModelFiller {
     private void setFeature(EObject object, Feature feature, List<?> wanted) {
         List<Object> all = new ArrayList<>(wanted);
         List<?> held = object.eIsSet(feature.ecore()) ? ModelText.list(object, feature) : List.of();
+        boolean isKept = held.equals(wanted);
         if (feature.kind() == Kind.REFERENCE && (feature.isMany() || wanted.isEmpty())) {
-            List<?> outside = held.stream().filter(it -> ids.id((EObject) it) == null).toList();
+            List<?> outside = held.stream().distinct().filter(it -> ids.id((EObject) it) == null).toList();
             all.addAll(outside);
-            held = held.stream().filter(it -> !outside.contains(it)).toList();
+            isKept = held.size() == all.size() && held.stream().filter(it -> !outside.contains(it)).toList().equals(wanted);
         }
-        if (held.equals(wanted)) {
+        if (isKept) {
             return;
         }
         if (all.isEmpty()) {

@@ -71,7 +71,7 @@ final class Reach {
     /** Takes a type along, with its package. Where it can't be found nothing is taken. */
     private void need(ENamedElement user, EClassifier type) {
         if (type.eIsProxy()) {
-            remark(user, "another document isn't found: " + ((InternalEObject) type).eProxyURI());
+            tellMissing(user, type);
         } else if (!found.contains(type) && type instanceof EClass && !EcorePackage.eNS_URI.equals(type.getEPackage().getNsURI())) {
             EPackage whole = (EPackage) EcoreUtil.getRootContainer(type);
             remark(whole, "a package of another document: its classifiers come along");
@@ -82,6 +82,10 @@ final class Reach {
             }
             add(type);
         }
+    }
+
+    private void tellMissing(ENamedElement user, EClassifier type) {
+        remark(user, "another document isn't found: " + ((InternalEObject) type).eProxyURI().lastSegment());
     }
 
     private void walk(EClass owner) {
@@ -105,6 +109,8 @@ final class Reach {
         EGenericType generic = feature.getEGenericType();
         if (feature.getEType() == null) {
             remark(feature, "it has no type, and holds nothing here");
+        } else if (feature.getEType().eIsProxy()) {
+            tellMissing(feature, feature.getEType());
         } else if (feature.getEType() == EcorePackage.Literals.EFEATURE_MAP_ENTRY) {
             remark(feature, "a feature map: its entries aren't carried");
         } else if (feature.getEType() instanceof EDataType type && !type.isSerializable()) {

@@ -45,6 +45,7 @@ public final class ClientsTest {
     public static void main(String[] words) throws IOException {
         ClientsTest test = new ClientsTest(Path.of(words[0]), Path.of(words[1]), Path.of(words[2]));
         test.metamodels();
+        test.remarks();
         test.models();
         test.notifications();
         test.edits();
@@ -57,9 +58,43 @@ public final class ClientsTest {
         for (String name : OF_EMF) {
             start(profile(ofEmf(name))).close();
         }
-        List<String> wanted = Files.readAllLines(Path.of(kinds.replace(".ecore", ".remarks")));
-        check(profile(kinds).remarks().equals(wanted), "remarks on kinds.ecore: " + profile(kinds).remarks());
-        tell(OF_EMF.size() + 1 + " metamodels");
+        for (String ecore : List.of(kinds, beside("other.ecore"))) {
+            List<String> wanted = Files.readAllLines(Path.of(ecore.replace(".ecore", ".remarks")));
+            check(profile(ecore).remarks().equals(wanted), "remarks on " + ecore + ": " + profile(ecore).remarks());
+            start(profile(ecore)).close();
+        }
+        tell(OF_EMF.size() + 2 + " metamodels");
+    }
+
+    /** A model with what can't be carried goes in without that, and it is named. */
+    private void remarks() throws IOException {
+        Metamodels metamodels = new Metamodels(List.of(kinds));
+        Profile profile = new Profile(metamodels.packages());
+        Xmi2Script tool = new Xmi2Script(profile);
+        List<String> script = tool.script(metamodels.load(beside("odd.xmi")).getContents(), 1, Blocks.Limits.OF_PROGRAM);
+        check(tool.remarks().equals(Files.readAllLines(Path.of(beside("odd.remarks")))), "remarks on odd.xmi: " + tool.remarks());
+        try (Store store = start(profile)) {
+            store.send("checkout 0");
+            check(send(store, script) == 3, "odd.xmi has another number of elements");
+        }
+    }
+
+    private String beside(String name) {
+        return Path.of(kinds).resolveSibling(name).toString();
+    }
+
+    /** Sends the lines of a script, and gives the number of elements in its last block. */
+    private static int send(Store store, List<String> script) {
+        int count = 0;
+        for (int i = 0; i < script.size(); i++) {
+            if (script.get(i).startsWith("import ")) {
+                count = store.send(script.get(i), script.get(i + 1)).number(0);
+                i += 2;
+            } else {
+                store.send(script.get(i));
+            }
+        }
+        return count;
     }
 
     /** Models go in and come out equal, also in many blocks. */
@@ -87,14 +122,7 @@ public final class ClientsTest {
         check(tool.remarks().isEmpty(), model + ": " + tool.remarks());
         try (Store store = start(profile)) {
             store.send("checkout 0");
-            for (int i = 0; i < script.size(); i++) {
-                if (script.get(i).startsWith("import ")) {
-                    store.send(script.get(i), script.get(i + 1));
-                    i += 2;
-                } else {
-                    store.send(script.get(i));
-                }
-            }
+            send(store, script);
             XMLResource shown = metamodels.create(folder.resolve(file).toString());
             String text = store.send("show 1").data().get(0);
             check(text.length() >= least, file + ": " + text.length() + " bytes are few");
@@ -134,8 +162,7 @@ public final class ClientsTest {
         try (Store store = start(written, profile); Recorder recorder = Recorder.checkout(store, profile, "trunk", live)) {
             List<String> told = new Notifications(profile, live, folder.resolve("store" + stores).resolve("sent")).lines();
             check(recorder.text().equals(store.send("show 1").data().get(0)), "the program shows another model");
-            Path wanted = Path.of(kinds).resolveSibling("notifications.txt");
-            check(told.equals(Files.readAllLines(wanted)), wanted + " has other lines than\n" + String.join("\n", told));
+            check(told.equals(Files.readAllLines(Path.of(beside("notifications.txt")))), "notifications.txt has other lines than\n" + String.join("\n", told));
         }
         tell("a notification of each kind");
     }
