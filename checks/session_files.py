@@ -36,7 +36,7 @@ def cut(lines):
             if not is_block:
                 found.append(([], []))
             found[-1][0].append(line)
-            is_block = line != "." and (is_block or line.split(" ")[0] in ("init", "import"))
+            is_block = line != "." and (is_block or line.split(" ")[0] in ("init", "evolve", "import", "load"))
         elif line.startswith("! "):
             end = line[2:]
         else:

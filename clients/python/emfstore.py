@@ -12,7 +12,7 @@ import json
 import subprocess
 from dataclasses import dataclass
 
-COMMANDS_WITH_BLOCKS = ("init", "import")
+COMMANDS_WITH_BLOCKS = ("init", "evolve", "import", "load")
 CONFLICTS = 25
 
 
@@ -85,6 +85,8 @@ class Version:
     merged: tuple[int, ...]
     operations: int
     tags: tuple[str, ...]
+    author: str | None
+    moment: int | None
     message: str
 
 
@@ -115,7 +117,7 @@ class Store:
         """
         words = line.removesuffix("\r").split(" ")
         if "\n" in line or (block is not None) != (words[0] in COMMANDS_WITH_BLOCKS):
-            raise ValueError("a command is one line, and init and import alone have a block")
+            raise ValueError("a command is one line, and has a block just where its first word takes one")
         if block and not block.endswith("\n"):
             block += "\n"
         self.write(line + "\n" + ("" if block is None else block + ".\n"))
@@ -140,6 +142,14 @@ class Store:
         """Gives an empty store its metamodel: a text, or an object that becomes one."""
         self.send("init", _text(metamodel))
 
+    def evolve(self, metamodel):
+        """Gives the store a metamodel that has all parts of the present one, and more: a text, or an object that becomes one."""
+        self.send("evolve", _text(metamodel))
+
+    def upgrade(self):
+        """From now on each new version is signed."""
+        self.send("upgrade")
+
     def checkout(self, spec):
         """Makes a workspace of the version, branch or tag that SPEC names."""
         reply = self.send(f"checkout {spec}")
@@ -162,6 +172,10 @@ class Store:
     def commit(self, workspace, message=""):
         """Makes what is recorded a version, and returns its number."""
         return int(self.send(f"commit {workspace}" + (f" {message}" if message else "")).words[0])
+
+    def signed(self, workspace, author, moment, message=""):
+        """As `commit`, of a store that was upgraded: with the author's name and the moment, a number of the caller's own."""
+        return int(self.send(f"signed {workspace} {author} {moment}" + (f" {message}" if message else "")).words[0])
 
     def update(self, workspace, choose=None):
         """Brings a workspace to its branch's head, whose number is returned. For each bucket `choose` returns "m" for mine or "t" for theirs."""
@@ -234,10 +248,15 @@ def _bucket(line):
 
 
 def _version(line):
-    number, branch, parent, merged, operations, tags, message = line.split(" ", 6)
+    number, branch, parent, merged, operations, tags, author, moment, message = line.split(" ", 8)
     names = () if tags == "-" else tuple(tags.split(","))
-    above = None if parent == "-" else int(parent)
-    return Version(int(number), branch, above, _numbers(merged), int(operations), names, json.loads(message))
+    above = _number(parent)
+    signer = None if author == "-" else author
+    return Version(int(number), branch, above, _numbers(merged), int(operations), names, signer, _number(moment), json.loads(message))
+
+
+def _number(word):
+    return None if word == "-" else int(word)
 
 
 def _numbers(words):
