@@ -174,7 +174,8 @@ final class Blocks {
 
     private void link(List<String> script) {
         Links links = new Links(profile, ids, lines, script::add);
-        links.load(pieces.keySet(), this::isOneBlock);
+        links.load(pieces.keySet(), (element, reference) ->
+                ModelText.targets(element, reference).stream().filter(it -> isOneBlock(element, it)).toList());
         pieces.keySet().forEach(links::sync);
     }
 }

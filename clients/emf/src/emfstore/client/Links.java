@@ -11,7 +11,7 @@ import java.util.List;
 import java.util.Map;
 import java.util.Set;
 import java.util.WeakHashMap;
-import java.util.function.BiPredicate;
+import java.util.function.BiFunction;
 import java.util.function.Consumer;
 import org.eclipse.emf.ecore.EObject;
 import org.eclipse.emf.ecore.EReference;
@@ -36,18 +36,15 @@ final class Links {
         this.out = out;
     }
 
-    /** Takes the model's links as stored, where they pass a test of the element and its target; no other is stored. */
-    void load(Iterable<EObject> elements, BiPredicate<EObject, EObject> isStored) {
+    /** Takes those links as stored that a function of the element and the reference gives, and no others. */
+    void load(Iterable<EObject> elements, BiFunction<EObject, EReference, List<EObject>> targets) {
         stored.clear();
         sources.clear();
         for (EObject element : elements) {
             for (EReference reference : references(element)) {
-                for (EObject target : ModelText.targets(element, reference)) {
-                    addSource(target, element);
-                    if (isStored.test(element, target)) {
-                        list(element, reference).add(target);
-                    }
-                }
+                ModelText.targets(element, reference).forEach(it -> addSource(it, element));
+                targets.apply(element, reference).forEach(it -> addSource(it, element));
+                list(element, reference).addAll(targets.apply(element, reference));
             }
         }
     }

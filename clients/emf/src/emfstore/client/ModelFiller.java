@@ -3,9 +3,11 @@ package emfstore.client;
 import emfstore.client.Profile.Feature;
 import emfstore.client.Profile.Kind;
 import java.util.ArrayList;
+import java.util.HashSet;
 import java.util.LinkedHashMap;
 import java.util.List;
 import java.util.Map;
+import java.util.Set;
 import org.eclipse.emf.common.util.ECollections;
 import org.eclipse.emf.common.util.EList;
 import org.eclipse.emf.ecore.EClass;
@@ -31,6 +33,7 @@ final class ModelFiller {
     private final Ids ids;
     private final Resource resource;
     private final Map<String, Element> elements = new LinkedHashMap<>();
+    private final Set<EObject> gone = new HashSet<>();
 
     private ModelFiller(Profile profile, Ids ids, Resource resource) {
         this.profile = profile;
@@ -39,12 +42,12 @@ final class ModelFiller {
     }
 
     /**
-     * Fills a resource with the model of a text as `show` prints it.
+     * Fills a resource with the model of a text as `show` prints it, and gives what tells of that text.
      *
      * @param ids those of the elements in the resource, before and afterwards
      * @throws IllegalArgumentException where the text is no model of the metamodel
      */
-    static void fill(Resource resource, Profile profile, Ids ids, String text) {
+    static ModelFiller fill(Resource resource, Profile profile, Ids ids, String text) {
         ModelFiller filler = new ModelFiller(profile, ids, resource);
         List<?> roots = list(Json.read(text));
         roots.forEach(it -> filler.find((Map<?, ?>) it, null, null));
@@ -56,6 +59,17 @@ final class ModelFiller {
         if (resource instanceof XMLResource file) {
             filler.elements.forEach((id, it) -> file.setID(it.object(), id));
         }
+        return filler;
+    }
+
+    /** The targets that a plain reference of an element has in the text. */
+    List<EObject> targets(EObject element, EReference reference) {
+        List<?> json = list(elements.get(ids.id(element)).keys().get(profile.feature(reference).name()));
+        return json.stream().map(this::target).toList();
+    }
+
+    private EObject target(Object json) {
+        return elements.get(((Map<?, ?>) json).get("$ref")).object();
     }
 
     private void find(Map<?, ?> keys, EObject parent, EReference containment) {
@@ -84,6 +98,7 @@ final class ModelFiller {
             }
             if (!isKept) {
                 ids.remove(object);
+                gone.add(object);
             }
         }
         elements.forEach((id, it) -> ids.put(it.object(), id));
@@ -101,7 +116,7 @@ final class ModelFiller {
         return switch (feature.kind()) {
             case ATTRIBUTE -> json.stream().map(it -> Values.value(feature.attribute(), it)).toList();
             case CONTAINMENT -> objects(json);
-            default -> json.stream().map(it -> elements.get(((Map<?, ?>) it).get("$ref")).object()).toList();
+            default -> json.stream().map(this::target).toList();
         };
     }
 
@@ -111,7 +126,7 @@ final class ModelFiller {
         List<?> held = object.eIsSet(feature.ecore()) ? ModelText.list(object, feature) : List.of();
         boolean isKept = held.equals(wanted);
         if (feature.kind() == Kind.REFERENCE && (feature.isMany() || wanted.isEmpty())) {
-            List<?> outside = held.stream().distinct().filter(it -> ids.id((EObject) it) == null).toList();
+            List<?> outside = held.stream().distinct().filter(it -> ids.id((EObject) it) == null && !gone.contains(it)).toList();
             all.addAll(outside);
             isKept = held.size() == all.size() && held.stream().filter(it -> !outside.contains(it)).toList().equals(wanted);
         }

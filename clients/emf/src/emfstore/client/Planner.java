@@ -69,9 +69,15 @@ final class Planner {
         parentsBefore.clear();
     }
 
-    /** Takes the links of the resource as those of the store. */
-    void loadLinks() {
-        links.load(ids.elements(), (element, target) -> ids.id(target) != null);
+    /**
+     * The lines after the resource was filled. There are some where EMF can't hold what the store does: after a merge a reference that is its own
+     * opposite may have a target that doesn't refer back.
+     */
+    List<String> plan(ModelFiller filled) {
+        planned.clear();
+        links.load(ids.elements(), filled::targets);
+        ids.elements().forEach(links::sync);
+        return List.copyOf(planned);
     }
 
     private void planFeature(Notification notification, EObject element, Feature feature) {

@@ -152,11 +152,11 @@ public final class Recorder extends EContentAdapter implements AutoCloseable {
     private void fill(String text) {
         isPaused = true;
         try {
-            ModelFiller.fill(resource, profile, ids, text);
+            ModelFiller filled = ModelFiller.fill(resource, profile, ids, text);
+            send(planner.plan(filled));
         } finally {
             isPaused = false;
         }
-        planner.loadLinks();
     }
 
     private void send(List<String> commands) {

@@ -8,6 +8,7 @@ import java.nio.file.Files;
 import java.nio.file.Path;
 import java.util.List;
 import java.util.Map;
+import java.util.Random;
 import org.eclipse.emf.common.util.EList;
 import org.eclipse.emf.common.util.TreeIterator;
 import org.eclipse.emf.ecore.EClass;
@@ -23,6 +24,9 @@ public final class ClientsTest {
     private static final int EDITS = 2_000;
     private static final int EDITS_A_LOOK = 100;
     private static final int EDITS_A_COMPOSITE = 10;
+    private static final int EDITS_A_ROUND = 15;
+    private static final int ROUNDS = 40;
+    private static final int NOTHING_LOCAL = 23;
     /** As many elements as there may be: few in the first half of the edits, so that their lists are long, and then many. */
     private static final int FEW = 20;
     private static final int MANY = 300;
@@ -50,6 +54,7 @@ public final class ClientsTest {
         test.notifications();
         test.edits();
         test.conflicts();
+        test.twoPeople();
         test.refusals();
     }
 
@@ -229,6 +234,58 @@ public final class ClientsTest {
             check(ofAnn.getContents().size() == 1 + Choice.values().length, "an element is lost");
         }
         tell("a conflict resolved both ways");
+    }
+
+    /** Two people edit at random and take each other's versions, with a choice at random for each conflict: their resources are equal then. */
+    private void twoPeople() throws IOException {
+        Metamodels metamodels = new Metamodels(List.of(kinds));
+        Profile profile = new Profile(metamodels.packages());
+        XMLResource ofAnn = metamodels.create("ann.xmi");
+        XMLResource ofBen = metamodels.create("ben.xmi");
+        RandomEdits annsEdits = new RandomEdits(profile, ofAnn, 3, classes(profile, metamodels));
+        RandomEdits bensEdits = new RandomEdits(profile, ofBen, 4, classes(profile, metamodels));
+        Random random = new Random(5);
+        int[] conflicts = {0};
+        try (Store store = start(profile); Recorder ann = Recorder.checkout(store, profile, "trunk", ofAnn);
+                Recorder ben = Recorder.checkout(store, profile, "trunk", ofBen)) {
+            for (int round = 1; round <= ROUNDS; round++) {
+                edit(annsEdits);
+                edit(bensEdits);
+                ann.commit("hers " + round);
+                ben.update(bucket -> {
+                    conflicts[0]++;
+                    return random.nextBoolean() ? Choice.MINE : Choice.THEIRS;
+                });
+                check(ben.text().equals(store.send("show 2").data().get(0)), "round " + round + ": Ben's resource is another model");
+                commit(ben, "his " + round);
+                ann.update(bucket -> Choice.MINE);
+                check(ann.text().equals(ben.text()), "round " + round + ": Ann and Ben have other models");
+                checkEqual(ofAnn, ofBen, "round " + round);
+            }
+        }
+        tell(ROUNDS + " updates, with " + conflicts[0] + " conflicts");
+    }
+
+    private static void edit(RandomEdits edits) {
+        edits.refresh();
+        for (int i = 0; i < EDITS_A_ROUND; i++) {
+            try {
+                edits.edit(FEW);
+            } catch (RefusedException | IllegalArgumentException refusal) {
+                // What is refused is taken back.
+                continue;
+            }
+        }
+        edits.putBack();
+    }
+
+    /** Commits, where anything is recorded. */
+    private static void commit(Recorder recorder, String message) {
+        try {
+            recorder.commit(message);
+        } catch (RefusedException refusal) {
+            check(refusal.reply().refusal() == NOTHING_LOCAL, "refused otherwise: " + refusal.getMessage());
+        }
     }
 
     /** Where a change is refused all of it is taken back, in the store and in the resource, and each element stays the object that it was. */

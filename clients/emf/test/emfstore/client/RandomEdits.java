@@ -67,6 +67,11 @@ final class RandomEdits {
         }
     }
 
+    /** Takes what else came into the resource as made too. */
+    void refresh() {
+        resource.getAllContents().forEachRemaining(made::add);
+    }
+
     private <T> T one(List<T> items) {
         return items.get(random.nextInt(items.size()));
     }
