@@ -1,5 +1,5 @@
 -- The lines of the generated script are short, and begin with a letter.
-use Rattle.std.proofs.Common.{◌≡◌, ℕ, zero, suc, ◌%◌, ◌<◌, ◌≤◌, ◌^◌, List, [], ◌∷◌, ◌++◌, map, length, true, refl, ap, arith, length-append, nat_eq, ◌-◌, Bool, false}
+use Rattle.std.proofs.Common.{◌≡◌, ℕ, zero, suc, ◌%◌, ◌<◌, ◌≤◌, ◌^◌, List, [], ◌∷◌, ◌++◌, map, length, true, refl, ap, arith, length-append, nat_eq, ◌-◌, ◌||◌, Bool, false}
 use Rattle.std.specs.Prelude.{codes, All, Some, ◌==◌, if◌then◌else◌}
 use Rattle.std.specs.Fmt.{decimal}
 use Rattle.std.specs.List.{list_all}
@@ -14,6 +14,10 @@ use Rattle.script_items.specs.Items.{IsAnswered}
 use Rattle.script_items.specs.declared.generator.TheConstants.{LIBRARY}
 use Rattle.script_items.specs.Generator.{without_block, opening, workspace_in, pages_in, create_text, title_text, pages_text, edits, exchange, round, rounds, generated}
 
+-- the letters that the words of commands with a block begin with: of `evolve`, `init` and `import`, and `load`
+abbrev pub begins_block : ℕ → Bool
+begins_block first = nat_eq first 101 || nat_eq first 105 || nat_eq first 108
+
 -- a line that begins with a letter, and is short
 pub record IsPlain (line : List ℕ) : Type 0 where
   pub first : ℕ
@@ -21,7 +25,7 @@ pub record IsPlain (line : List ℕ) : Type 0 where
   pub line_is : line ≡ first ∷ rest
   pub letter : 97 ≤ first
   pub low : first ≤ 122
-  pub other : nat_eq first 105 ≡ false
+  pub other : begins_block first ≡ false
   pub short : length rest ≤ 200
   pub graphic : list_all is_graphic rest ≡ true
 
@@ -73,7 +77,7 @@ pages_plain ws k pages small fits few = record {
 }
 
 -- a line of letters and a number
-numbered_plain : (first : ℕ) (word : List ℕ) (k : ℕ) → 97 ≤ first → first ≤ 122 → nat_eq first 105 ≡ false → length word ≤ 20 → list_all is_graphic word ≡ true → k < 2 ^ 64 → IsPlain (first ∷ (word ++ decimal k))
+numbered_plain : (first : ℕ) (word : List ℕ) (k : ℕ) → 97 ≤ first → first ≤ 122 → begins_block first ≡ false → length word ≤ 20 → list_all is_graphic word ≡ true → k < 2 ^ 64 → IsPlain (first ∷ (word ++ decimal k))
 numbered_plain first word k letter low other short graphic fits = record {
   first = first;
   rest = word ++ decimal k;
@@ -85,7 +89,7 @@ numbered_plain first word k letter low other short graphic fits = record {
   graphic = joins word (decimal k) graphic (graphic_number k fits);
 }
 
-pub letters_plain : (first : ℕ) (word : List ℕ) → 97 ≤ first → first ≤ 122 → nat_eq first 105 ≡ false → length word ≤ 200 → list_all is_graphic word ≡ true → IsPlain (first ∷ word)
+pub letters_plain : (first : ℕ) (word : List ℕ) → 97 ≤ first → first ≤ 122 → begins_block first ≡ false → length word ≤ 200 → list_all is_graphic word ≡ true → IsPlain (first ∷ word)
 letters_plain first word letter low other short graphic = record { first = first; rest = word; line_is = refl; letter = letter; low = low; other = other; short = short; graphic = graphic }
 
 workspace_small : (seed k : ℕ) → workspace_in seed k < 2 ^ 64

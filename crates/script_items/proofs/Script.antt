@@ -1,5 +1,5 @@
 -- The bytes of the generated script are a script of its items.
-use Rattle.std.proofs.Common.{◌≡◌, ℕ, zero, suc, ◌+◌, ◌*◌, ◌-◌, ◌%◌, nat_eq, ◌<◌, ◌≤◌, ◌^◌, List, [], ◌∷◌, ◌++◌, map, length, take, get_or, Bool, true, false, ◌&&◌, not, nat_le, nat_lt, None, Some, Ok, refl, sym, ap, subst, ◌∙◌, arith, length-append, append_assoc, eq-eqb}
+use Rattle.std.proofs.Common.{◌≡◌, ℕ, zero, suc, ◌+◌, ◌*◌, ◌-◌, ◌%◌, nat_eq, ◌<◌, ◌≤◌, ◌^◌, List, [], ◌∷◌, ◌++◌, map, length, take, get_or, Bool, true, false, ◌&&◌, ◌||◌, not, nat_le, nat_lt, None, Some, Ok, refl, sym, ap, subst, ◌∙◌, arith, length-append, append_assoc, eq-eqb}
 use Rattle.std.specs.Prelude.{codes, slice_index, ◌==◌, All, if◌then◌else◌}
 use Rattle.std.specs.Cmp.Lexicographic.{pointwise}
 use Rattle.std.specs.List.{list_all, slice_split, after_first, position_or_len}
@@ -15,13 +15,14 @@ use Rattle.host_port.specs.declared.lines.TheConstants.{LINE_LIMIT, BLOCK_LIMIT,
 use Rattle.host_port.proofs.ScriptCuts.{first_at, raw_is, ended_is, after_is, line_within}
 use Rattle.host_port.proofs.ScriptItems.{script_line, cut_nothing, block_goes, block_ends}
 use Rattle.host_port.proofs.ScriptHeads.{script_block}
+use Rattle.script_lang.specs.Words.{is_space, is_word}
 use Rattle.plain_repository.specs.Lines.{takes_block}
 use Rattle.script_items.specs.Items.{script}
 use Rattle.script_items.specs.declared.generator.TheConstants.{LIBRARY}
 use Rattle.script_items.specs.Generator.{without_block, edits, exchange, round, rounds, generated, script_bytes}
 use Rattle.script_items.proofs.Digits.{both}
 use Rattle.script_items.proofs.Graphic.{is_graphic, graphic_at, ascii}
-use Rattle.script_items.proofs.Plain.{IsPlain, letters_plain, rounds_plain}
+use Rattle.script_items.proofs.Plain.{IsPlain, begins_block, letters_plain, rounds_plain}
 use Rattle.script_items.specs.Words.{most_rounds}
 
 -- a line of such bytes, a line feed, and more
@@ -212,13 +213,25 @@ script_is takes blocked none seed count most =
     (plain_lines takes none (behind_it seed count) (0 + length (codes "init") + 1 + length (joined (take 19 (slice_split is_lf LIBRARY.now))) + 2) (all_behind seed count (omega arith)) (omega arith))
     ∙ ap (λ (t : List ℕ). with_item (codes "init") (Some t) (record { items = map without_block (behind_it seed count); fault = None })) library_is
 
-head_none : (n first : ℕ) (rest word : List ℕ) → nat_eq first 105 ≡ false → pointwise nat_eq (take n (first ∷ rest)) (105 ∷ word) ≡ false
-head_none zero first rest word is = refl
-head_none (suc n) first rest word is = rw is refl
+head_none : (n letter first : ℕ) (rest word : List ℕ) → nat_eq first letter ≡ false → pointwise nat_eq (take n (first ∷ rest)) (letter ∷ word) ≡ false
+head_none zero letter first rest word is = refl
+head_none (suc n) letter first rest word is = rw is refl
 
-takes_none : (first : ℕ) (rest : List ℕ) → nat_eq first 105 ≡ false → takes_block (first ∷ rest) ≡ false
+either_none : (b c : Bool) → (b || c) ≡ false → (b ≡ false) × (c ≡ false)
+either_none false c is = (refl, is)
+either_none true c is = absurd cc
+
+takes_none : (first : ℕ) (rest : List ℕ) → begins_block first ≡ false → takes_block (first ∷ rest) ≡ false
 unfolding takes_block
-takes_none first rest is = rw (head_none, head_none) refl
+takes_none first rest is =
+    let n = position_or_len is_space (first ∷ rest) in
+    let two = either_none (nat_eq first 101 || nat_eq first 105) (nat_eq first 108) is in
+    let one = either_none (nat_eq first 101) (nat_eq first 105) two.0 in
+    let init : is_word (take n (first ∷ rest)) (codes "init") ≡ false = head_none n 105 first rest (codes "nit") one.1 in
+    let evolve : is_word (take n (first ∷ rest)) (codes "evolve") ≡ false = head_none n 101 first rest (codes "volve") one.0 in
+    let import_word : is_word (take n (first ∷ rest)) (codes "import") ≡ false = head_none n 105 first rest (codes "mport") one.1 in
+    let load : is_word (take n (first ∷ rest)) (codes "load") ≡ false = head_none n 108 first rest (codes "oad") two.1 in
+    rw (init, evolve, import_word, load) refl
 
 begins : takes_block (codes "init") ≡ true
 unfolding takes_block

@@ -75,7 +75,7 @@ fn takes_block(line: &str) -> bool
         None => line,
         Some((word, _)) => word,
     };
-    word == "init" || word == "import"
+    word == "init" || word == "evolve" || word == "import" || word == "load"
 }
 
 /// A copy of what was read last.
