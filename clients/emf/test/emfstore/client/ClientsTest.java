@@ -190,6 +190,7 @@ public final class ClientsTest {
                     }
                 } catch (RefusedException | IllegalArgumentException refusal) {
                     refused++;
+                    edits.refresh();
                 }
                 if (i % EDITS_A_LOOK == 0) {
                     edits.putBack();
@@ -272,8 +273,7 @@ public final class ClientsTest {
             try {
                 edits.edit(FEW);
             } catch (RefusedException | IllegalArgumentException refusal) {
-                // What is refused is taken back.
-                continue;
+                edits.refresh();
             }
         }
         edits.putBack();
