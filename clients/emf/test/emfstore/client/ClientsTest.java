@@ -167,7 +167,8 @@ public final class ClientsTest {
         try (Store store = start(written, profile); Recorder recorder = Recorder.checkout(store, profile, "trunk", live)) {
             List<String> told = new Notifications(profile, live, folder.resolve("store" + stores).resolve("sent")).lines();
             check(recorder.text().equals(store.send("show 1").data().get(0)), "the program shows another model");
-            check(told.equals(Files.readAllLines(Path.of(beside("notifications.txt")))), "notifications.txt has other lines than\n" + String.join("\n", told));
+            List<String> wanted = Files.readAllLines(Path.of(beside("notifications.txt")));
+            check(told.equals(wanted), "notifications.txt has other lines than\n" + String.join("\n", told));
         }
         tell("a notification of each kind");
     }
@@ -190,6 +191,7 @@ public final class ClientsTest {
                     }
                 } catch (RefusedException | IllegalArgumentException refusal) {
                     refused++;
+                    edits.refresh();
                 }
                 if (i % EDITS_A_LOOK == 0) {
                     edits.putBack();
@@ -272,8 +274,7 @@ public final class ClientsTest {
             try {
                 edits.edit(FEW);
             } catch (RefusedException | IllegalArgumentException refusal) {
-                // What is refused is taken back.
-                continue;
+                edits.refresh();
             }
         }
         edits.putBack();

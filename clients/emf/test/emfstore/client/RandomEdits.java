@@ -67,7 +67,7 @@ final class RandomEdits {
         }
     }
 
-    /** Takes what else came into the resource as made too. */
+    /** Takes what else is in the resource as made too, as what a refused change or an update brings back. */
     void refresh() {
         resource.getAllContents().forEachRemaining(made::add);
     }
@@ -99,9 +99,10 @@ final class RandomEdits {
         made.removeAll(gone);
         for (EObject other : made) {
             for (Feature feature : editable(other)) {
-                if (feature.kind() == Kind.REFERENCE) {
-                    List<EObject> targets = ModelText.targets(other, feature.reference());
-                    targets.stream().filter(gone::contains).forEach(it -> EcoreUtil.remove(other, feature.ecore(), it));
+                if (feature.kind() == Kind.REFERENCE && feature.isMany()) {
+                    list(other, feature).removeAll(gone);
+                } else if (feature.kind() == Kind.REFERENCE && gone.contains(other.eGet(feature.ecore()))) {
+                    other.eSet(feature.ecore(), null);
                 }
             }
         }
