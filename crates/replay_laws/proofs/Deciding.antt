@@ -1,5 +1,5 @@
 -- The command that an event is made again by is answered with just that event, where the event could be made and the store has room.
-use Rattle.std.proofs.Common.{◌≡◌, ℕ, zero, suc, ◌+◌, ◌^◌, ◌<◌, ◌≤◌, ◌&&◌, ◌||◌, not, List, [], ◌∷◌, length, nat_lt, nat_le, nat_eq, Bool, true, false, Option, None, Some, is_some, Result, Ok, Err, refl, sym, ap, subst, arith, if◌then◌else◌}
+use Rattle.std.proofs.Common.{◌≡◌, ℕ, zero, suc, ◌+◌, ◌^◌, ◌<◌, ◌≤◌, ◌&&◌, ◌||◌, not, List, [], ◌∷◌, length, nat_lt, nat_le, nat_eq, Bool, true, false, Option, None, Some, is_none, is_some, cond, Result, Ok, Err, refl, sym, ap, subst, arith, if◌then◌else◌}
 use Rattle.std.specs.Prelude.{slice_get, unwrap_or, is_ok}
 use Rattle.std.specs.Fmt.{decimal}
 use Rattle.std.specs.Option.{option_map_or}
@@ -7,6 +7,9 @@ use Rattle.std.proofs.lemmas.Bool.{ltb-true, eqb-true}
 use Rattle.commit_journal.specs.Journal.{most_bytes}
 use Rattle.ecore_meta.specs.Meta.{Meta}
 use Rattle.ecore_json.specs.declared.fault.EcoreFault.{EcoreFault}
+use Rattle.metamodel_growth.specs.Extension.{missing}
+use Rattle.metamodel_growth.specs.Evolved.{evolved}
+use Rattle.metamodel_growth.specs.Same.{is_same}
 use Rattle.model_state.specs.Steps.{first_stop}
 use Rattle.model_state.specs.Packages.{fold_package, steps_all}
 use Rattle.model_state.specs.Names.{is_name}
@@ -20,26 +23,25 @@ use Rattle.history_tree.specs.declared.version.Version.{Version}
 use Rattle.history_tree.specs.History.{head}
 use Rattle.history_tree.specs.Found.{branch_name, has_tag, on_its_branch}
 use Rattle.op_form.specs.declared.event.Event.{Event}
-use Rattle.op_form.specs.declared.event.Event.TheVariants.{Init, Checkout, Edit, Begin, End, Undo, Discard, Tidy, Commit, Branch, Tag, Update, Merge, Drop}
+use Rattle.op_form.specs.declared.event.Event.TheVariants.{Init, Checkout, Edit, Begin, End, Undo, Discard, Tidy, Commit, Branch, Tag, Update, Merge, Drop, Evolve, Upgrade, Signed}
 use Rattle.op_form.specs.Events.{event_encoding}
 use Rattle.op_form.specs.Formed.{is_event}
 use Rattle.script_lang.specs.declared.command.Spec.TheVariants as specs
 use Rattle.plain_repository.specs.State.{State, Workspace, model_of, is_open, is_closed, has_operations, has_local}
 use Rattle.plain_repository.specs.Answers.{Decision, most_events, with_room, accepted, is_refusal}
-use Rattle.plain_repository.specs.Metamodels.{with_metamodel}
+use Rattle.plain_repository.specs.Metamodels.{with_metamodel, extension_of, extended, evolve_read}
 use Rattle.plain_repository.specs.Checkouts.{decide_checkout, checkout_of, can_check_out, drop_of}
-use Rattle.plain_repository.specs.Commits.{commit_of, can_commit, branch_of, is_new_branch, decide_tag, tag_of, can_tag}
+use Rattle.plain_repository.specs.Commits.{version_made, commit_of, signed_of, decide_upgrade, can_commit, branch_of, is_new_branch, decide_tag, tag_of, can_tag}
 use Rattle.plain_repository.specs.Composites.{begun, ended}
 use Rattle.plain_repository.specs.Local.{undone, can_undo, discarded, can_discard}
 use Rattle.plain_repository.specs.Tidying.{tidy_of, can_tidy}
 use Rattle.plain_repository.specs.Edits.{takes, can_follow}
-use Rattle.plain_repository.specs.Applying.{applied}
+use Rattle.plain_repository.specs.Applying.{applied, load_package}
 use Rattle.plain_repository.specs.Choices.{chosen}
 use Rattle.plain_repository.specs.Merging.{update_buckets, update_in, update_to, can_update, merge_buckets, merge_in, merge_of, can_merge, is_other_branch, has_theirs}
 use Rattle.plain_repository.specs.Orderly.{HasNames}
 use Rattle.plain_repository.proofs.Encodings.{and_left, and_right, not_so}
 use Rattle.plain_repository.proofs.Names.{branch_found}
-use Rattle.replay_laws.specs.Loading.{load_package}
 use Rattle.replay_script.specs.Lines.{is_of_branch}
 
 -- a decision is just that event, and no refusal
@@ -74,10 +76,31 @@ pub word_back : (text : List ℕ) → unwrap_or (unless_empty text) [] ≡ text
 word_back [] = refl
 word_back (b ∷ bs) = refl
 
+-- ---- one of two, by a test
+if_so : {X : Type 0} (b : Bool) (P : X → Type 0) (x y : X) → b ≡ true → P x → P (if b then x else y)
+if_so true P x y is p = p
+if_so false P x y is p = absurd cc
+
+if_not : {X : Type 0} (b : Bool) (P : X → Type 0) (x y : X) → b ≡ false → P y → P (if b then x else y)
+if_not true P x y is p = absurd cc
+if_not false P x y is p = p
+
 -- ---- the metamodel
 pub init_makes : (s : State) (text : List ℕ) (r : Result Meta EcoreFault) → HasRoom s (Init text) → is_ok r ≡ true → Makes (with_metamodel s text r) (Init text)
 init_makes s text (Err fault) has is = absurd cc
 init_makes s text (Ok meta) has is = made s [] [] (Init text) has
+
+-- ---- a metamodel that is extended
+pub evolve_makes : (s : State) (text : List ℕ) (old : Meta) (r : Result Meta EcoreFault) → HasRoom s (Evolve text) → is_some (extension_of old r) ≡ true
+    → Makes (evolve_read s text old r) (Evolve text)
+evolve_makes s text old (Err fault) has is = absurd cc
+evolve_makes s text old (Ok next) has is = by (missing old next) (is_same old (evolved old next)) refl is
+  where
+    by : (name : Option (List ℕ)) (same : Bool) → is_same old (evolved old next) ≡ same
+        → is_some (cond (is_none name && not same) (Some (evolved old next)) None) ≡ true → Makes (extended s text old next name) (Evolve text)
+    by (Some name) same same_is is = absurd cc
+    by None true same_is is = absurd cc
+    by None false same_is is = if_not (is_same old (evolved old next)) (λ (d : Decision). Makes d (Evolve text)) _ _ same_is (made s [] [] (Evolve text) has)
 
 -- ---- checkouts
 own_version : (s : State) (meta : Meta) (version branch : ℕ) (o : Option Version) → slice_get s.history.versions version ≡ o
@@ -133,14 +156,6 @@ undo_makes s ws (Some w) has is =
     let some : nat_lt 0 (length w.operations) ≡ true = and_right (is_closed (Some w)) (has_operations (Some w)) is in
     rw (closed, some) (made s [] [] (Undo ws) has)
 
-if_so : {X : Type 0} (b : Bool) (P : X → Type 0) (x y : X) → b ≡ true → P x → P (if b then x else y)
-if_so true P x y is p = p
-if_so false P x y is p = absurd cc
-
-if_not : {X : Type 0} (b : Bool) (P : X → Type 0) (x y : X) → b ≡ false → P y → P (if b then x else y)
-if_not true P x y is p = absurd cc
-if_not false P x y is p = p
-
 pub discard_makes : (s : State) (ws : ℕ) (o : Option Workspace) → HasRoom s (Discard ws) → can_discard o ≡ true → Makes (discarded s ws o) (Discard ws)
 discard_makes s ws None has is = absurd cc
 discard_makes s ws (Some w) has is = if_so (can_discard (Some w)) (λ (d : Decision). Makes d (Discard ws)) _ _ is (made s [] [] (Discard ws) has)
@@ -155,18 +170,33 @@ tidy_makes s meta ws (Some w) has is =
     (if_not (is_tidy meta w.operations) (λ (d : Decision). Makes d (Tidy ws)) _ _ untidy (made s [] [] (Tidy ws) has))
 
 -- ---- the history
-pub commit_makes : (s : State) (ws : ℕ) (message : List ℕ) (o : Option Workspace) → HasRoom s (Commit ws message) → can_commit s.history o ≡ true
-    → Makes (commit_of s ws message o) (Commit ws message)
-commit_makes s ws message None has is = absurd cc
-commit_makes s ws message (Some w) has is =
+version_makes : (s : State) (w : Workspace) (event : Event) → HasRoom s event → can_commit s.history (Some w) ≡ true → Makes (version_made s w event) event
+version_makes s w event has is =
     let at_head : Bool = nat_eq w.base (head s.history w.branch) in
     let front = and_left (at_head && is_closed (Some w)) (has_local (Some w)) is in
     let now : at_head ≡ true = and_left at_head (is_closed (Some w)) front in
     let stale : not at_head ≡ false = ap not now in
     let closed = not_so (is_some w.composite) (and_right at_head (is_closed (Some w)) front) in
-    let P : Decision → Type 0 = λ d. Makes d (Commit ws message) in
+    let P : Decision → Type 0 = λ d. Makes d event in
     if_not (not at_head) P _ _ stale (if_not (is_some w.composite) P _ _ closed
-    (if_so (has_local (Some w)) P _ _ (and_right (at_head && is_closed (Some w)) (has_local (Some w)) is) (made s _ _ (Commit ws message) has)))
+    (if_so (has_local (Some w)) P _ _ (and_right (at_head && is_closed (Some w)) (has_local (Some w)) is) (made s _ _ event has)))
+
+pub commit_makes : (s : State) (ws : ℕ) (message : List ℕ) (o : Option Workspace) → HasRoom s (Commit ws message) → not s.upgraded ≡ true
+    → can_commit s.history o ≡ true → Makes (commit_of s ws message o) (Commit ws message)
+commit_makes s ws message None has old is = absurd cc
+commit_makes s ws message (Some w) has old is =
+    if_not s.upgraded (λ (d : Decision). Makes d (Commit ws message)) _ _ (not_so s.upgraded old) (version_makes s w (Commit ws message) has is)
+
+pub signed_makes : (s : State) (ws : ℕ) (author : List ℕ) (moment : ℕ) (message : List ℕ) (o : Option Workspace) → HasRoom s (Signed ws author moment message)
+    → s.upgraded ≡ true → can_commit s.history o ≡ true → Makes (signed_of s ws author moment message o) (Signed ws author moment message)
+signed_makes s ws author moment message None has new is = absurd cc
+signed_makes s ws author moment message (Some w) has new is =
+    let e = Signed ws author moment message in
+    if_so s.upgraded (λ (d : Decision). Makes d e) _ _ new (version_makes s w e has is)
+
+pub upgrade_makes : (s : State) → HasRoom s Upgrade → not s.upgraded ≡ true → Makes (decide_upgrade s) Upgrade
+unfolding decide_upgrade
+upgrade_makes s has old = if_not s.upgraded (λ (d : Decision). Makes d Upgrade) _ _ (not_so s.upgraded old) (made s [] [] Upgrade has)
 
 pub branch_makes : (s : State) (ws : ℕ) (name : List ℕ) (o : Option Workspace) → HasRoom s (Branch ws name) → is_new_branch s.history name ≡ true
     → is_closed o ≡ true → Makes (branch_of s ws name o) (Branch ws name)

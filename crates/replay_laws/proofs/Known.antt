@@ -9,7 +9,7 @@ use Rattle.op_form.specs.declared.event.Event.{Event}
 use Rattle.op_form.specs.declared.event.Event.TheVariants.{Checkout, Tag, Merge}
 use Rattle.plain_repository.specs.State.{State, workspace_of}
 use Rattle.plain_repository.specs.Answers.{most_events, fits_record}
-use Rattle.plain_repository.specs.Events.{playable, playable_with}
+use Rattle.plain_repository.specs.Events.{playable, playable_with, suits}
 use Rattle.plain_repository.proofs.Encodings.{and_left, and_right}
 use Rattle.replay_script.specs.Lines.{is_of_branch}
 use Rattle.replay_script.specs.Printable.{is_known}
@@ -29,4 +29,4 @@ known s m e could = refl
 
 pub nothing_is_unknown : NothingIsUnknown
 unfolding playable
-nothing_is_unknown s e could = known s s.meta e (and_right (nat_lt s.events most_events && fits_record e) (playable_with s s.meta e) could)
+nothing_is_unknown s e could = known s s.meta e (and_right (nat_lt s.events most_events && fits_record e && suits s.upgraded e) (playable_with s s.meta e) could)

@@ -81,19 +81,27 @@ quiet_line words all short =
     subst IsWholeLine (append-nil (spaced words)) (messages_stand (spaced words) [] (spaced_quiet words all) IsUtf8-nil refl
     (subst (λ (xs : List ℕ). length xs ≤ LINE_LIMIT) (sym (append-nil (spaced words))) short))
 
--- a commit's line with its message
-abbrev commit_front : ℕ → List ℕ
-commit_front ws = codes "commit" ++ (32 ∷ (decimal ws ++ (32 ∷ [])))
+pub quiet_moment : (n : ℕ) → n < 2 ^ 64 → IsQuiet (decimal n)
+quiet_moment n small = record { all = weaker is_ascii_digit is_quiet digit (decimal n) (digits_decimal numerals n small) }
 
-front_is : (ws : ℕ) (message : List ℕ) → commit_front ws ++ message ≡ spaced (codes "commit" ∷ decimal ws ∷ message ∷ [])
-front_is ws message = ap (λ (xs : List ℕ). codes "commit" ++ (32 ∷ xs)) (append_assoc (decimal ws) (32 ∷ []) message)
+-- quiet words, each with a space, before a message
+abbrev before_message : List (List ℕ) → List ℕ
+before_message [] = []
+before_message (word ∷ words) = word ++ 32 ∷ before_message words
 
-front_quiet : (ws : ℕ) → ws < 2 ^ 32 → list_all is_quiet (commit_front ws) ≡ true
-front_quiet ws small = list_all-append is_quiet (decimal ws) (32 ∷ []) ∙ rw (quiet_number ws small).all refl
+front_is : (words : List (List ℕ)) (message : List ℕ) → before_message words ++ message ≡ spaced (words ++ message ∷ [])
+front_is [] message = refl
+front_is (word ∷ []) message = append_assoc word (32 ∷ []) message
+front_is (word ∷ next ∷ words) message =
+    append_assoc word (32 ∷ before_message (next ∷ words)) message ∙ ap (λ (xs : List ℕ). word ++ 32 ∷ xs) (front_is (next ∷ words) message)
 
-pub commit_line : (ws : ℕ) (message : List ℕ) → ws < 2 ^ 32 → IsUtf8 message → breaks_line message ≡ false
-    → length (spaced (codes "commit" ∷ decimal ws ∷ message ∷ [])) ≤ LINE_LIMIT
-    → IsWholeLine (spaced (codes "commit" ∷ decimal ws ∷ message ∷ []))
-commit_line ws message small utf8 whole short =
-    subst IsWholeLine (front_is ws message) (messages_stand (commit_front ws) message (front_quiet ws small) utf8 whole
-    (subst (λ (xs : List ℕ). length xs ≤ LINE_LIMIT) (sym (front_is ws message)) short))
+front_quiet : (words : List (List ℕ)) → AllByRecursion IsQuiet words → list_all is_quiet (before_message words) ≡ true
+front_quiet [] all = refl
+front_quiet (word ∷ words) all = list_all-append is_quiet word (32 ∷ before_message words) ∙ rw all.0.all (front_quiet words all.1)
+
+-- so is a line of quiet words with a message after them
+pub message_line : (words : List (List ℕ)) (message : List ℕ) → AllByRecursion IsQuiet words → IsUtf8 message → breaks_line message ≡ false
+    → length (spaced (words ++ message ∷ [])) ≤ LINE_LIMIT → IsWholeLine (spaced (words ++ message ∷ []))
+message_line words message all utf8 whole short =
+    subst IsWholeLine (front_is words message) (messages_stand (before_message words) message (front_quiet words all) utf8 whole
+    (subst (λ (xs : List ℕ). length xs ≤ LINE_LIMIT) (sym (front_is words message)) short))

@@ -15,7 +15,8 @@ use Rattle.plain_repository.proofs.Encodings.{and_left, and_right, not_so}
 use Rattle.plain_repository.proofs.Kept.{empty_kept, play_keeps}
 use Rattle.printed_items.specs.Printed.{MayStand}
 use Rattle.printed_items.proofs.Cutting.{items_are_cut}
-use Rattle.replay_laws.specs.Loading.{decide_more, takes_block_more}
+use Rattle.plain_repository.specs.Lines.{takes_block}
+use Rattle.plain_repository.specs.Repository.{decide}
 use Rattle.replay_script.specs.Lines.{item_again}
 use Rattle.replay_laws.specs.Scripts.{items_again, are_printable}
 use Rattle.replay_script.specs.Printable.{is_too_long, is_not_printable}
@@ -31,19 +32,19 @@ grows s (event ∷ events) = omega (arith, next_end s event, grows (play s event
 
 -- ---- one event after another
 record Goes (s : State) (events : List Event) : Type 0 where
-  stand : AllByRecursion (MayStand takes_block_more) (items_again s events)
-  same : made (answers decide_more play s (items_again s events)) ≡ events
-  accepts : refuses (answers decide_more play s (items_again s events)) ≡ false
+  stand : AllByRecursion (MayStand takes_block) (items_again s events)
+  same : made (answers decide play s (items_again s events)) ≡ events
+  accepts : refuses (answers decide play s (items_again s events)) ≡ false
 
 -- what an item is answered goes before what those after it are
 same_front : (s : State) (event : Event) (events : List Event) (items : List Item) (o : Option Event) → o ≡ Some event
-    → made (answers decide_more play (play s event) items) ≡ events
-    → listed o ++ made (answers decide_more play (after play s o) items) ≡ event ∷ events
+    → made (answers decide play (play s event) items) ≡ events
+    → listed o ++ made (answers decide play (after play s o) items) ≡ event ∷ events
 same_front s event events items o is same = rw is (ap (λ (es : List Event). event ∷ es) same)
 
 no_refusal : (s : State) (event : Event) (items : List Item) (o : Option Event) (b : Bool) → o ≡ Some event → b ≡ false
-    → refuses (answers decide_more play (play s event) items) ≡ false
-    → (b || refuses (answers decide_more play (after play s o) items)) ≡ false
+    → refuses (answers decide play (play s event) items) ≡ false
+    → (b || refuses (answers decide play (after play s o) items)) ≡ false
 no_refusal s event items o b is accepts rest = rw (is, accepts) rest
 
 goes : (s : State) (events : List Event) → IsOrderly s → IsTrue (are_playable s events) → IsTrue (are_printable s events)
@@ -62,7 +63,7 @@ goes s (event ∷ events) order could print stored =
     let rest = goes (play s event) events (play_keeps s event first order) (and_right (playable s event) (are_playable (play s event) events) could)
     (and_right (not (is_too_long event) && not (is_not_printable s.history event)) (are_printable (play s event) events) print) stored in
     let items = items_again (play s event) events in
-    let answer = decide_more s (item_again s.history event) in
+    let answer = decide s (item_again s.history event) in
     record {
       stand = (one.stands, rest.stand);
       same = same_front s event events items answer.event one.makes rest.same;
@@ -72,7 +73,7 @@ goes s (event ∷ events) order could print stored =
 pub scripts_replay : ScriptsReplay
 scripts_replay events may =
     let g = goes empty events empty_kept may.could may.printable may.stored in
-    let cut = items_are_cut takes_block_more (items_again empty events) g.stand may.short in
+    let cut = items_are_cut takes_block (items_again empty events) g.stand may.short in
     subst (λ (script : Script). Replays script events) (sym cut) (record { whole = refl; same = g.same; accepted = g.accepts })
 
 -- ---- the events of a file

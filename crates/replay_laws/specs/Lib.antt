@@ -1,4 +1,3 @@
-pub mod Loading
 pub mod Remaking
 pub mod Scripts
 pub mod Replay

@@ -8,7 +8,8 @@ use Rattle.replay_script.specs.Printable.{is_known, is_too_long, is_not_printabl
 use Rattle.plain_repository.specs.State.{State}
 use Rattle.plain_repository.specs.Events.{play, playable}
 use Rattle.plain_repository.specs.Orderly.{IsOrderly}
-use Rattle.replay_laws.specs.Loading.{decide_more, takes_block_more}
+use Rattle.plain_repository.specs.Lines.{takes_block}
+use Rattle.plain_repository.specs.Repository.{decide}
 
 -- An event that could be made in a state in order, and that a script can hold. The store ends below 2^40 after it.
 pub record MayBeMadeAgain (s : State) (event : Event) : Type 0 where
@@ -20,9 +21,9 @@ pub record MayBeMadeAgain (s : State) (event : Event) : Type 0 where
 
 -- the item is cut out of a script as it is, and is answered with just that event, and no refusal
 pub record Remakes (s : State) (item : Item) (event : Event) : Type 0 where
-  pub stands : MayStand takes_block_more item
-  pub makes : (decide_more s item).event ≡ Some event
-  pub accepts : (decide_more s item).refused ≡ false
+  pub stands : MayStand takes_block item
+  pub makes : (decide s item).event ≡ Some event
+  pub accepts : (decide s item).refused ≡ false
 
 -- such an event is what its line is answered with
 abbrev pub EventsAreMadeAgain : Type 0

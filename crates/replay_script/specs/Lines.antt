@@ -5,7 +5,7 @@ use Rattle.std.specs.Option.{option_map_or}
 use Rattle.host_port.specs.Cut.{Item}
 use Rattle.hex.specs.Hex.{encode_lower}
 use Rattle.op_form.specs.declared.event.Event.{Event}
-use Rattle.op_form.specs.declared.event.Event.TheVariants.{Init, Checkout, Edit, Begin, End, Undo, Discard, Tidy, Commit, Branch, Tag, Update, Merge, Drop}
+use Rattle.op_form.specs.declared.event.Event.TheVariants.{Init, Checkout, Edit, Begin, End, Undo, Discard, Tidy, Commit, Branch, Tag, Update, Merge, Drop, Evolve, Upgrade, Signed}
 use Rattle.op_form.specs.Packages.{package_encoding}
 use Rattle.history_tree.specs.History.{History}
 use Rattle.history_tree.specs.Found.{branch_name}
@@ -40,10 +40,14 @@ words_again h (Tag name version) = codes "tag" ∷ name ∷ decimal version ∷ 
 words_again h (Update ws letters) = codes "update" ∷ decimal ws ∷ last_word letters
 words_again h (Merge ws branch letters) = codes "merge" ∷ decimal ws ∷ branch_name h branch ∷ last_word letters
 words_again h (Drop ws) = codes "drop" ∷ decimal ws ∷ []
+words_again h (Evolve text) = codes "evolve" ∷ []
+words_again h Upgrade = codes "upgrade" ∷ []
+words_again h (Signed ws author moment message) = codes "signed" ∷ decimal ws ∷ author ∷ decimal moment ∷ last_word message
 
 -- the text of its block: the metamodel as it was given, or the package's bytes in hexadecimal digits of lower case, as one line
 abbrev pub block_again : Event → Option (List ℕ)
 block_again (Init text) = Some text
+block_again (Evolve text) = Some text
 block_again (Edit ws operations) = Some (encode_lower (package_encoding operations) ++ (10 ∷ []))
 block_again event = None
 

@@ -2,7 +2,7 @@
 use Rattle.std.specs.Prelude.{◌&&◌, ◌||◌, nat_lt, Bool, true, false, length}
 use Rattle.host_port.specs.declared.lines.TheConstants.{LINE_LIMIT}
 use Rattle.op_form.specs.declared.event.Event.{Event}
-use Rattle.op_form.specs.declared.event.Event.TheVariants.{Init, Checkout, Edit, Commit, Tag, Merge}
+use Rattle.op_form.specs.declared.event.Event.TheVariants.{Init, Checkout, Edit, Commit, Tag, Merge, Evolve, Signed}
 use Rattle.op_form.specs.Packages.{package_encoding}
 use Rattle.history_tree.specs.History.{History}
 use Rattle.script_lang.specs.Spelling.{spaced}
@@ -24,7 +24,9 @@ is_too_long event = false
 -- the text of the event is one that its line or its block can't hold
 abbrev pub breaks : Event → Bool
 breaks (Init text) = breaks_block text
+breaks (Evolve text) = breaks_block text
 breaks (Commit ws message) = breaks_line message
+breaks (Signed ws author moment message) = breaks_line message
 breaks event = false
 
 -- or its line is too long
