@@ -38,7 +38,11 @@ const EVENTS: &str = r#"01 000000027b7d = Init { text: Text { text: "{}" } }
 0c 00000002 000000036d746d = Update { ws: 2, choices: Text { text: "mtm" } }
 0d 00000001 00000002 00000000 = Merge { ws: 1, branch: 2, choices: Text { text: "" } }
 0d ffffffff 00000000 000000026d74 = Merge { ws: 4294967295, branch: 0, choices: Text { text: "mt" } }
-0e 00000002 = Drop { ws: 2 }"#;
+0e 00000002 = Drop { ws: 2 }
+0f 000000027b7d = Evolve { text: Text { text: "{}" } }
+10 = Upgrade
+11 00000001 00000003616e6e 0000000000000000 00000000 = Signed { ws: 1, author: Text { text: "ann" }, moment: 0, message: Text { text: "" } }
+11 00000002 00000003616e6e ffffffffffffffff 0000000161 = Signed { ws: 2, author: Text { text: "ann" }, moment: 18446744073709551615, message: Text { text: "a" } }"#;
 
 fn read(alloc: Global, text: &str) -> Result<Vec<u8>, Fail> {
     let digits = text.replace(alloc, " ", "")?;
@@ -130,7 +134,7 @@ fn events_are_spelled_and_every_prefix_is_no_encoding(rt: HostRuntime) -> Result
 }
 
 // Bytes of no event, and the offset: of the first field that can't be read, or of the first byte left over.
-const NO_EVENTS: &str = "0f 00000001 = 0
+const NO_EVENTS: &str = "12 00000001 = 0
 00 = 0
 01 00000001ff = 1
 05 00000002 00 = 5
@@ -138,6 +142,8 @@ const NO_EVENTS: &str = "0f 00000001 = 0
 0c 00000001 000000016d 00 = 10
 0d 00000001 000000016d 6d = 9
 0e 00000002 00 = 5
+10 00 = 1
+11 00000001 0000000000000005 00000003616e6e 00000000 = 17
 03 00000001 00 = 5
 03 00000001 00000000 00 = 9";
 
