@@ -1,5 +1,5 @@
 //! The laws of replay: an event that could be made is what its own line is answered with, and the script of a repository, run on an
-//! empty one, makes the same events. And the command `load`, as a definition.
+//! empty one, makes the same events. A law is the contract of a function that does nothing.
 #![tactic(auto)]
 
 mod laws;

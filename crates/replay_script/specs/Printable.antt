@@ -9,7 +9,7 @@ use Rattle.script_lang.specs.Spelling.{spaced}
 use Rattle.replay_texts.specs.Texts.{breaks_line, breaks_block}
 use Rattle.replay_script.specs.Lines.{words_again}
 
--- each version and each branch that the line names is there
+-- each version and each branch that the event names is there
 abbrev pub is_known : History → Event → Bool
 is_known h (Checkout version branch) = nat_lt version (length h.versions) && nat_lt branch (length h.branches)
 is_known h (Tag name version) = nat_lt version (length h.versions)
