@@ -79,6 +79,16 @@ public final class Recorder extends EContentAdapter implements AutoCloseable {
         return store.send(message.isEmpty() ? lines.command("commit") : lines.command("commit", message)).number(0);
     }
 
+    /**
+     * The same of a store that was upgraded, where a version names its author and a moment: a number, at least 0, that means what a team agrees on.
+     *
+     * @throws RefusedException by 24, Stale, where an update must come before, or 39, OldForm, where the store wasn't upgraded
+     */
+    public int signed(String author, long moment, String message) {
+        String who = author + " " + Long.toUnsignedString(moment);
+        return store.send(lines.command("signed", message.isEmpty() ? who : who + " " + message)).number(0);
+    }
+
     /** Brings workspace and resource to the branch's head, whose number it gives. A side is asked for of each bucket of operations that conflict. */
     public int update(Function<Bucket, Choice> chooser) {
         Reply reply = store.ask(lines.command("update"));
