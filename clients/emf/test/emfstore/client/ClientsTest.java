@@ -27,6 +27,7 @@ public final class ClientsTest {
     private static final int EDITS_A_ROUND = 15;
     private static final int ROUNDS = 40;
     private static final int NOTHING_LOCAL = 23;
+    private static final int UNSIGNED = 40;
     /** As many elements as there may be: few in the first half of the edits, so that their lists are long, and then many. */
     private static final int FEW = 20;
     private static final int MANY = 300;
@@ -206,7 +207,7 @@ public final class ClientsTest {
         model("kinds", kinds, folder.resolve("live.xmi").toString(), 1);
     }
 
-    /** Two people give one element a name, and one of them chooses: the first time mine, then theirs. What doesn't conflict stays. */
+    /** Two people give one element a name, and one of them chooses: the first time mine, then theirs. What doesn't conflict stays. Then one signs. */
     private void conflicts() throws IOException {
         Metamodels metamodels = new Metamodels(List.of(kinds));
         Profile profile = new Profile(metamodels.packages());
@@ -234,8 +235,14 @@ public final class ClientsTest {
                 checkEqual(ofAnn, ofBen, "after " + choice);
             }
             check(ofAnn.getContents().size() == 1 + Choice.values().length, "an element is lost");
+            store.send("upgrade");
+            set(ofAnn.getContents().get(0), "name", "signed");
+            checkRefused(UNSIGNED, () -> ann.commit("hers"));
+            int signed = ann.signed("ann", 1767225600L, "hers");
+            String version = store.send("log").data().get(signed);
+            check(version.endsWith(" ann 1767225600 \"hers\""), "another version: " + version);
         }
-        tell("a conflict resolved both ways");
+        tell("a conflict resolved both ways, and a version signed");
     }
 
     /** Two people edit at random and take each other's versions, with a choice at random for each conflict: their resources are equal then. */
