@@ -118,6 +118,7 @@ impl Host for TalkHost {
         ensures talk { IfOk result (λ n. talk_of self.new ≡ taken_on (turn (talk_of self.old).part (talk_of self.old).later (talk_of self.old).heard) n) }
         ensures bytes { IfOk result (λ n. take n into.new ≡ take n (turn (talk_of self.old).part (talk_of self.old).later (talk_of self.old).heard).part) }
         ensures count { IfOk result (λ n. n ≡ min (length into.old) (length (turn (talk_of self.old).part (talk_of self.old).later (talk_of self.old).heard).part)) }
+        ensures succeeds { OnErr result ⊥ }
         ensures words { words_of self.new ≡ words_of self.old }
         ensures file { file_of self.new ≡ file_of self.old }
     {
@@ -168,6 +169,7 @@ impl Host for TalkHost {
         ensures alone { RaisesDiskAlone (talk_told self.old) (talk_told self.new) }
         ensures cause { OnErr result (Rose (talk_told self.old).disk_faults (talk_told self.new).disk_faults) }
         ensures value { IfOk result (λ n. n ≡ length (file_of self.old)) }
+        ensures succeeds { OnErr result ⊥ }
         ensures kept { KeepsTalk self.old self.new }
     {
         Ok(self.file.len() as u64)
@@ -183,6 +185,7 @@ impl Host for TalkHost {
         ensures alone { RaisesDiskAlone (talk_told self.old) (talk_told self.new) }
         ensures cause { OnErr result (Rose (talk_told self.old).disk_faults (talk_told self.new).disk_faults) }
         ensures value { OnOk result (into.new ≡ take (length into.old) (drop at (padded (file_of self.old) (at + length into.old)))) }
+        ensures succeeds { OnErr result ⊥ }
         ensures kept { KeepsTalk self.old self.new }
     {
         read_over(&self.file, at, into);
@@ -228,6 +231,7 @@ impl Host for TalkHost {
         ensures alone { RaisesDiskAlone (talk_told self.old) (talk_told self.new) }
         ensures cause { OnErr result (Rose (talk_told self.old).disk_faults (talk_told self.new).disk_faults) }
         ensures done { OnOk result (KeepsTalk self.old self.new) }
+        ensures succeeds { OnErr result ⊥ }
     {
         Ok(())
     }

@@ -2,7 +2,7 @@
 use Rattle.std.specs.Prelude.{ℕ, List, [], ◌∷◌, ◌++◌, codes, Some, None}
 use Rattle.std.specs.Fmt.{decimal}
 use Rattle.script_lang.specs.declared.reply.Refusal.{Refusal}
-use Rattle.script_lang.specs.declared.reply.Refusal.TheVariants.{BadLine, NotInit, AlreadyInit, BadMetamodel, NoWorkspace, NoVersion, NoBranch, BranchExists, TagExists, NoElement, IdInUse, BadId, NoClass, Abstract, NoFeature, WrongKind, BadValue, WrongType, Bound, AlreadyThere, NoEntry, WouldCycle, NothingLocal, Stale, Conflicts, BadChoice, CompositeOpen, NoComposite, BadModel, Interferes, SameBranch, NotOnPath, HistoryFull, TooLarge, JournalFull, NotApplicable, NotForm, NotExtension, OldForm, Unsigned}
+use Rattle.script_lang.specs.declared.reply.Refusal.TheVariants.{BadLine, NotInit, AlreadyInit, BadMetamodel, NoWorkspace, NoVersion, NoBranch, BranchExists, TagExists, NoElement, IdInUse, BadId, NoClass, Abstract, NoFeature, WrongKind, BadValue, WrongType, Bound, AlreadyThere, NoEntry, WouldCycle, NothingLocal, Stale, Conflicts, BadChoice, CompositeOpen, NoComposite, BadModel, Interferes, SameBranch, NotOnPath, HistoryFull, TooLarge, JournalFull, NotApplicable, NotForm, NotExtension, OldForm, Unsigned, Denied, TooLong, NotPrintable}
 use Rattle.script_lang.specs.declared.reply.Fields.{Fields}
 use Rattle.script_lang.specs.declared.reply.Fields.TheVariants as fields
 use Rattle.script_lang.specs.declared.reply.Last.{Last}
@@ -52,6 +52,9 @@ refusal_text (NotForm place) = codes "37 NotForm " ++ decimal place
 refusal_text (NotExtension name) = codes "38 NotExtension " ++ name
 refusal_text OldForm = codes "39 OldForm"
 refusal_text Unsigned = codes "40 Unsigned"
+refusal_text (Denied rule) = codes "41 Denied " ++ decimal rule
+refusal_text (TooLong place) = codes "42 TooLong " ++ decimal place
+refusal_text (NotPrintable place) = codes "43 NotPrintable " ++ decimal place
 
 -- a title, and the fields that stand after it, with single spaces
 abbrev pub with_fields : List ℕ → Fields → List ℕ

@@ -90,6 +90,12 @@ pub enum Refusal {
     OldForm,
     /// 40: each version is signed since the store is upgraded.
     Unsigned,
+    /// 41: the rule of that number denies the command to the user.
+    Denied { rule: u32 },
+    /// 42: no block of a script has room for the package of the event at that place, counted from 1.
+    TooLong { place: u32 },
+    /// 43: no line of a script spells the event at that place, counted from 1.
+    NotPrintable { place: u32 },
 }
 
 /// What stands after a refusal's name.
@@ -170,6 +176,9 @@ impl Refusal {
             Refusal::NotExtension { name } => ("38 NotExtension", Fields::Name(name.as_str())),
             Refusal::OldForm => ("39 OldForm", Fields::Nothing),
             Refusal::Unsigned => ("40 Unsigned", Fields::Nothing),
+            Refusal::Denied { rule } => ("41 Denied", Fields::One(u64::from(*rule))),
+            Refusal::TooLong { place } => ("42 TooLong", Fields::One(u64::from(*place))),
+            Refusal::NotPrintable { place } => ("43 NotPrintable", Fields::One(u64::from(*place))),
         }
     }
 }
