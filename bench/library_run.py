@@ -1,9 +1,8 @@
-"""A run of the program over a library of books, n0 and so on: for the benches that need one."""
+"""A library of books, n0 and so on: for the benches that need one."""
+import contextlib
 import json
-import shutil
-import tempfile
 
-from program_run import ECORE, ProgramRun
+from program_run import ECORE, ProgramRun, folder_of
 
 METAMODEL = json.dumps({"eClass": ECORE + "EPackage", "name": "lib", "nsURI": "http://lib/1", "nsPrefix": "lib", "eClassifiers": [
     {"eClass": ECORE + "EClass", "name": "Library", "eStructuralFeatures": [
@@ -28,19 +27,9 @@ def library(books):
     return [*project(), imported(books), "commit 1 first\n"]
 
 
-class LibraryRun(ProgramRun):
-    """A run of the program in a folder of its own, in which a library of so many books is committed from workspace 1."""
-
-    def __init__(self, path, books):
-        self.folder = tempfile.mkdtemp(dir=".")
-        super().__init__(path, self.folder)
-        for command in library(books):
-            self.accepted(command)
-
-    def accepted(self, line):
-        """The seconds from the line to the end of its reply."""
-        return self.taken(line)[1]
-
-    def end(self):
-        self.close()
-        shutil.rmtree(self.folder)
+@contextlib.contextmanager
+def library_run(path, books):
+    """A run in a folder of its own, in which a library of so many books is committed from workspace 1."""
+    with folder_of() as folder, ProgramRun(path, folder) as run:
+        run.taken(*library(books))
+        yield run
