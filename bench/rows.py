@@ -13,7 +13,7 @@ _missed = []
 
 def number(value):
     """A value with three digits at least; from 100 on it is a whole number."""
-    if value >= 100:
+    if value >= 100 or isinstance(value, int):
         return f"{value:,.0f}"
     return f"{value:.1f}" if value >= 10 else f"{value:.2f}" if value >= 1 else f"{value:.3g}"
 
