@@ -1,0 +1,16 @@
+-- what is left to be read gives what the text does
+use Rattle.std.proofs.Common.{◌≡◌, ◌+◌, ◌≤◌, length}
+use denote.Text.{Utf8}
+use denote.Shadow.{shadow}
+use Rattle.access_rules.specs.Reading.{pieces, grants_from, grants_of}
+use Rattle.access_rules.proofs.reading.read_policy.Given as goal
+
+abbrev pub invariant-pieces : goal.invariant-pieces
+invariant-pieces l = record {
+  utf8 : shadow (Utf8 l.rest);
+  short : l.place + length l.rest ≤ length l.text;
+  read : grants_of l.text ≡ grants_from l.grants l.place (pieces l.rest);
+}
+
+abbrev pub decreases-pieces : goal.decreases-pieces
+decreases-pieces l = length l.rest
