@@ -5,16 +5,18 @@ pub mod DataLines
 pub mod Decided
 pub mod Effects
 pub mod Encodings
-pub mod Following
 pub mod Evolving
+pub mod Following
 pub mod Growth
 pub mod Kept
+pub mod Listed
 pub mod Merged
 pub mod Merging
 pub mod Names
 pub mod Naming
 pub mod Numbers
 pub mod Places
+pub mod Printed
 pub mod Reached
 pub mod Recorded
 pub mod Refusals
@@ -27,4 +29,5 @@ pub mod Spelled
 pub mod States
 pub mod Stores
 pub mod Texts
+pub mod Typed
 pub mod Undoing

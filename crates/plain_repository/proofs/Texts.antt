@@ -32,6 +32,7 @@ use Rattle.plain_repository.specs.Laws.{HasMetamodel, IsThere, ShowsTexts, Texts
 use Rattle.plain_repository.proofs.Apart.{asked, meta_now}
 use Rattle.plain_repository.proofs.Evolving.{grown_is, model_stays, version_stays, by_growth}
 use Rattle.plain_repository.proofs.Kept.{meta_left}
+use Rattle.plain_repository.proofs.Listed.{changes_stay, packages_stay}
 use Rattle.plain_repository.proofs.Reached.{in_order, kept, models_are_good, versions_are_good}
 
 paths_counted : (paths : List (List ℕ)) (vs : List Version) → length (paths_from paths vs) ≡ length paths + length vs
@@ -108,6 +109,8 @@ texts_stay s meta has text could =
     record {
       show = λ block more ws. shows s meta (grown text meta) has grew (play s (Evolve text)) is refl (same_workspaces s text) block more ws;
       cat = λ block more spec. cats s meta (grown text meta) has grew (play s (Evolve text)) is refl block more spec;
+      changes = λ block more ws. changes_stay s meta (grown text meta) has grew (play s (Evolve text)) is (same_workspaces s text) block more ws;
+      packages = λ block more spec. packages_stay s meta (grown text meta) has grew (play s (Evolve text)) is refl block more spec;
     }
 
 pub metamodels_grow : MetamodelsGrow

@@ -116,7 +116,7 @@ pub fn law_of_commits()
 {}
 
 /// The law of metamodels that grow: an event leaves the metamodel or extends it to one that has all its parts, with their numbers.
-/// What `show` and `cat` answer stays then, of all workspaces and versions.
+/// What `show`, `cat`, `changes` and `package` answer stays then, of all workspaces and versions.
 pub fn law_of_metamodels()
     ensures grow { MetamodelsGrow }
     ensures texts { TextsStay }
