@@ -3,6 +3,8 @@ pub mod Changing
 pub mod Commits
 pub mod DataLines
 pub mod Decided
+pub mod Deciding
+pub mod Decoded
 pub mod Effects
 pub mod Encodings
 pub mod Evolving
