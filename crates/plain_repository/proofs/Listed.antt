@@ -1,15 +1,13 @@
 -- What `changes` and `package` answer stays where the metamodel is extended.
-use Rattle.std.proofs.Common.{◌≡◌, ℕ, ◌<◌, ◌++◌, nat_lt, length, map, Bool, true, false, List, [], ◌∷◌, Option, None, Some, Result, Ok, Err, arith, refl, sym, ap, ◌∙◌, codes, zero, suc}
-use Rattle.std.specs.Prelude.{All, slice_get, if◌then◌else◌}
+use Rattle.std.proofs.Common.{◌≡◌, ℕ, ◌<◌, ◌++◌, length, List, [], ◌∷◌, Option, None, Some, Result, Ok, Err, arith, refl, sym, ap, ◌∙◌, codes, zero, suc}
+use Rattle.std.specs.Prelude.{slice_get, if◌then◌else◌}
 use Rattle.std.specs.Option.{option_map_or}
-use Rattle.std.proofs.lemmas.Bool.{ltb-true}
 use Rattle.std.proofs.lemmas.List.Elements.{All-nil}
 use Rattle.hex.specs.Hex.{encode_lower}
 use Rattle.ecore_meta.specs.Meta.{Meta}
 use Rattle.growth_laws.specs.Growth.{Evolves}
 use Rattle.model_state.specs.Packages.{steps_of}
-use Rattle.model_state.specs.declared.operation.Operation.{Operation}
-use Rattle.data_lines.specs.Lines.{after_spaces, open_lines, operation_lines}
+use Rattle.data_lines.specs.Lines.{after_spaces, open_lines}
 use Rattle.data_lines.specs.Typed.{AreTyped, IsTypedPackage}
 use Rattle.data_lines.specs.Versions.{package_lines}
 use Rattle.history_tree.specs.declared.found.Found.{Found}
@@ -26,7 +24,7 @@ use Rattle.script_lang.specs.declared.reply.Refusal.TheVariants as refusals
 use Rattle.plain_repository.specs.State.{State, Workspace, Composite, workspace_of, open_steps}
 use Rattle.plain_repository.specs.Answers.{refused, told}
 use Rattle.plain_repository.specs.Specs.{named}
-use Rattle.plain_repository.specs.Views.{changes_of, lines_of_open, package_of, package_told, decide_changes, decide_package}
+use Rattle.plain_repository.specs.Views.{changes_of, lines_of_open, package_of, decide_changes, decide_package}
 use Rattle.plain_repository.specs.Orderly.{Orderly}
 use Rattle.plain_repository.specs.Repository.{decide_with}
 use Rattle.plain_repository.specs.Laws.{HasMetamodel, IsThere}

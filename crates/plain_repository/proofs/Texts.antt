@@ -1,6 +1,6 @@
 -- What is shown of working models and versions stays where the metamodel is extended.
-use Rattle.std.proofs.Common.{◌≡◌, ◌⊎◌, inl, inr, ℕ, ◌+◌, ◌<◌, ◌≤◌, nat_lt, Bool, true, false, List, [], ◌∷◌, ◌++◌, length, length-append, Option, None, Some, Result, Ok, Err, arith, refl, sym, ap, subst, ◌∙◌, zero, suc}
-use Rattle.std.specs.Prelude.{IsTrue, slice_get, unwrap_or}
+use Rattle.std.proofs.Common.{◌≡◌, ◌⊎◌, inl, inr, ℕ, ◌+◌, ◌≤◌, nat_lt, Bool, true, false, List, [], ◌∷◌, ◌++◌, length, length-append, Option, None, Some, Result, Ok, Err, arith, refl, sym, ap, subst, ◌∙◌, zero, suc}
+use Rattle.std.specs.Prelude.{IsTrue, unwrap_or}
 use Rattle.std.proofs.lemmas.Bool.{ltb-true, ltb-false}
 use Rattle.std.proofs.lemmas.Option.{slice_get_past}
 use Rattle.ecore_meta.specs.Meta.{Meta}
@@ -17,18 +17,16 @@ use Rattle.history_tree.specs.declared.found.FindFault.{FindFault}
 use Rattle.history_tree.specs.declared.version.Version.{Version}
 use Rattle.history_tree.specs.History.{History, path_before, paths_from}
 use Rattle.history_tree.specs.States.{operations_of, operations_to, state_of}
-use Rattle.op_form.specs.declared.event.Event.{Event}
 use Rattle.op_form.specs.declared.event.Event.TheVariants.{Evolve}
 use Rattle.script_lang.specs.declared.command.Command.TheVariants as commands
 use Rattle.plain_repository.specs.State.{State, Workspace, workspace_of, model_of}
-use Rattle.plain_repository.specs.Answers.{Decision, told}
+use Rattle.plain_repository.specs.Answers.{told}
 use Rattle.plain_repository.specs.Metamodels.{grown}
 use Rattle.plain_repository.specs.Specs.{named}
 use Rattle.plain_repository.specs.Views.{shown, text_of, decide_show, decide_cat}
 use Rattle.plain_repository.specs.Events.{meta_after, play, playable}
-use Rattle.plain_repository.specs.Orderly.{Orderly}
 use Rattle.plain_repository.specs.Repository.{decide_with, decide_command}
-use Rattle.plain_repository.specs.Laws.{HasMetamodel, IsThere, ShowsTexts, TextsStay, MetamodelsGrow}
+use Rattle.plain_repository.specs.Laws.{HasMetamodel, IsThere, TextsStay, MetamodelsGrow}
 use Rattle.plain_repository.proofs.Apart.{asked, meta_now}
 use Rattle.plain_repository.proofs.Evolving.{grown_is, model_stays, version_stays, by_growth}
 use Rattle.plain_repository.proofs.Kept.{meta_left}
