@@ -1,6 +1,4 @@
 pub mod Answering
-pub mod Counted
-pub mod Deciding
 pub mod Entering
 pub mod Faults
 pub mod Few

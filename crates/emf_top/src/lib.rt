@@ -4,12 +4,12 @@
 
 mod answered;
 mod filling;
-mod laws;
 mod looking;
 mod plan;
 mod session;
 mod top;
 
-pub use laws::{law_of_counts, law_of_stores};
+pub use plain_repository::law_of_stores;
+pub use repo_state::law_of_counts;
 pub use script_items::generate;
 pub use top::{Status, run};

@@ -28,7 +28,7 @@ use Rattle.history_tree.specs.declared.version.Signature.{Signature}
 use Rattle.plain_repository.specs.Commits.{version_of, version_event, committed, with_commit, can_commit, version_made, commit_of, signed_of, decide_commit, decide_signed}
 use Rattle.plain_repository.specs.Events.{effect, play, playable, playable_with}
 use Rattle.plain_repository.specs.Repository.{decide_with, decide_command}
-use Rattle.plain_repository.specs.Laws.{IsStale, IsBegun, version_command, CommitsAreStale, UnsignedAreRefused, OldFormsAreRefused, CommitsKeepModels}
+use Rattle.plain_repository.specs.Laws.{IsStale, HasWorkspace, version_command, CommitsAreStale, UnsignedAreRefused, OldFormsAreRefused, CommitsKeepModels}
 use Rattle.plain_repository.specs.Orderly.{Runs, steps_to, InOrder, Orderly}
 use Rattle.plain_repository.proofs.Apart.{differ, asked}
 use Rattle.plain_repository.proofs.Encodings.{and_left, and_right}
@@ -161,28 +161,28 @@ made_not s w event refusal other stale composite nothing_local = by (not (nat_eq
     by false false false e = nothing_local (no_same refusals.NothingLocal refusal e)
 
 module _ (s : State) (meta : Meta) (begun : s.meta ≡ Some meta) (ws : ℕ) (message : List ℕ) where
-  commit_unsigned : (o : Option Workspace) → workspace_of s ws ≡ o → Says (commit_of s ws message o) refusals.Unsigned → IsBegun s ws × (s.upgraded ≡ true)
+  commit_unsigned : (o : Option Workspace) → workspace_of s ws ≡ o → Says (commit_of s ws message o) refusals.Unsigned → HasWorkspace s ws × (s.upgraded ≡ true)
   commit_unsigned None there e = cc
   commit_unsigned (Some w) there e = by s.upgraded refl e
     where
-      by : (b : Bool) → s.upgraded ≡ b → Says (cond b (refused refusals.Unsigned) (version_made s w (Commit ws message))) refusals.Unsigned → IsBegun s ws × (s.upgraded ≡ true)
+      by : (b : Bool) → s.upgraded ≡ b → Says (cond b (refused refusals.Unsigned) (version_made s w (Commit ws message))) refusals.Unsigned → HasWorkspace s ws × (s.upgraded ≡ true)
       by true is e = (record { meta = meta; begun = begun; workspace = w; there = there }, is)
       by false is e = absurd (made_not s w (Commit ws message) refusals.Unsigned unsigned_of_no_room (λ e. cc) (λ e. cc) (λ e. cc) e)
 
-  signed_old : (author : List ℕ) (moment : ℕ) (o : Option Workspace) → workspace_of s ws ≡ o → Says (signed_of s ws author moment message o) refusals.OldForm → IsBegun s ws × (s.upgraded ≡ false)
+  signed_old : (author : List ℕ) (moment : ℕ) (o : Option Workspace) → workspace_of s ws ≡ o → Says (signed_of s ws author moment message o) refusals.OldForm → HasWorkspace s ws × (s.upgraded ≡ false)
   signed_old author moment None there e = cc
   signed_old author moment (Some w) there e = by s.upgraded refl e
     where
-      by : (b : Bool) → s.upgraded ≡ b → Says (cond b (version_made s w (Signed ws author moment message)) (refused refusals.OldForm)) refusals.OldForm → IsBegun s ws × (s.upgraded ≡ false)
+      by : (b : Bool) → s.upgraded ≡ b → Says (cond b (version_made s w (Signed ws author moment message)) (refused refusals.OldForm)) refusals.OldForm → HasWorkspace s ws × (s.upgraded ≡ false)
       by true is e = absurd (made_not s w (Signed ws author moment message) refusals.OldForm old_form_of_no_room (λ e. cc) (λ e. cc) (λ e. cc) e)
       by false is e = (record { meta = meta; begun = begun; workspace = w; there = there }, is)
 
-unsigned_only : (s : State) (block : Option (List ℕ)) (ws : ℕ) (message : Option (List ℕ)) (m : Option Meta) → s.meta ≡ m → Says (decide_with s m block (commands.Commit ws message)) refusals.Unsigned → IsBegun s ws × (s.upgraded ≡ true)
+unsigned_only : (s : State) (block : Option (List ℕ)) (ws : ℕ) (message : Option (List ℕ)) (m : Option Meta) → s.meta ≡ m → Says (decide_with s m block (commands.Commit ws message)) refusals.Unsigned → HasWorkspace s ws × (s.upgraded ≡ true)
 unfolding decide_commit
 unsigned_only s block ws message None is e = cc
 unsigned_only s block ws message (Some meta) is e = commit_unsigned s meta is ws (unwrap_or message []) (workspace_of s ws) refl e
 
-unsigned_comes : (s : State) (block : Option (List ℕ)) (ws : ℕ) (message : Option (List ℕ)) → IsBegun s ws → s.upgraded ≡ true → Says (decide_with s s.meta block (commands.Commit ws message)) refusals.Unsigned
+unsigned_comes : (s : State) (block : Option (List ℕ)) (ws : ℕ) (message : Option (List ℕ)) → HasWorkspace s ws → s.upgraded ≡ true → Says (decide_with s s.meta block (commands.Commit ws message)) refusals.Unsigned
 unfolding decide_commit
 unsigned_comes s block ws message i form =
     ap (λ (m : Option Meta). (decide_with s m block (commands.Commit ws message)).reply.last) i.begun
@@ -194,12 +194,12 @@ unfolding decide_command
 unsigned_are_refused s block ws message = (unsigned_only s block ws message s.meta refl, λ i. unsigned_comes s block ws message i.0 i.1)
 
 old_only : (s : State) (block : Option (List ℕ)) (ws : ℕ) (author : List ℕ) (moment : ℕ) (message : Option (List ℕ)) (m : Option Meta) → s.meta ≡ m
-    → Says (decide_with s m block (commands.Signed ws author moment message)) refusals.OldForm → IsBegun s ws × (s.upgraded ≡ false)
+    → Says (decide_with s m block (commands.Signed ws author moment message)) refusals.OldForm → HasWorkspace s ws × (s.upgraded ≡ false)
 unfolding decide_signed
 old_only s block ws author moment message None is e = cc
 old_only s block ws author moment message (Some meta) is e = signed_old s meta is ws (unwrap_or message []) author moment (workspace_of s ws) refl e
 
-old_comes : (s : State) (block : Option (List ℕ)) (ws : ℕ) (author : List ℕ) (moment : ℕ) (message : Option (List ℕ)) → IsBegun s ws → s.upgraded ≡ false
+old_comes : (s : State) (block : Option (List ℕ)) (ws : ℕ) (author : List ℕ) (moment : ℕ) (message : Option (List ℕ)) → HasWorkspace s ws → s.upgraded ≡ false
     → Says (decide_with s s.meta block (commands.Signed ws author moment message)) refusals.OldForm
 unfolding decide_signed
 old_comes s block ws author moment message i form =

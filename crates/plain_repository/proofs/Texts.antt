@@ -1,6 +1,6 @@
 -- What is shown of working models and versions stays where the metamodel is extended.
-use Rattle.std.proofs.Common.{◌≡◌, ◌⊎◌, inl, inr, ℕ, ◌+◌, ◌<◌, ◌≤◌, nat_lt, Bool, true, false, List, [], ◌∷◌, ◌++◌, length, length-append, Option, None, Some, Result, Ok, Err, arith, refl, sym, ap, subst, ◌∙◌, zero, suc}
-use Rattle.std.specs.Prelude.{IsTrue, slice_get, unwrap_or}
+use Rattle.std.proofs.Common.{◌≡◌, ◌⊎◌, inl, inr, ℕ, ◌+◌, ◌≤◌, nat_lt, Bool, true, false, List, [], ◌∷◌, ◌++◌, length, length-append, Option, None, Some, Result, Ok, Err, arith, refl, sym, ap, subst, ◌∙◌, zero, suc}
+use Rattle.std.specs.Prelude.{IsTrue, unwrap_or}
 use Rattle.std.proofs.lemmas.Bool.{ltb-true, ltb-false}
 use Rattle.std.proofs.lemmas.Option.{slice_get_past}
 use Rattle.ecore_meta.specs.Meta.{Meta}
@@ -17,21 +17,20 @@ use Rattle.history_tree.specs.declared.found.FindFault.{FindFault}
 use Rattle.history_tree.specs.declared.version.Version.{Version}
 use Rattle.history_tree.specs.History.{History, path_before, paths_from}
 use Rattle.history_tree.specs.States.{operations_of, operations_to, state_of}
-use Rattle.op_form.specs.declared.event.Event.{Event}
 use Rattle.op_form.specs.declared.event.Event.TheVariants.{Evolve}
 use Rattle.script_lang.specs.declared.command.Command.TheVariants as commands
 use Rattle.plain_repository.specs.State.{State, Workspace, workspace_of, model_of}
-use Rattle.plain_repository.specs.Answers.{Decision, told}
+use Rattle.plain_repository.specs.Answers.{told}
 use Rattle.plain_repository.specs.Metamodels.{grown}
 use Rattle.plain_repository.specs.Specs.{named}
 use Rattle.plain_repository.specs.Views.{shown, text_of, decide_show, decide_cat}
 use Rattle.plain_repository.specs.Events.{meta_after, play, playable}
-use Rattle.plain_repository.specs.Orderly.{Orderly}
 use Rattle.plain_repository.specs.Repository.{decide_with, decide_command}
-use Rattle.plain_repository.specs.Laws.{HasMetamodel, IsThere, ShowsTexts, TextsStay, MetamodelsGrow}
+use Rattle.plain_repository.specs.Laws.{HasMetamodel, IsThere, TextsStay, MetamodelsGrow}
 use Rattle.plain_repository.proofs.Apart.{asked, meta_now}
 use Rattle.plain_repository.proofs.Evolving.{grown_is, model_stays, version_stays, by_growth}
 use Rattle.plain_repository.proofs.Kept.{meta_left}
+use Rattle.plain_repository.proofs.Listed.{changes_stay, packages_stay}
 use Rattle.plain_repository.proofs.Reached.{in_order, kept, models_are_good, versions_are_good}
 
 paths_counted : (paths : List (List ℕ)) (vs : List Version) → length (paths_from paths vs) ≡ length paths + length vs
@@ -108,6 +107,8 @@ texts_stay s meta has text could =
     record {
       show = λ block more ws. shows s meta (grown text meta) has grew (play s (Evolve text)) is refl (same_workspaces s text) block more ws;
       cat = λ block more spec. cats s meta (grown text meta) has grew (play s (Evolve text)) is refl block more spec;
+      changes = λ block more ws. changes_stay s meta (grown text meta) has grew (play s (Evolve text)) is (same_workspaces s text) block more ws;
+      packages = λ block more spec. packages_stay s meta (grown text meta) has grew (play s (Evolve text)) is refl block more spec;
     }
 
 pub metamodels_grow : MetamodelsGrow

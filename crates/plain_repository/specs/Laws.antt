@@ -189,10 +189,12 @@ abbrev pub ShownApart : Type 0
 ShownApart = (s : State) (meta : Meta) → HasMetamodel s meta → (ws : ℕ) (w : Workspace) → workspace_of s ws ≡ Some w → (event : Event) → IsTrue (playable s event) → is_of ws event ≡ false
     → (play s event).meta ≡ Some meta → (block : Option (List ℕ)) → shown_as (play s event) block ws ≡ shown_as s block ws
 
--- the answers to `show` and `cat` are the same after an event
+-- the answers to `show`, `cat`, `changes` and `package` are the same after an event
 pub record ShowsTexts (s : State) (event : Event) : Type 0 where
   pub show : (block more : Option (List ℕ)) (ws : ℕ) → decide_command (play s event) block (commands.Show ws) ≡ decide_command s more (commands.Show ws)
   pub cat : (block more : Option (List ℕ)) (spec : Spec) → decide_command (play s event) block (commands.Cat spec) ≡ decide_command s more (commands.Cat spec)
+  pub changes : (block more : Option (List ℕ)) (ws : ℕ) → decide_command (play s event) block (commands.Changes ws) ≡ decide_command s more (commands.Changes ws)
+  pub packages : (block more : Option (List ℕ)) (spec : Spec) → decide_command (play s event) block (commands.Package spec) ≡ decide_command s more (commands.Package spec)
 
 -- So they are where the metamodel is extended. What the new metamodel asks for `validate` may show.
 abbrev pub TextsStay : Type 0
@@ -274,7 +276,7 @@ CommitsAreStale = (s : State) (block : Option (List ℕ)) (ws : ℕ) (signature 
     ↔ ((s.upgraded ≡ is_some signature) × IsStale s ws base head_of_branch)
 
 -- there is a metamodel and the workspace
-pub record IsBegun (s : State) (ws : ℕ) : Type 0 where
+pub record HasWorkspace (s : State) (ws : ℕ) : Type 0 where
   pub meta : Meta
   pub begun : s.meta ≡ Some meta
   pub workspace : Workspace
@@ -283,12 +285,12 @@ pub record IsBegun (s : State) (ws : ℕ) : Type 0 where
 -- `commit` is answered Unsigned just where no earlier refusal applies and the store is upgraded
 abbrev pub UnsignedAreRefused : Type 0
 UnsignedAreRefused = (s : State) (block : Option (List ℕ)) (ws : ℕ) (message : Option (List ℕ))
-    → ((decide_command s block (commands.Commit ws message)).reply.last ≡ last.No refusals.Unsigned) ↔ (IsBegun s ws × (s.upgraded ≡ true))
+    → ((decide_command s block (commands.Commit ws message)).reply.last ≡ last.No refusals.Unsigned) ↔ (HasWorkspace s ws × (s.upgraded ≡ true))
 
 -- `signed` is answered OldForm just where no earlier refusal applies and the store is not upgraded
 abbrev pub OldFormsAreRefused : Type 0
 OldFormsAreRefused = (s : State) (block : Option (List ℕ)) (ws : ℕ) (author : List ℕ) (moment : ℕ) (message : Option (List ℕ))
-    → ((decide_command s block (commands.Signed ws author moment message)).reply.last ≡ last.No refusals.OldForm) ↔ (IsBegun s ws × (s.upgraded ≡ false))
+    → ((decide_command s block (commands.Signed ws author moment message)).reply.last ≡ last.No refusals.OldForm) ↔ (HasWorkspace s ws × (s.upgraded ≡ false))
 
 -- an operation that is recorded where no composite is open, and undone, leaves the workspace as it was
 abbrev pub UndoGivesBack : Type 0

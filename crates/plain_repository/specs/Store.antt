@@ -1,5 +1,6 @@
 -- What the bytes of a file stand for.
 use Rattle.std.specs.Prelude.{◌≡◌, ◌⊎◌, ℕ, ◌^◌, ◌<◌, List, [], ◌∷◌, ◌++◌, IsTrue, length, map}
+use Rattle.byte_form.specs.Laws.{AreBytes}
 use Rattle.host_port.specs.Host.{Disk}
 use Rattle.commit_journal.specs.Journal.{StandsFor, ReadsTo, IsStuck, IsNoHeader, IsAtRest, new_size, next_gate}
 use Rattle.op_form.specs.declared.event.Event.{Event}
@@ -35,6 +36,14 @@ pub record IsBroken (file : List ℕ) (at : ℕ) : Type 0 where
 pub record IsDamaged (file : List ℕ) (at : ℕ) : Type 0 where
   pub long : new_size < length file
   pub found : IsNoHeader file at ⊎ IsBroken file at
+
+-- the file stands for a list of events, or it is damaged at an offset
+abbrev pub StandsOrIsDamaged : List ℕ → Type 0
+StandsOrIsDamaged file = ((events : List Event) × StandsForEvents file events) ⊎ ((at : ℕ) × IsDamaged file at)
+
+-- each file of bytes is one of the two
+abbrev pub EachStandsOrIsDamaged : Type 0
+EachStandsOrIsDamaged = (file : List ℕ) → AreBytes file → StandsOrIsDamaged file
 
 -- a file stands for one list of events at most
 abbrev pub StandsForOne : Type 0

@@ -4,6 +4,7 @@ ghost use Rattle.state_form.specs.Spelled.{IsSpelled};
 ghost use Rattle.plain_repository.specs.Laws.{StartsInOrder, StaysInOrder, AllIsInOrder, OfModels, OfVersions, HasIds, ModelsAreDefined, VersionsAreDefined, MetamodelsHold, HistoriesAreWhole, WorkspacesStand, HistoryOnlyGrows, StatesStay, BranchesAreNamed, TagsAreNamed, TagNamesDiffer, EventsAreOfOne, SomeAreOfNone, WorkspacesStayApart, ModelsStayApart, NumbersOnlyGrow, DroppedStayDropped, RefusalsMakeNone, DecidedCouldBe, LastLinesLook, DataLinesAreApart, EventsChange, CommitsAreStale, TextsStay, MetamodelsGrow, UnsignedAreRefused, OldFormsAreRefused, UpgradesStay, NewVersionsAreSigned, SignedSinceUpgrade, OldStoresReadOn, UndoGivesBack, CommitsKeepModels, ShownByOwn, ShownApart};
 ghost use Rattle.plain_repository.specs.EffectLaws.{InitsBegin, EditsLead, CheckoutsShowVersions, BeginsKeepModels, EndsKeepModels, EndsAreUndone, DiscardsGoBack, DropsTakeAway, CommitsKeepStates, BranchesKeepModels, BranchesStartAtBases, TagsNameVersions};
 ghost use Rattle.plain_repository.specs.MergeLaws.{TidyingKeepsModels, UpdatesMerge, MergesMerge, MergesCount, RevertsTakeOut};
+ghost use Rattle.plain_repository.specs.Store.{EachStandsOrIsDamaged, StandsForOne, IsDamagedOnce, DamagedStandsForNone};
 
 /// The law of order: all is in order in the empty repository, and each event that could be made keeps it so. The other laws are
 /// about such a state, so a holder of one that keeps order has them all.
@@ -116,7 +117,7 @@ pub fn law_of_commits()
 {}
 
 /// The law of metamodels that grow: an event leaves the metamodel or extends it to one that has all its parts, with their numbers.
-/// What `show` and `cat` answer stays then, of all workspaces and versions.
+/// What `show`, `cat`, `changes` and `package` answer stays then, of all workspaces and versions.
 pub fn law_of_metamodels()
     ensures grow { MetamodelsGrow }
     ensures texts { TextsStay }
@@ -147,4 +148,13 @@ pub fn law_of_merging()
     ensures merges { MergesMerge }
     ensures counted { MergesCount }
     ensures reverts { RevertsTakeOut }
+{}
+
+/// The law of stores: each file of bytes stands for a list of events, or is damaged at an offset. It stands for one list
+/// at most. It is damaged at one offset at most, and then it stands for none.
+pub fn law_of_stores()
+    ensures either { EachStandsOrIsDamaged }
+    ensures meaning { StandsForOne }
+    ensures place { IsDamagedOnce }
+    ensures none { DamagedStandsForNone }
 {}

@@ -1,6 +1,7 @@
 pub mod Caching
 pub mod Changing
 pub mod Could
+pub mod Counted
 pub mod Effects
 pub mod Evolved
 pub mod Folding

@@ -1,5 +1,6 @@
 pub mod Cached
 pub mod Counting
+pub mod Counts
 pub mod Keeping
 pub mod Making
 pub mod Planning

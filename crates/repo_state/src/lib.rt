@@ -5,6 +5,7 @@ mod evolving;
 mod fault;
 mod following;
 mod growing;
+mod laws;
 mod making;
 mod merged;
 mod planning;
@@ -13,6 +14,7 @@ mod repo;
 mod workspace;
 
 pub use fault::ReplayFault;
+pub use laws::law_of_counts;
 pub use merged::{Merged, Updated};
 pub use repo::{Begun, Repo};
 pub use workspace::{Composite, Workspace};

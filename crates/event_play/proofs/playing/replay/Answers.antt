@@ -1,6 +1,7 @@
 use Rattle.std.proofs.Common.{ap, length, arith}
 use Rattle.op_form.proofs.FormedLaws.{is_event_holds}
-use Rattle.event_play.proofs.Replaying.{decoded, none_spelled, other_spelled, replayed}
+use Rattle.plain_repository.proofs.Decoded.{decoded, none_spelled, other_spelled}
+use Rattle.event_play.proofs.Replaying.{replayed}
 use Rattle.event_play.proofs.playing.replay.Goals as goal
 
 pub returns-in-Err-NotForm-clause-refused : goal.returns-in-Err-NotForm-clause-refused

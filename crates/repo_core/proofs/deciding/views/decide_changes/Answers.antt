@@ -2,7 +2,8 @@ use Rattle.std.proofs.Common.{subst, sym}
 use Rattle.data_lines.specs.Typed.{IsTypedPackage}
 use Rattle.repo_state.specs.Keeping.{plain_of}
 use Rattle.repo_state.proofs.Ordered.{is_there}
-use Rattle.repo_core.proofs.Typed.{open_typed, operations_typed, seen_typed}
+use Rattle.plain_repository.proofs.Typed.{open_typed, operations_typed}
+use Rattle.repo_core.proofs.Typed.{seen_typed}
 use Rattle.repo_core.proofs.deciding.views.decide_changes.Goals as goal
 
 pub operation_lines-requires : goal.operation_lines-requires

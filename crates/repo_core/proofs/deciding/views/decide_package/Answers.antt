@@ -1,7 +1,7 @@
 use Rattle.std.proofs.Common.{◌≡◌, ◌<◌, Some, length, subst, sym}
 use Rattle.std.specs.Prelude.{slice_get}
 use Rattle.history_tree.specs.History.{History}
-use Rattle.repo_core.proofs.Typed.{version_typed}
+use Rattle.plain_repository.proofs.Typed.{version_typed}
 use Rattle.repo_core.proofs.deciding.views.decide_package.Goals as goal
 
 pub package_lines-requires-clause-typed : goal.package_lines-requires-clause-typed

@@ -17,8 +17,8 @@ use Rattle.op_reading.specs.Events.{event_at, whole_of}
 use Rattle.plain_repository.specs.State.{State, empty}
 use Rattle.plain_repository.specs.Events.{play, playable, are_playable}
 use Rattle.plain_repository.proofs.Stores.{none_has, map-more, playable-more}
-use Rattle.event_play.proofs.Replaying.{decoded, none_spelled, other_spelled}
-use Rattle.emf_top.specs.Stores.{StandsOrIsDamaged}
+use Rattle.plain_repository.specs.Store.{StandsOrIsDamaged}
+use Rattle.plain_repository.proofs.Decoded.{decoded, none_spelled, other_spelled}
 
 -- a record of that size stands there, and is within the limits
 abbrev pub IsRecord : List ℕ → ℕ → ℕ → Type 0

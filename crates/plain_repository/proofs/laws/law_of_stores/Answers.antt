@@ -1,6 +1,6 @@
 use Rattle.plain_repository.proofs.Stores.{same_events, same_damage, damaged_for_none}
-use Rattle.emf_top.proofs.Deciding.{each_file}
-use Rattle.emf_top.proofs.laws.law_of_stores.Goals as goal
+use Rattle.plain_repository.proofs.Deciding.{each_file}
+use Rattle.plain_repository.proofs.laws.law_of_stores.Goals as goal
 
 pub returns-clause-either : goal.returns-clause-either
 returns-clause-either c = each_file

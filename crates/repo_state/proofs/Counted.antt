@@ -18,7 +18,7 @@ use Rattle.plain_repository.specs.Tidying.{tidied}
 use Rattle.plain_repository.specs.Merging.{updated, merged_with}
 use Rattle.plain_repository.specs.Events.{by_meta, effect, play, playable, playable_with, suits, are_playable}
 use Rattle.plain_repository.proofs.Encodings.{and_left, and_right}
-use Rattle.emf_top.specs.Counts.{WorkspacesAreFew}
+use Rattle.repo_state.specs.Counts.{WorkspacesAreFew}
 
 same : (ws : List (Option Workspace)) → length ws ≤ length ws + 1
 same ws = omega arith
