@@ -9,3 +9,4 @@ mod Flags
 pub mod Greatest
 mod Leading
 mod Tagged
+pub mod Named

@@ -1,6 +1,7 @@
 pub mod Found
 pub mod Heads
 pub mod History
+pub mod Index
 pub mod Laws
 pub mod Marks
 pub mod MergeBase

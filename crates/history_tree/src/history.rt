@@ -1,12 +1,15 @@
 //! The history in memory.
 ghost use Rattle.std.specs.Prelude.{ℕ, cond, nat_eq, get_or, ◌≡◌, ◌+◌, ◌≤◌, ◌<◌, ◌∷◌, ◌++◌, [], length, None, IfOk, IfSome, OnOk, OnErr, slice_get, Some, is_some, ◌||◌, true, false, All};
 ghost use Rattle.std.specs.Option.{option_copied, option_map};
-ghost use Rattle.history_tree.specs.Found.{branch_named, branch_name, tag_named, has_tag, tags_of, found_by_number, found_by_branch, found_by_tag, found_by};
+ghost use Rattle.std.specs.List.{find, list_any, position};
+ghost use Rattle.history_tree.specs.Found.{is_branch_named, is_tag_named, branch_named, branch_name, tag_named, has_tag, tags_of, found_by_number, found_by_branch, found_by_tag, found_by};
 ghost use Rattle.history_tree.specs.History.{first_version, first_history, with_version, with_branch, with_tag, path, head};
+ghost use Rattle.history_tree.specs.Index.{Knows};
 ghost use Rattle.history_tree.specs.Whole.{ComesBefore, IsWhole};
 ghost use Rattle.history_tree.specs.Room.{most_numbered};
 
 use crate::found::{FindFault, Found};
+use crate::names::NameIndex;
 use crate::version::{Branch, Tag, Version};
 use ecore_meta::{List, Text};
 use std::alloc::{AllocError, Global};
@@ -20,11 +23,15 @@ pub struct History {
     tags: Vec<Tag>,
     /// The head of each branch, so that no call searches the versions for it.
     heads: Vec<u32>,
+    /// The numbers of the branches' names, but perhaps of the last ones. The same of the tags' names.
+    branch_names: NameIndex,
+    tag_names: NameIndex,
 }
 
 impl Model for History {
     ghost use Rattle.std.specs.Prelude.{◌-◌, ◌≤◌, min, vec_len, vec_capacity};
     ghost use Rattle.history_tree.specs.Heads.{AreHeads};
+    ghost use Rattle.history_tree.specs.Index.{Knows};
     ghost use Rattle.history_tree.specs.Room.{Held, most_numbered};
     ghost use Rattle.history_tree.specs.Whole.{IsWhole};
 
@@ -32,7 +39,7 @@ impl Model for History {
 
     ghost view = { λ h. record { history = record { versions = h.versions.items; branches = h.branches.items; tags = h.tags.items }; spare = min (vec_capacity h.versions - vec_len h.versions) (min (vec_capacity h.branches - vec_len h.branches) (min (vec_capacity h.tags - vec_len h.tags) (vec_capacity h.heads - vec_len h.heads))) } };
 
-    ghost invariant = { λ h. IsWhole (record { versions = h.versions.items; branches = h.branches.items; tags = h.tags.items }) × (vec_len h.versions ≤ most_numbered) × (vec_len h.branches ≤ most_numbered) × (vec_len h.tags ≤ most_numbered) × AreHeads (record { versions = h.versions.items; branches = h.branches.items; tags = h.tags.items }) h.heads.items };
+    ghost invariant = { λ h. IsWhole (record { versions = h.versions.items; branches = h.branches.items; tags = h.tags.items }) × (vec_len h.versions ≤ most_numbered) × (vec_len h.branches ≤ most_numbered) × (vec_len h.tags ≤ most_numbered) × AreHeads (record { versions = h.versions.items; branches = h.branches.items; tags = h.tags.items }) h.heads.items × Knows (λ b. b.name) h.branch_names h.branches.items × Knows (λ t. t.name) h.tag_names h.tags.items };
 }
 
 /// Version 0, the empty project.
@@ -98,6 +105,103 @@ fn put_name(lists: &mut Vec<List<Text>>, at: usize, name: Text) -> Result<(), Al
     Ok(())
 }
 
+/// The first of some branches of that name.
+fn branch_among(branches: &[Branch], name: &str) -> Option<usize>
+    ensures place { result ≡ position (is_branch_named name.now) branches.now }
+    ensures there { IfSome result (λ place. place < length branches.now) }
+{
+    branches
+        .iter()
+        .position(|branch| branch.name.as_str() == name)
+}
+
+/// The first of some tags of that name.
+fn tag_among(tags: &[Tag], name: &str) -> Option<usize>
+    ensures place { result ≡ position (is_tag_named name.now) tags.now }
+    ensures there { IfSome result (λ place. place < length tags.now) }
+{
+    tags.iter().position(|tag| tag.name.as_str() == name)
+}
+
+/// The place of the branch of that name: by the index, else among those that weren't entered yet.
+fn branch_place(branches: &[Branch], index: &NameIndex, name: &str) -> Option<usize>
+    requires { Knows (λ b. b.name) index.now branches.now }
+    ensures place { result ≡ position (is_branch_named name.now) branches.now }
+    ensures there { IfSome result (λ place. place < length branches.now) }
+{
+    if let Some(number) = index.number(name) {
+        return Some(number as usize);
+    }
+    let entered = index.entered as usize;
+    match branch_among(&branches[entered..], name) {
+        None => None,
+        Some(later) => Some(entered + later),
+    }
+}
+
+/// The place of the tag of that name, in the same way.
+fn tag_place(tags: &[Tag], index: &NameIndex, name: &str) -> Option<usize>
+    requires { Knows (λ t. t.name) index.now tags.now }
+    ensures place { result ≡ position (is_tag_named name.now) tags.now }
+    ensures there { IfSome result (λ place. place < length tags.now) }
+{
+    if let Some(number) = index.number(name) {
+        return Some(number as usize);
+    }
+    let entered = index.entered as usize;
+    match tag_among(&tags[entered..], name) {
+        None => None,
+        Some(later) => Some(entered + later),
+    }
+}
+
+/// The tag of that name.
+fn tag_at<'a>(tags: &'a [Tag], index: &NameIndex, name: &str) -> Option<&'a Tag>
+    requires { Knows (λ t. t.name) index.now tags.now }
+    ensures { option_copied result ≡ find (is_tag_named name.now) tags.now }
+{
+    match tag_place(tags, index, name) {
+        None => None,
+        Some(place) => Some(&tags[place]),
+    }
+}
+
+/// Whether there is a tag of that name.
+fn is_tag_there(tags: &[Tag], index: &NameIndex, name: &str) -> bool
+    requires { Knows (λ t. t.name) index.now tags.now }
+    ensures { result ≡ list_any (is_tag_named name.now) tags.now }
+{
+    tag_place(tags, index, name).is_some()
+}
+
+/// Enters the name of the first branch that isn't entered yet, where there is one.
+fn enter_branch(branches: &[Branch], index: &mut NameIndex) -> Result<(), AllocError>
+    requires knows { Knows (λ b. b.name) index.old branches.now }
+    requires count { length branches.now ≤ most_numbered }
+    ensures { Knows (λ b. b.name) index.new branches.now }
+{
+    let next = index.entered as usize;
+    if next >= branches.len() {
+        return Ok(());
+    }
+    index.enter(branches[next].name.as_str())?;
+    Ok(())
+}
+
+/// Enters the name of the first tag that isn't entered yet, where there is one.
+fn enter_tag(tags: &[Tag], index: &mut NameIndex) -> Result<(), AllocError>
+    requires knows { Knows (λ t. t.name) index.old tags.now }
+    requires count { length tags.now ≤ most_numbered }
+    ensures { Knows (λ t. t.name) index.new tags.now }
+{
+    let next = index.entered as usize;
+    if next >= tags.len() {
+        return Ok(());
+    }
+    index.enter(tags[next].name.as_str())?;
+    Ok(())
+}
+
 impl History {
     /// A history with version 0 alone, the empty project, on the branch `trunk`.
     pub fn new(alloc: Global) -> Result<History, AllocError>
@@ -112,6 +216,8 @@ impl History {
             branches,
             tags: Vec::new(alloc),
             heads,
+            branch_names: NameIndex::new(alloc),
+            tag_names: NameIndex::new(alloc),
         })
     }
 
@@ -190,9 +296,7 @@ impl History {
         ensures there { IfSome result (λ branch. branch < length self.now.history.branches) }
         ensures small { IfSome result (λ branch. branch < most_numbered) }
     {
-        self.branches
-            .iter()
-            .position(|branch| branch.name.as_str() == name)
+        branch_place(&self.branches, &self.branch_names, name)
     }
 
     /// The name of a branch.
@@ -224,7 +328,21 @@ impl History {
     pub fn has_tag(&self, name: &str) -> bool
         ensures { result ≡ has_tag self.now.history name.now }
     {
-        self.tags.iter().any(|tag| tag.name.as_str() == name)
+        is_tag_there(&self.tags, &self.tag_names, name)
+    }
+
+    /// The names of a version's tags, in the order made.
+    pub fn tags_of(&self, alloc: Global, v: u32) -> Result<List<Text>, AllocError>
+        requires there { v < length self.now.history.versions }
+        ensures names { IfOk result (λ names. names ≡ tags_of self.now.history v) }
+    {
+        let mut names = List::new(alloc);
+        for tag in &self.tags {
+            if tag.version == v {
+                names.push(tag.name.copy(alloc)?)?;
+            }
+        }
+        Ok(names)
     }
 
     /// The names of each version's tags, in the order made: one list a version, by the versions' numbers. It goes over the tags once.
@@ -310,7 +428,7 @@ impl History {
     fn tag_named(&self, name: &str) -> Option<&Tag>
         ensures { option_copied result ≡ tag_named self.now.history name.now }
     {
-        self.tags.iter().find(|tag| tag.name.as_str() == name)
+        tag_at(&self.tags, &self.tag_names, name)
     }
 
     /// Makes room for a version, a branch and a tag, so that one of the three calls below takes no memory.
@@ -319,6 +437,8 @@ impl History {
         ensures room { OnOk result (0 < self.new.spare) }
         ensures kept { self.old.spare ≤ self.new.spare }
     {
+        enter_branch(&self.branches, &mut self.branch_names)?;
+        enter_tag(&self.tags, &mut self.tag_names)?;
         self.versions.reserve(1)?;
         self.branches.reserve(1)?;
         self.tags.reserve(1)?;

@@ -6,6 +6,7 @@ mod found;
 mod history;
 mod laws;
 mod merging;
+mod names;
 mod version;
 
 pub use found::{FindFault, Found};

@@ -2,9 +2,11 @@ use Rattle.std.proofs.Common.{ℕ, ◌<◌, [], ◌∷◌, ◌++◌, arith, sym,
 use Rattle.history_tree.specs.declared.version.Branch.{Branch}
 use Rattle.history_tree.specs.Heads.{AreHeads}
 use Rattle.history_tree.specs.History.{History}
+use Rattle.history_tree.specs.Index.{Knows}
 use Rattle.history_tree.specs.Room.{Held, most_numbered}
 use Rattle.history_tree.specs.Whole.{IsWhole}
 use Rattle.history_tree.proofs.HeadsBeside.{heads_branch}
+use Rattle.history_tree.proofs.Named.{knows_longer}
 use Rattle.history_tree.proofs.Steady.{whole_branch}
 use Rattle.history_tree.proofs.history.History.add_branch.Goals as goal
 
@@ -25,4 +27,7 @@ invariant_of-self c =
       subst (λ (hs : List ℕ). AreHeads (record { versions = c.self.inside.versions.items; branches = c.push_reserved-2.new.self.items; tags = c.self.inside.tags.items }) hs) (sym c.push_reserved.ensures.items)
           (subst (λ (bs : List Branch). AreHeads (record { versions = c.self.inside.versions.items; branches = bs; tags = c.self.inside.tags.items }) (heads ++ start ∷ [])) added
           (heads_branch h c.self.invariant.0 name start heads c.self.invariant.4)),
+      subst (λ (bs : List Branch). Knows (λ (b : Branch). b.name) c.self.inside.branch_names bs) added
+          (knows_longer (λ (b : Branch). b.name) c.self.inside.branch_names h.branches (record { name = name; start = start }) c.self.invariant.5),
+      c.self.invariant.6,
     )
