@@ -1,5 +1,5 @@
 -- The line that ends a block, as a test of its bytes.
-use Rattle.std.proofs.Common.{◌≡◌, ℕ, ◌==◌, ◌&&◌, Bool, List, [], ◌∷◌, length, slice_index, refl, arith}
+use Rattle.std.proofs.Common.{◌≡◌, ℕ, ◌==◌, ◌&&◌, List, [], ◌∷◌, length, slice_index, refl, arith}
 use Rattle.std.proofs.lemmas.Grind.{common_steps}
 use Rattle.host_port.specs.Cut.{is_dot}
 

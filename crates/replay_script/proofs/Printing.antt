@@ -1,8 +1,7 @@
 -- The answer of an event, by what holds of it.
-use Rattle.std.proofs.Common.{◌≡◌, ℕ, ◌<◌, ◌≤◌, ◌||◌, not, nat_lt, List, Bool, true, false, Option, Result, Ok, Err, if◌then◌else◌, length, refl, sym, ◌∙◌, ap, subst, arith}
+use Rattle.std.proofs.Common.{◌≡◌, ℕ, ◌<◌, ◌≤◌, ◌||◌, not, nat_lt, List, Bool, true, false, Option, Result, Ok, Err, if◌then◌else◌, length, refl, sym, ◌∙◌, subst}
 use Rattle.std.proofs.lemmas.Bool.{lt-ltb, le-ltb}
 use Rattle.host_port.specs.declared.lines.TheConstants.{LINE_LIMIT}
-use Rattle.host_port.specs.Cut.{Item}
 use Rattle.op_form.specs.declared.event.Event.{Event}
 use Rattle.history_tree.specs.History.{History}
 use Rattle.printed_items.specs.Printed.{printed_item}
