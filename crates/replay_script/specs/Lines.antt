@@ -24,6 +24,11 @@ abbrev pub last_word : List ℕ → List (List ℕ)
 last_word [] = []
 last_word (b ∷ bs) = (b ∷ bs) ∷ []
 
+-- a last word after a space, and nothing where it is empty
+abbrev pub last_part : List ℕ → List ℕ
+last_part [] = []
+last_part (b ∷ bs) = 32 ∷ b ∷ bs
+
 -- the words of the line, on the history that the events before it leave
 abbrev pub words_again : History → Event → List (List ℕ)
 words_again h (Init text) = codes "init" ∷ []
