@@ -109,7 +109,7 @@ pub(crate) fn tidy(alloc: Global, repo: &mut Repo, ws: u32) -> Result<(), Replay
 {
     repo.orderly();
     let operations = tidied(alloc, repo, ws)?;
-    repo.replace_operations(ws, operations);
+    repo.replace_operations(alloc, ws, operations);
     Ok(())
 }
 
@@ -148,6 +148,6 @@ pub(crate) fn merge(
 {
     repo.orderly();
     let merged = merged(alloc, repo, ws, branch, letters)?;
-    repo.take_up(ws, merged)?;
+    repo.take_up(alloc, ws, merged)?;
     Ok(())
 }

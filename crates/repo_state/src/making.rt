@@ -131,7 +131,7 @@ impl Repo {
         }
         let mut model = self.take_model(alloc, cache, pool, ws)?;
         self.advance(ws, &mut model, &package)?;
-        self.install(ws, package, model)?;
+        self.install(alloc, ws, package, model)?;
         Ok(())
     }
 
@@ -154,7 +154,13 @@ impl Repo {
     }
 
     /// Records operations in a workspace, with the model after them, which it keeps where it is among those that used theirs last.
-    fn install(&mut self, ws: u32, package: Package, model: Working) -> Result<(), AllocError>
+    fn install(
+        &mut self,
+        alloc: Global,
+        ws: u32,
+        package: Package,
+        model: Working,
+    ) -> Result<(), AllocError>
         requires there { is_some (workspace_of self.old ws) ≡ true }
         requires could { playable_with self.old self.old.meta (Edit ws «package») ≡ true }
         requires spelled { IsEvent (Edit ws «package») }
@@ -172,7 +178,7 @@ impl Repo {
         let Some(workspace) = &mut self.workspaces[at] else {
             unreachable!()
         };
-        workspace.install(package, kept)
+        workspace.install(alloc, package, kept)
     }
 
     /// Opens a composite of that name in a workspace.

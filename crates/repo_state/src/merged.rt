@@ -26,7 +26,7 @@ pub struct Merged {
 
 impl Repo {
     /// The operations of a workspace are others, which lead to the same working model.
-    pub fn replace_operations(&mut self, ws: u32, operations: Package)
+    pub fn replace_operations(&mut self, alloc: Global, ws: u32, operations: Package)
         requires there { is_some (workspace_of self.old ws) ≡ true }
         requires orderly { IsOrderly (with_changed (replaced operations) ws self.old) }
         requires model { KeepModel self.old ws operations }
@@ -41,7 +41,7 @@ impl Repo {
         let Some(workspace) = &mut self.workspaces[at] else {
             unreachable!()
         };
-        workspace.replace_operations(operations);
+        workspace.replace_operations(alloc, operations);
     }
 
     /// A workspace stands at a version with other operations.
@@ -66,7 +66,7 @@ impl Repo {
     }
 
     /// Further operations are added to a workspace, of a version that is merged. When out of memory nothing changes.
-    pub fn take_up(&mut self, ws: u32, merged: Merged) -> Result<(), AllocError>
+    pub fn take_up(&mut self, alloc: Global, ws: u32, merged: Merged) -> Result<(), AllocError>
         requires there { is_some (workspace_of self.old ws) ≡ true }
         requires closed { is_closed (workspace_of self.old ws) ≡ true }
         requires orderly { IsOrderly (with_changed (taken_up merged.more merged.version) ws self.old) }
@@ -83,6 +83,6 @@ impl Repo {
         let Some(workspace) = &mut self.workspaces[at] else {
             unreachable!()
         };
-        workspace.take_up(&begun.meta, &begun.history, merged)
+        workspace.take_up(alloc, &begun.meta, &begun.history, merged)
     }
 }

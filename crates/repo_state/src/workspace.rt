@@ -22,6 +22,7 @@ use crate::merged::{Merged, Updated};
 use ecore_meta::{List, Metamodel, Text};
 use history_tree::{History, Signature, Version};
 use model_state::{Operation, Package, Step, StepFault};
+use operation_room::fitted;
 use page_pool::Pool;
 use state_cache::Cache;
 use std::alloc::{AllocError, Global};
@@ -47,13 +48,26 @@ pub struct Workspace {
     pub(crate) model: Option<Working>,
 }
 
-/// Moves the items of a list after others. When out of memory the others stay as they are.
-fn append<T: Drop>(items: &mut Vec<T>, more: List<T>) -> Result<(), AllocError>
-    ensures more { OnOk result (items.new.items ≡ items.old.items ++ more) }
-    ensures same { OnErr result (items.new.items ≡ items.old.items) }
+/// Moves operations after others, without the room that their lists of steps don't use. When out of memory the others stay as they are.
+fn append_operations(
+    alloc: Global,
+    operations: &mut Vec<Operation>,
+    more: Package,
+) -> Result<(), AllocError>
+    ensures more { OnOk result (operations.new.items ≡ operations.old.items ++ more) }
+    ensures same { OnErr result (operations.new.items ≡ operations.old.items) }
+{
+    let mut more = fitted(alloc, more);
+    operations.append(&mut more)
+}
+
+/// Moves steps after others. When out of memory the others stay as they are.
+fn append_steps(steps: &mut Vec<Step>, more: List<Step>) -> Result<(), AllocError>
+    ensures more { OnOk result (steps.new.items ≡ steps.old.items ++ more) }
+    ensures same { OnErr result (steps.new.items ≡ steps.old.items) }
 {
     let mut more = more.into_vec();
-    items.append(&mut more)
+    steps.append(&mut more)
 }
 
 /// The author and the moment of a signature, or neither.
@@ -155,6 +169,7 @@ impl Workspace {
     /// keeps no model.
     pub(crate) fn install(
         &mut self,
+        alloc: Global,
         package: Package,
         model: Option<Working>,
     ) -> Result<(), AllocError>
@@ -165,20 +180,20 @@ impl Workspace {
         ensures gone { OnErr result (self.new.model ≡ None) }
     {
         self.model = None;
-        self.push_all(package)?;
+        self.push_all(alloc, package)?;
         self.model = model;
         Ok(())
     }
 
-    fn push_all(&mut self, package: Package) -> Result<(), AllocError>
+    fn push_all(&mut self, alloc: Global, package: Package) -> Result<(), AllocError>
         requires takes { takes (plain_of self.old).composite «package» ≡ true }
         ensures more { OnOk result (plain_of self.new ≡ with_more «package» (plain_of self.old)) }
         ensures same { OnErr result (plain_of self.new ≡ plain_of self.old) }
         ensures model { self.new.model ≡ self.old.model }
     {
         match &mut self.composite {
-            None => append(&mut self.operations, package),
-            Some(composite) => append(&mut composite.steps, steps_out(package)),
+            None => append_operations(alloc, &mut self.operations, package),
+            Some(composite) => append_steps(&mut composite.steps, steps_out(package)),
         }
     }
 
@@ -200,9 +215,10 @@ impl Workspace {
         ensures model { self.new.model ≡ self.old.model }
     {
         self.operations.reserve(1)?;
-        let Some(Composite { name, steps }) = self.composite.take() else {
+        let Some(Composite { name, mut steps }) = self.composite.take() else {
             return Ok(());
         };
+        steps.shrink_to_fit();
         if steps.len() > 0 {
             self.operations.push_reserved(Operation::Composite {
                 name,
@@ -284,7 +300,8 @@ impl Workspace {
     {
         let (author, moment) = signed_by(signature);
         let parent = replace(&mut self.base, number);
-        let operations = replace(&mut self.operations, Vec::new(alloc));
+        let mut operations = replace(&mut self.operations, Vec::new(alloc));
+        operations.shrink_to_fit();
         Version {
             branch: self.branch,
             parent: Some(parent),
@@ -297,11 +314,11 @@ impl Workspace {
     }
 
     /// The operations are others, which lead to the same model.
-    pub(crate) fn replace_operations(&mut self, operations: Package)
+    pub(crate) fn replace_operations(&mut self, alloc: Global, operations: Package)
         ensures replaced { plain_of self.new ≡ replaced operations (plain_of self.old) }
         ensures model { self.new.model ≡ self.old.model }
     {
-        self.operations = operations.into_vec();
+        self.operations = fitted(alloc, operations);
     }
 
     /// Stands at a version with other operations. A model that is kept goes there too, or is not kept when out of memory.
@@ -330,7 +347,7 @@ impl Workspace {
             }
         };
         self.base = updated.base;
-        self.operations = updated.operations.into_vec();
+        self.operations = fitted(alloc, updated.operations);
         self.model = model;
     }
 
@@ -338,6 +355,7 @@ impl Workspace {
     /// them too, or is not kept when out of memory. When out of memory nothing else changes.
     pub(crate) fn take_up(
         &mut self,
+        alloc: Global,
         meta: &Metamodel,
         _history: &History,
         merged: Merged,
@@ -355,20 +373,19 @@ impl Workspace {
             None => None,
             Some(model) => model_after(meta, model, merged.more.as_slice()),
         };
-        self.append_merged(merged)?;
+        self.append_merged(alloc, merged)?;
         self.model = model;
         Ok(())
     }
 
     /// Puts further operations after the others, of a version that is pending from now on. When out of memory nothing changes.
-    fn append_merged(&mut self, merged: Merged) -> Result<(), AllocError>
+    fn append_merged(&mut self, alloc: Global, merged: Merged) -> Result<(), AllocError>
         ensures taken { OnOk result (plain_of self.new ≡ taken_up merged.more merged.version (plain_of self.old)) }
         ensures same { OnErr result (plain_of self.new ≡ plain_of self.old) }
         ensures model { self.new.model ≡ self.old.model }
     {
-        let mut more = merged.more.into_vec();
         self.pending.push(merged.version)?;
-        match self.operations.append(&mut more) {
+        match append_operations(alloc, &mut self.operations, merged.more) {
             Ok(()) => Ok(()),
             Err(_) => {
                 self.pending.pop();

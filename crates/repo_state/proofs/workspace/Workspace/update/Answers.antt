@@ -31,7 +31,7 @@ returns-clause-fits c = λ m is. elim c.match-take.branch [
       let meta = c.args.meta.now in
       let h = c.args.history.now.history in
       let old = plain_of c.args.self.now in
-      subst (λ (os : List Operation). (folded meta h (restarted c.args.updated.base os old) ≡ Some m) × Good meta m) (sym c.into_vec.ensures)
+      subst (λ (os : List Operation). (folded meta h (restarted c.args.updated.base os old) ≡ Some m) × Good meta m) (sym c.fitted.ensures)
       (updated_fits meta h old c.args.updated.base c.args.updated.operations w.updated_model-model.result m (sym w.model-is ∙ is)
       w.updated_model-model.ensures.after w.updated_model-model.ensures.good c.requires.closed))
 ]
