@@ -1,5 +1,5 @@
 -- The place of a name in a list, by an index of the first names.
-use Rattle.std.proofs.Common.{◌≡◌, ℕ, zero, suc, ◌+◌, ◌<◌, ◌≤◌, ◌∷◌, ◌++◌, ◌||◌, nat_lt, Bool, true, false, cond, List, [], length, map, take, drop, get_or, refl, sym, ap, ◌∙◌, arith, ◌-◌}
+use Rattle.std.proofs.Common.{◌≡◌, ℕ, suc, ◌+◌, ◌<◌, ◌≤◌, ◌∷◌, ◌++◌, ◌||◌, nat_lt, Bool, true, false, cond, List, [], length, map, take, drop, get_or, refl, sym, ap, ◌∙◌, arith, ◌-◌}
 use Rattle.std.specs.Prelude.{Option, None, Some, is_some, slice_get, not}
 use Rattle.std.specs.List.{position, position_or_len, find, list_any}
 use Rattle.std.specs.Option.{option_map, option_and_then}

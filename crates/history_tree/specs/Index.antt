@@ -1,5 +1,5 @@
 -- What an index of names knows of a list that grows.
-use Rattle.std.specs.Prelude.{◌≡◌, ◌≤◌, ℕ, List, length, map, take}
+use Rattle.std.specs.Prelude.{◌≡◌, ◌≤◌, List, length, map, take}
 use Rattle.std.specs.BTreeMap.{get_by_text}
 use Rattle.ecore_meta.specs.Names.{Name, number_of}
 use Rattle.history_tree.specs.declared.names.NameIndex.{NameIndex}

@@ -1,4 +1,4 @@
-use Rattle.std.proofs.Common.{◌≡◌, ◌∙◌, ◌≤◌, ℕ, List, sym, length}
+use Rattle.std.proofs.Common.{◌≡◌, ◌∙◌, sym}
 use Rattle.std.specs.Prelude.{None, Some}
 use Rattle.std.specs.List.{position}
 use Rattle.history_tree.specs.declared.version.Tag.{Tag}
