@@ -17,15 +17,15 @@ use Rattle.plain_repository.specs.State.{State}
 use Rattle.plain_repository.specs.Events.{play}
 use Rattle.plain_repository.specs.Repository.{decide}
 use Rattle.plain_repository.specs.Store.{StandsForEvents}
-use Rattle.emf_top.specs.declared.answered.SessionFault.{SessionFault}
-use Rattle.emf_top.specs.declared.answered.SessionFault.TheVariants as session
-use Rattle.emf_top.specs.Session.{IsStoreOf, IsEntering}
-use Rattle.emf_top.proofs.Entering.{rest_leaves}
+use Rattle.store_session.specs.declared.answered.SessionFault.{SessionFault}
+use Rattle.store_session.specs.declared.answered.SessionFault.TheVariants as session
+use Rattle.store_session.specs.Session.{IsStoreOf, IsEntering}
+use Rattle.store_session.proofs.Entering.{rest_leaves}
 use Rattle.script_items.specs.Items.{IsAnswered}
-use Rattle.emf_top.specs.Headline.{IsUnanswered, IsHalted, Ends, session_status}
+use Rattle.store_runs.specs.Endings.{IsUnanswered, IsHalted, Ends, session_status}
 use Rattle.emf_top.specs.Tasks.{filling, silenced, printing, outcome, outcome_line, refusals_in, others_in}
 use Rattle.emf_top.specs.Tasks as tasks
-use Rattle.emf_top.proofs.Halting.{halted, unanswered}
+use Rattle.store_runs.proofs.Halting.{halted, unanswered}
 
 -- what some items are answered with
 abbrev pub given : State → List Item → List (Answer Event)

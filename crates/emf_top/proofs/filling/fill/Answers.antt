@@ -1,11 +1,11 @@
 use Rattle.std.proofs.Common.{◌+◌, ◌-◌, length, arith, ℕ, List, Option, refl, sym, ◌∙◌, ap, ◌≡◌, true, false}
 use Rattle.host_port.proofs.Course.{told_next}
-use Rattle.emf_top.specs.Session.{answer_to}
+use Rattle.store_session.specs.Session.{answer_to}
 use Rattle.emf_top.specs.Tasks.{filling, outcome}
-use Rattle.emf_top.proofs.Halting.{halted}
+use Rattle.store_runs.proofs.Halting.{halted}
 use Rattle.emf_top.proofs.Quietly.{given, gets_reply, fills_start, fill_part, fill_moments, fill_still, fault_ends, filled_on, outcome_is, at_outcome}
-use Rattle.emf_top.proofs.Printing.{printed, printed_part, printed_moments, printed_still, unprinted}
-use Rattle.emf_top.proofs.Serving.{decide_read}
+use Rattle.store_runs.proofs.Printing.{printed, printed_part, printed_moments, printed_still, unprinted}
+use Rattle.store_runs.proofs.Serving.{decide_read}
 use Rattle.emf_top.proofs.filling.fill.Goals as goal
 
 pub items-init : goal.items-init
