@@ -9,11 +9,17 @@ use std::alloc::Global;
 use store_runs::{Status, Unguarded, Work, serve, show};
 use store_session::Session;
 
-impl Work for Request {
-    ghost task = { task_of };
+/// What the words ask for.
+#[derive(Clone, Copy)]
+pub(crate) struct Asked {
+    pub(crate) request: Request,
+}
+
+impl Work for Asked {
+    ghost task = { λ asked. task_of asked.request };
 
     fn fulfil<H: Host>(&self, alloc: Global, host: &mut H, session: &mut Session) -> Status {
-        match *self {
+        match self.request {
             Request::Serve => serve(alloc, host, session, &Unguarded),
             Request::Check => {
                 let Ok(line) = check_line(alloc, session) else {
@@ -30,5 +36,5 @@ impl Work for Request {
         }
     }
 
-    ghost reads_alike = { same_reads };
+    ghost reads_alike = { λ asked. same_reads asked.request };
 }

@@ -1,10 +1,7 @@
 //! What `--generate` does: items are answered quietly, and one line says what came of it.
-ghost use Rattle.std.specs.Prelude.{◌≡◌, ◌≢◌, ◌+◌, ◌<◌, ◌≤◌, ◌^◌, ℕ, List, [], Bool, All, IfOk, IsTrue, false, if◌then◌else◌, string_bytes};
-ghost use Rattle.host_port.specs.Host.{disk_now, said_now, Rose, GoesOn, Throughout, KeepsDisk, AddsPart};
-ghost use Rattle.command_runs.specs.Runs.{replies, events, events_due};
-ghost use Rattle.command_runs.specs.Crashes.{IsRunning};
+ghost use Rattle.std.specs.Prelude.{◌≡◌, ◌≢◌, ◌≤◌, ℕ, List, Bool, All, IfOk, IsTrue, false, if◌then◌else◌, string_bytes};
+ghost use Rattle.host_port.specs.Host.{disk_now, Rose, GoesOn};
 ghost use Rattle.op_form.specs.declared.event.Event.{Event};
-ghost use Rattle.plain_repository.specs.Store.{StandsForEvents};
 ghost use Rattle.store_session.specs.Session.{IsStoreOf, answered_as};
 ghost use Rattle.store_runs.specs.Endings.{IsDone, KeepsUnread};
 ghost use Rattle.script_items.specs.Items.{IsAnswered};

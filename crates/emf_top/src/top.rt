@@ -13,6 +13,7 @@ ghost use Rattle.script_items.specs.declared.words.Request.{Request};
 ghost use Rattle.store_runs.specs.Endings.{Ends, NothingRose, IsKept, KeepsFile, KeepsUnread, IsFoundDamaged};
 ghost use Rattle.emf_top.specs.Tasks.{task_of};
 
+use crate::asked::Asked;
 use host_port::Host;
 use script_items::request_of;
 use std::alloc::Global;
@@ -66,6 +67,6 @@ pub fn run<H: Host>(alloc: Global, words: &[String], host: &mut H) -> Status
 {
     match request_of(words) {
         None => Status::BadWords,
-        Some(request) => over_store(alloc, &request, host),
+        Some(request) => over_store(alloc, &Asked { request }, host),
     }
 }

@@ -17,19 +17,12 @@ use Rattle.plain_repository.proofs.Stores.{same_events}
 use Rattle.store_session.specs.declared.answered.SessionFault.{SessionFault}
 use Rattle.store_session.specs.declared.answered.SessionFault.TheVariants as session
 use Rattle.store_session.specs.Session.{IsStoreOf, AtDamage}
-use Rattle.store_session.proofs.Opening.{IsMounting, is_long, reads_same}
+use Rattle.store_session.specs.Opening.{IsMounting}
+use Rattle.store_session.proofs.Opening.{is_long, reads_same}
 use Rattle.store_runs.specs.declared.status.Status.{Status}
 use Rattle.store_runs.specs.declared.status.Status.TheVariants.{Accepted, Refused, BadWords, ReadFault, WriteFault, DiskFault, Damaged, Memory, Input}
-use Rattle.store_runs.specs.Endings.{Ends, NothingRose, KeepsFile, IsFoundDamaged, IsUnsaid, IsUnopened, IsUnanswered, IsHalted, IsKept, session_status}
-use Rattle.store_runs.specs.Tasks.{Task, task_of}
-use Rattle.script_items.specs.declared.words.Request.{Request}
-use Rattle.script_items.specs.declared.words.Request.TheVariants.{Serve, Check, Generate}
-
--- whether the input is read goes by what is asked for alone
-pub same_reads : (request : Request) (s t : State) (one two : List ℕ) → (task_of request s one).reads ≡ (task_of request t two).reads
-same_reads Serve s t one two = refl
-same_reads Check s t one two = refl
-same_reads (Generate seed count) s t one two = refl
+use Rattle.store_runs.specs.Endings.{Ends, IsDone, NothingRose, KeepsFile, IsFoundDamaged, IsUnsaid, IsUnopened, IsUnanswered, IsHalted, IsKept, session_status}
+use Rattle.store_runs.specs.Tasks.{Task}
 
 -- no call at all leaves the file
 pub file_still : (a : Told) → KeepsFile a a
@@ -116,35 +109,34 @@ module _ (entry a : Told) (course : GoesOn entry a) (said : KeepsSaid entry a) (
   said_is : IsTrue entry.tells → said_now a ≡ said_now entry
   said_is told = said_kept_now entry a course said told
 
-  pub whole_ends : (status : Status) → (IsTrue a.tells → (made : List Event) → IsStoreOf (disk_now a) now made → Ends (asked now a.left) made a b status)
+  pub whole_ends : (status : Status) → ((made : List Event) → IsStoreOf (disk_now a) now made → IsDone (asked now a.left) made a b status)
       → IsTrue entry.tells → Ends (asked (played play empty first) entry.left) first entry b status
-  whole_ends status ends told = ends_from (asked (played play empty first) entry.left) first entry a b (said_is told) input status
-      (subst (λ (t : Task). Ends t first a b status) (task_is told) (ends (told_next entry a course told) first (holds_first told)))
+  whole_ends status done told = ends_from (asked (played play empty first) entry.left) first entry a b (said_is told) input status
+      (subst (λ (t : Task). Ends t first a b status) (task_is told) ((done first (holds_first told)).ends (told_next entry a course told)))
 
-  pub whole_part : ((made : List Event) → IsStoreOf (disk_now a) now made → Throughout a b (λ disk said. AddsPart (said_now a) (replies (asked now a.left).answers) said))
+  pub whole_part : (status : Status) → ((made : List Event) → IsStoreOf (disk_now a) now made → IsDone (asked now a.left) made a b status)
       → Throughout entry b (λ disk said. AddsPart (said_now entry) (replies (asked (played play empty first) entry.left).answers) said)
-  whole_part part told = carry_on entry a b (λ disk said. AddsPart (said_now entry) (replies (asked (played play empty first) entry.left).answers) said) course on
+  whole_part status done told = carry_on entry a b (λ disk said. AddsPart (said_now entry) (replies (asked (played play empty first) entry.left).answers) said) course on
       (opening_part entry a course said mounting first stood (asked (played play empty first) entry.left))
       (subst (λ (l : List ℕ). Throughout a b (λ disk said. AddsPart l (replies (asked (played play empty first) entry.left).answers) said)) (said_is told)
-      (subst (λ (t : Task). Throughout a b (λ disk said. AddsPart (said_now a) (replies t.answers) said)) (task_is told) (part first (holds_first told)))) told
+      (subst (λ (t : Task). Throughout a b (λ disk said. AddsPart (said_now a) (replies t.answers) said)) (task_is told) (done first (holds_first told)).part)) told
 
-  pub whole_moments : ((made : List Event) → IsStoreOf (disk_now a) now made
-      → Throughout a b (IsRunning StandsForEvents made (events (asked now a.left).answers) (events_due (asked now a.left).answers) (said_now a)))
+  pub whole_moments : (status : Status) → ((made : List Event) → IsStoreOf (disk_now a) now made → IsDone (asked now a.left) made a b status)
       → Throughout entry b (IsOpenedRunning (disk_now entry) StandsForEvents first (events (asked (played play empty first) entry.left).answers) (events_due (asked (played play empty first) entry.left).answers) (said_now entry))
-  whole_moments moments told = carry_on entry a b
+  whole_moments status done told = carry_on entry a b
       (IsOpenedRunning (disk_now entry) StandsForEvents first (events (asked (played play empty first) entry.left).answers) (events_due (asked (played play empty first) entry.left).answers) (said_now entry)) course on
       (opening_moments entry a course said mounting first stood (asked (played play empty first) entry.left))
       (λ told_a t low high. inr (
       subst (λ (l : List ℕ). Throughout a b (IsRunning StandsForEvents first (events (asked (played play empty first) entry.left).answers) (events_due (asked (played play empty first) entry.left).answers) l)) (said_is told)
-      (subst (λ (t : Task). Throughout a b (IsRunning StandsForEvents first (events t.answers) (events_due t.answers) (said_now a))) (task_is told) (moments first (holds_first told))) told_a t low high)) told
+      (subst (λ (t : Task). Throughout a b (IsRunning StandsForEvents first (events t.answers) (events_due t.answers) (said_now a))) (task_is told) (done first (holds_first told)).moments) told_a t low high)) told
 
   -- where the task makes no event, the disk is synced at most
   pub whole_still : (17 < length (disk_now entry).now → Throughout entry a (λ disk said. IsAtMostSynced (disk_now entry) disk))
-      → ((made : List Event) → IsStoreOf (disk_now a) now made → events (asked now a.left).answers ≡ [] → KeepsDisk a b)
+      → (status : Status) → ((made : List Event) → IsStoreOf (disk_now a) now made → IsDone (asked now a.left) made a b status)
       → events (asked (played play empty first) entry.left).answers ≡ [] → 17 < length (disk_now entry).now → Throughout entry b (λ disk said. IsAtMostSynced (disk_now entry) disk)
-  whole_still opening still none long told = carry_on entry a b (λ disk said. IsAtMostSynced (disk_now entry) disk) course on (opening long)
+  whole_still opening status done none long told = carry_on entry a b (λ disk said. IsAtMostSynced (disk_now entry) disk) course on (opening long)
       (λ told_a t low high. subst (IsAtMostSynced (disk_now entry))
-      (sym (still first (holds_first told) (subst (λ (t : Task). events t.answers ≡ []) (sym (task_is told)) none) told_a t low high))
+      (sym ((done first (holds_first told)).still (subst (λ (t : Task). events t.answers ≡ []) (sym (task_is told)) none) told_a t low high))
       (at_last entry a (λ disk said. IsAtMostSynced (disk_now entry) disk) course (opening long) told)) told
 
 -- what stands in the file at the end of a run
@@ -201,6 +193,12 @@ module _ (entry a : Told) (fault : SessionFault) (never : fault ≡ session.SayF
       go session.SayFault n = absurd (n refl)
       go (session.Damaged at) n = inl (at, refl)
       go session.Memory n = inr (inr refl)
+
+pub never_read : (fault : SessionFault) → session_status fault ≡ ReadFault → ⊥
+never_read session.DiskFault is = absurd cc
+never_read session.SayFault is = absurd cc
+never_read (session.Damaged at) is = absurd cc
+never_read session.Memory is = absurd cc
 
 pub status_disk : (fault : SessionFault) → session_status fault ≡ DiskFault → fault ≡ session.DiskFault
 status_disk session.DiskFault is = refl

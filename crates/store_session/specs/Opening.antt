@@ -1,9 +1,11 @@
 -- What the opening of a store leaves of its file.
 use Rattle.std.specs.Prelude.{◌≡◌, ◌⊎◌, ◌<◌, ℕ, List, [], ◌∷◌, ◌++◌, length, IsTrue}
 use Rattle.host_port.specs.Host.{Told, Disk, Throughout, CrashLeaves, disk_now}
-use Rattle.commit_journal.specs.Journal.{IsSettled, MountedFrom, StandsForSame, IsAtMostSynced, new_size}
+use Rattle.commit_journal.specs.TornWrites.{IsSettled}
+use Rattle.commit_journal.specs.Journal.{MountedFrom, StandsForSame, IsAtMostSynced, new_size}
 use Rattle.op_form.specs.declared.event.Event.{Event}
 use Rattle.op_form.specs.Events.{event_encoding}
+use Rattle.op_form.specs.Formed.{IsEvent}
 use Rattle.plain_repository.specs.Events.{play, playable}
 use Rattle.store_session.specs.State.{OpeningState}
 use Rattle.store_session.specs.Session.{IsReplayed}
@@ -23,7 +25,7 @@ pub record IsOpenedSince (entry now : Told) : Type 0 where
 
 -- the bytes are those of an event
 abbrev pub SpellsEvent : List ℕ → Type 0
-SpellsEvent bytes = (event : Event) × (bytes ≡ event_encoding event)
+SpellsEvent bytes = (event : Event) × IsEvent event × (bytes ≡ event_encoding event)
 
 -- these bytes were read, and their event was played: it could be made there, and the file reads as the events before it and this one
 pub record PlaysEvent (before now : Told) (old new : OpeningState) (bytes : List ℕ) : Type 0 where
