@@ -19,8 +19,9 @@ use Rattle.plain_repository.specs.Repository.{decide}
 use Rattle.plain_repository.specs.Store.{StandsForEvents}
 use Rattle.store_session.specs.declared.answered.SessionFault.{SessionFault}
 use Rattle.store_session.specs.declared.answered.SessionFault.TheVariants as session
-use Rattle.store_session.specs.Session.{answer_to, IsStoreOf, IfMade}
-use Rattle.store_session.proofs.Entering.{rest_leaves, holds_stands, none_added, quiet_step}
+use Rattle.store_session.specs.declared.answered.Answered.TheVariants as answers_as
+use Rattle.store_session.specs.Session.{answer_to, answered_as, IsStoreOf, IfMade}
+use Rattle.store_session.proofs.Entering.{rest_leaves, holds_stands, none_added, quiet_step, say_step}
 use Rattle.store_runs.specs.declared.status.Status.{Status}
 use Rattle.store_runs.specs.declared.status.Status.TheVariants.{Accepted, Refused, ReadFault}
 use Rattle.script_items.specs.Items.{GotItem}
@@ -205,15 +206,39 @@ gated_refused s item is refusal reply some = subst (λ (o : Option (List ℕ)). 
 pub gated_let_in : (s : State) (item : Item) → is_skipped item.line ≡ false → (refusal : Option (List ℕ)) → None ≡ refusal → gated_by s item refusal ≡ answer_to s item.line item.block
 gated_let_in s item is refusal none = subst (λ (o : Option (List ℕ)). gated_by s item o ≡ answer_to s item.line item.block) none (decide_read s item is)
 
+-- its refusal is printed, and was its answer
+module _ (a b : Told) (s : State) (answer : Answer Event) (reply bytes : List ℕ) (answer_is : answer ≡ telling_one reply true) (bytes_are : bytes ≡ reply) (on : GoesOn a b) (disk : KeepsDisk a b)
+    (part : Throughout a b (λ disk said. AddsPart (said_now a) bytes said)) where
+  pub refusal_added : IsTrue a.tells → (made : List Event) → IsStoreOf (disk_now a) s made → IsStoreOf (disk_now b) s (made ++ listed answer.event)
+  refusal_added told made holds = subst (λ (x : Answer Event). IsStoreOf (disk_now b) s (made ++ listed x.event)) (sym answer_is)
+      (none_added (disk_now b) s made (subst (λ d. IsStoreOf d s made) (sym (kept_now a b on disk told)) holds))
+
+  pub refusal_part : Throughout a b (λ disk said. AddsPart (said_now a) answer.reply said)
+  refusal_part = subst (λ (x : Answer Event). Throughout a b (λ disk said. AddsPart (said_now a) x.reply said)) (sym answer_is)
+      (subst (λ (l : List ℕ). Throughout a b (λ disk said. AddsPart (said_now a) l said)) bytes_are part)
+
+  pub refusal_moments : (made : List Event) → IsStoreOf (disk_now a) s made → Throughout a b (IsStepping StandsForEvents made answer.event (said_now a))
+  refusal_moments made holds = subst (λ (x : Answer Event). Throughout a b (IsStepping StandsForEvents made x.event (said_now a))) (sym answer_is)
+      (say_step a b s made None (said_now a) (none_added (disk_now a) s made holds) disk)
+
+  pub refusal_said : (IsTrue a.tells → said_now b ≡ said_now a ++ bytes) → IsTrue a.tells → said_now b ≡ said_now a ++ answer.reply
+  refusal_said whole told = whole told ∙ ap (λ (l : List ℕ). said_now a ++ l) (bytes_are ∙ sym (ap (λ (x : Answer Event). x.reply) answer_is))
+
+  pub refusal_state : s ≡ after play s answer.event
+  refusal_state = sym (ap (λ (x : Answer Event). after play s x.event) answer_is)
+
+  pub refusal_refused : answers_as.Refused ≡ answered_as answer.refused
+  refusal_refused = sym (ap (λ (x : Answer Event). answered_as x.refused) answer_is)
+
 -- ---- the loop
 -- the input was looked at, and the run ends
 module _ (rule : State → Item → Answer Event) (entry a b : Told) (s0 : State) (whole : Script) (failed : Bool) (place : ℕ) (pending : List ℕ) (refused : Bool) (state : State) (broken : Bool)
     (serving_a : Serving rule entry a s0 whole failed place pending refused state broken) (on : GoesOn a b) (disk : KeepsDisk a b) (said : KeepsSaid a b)
     (made : List Event) (holds : IsStoreOf (disk_now entry) s0 made) where
-  abbrev left : Script
-  left = script_from takes_block place (pending ++ a.left)
+  abbrev ahead : Script
+  ahead = script_from takes_block place (pending ++ a.left)
 
-  there : IsTrue entry.tells → Between rule entry a made (serving_by rule s0 whole) left state refused
+  there : IsTrue entry.tells → Between rule entry a made (serving_by rule s0 whole) ahead state refused
   there told = serving_a.going told made holds
 
   told_a : IsTrue entry.tells → IsTrue a.tells
@@ -222,17 +247,17 @@ module _ (rule : State → Item → Answer Event) (entry a b : Told) (s0 : State
   looked_done : (status : Status) → (IsTrue entry.tells → Ends (serving_by rule s0 whole) made entry b status) → IsDone (serving_by rule s0 whole) made entry b status
   looked_done status ends = record {
     ends = ends;
-    part = λ told. looked_part rule entry a b made (serving_by rule s0 whole) left state refused (there told) serving_a.course on disk said told told;
-    moments = λ told. looked_moments rule entry a b made (serving_by rule s0 whole) left state refused (there told) serving_a.course on disk said told told;
-    still = λ none told. looked_still rule entry a b made (serving_by rule s0 whole) left state refused (there told) serving_a.course on disk said told none told;
+    part = λ told. looked_part rule entry a b made (serving_by rule s0 whole) ahead state refused (there told) serving_a.course on disk said told told;
+    moments = λ told. looked_moments rule entry a b made (serving_by rule s0 whole) ahead state refused (there told) serving_a.course on disk said told told;
+    still = λ none told. looked_still rule entry a b made (serving_by rule s0 whole) ahead state refused (there told) serving_a.course on disk said told none told;
   }
 
-  pub fault_done : (fault : LineFault) (rest : Script) → (IsTrue a.tells → GotItem (Err fault) left rest) → IsDone (serving_by rule s0 whole) made entry b (input_status fault)
-  fault_done fault rest got = looked_done (input_status fault) (λ told. fault_ends rule entry a b made (serving_by rule s0 whole) left state refused (there told) serving_a.course on disk said told fault rest refl (got (told_a told)))
+  pub fault_done : (fault : LineFault) (rest : Script) → (IsTrue a.tells → GotItem (Err fault) ahead rest) → IsDone (serving_by rule s0 whole) made entry b (input_status fault)
+  fault_done fault rest got = looked_done (input_status fault) (λ told. fault_ends rule entry a b made (serving_by rule s0 whole) ahead state refused (there told) serving_a.course on disk said told fault rest refl (got (told_a told)))
 
-  module _ (got : IsTrue a.tells → left ≡ ends_by None) (empty : IsTrue a.tells → b.left ≡ []) where
+  module _ (got : IsTrue a.tells → ahead ≡ ends_by None) (empty : IsTrue a.tells → b.left ≡ []) where
     ended : IsTrue entry.tells → IsServed (serving_by rule s0 whole) made entry b × ((serving_by rule s0 whole).end ≡ end_of None refused)
-    ended told = end_ends rule entry a b made (serving_by rule s0 whole) left state refused (there told) serving_a.course on disk said told (got (told_a told))
+    ended told = end_ends rule entry a b made (serving_by rule s0 whole) ahead state refused (there told) serving_a.course on disk said told (got (told_a told))
 
     pub refused_done : refused ≡ true → IsDone (serving_by rule s0 whole) made entry b Refused
     refused_done is = looked_done Refused (λ told. ((ended told).0, (ended told).1 ∙ ap (λ (r : Bool). end_of None r) is, λ reads. empty (told_a told)))
