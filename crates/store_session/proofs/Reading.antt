@@ -1,12 +1,12 @@
 -- How the store is opened: its records are read one after the other, and their events played.
-use Rattle.std.proofs.Common.{◌≡◌, ◌⊎◌, inl, inr, ℕ, ◌+◌, ◌^◌, ◌<◌, List, [], ◌∷◌, ◌++◌, Ok, Err, length, false, refl, sym, ◌∙◌, ap, subst, arith, length-append}
+use Rattle.std.proofs.Common.{◌≡◌, inl, inr, ℕ, ◌+◌, ◌^◌, ◌<◌, List, [], ◌∷◌, ◌++◌, Ok, Err, length, false, refl, sym, ◌∙◌, ap, subst, arith, length-append}
 use Rattle.std.specs.Prelude.{IsTrue, map}
 use Rattle.std.proofs.lemmas.Bool.{cases_lt}
 use Rattle.std.proofs.lemmas.List.{append-nil, length-take}
-use Rattle.host_port.specs.Host.{Told, Disk, MayLeave, GoesOn, Throughout, KeepsDisk, KeepsSaid, KeepsInput, disk_now, CrashLeaves}
+use Rattle.host_port.specs.Host.{Told, Disk, MayLeave, GoesOn, KeepsDisk, KeepsSaid, KeepsInput, disk_now}
 use Rattle.host_port.proofs.Course.{carry_on, at_last, told_next, course_on, kept_now, keeps_said_on, keeps_input_on}
 use Rattle.commit_journal.specs.TornWrites.{IsSettled}
-use Rattle.commit_journal.specs.Journal.{WalkState, StandsFor, StandsForSame, StandsForNone, IsWalked, IsAtRest, IsStuck, ReadsTo, MountedFrom, IsAtMostSynced, records, record_of, header, new_file, open_gate}
+use Rattle.commit_journal.specs.Journal.{WalkState, StandsFor, StandsForNone, IsWalked, IsAtRest, IsStuck, ReadsTo, MountedFrom, IsAtMostSynced, records, record_of, header, open_gate}
 use Rattle.commit_journal.proofs.Torn.{left_settled}
 use Rattle.commit_journal.proofs.Ends.{records-push, length-record_of, length-header, stands}
 use Rattle.commit_journal.proofs.Mounting.{length-new_file}

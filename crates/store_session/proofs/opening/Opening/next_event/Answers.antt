@@ -1,4 +1,4 @@
-use Rattle.std.proofs.Common.{◌≡◌, ◌+◌, ◌^◌, ◌<◌, ◌++◌, ℕ, List, [], ◌∷◌, arith, length, refl, sym, ◌∙◌, ap, subst}
+use Rattle.std.proofs.Common.{◌≡◌, ◌^◌, ◌<◌, ◌++◌, ℕ, List, [], ◌∷◌, arith, length, refl, sym, ◌∙◌, ap, subst}
 use Rattle.std.specs.Prelude.{IsTrue, map}
 use Rattle.host_port.specs.Host.{disk_now}
 use Rattle.host_port.proofs.Course.{kept_now}
@@ -75,7 +75,7 @@ returns-in-Err-NotPlayable-clause-damaged g c = λ told.
     let walked = rw c.in-Ok-Some.field-0-is at c.in-Ok-Some.ensures.walked in
     event_is_damage (disk_now (g.H.Host.told c.args.host.now)) c.self.inside.repo c.self.inside.walk.next c.next_bytes.new.self.next c.place.result c.in-Ok-Some.bytes.items had.0 had.1 (omega (arith, ap next_of some.0, c.next_bytes.ensures.low))
     (c.place.ensures ∙ ap place_of some.0) (ap next_of some.0)
-    (λ event can is. (rw c.in-Err-NotPlayable.field-0-is at c.in-Err-NotPlayable.ensures.refused) refl event can (c.deref.ensures.value ∙ is)) 
+    (λ event can is. (rw c.in-Err-NotPlayable.field-0-is at c.in-Err-NotPlayable.ensures.refused) refl event can (c.deref.ensures.value ∙ is))
     (subst (λ d. ReadsTo d.now (map event_encoding had.0 ++ c.in-Ok-Some.bytes.items ∷ []) c.next_bytes.new.self.next) (kept_now (g.H.Host.told c.args.host.now) (g.H.Host.told c.next_bytes.new.host) c.next_bytes.ensures.course c.next_bytes.ensures.disk told)
     (walked told (map event_encoding had.0) had.1.walked).reads)
 

@@ -1,9 +1,9 @@
 use Rattle.std.proofs.Common.{ℕ, []}
 use Rattle.std.specs.Prelude.{IsTrue}
 use Rattle.host_port.specs.Host.{disk_now}
-use Rattle.host_port.proofs.Course.{told_next, rose_second}
+use Rattle.host_port.proofs.Course.{told_next}
 use Rattle.plain_repository.specs.Store.{IsDamaged, StandsForNoEvents}
-use Rattle.store_session.proofs.Reading.{damage_on, damage_since, mounted, mounts_course, mounts_input, mounts_on, mounts_said, mounts_since}
+use Rattle.store_session.proofs.Reading.{damage_on, damage_since, mounted, mounts_on, mounts_said, mounts_since}
 use Rattle.store_session.proofs.session.Session.mount.Goals as goal
 
 pub records-init : goal.records-init
