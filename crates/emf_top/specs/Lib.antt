@@ -1,4 +1,1 @@
-pub mod Headline
-pub mod Session
-pub mod State
 pub mod Tasks
