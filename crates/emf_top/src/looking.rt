@@ -1,5 +1,5 @@
 //! What `--check` prints: how much a store holds.
-ghost use Rattle.std.specs.Prelude.{◌<◌, ◌^◌, IfOk, string_bytes};
+ghost use Rattle.std.specs.Prelude.{◌≡◌, ◌<◌, ◌^◌, IfOk, string_bytes};
 ghost use Rattle.repo_state.specs.Counting.{live_workspaces};
 ghost use Rattle.emf_top.specs.Tasks.{check_line};
 
