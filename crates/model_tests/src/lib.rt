@@ -18,4 +18,6 @@ mod reading;
 #[cfg(test)]
 mod replies;
 #[cfg(test)]
+mod scripts;
+#[cfg(test)]
 mod steps;
