@@ -13,9 +13,16 @@ _missed = []
 
 def number(value):
     """A value with three digits at least; from 100 on it is a whole number."""
-    if value >= 100 or isinstance(value, int):
+    if abs(value) >= 100 or isinstance(value, int):
         return f"{value:,.0f}"
-    return f"{value:.1f}" if value >= 10 else f"{value:.2f}" if value >= 1 else f"{value:.3g}"
+    return f"{value:.1f}" if abs(value) >= 10 else f"{value:.2f}" if abs(value) >= 1 else f"{value:.3g}"
+
+
+def scaled(value, unit):
+    """Less than a second as milliseconds or microseconds; all else as it is."""
+    if unit != "s" or abs(value) >= 1:
+        return value, unit
+    return (1e3 * value, "ms") if abs(value) >= 1e-3 else (1e6 * value, "us")
 
 
 @dataclasses.dataclass(frozen=True)
@@ -27,7 +34,8 @@ class Figure:
     most: float | None = None
 
     def __str__(self):
-        return f"{number(self.value)} {self.unit} {self.of}".rstrip()
+        value, unit = scaled(self.value, self.unit)
+        return f"{number(value)} {unit} {self.of}".rstrip()
 
     def wish(self):
         return f"at most {self.most:,g} {self.unit} {self.of}".rstrip()
