@@ -1,0 +1,10 @@
+//! What `emftools` is asked: the words of its command line, and a guard that refuses lines by a policy.
+#![tactic(auto)]
+
+mod guard;
+mod tool;
+mod words;
+
+pub use guard::Guard;
+pub use tool::Tool;
+pub use words::tool_of;

@@ -1,0 +1,23 @@
+//! What the words of the command line ask for.
+use crate::guard::Guard;
+use ecore_meta::Text;
+use script_lang::Spec;
+
+/// What the words of the command line ask for.
+#[derive(Drop)]
+pub enum Tool {
+    /// `query SPEC ID CLASS FEATURE`: which version up to SPEC wrote the feature of the element last.
+    Query {
+        spec: Spec,
+        element: Text,
+        class: Text,
+        feature: Text,
+    },
+    /// `blame SPEC ID`: the same of each feature of the element.
+    Blame {
+        spec: Spec,
+        element: Text,
+    },
+    /// `guard USER POLICY`: the lines of the input are answered, but for those that the policy denies to the user.
+    Guard(Guard),
+}

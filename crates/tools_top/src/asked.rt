@@ -1,0 +1,95 @@
+//! What the words ask for, as work over a store.
+ghost use Rattle.std.specs.Prelude.{◌≡◌, ◌≢◌, ℕ, List, IfOk};
+ghost use Rattle.host_port.specs.Host.{disk_now, Rose, GoesOn};
+ghost use Rattle.op_form.specs.declared.event.Event.{Event};
+ghost use Rattle.plain_repository.specs.Answers.{is_refusal};
+ghost use Rattle.plain_repository.specs.State.{State};
+ghost use Rattle.script_lang.specs.declared.reply.Reply as replies;
+ghost use Rattle.store_session.specs.Session.{IsStoreOf};
+ghost use Rattle.store_runs.specs.Endings.{IsDone, KeepsUnread};
+ghost use Rattle.tools_top.specs.Tasks.{refusal_of, replying, same_reads, task_of};
+
+use feature_writers::{blame, query};
+use host_port::Host;
+use repo_state::Repo;
+use script_lang::{Last, Reply, print_reply};
+use std::alloc::{AllocError, Global};
+use store_runs::{Gate, Status, Work, serve, show};
+use store_session::Session;
+use tool_requests::{Guard, Tool};
+
+impl Gate for Guard {
+    ghost refusal = { refusal_of };
+
+    fn refusal_of(
+        &self,
+        alloc: Global,
+        repo: &Repo,
+        line: &str,
+    ) -> Result<Option<Vec<u8>>, AllocError> {
+        self.refusal(alloc, repo, line)
+    }
+}
+
+/// Whether a reply is a refusal.
+fn is_refusal(reply: &Reply) -> bool
+    ensures { result ≡ is_refusal reply.now }
+{
+    match reply.last {
+        Last::Ok(_) => false,
+        Last::No(_) => true,
+    }
+}
+
+/// Prints the one reply that is made, of a store that is open, if there was memory for it.
+fn tell<H: Host>(alloc: Global, host: &mut H, reply: Result<Reply, AllocError>) -> Status
+    ensures done { (x : replies.Reply) → IfOk reply (λ r. r ≡ x) → (state : State) (made : List Event) → IsStoreOf (disk_now (H.told host.old)) state made
+        → IsDone (replying x) made (H.told host.old) (H.told host.new) result }
+    ensures unread { (x : replies.Reply) → IfOk reply (λ r. r ≡ x) → KeepsUnread (replying x) (H.told host.old) (H.told host.new) }
+    ensures words { result ≢ Status.BadWords }
+    ensures read { result ≡ Status.ReadFault → Rose (H.told host.old).take_faults (H.told host.new).take_faults }
+    ensures write { result ≡ Status.WriteFault → Rose (H.told host.old).say_faults (H.told host.new).say_faults }
+    ensures disk { result ≡ Status.DiskFault → Rose (H.told host.old).disk_faults (H.told host.new).disk_faults }
+    ensures damaged { (at : ℕ) → result ≢ Status.Damaged at }
+    ensures course { GoesOn (H.told host.old) (H.told host.new) }
+{
+    let Ok(reply) = reply else {
+        return Status::Memory;
+    };
+    let Ok(bytes) = print_reply(alloc, &reply) else {
+        return Status::Memory;
+    };
+    show(host, bytes.as_slice(), is_refusal(&reply))
+}
+
+impl Work for Tool {
+    ghost task = { task_of };
+
+    fn fulfil<H: Host>(&self, alloc: Global, host: &mut H, session: &mut Session) -> Status {
+        match self {
+            Tool::Query {
+                spec,
+                element,
+                class,
+                feature,
+            } => {
+                let reply = query(
+                    alloc,
+                    session.repo(),
+                    spec,
+                    element.as_str(),
+                    class.as_str(),
+                    feature.as_str(),
+                );
+                tell(alloc, host, reply)
+            }
+            Tool::Blame { spec, element } => {
+                let reply = blame(alloc, session.repo(), spec, element.as_str());
+                tell(alloc, host, reply)
+            }
+            Tool::Guard(guard) => serve(alloc, host, session, guard),
+        }
+    }
+
+    ghost reads_alike = { same_reads };
+}
