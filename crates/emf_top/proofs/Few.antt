@@ -5,7 +5,7 @@ use Rattle.op_form.specs.declared.event.Event.{Event}
 use Rattle.plain_repository.specs.State.{State}
 use Rattle.repo_state.specs.Counting.{live_workspaces}
 use Rattle.emf_top.proofs.Counted.{workspaces_are_few}
-use Rattle.emf_top.specs.Session.{IsStoreOf}
+use Rattle.store_session.specs.Session.{IsStoreOf}
 
 pub few_workspaces : (disk : Disk) (state : State) (made : List Event) → IsStoreOf disk state made → live_workspaces state < 2 ^ 32
 few_workspaces disk state made holds =

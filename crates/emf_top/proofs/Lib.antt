@@ -1,16 +1,5 @@
-pub mod Answering
 pub mod Counted
 pub mod Deciding
-pub mod Entering
-pub mod Faults
 pub mod Few
-pub mod Halting
-pub mod Headlines
-pub mod Holding
-pub mod Opening
-pub mod Playing
-pub mod Printing
 pub mod Quietly
-pub mod Serving
-pub mod Starting
 pub mod Texts

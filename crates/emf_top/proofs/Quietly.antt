@@ -17,15 +17,17 @@ use Rattle.plain_repository.specs.State.{State}
 use Rattle.plain_repository.specs.Events.{play}
 use Rattle.plain_repository.specs.Repository.{decide}
 use Rattle.plain_repository.specs.Store.{StandsForEvents}
-use Rattle.emf_top.specs.declared.answered.SessionFault.{SessionFault}
-use Rattle.emf_top.specs.declared.answered.SessionFault.TheVariants as session
-use Rattle.emf_top.specs.Session.{IsStoreOf, IsEntering}
-use Rattle.emf_top.proofs.Entering.{rest_leaves}
+use Rattle.store_session.specs.declared.answered.SessionFault.{SessionFault}
+use Rattle.store_session.specs.declared.answered.SessionFault.TheVariants as session
+use Rattle.store_session.specs.Session.{IsStoreOf, IsEntering}
+use Rattle.store_session.proofs.Entering.{rest_leaves}
 use Rattle.script_items.specs.Items.{IsAnswered}
-use Rattle.emf_top.specs.Headline.{IsUnanswered, IsHalted, Ends, session_status}
-use Rattle.emf_top.specs.Tasks.{filling, silenced, printing, outcome, outcome_line, refusals_in, others_in}
+use Rattle.store_runs.specs.declared.status.Status.TheVariants.{Memory}
+use Rattle.store_runs.specs.Endings.{IsUnanswered, IsHalted, Ends, IsDone, session_status}
+use Rattle.store_runs.specs.Tasks.{printing}
+use Rattle.emf_top.specs.Tasks.{filling, silenced, outcome, outcome_line, refusals_in, others_in}
 use Rattle.emf_top.specs.Tasks as tasks
-use Rattle.emf_top.proofs.Halting.{halted, unanswered}
+use Rattle.store_runs.proofs.Halting.{halted, unanswered}
 
 -- what some items are answered with
 abbrev pub given : State → List Item → List (Answer Event)
@@ -101,15 +103,15 @@ module _ (entry b : Told) (s0 : State) (items : List Item) (at refused : ℕ) (s
     still = stays;
   }
 
-  pub fill_part : (made : List Event) → IsStoreOf (disk_now entry) s0 made → Throughout entry d (λ disk said. AddsPart (said_now entry) (replies (filling s0 items).answers) said)
+  fill_part : (made : List Event) → IsStoreOf (disk_now entry) s0 made → Throughout entry d (λ disk said. AddsPart (said_now entry) (replies (filling s0 items).answers) said)
   fill_part made holds told = stepped_part StandsForEvents entry made (filling s0 items).answers b d (ahead s0 items state (drop at items)) (λ events. IsStoreOf (disk_now b) state events) (fills.going told made holds) fills.course
       (silenced answer) (ahead s0 items (after play state answer.event) (drop (at + 1) items)) left_is steps told
 
-  pub fill_moments : (made : List Event) → IsStoreOf (disk_now entry) s0 made → Throughout entry d (IsRunning StandsForEvents made (events (filling s0 items).answers) (events_due (filling s0 items).answers) (said_now entry))
+  fill_moments : (made : List Event) → IsStoreOf (disk_now entry) s0 made → Throughout entry d (IsRunning StandsForEvents made (events (filling s0 items).answers) (events_due (filling s0 items).answers) (said_now entry))
   fill_moments made holds told = stepped_moments StandsForEvents entry made (filling s0 items).answers b d (ahead s0 items state (drop at items)) (λ events. IsStoreOf (disk_now b) state events) (fills.going told made holds) fills.course
       (silenced answer) (ahead s0 items (after play state answer.event) (drop (at + 1) items)) left_is steps told
 
-  pub fill_still : (made : List Event) → IsStoreOf (disk_now entry) s0 made → events (filling s0 items).answers ≡ [] → KeepsDisk entry d
+  fill_still : (made : List Event) → IsStoreOf (disk_now entry) s0 made → events (filling s0 items).answers ≡ [] → KeepsDisk entry d
   fill_still made holds no_event told = stepped_still StandsForEvents entry made (filling s0 items).answers b d (ahead s0 items state (drop at items)) (λ events. IsStoreOf (disk_now b) state events) (fills.going told made holds) fills.course
       (silenced answer) (ahead s0 items (after play state answer.event) (drop (at + 1) items)) left_is steps no_event told
 
@@ -135,13 +137,22 @@ module _ (entry b : Told) (s0 : State) (items : List Item) (at refused : ℕ) (s
       (λ events rest. rest_leaves (disk_now b) state events rest) told (λ events. IsStoreOf (disk_now d) state events)
       (λ events rest. subst (λ x. IsStoreOf x state events) (sym (kept_now b d on disk told_b)) rest))
 
-  pub fault_ends : (fault : SessionFault) → (fault ≡ session.DiskFault) ⊎ (fault ≡ session.Memory) → (fault ≡ session.DiskFault → IsSome answer.event) → (fault ≡ session.Memory → KeepsDisk b d)
+  fault_ends : (fault : SessionFault) → (fault ≡ session.DiskFault) ⊎ (fault ≡ session.Memory) → (fault ≡ session.DiskFault → IsSome answer.event) → (fault ≡ session.Memory → KeepsDisk b d)
       → (IsTrue d.tells → MayLeave (disk_now d) (disk_now d).now) → IsTrue entry.tells → (made : List Event) → IsStoreOf (disk_now entry) s0 made → Ends (filling s0 items) made entry d (session_status fault)
   fault_ends session.DiskFault which event still left told made holds =
       inr (fault_on_disk (event refl) (left (told_next b d on (told_next entry b fills.course told))) told made holds)
   fault_ends session.SayFault which event still left told made holds = absurd (not_said which)
   fault_ends (session.Damaged place) which event still left told made holds = absurd (not_damaged place which)
   fault_ends session.Memory which event still left told made holds = fault_of_memory (still refl) told made holds
+
+  pub fault_done : (fault : SessionFault) → (fault ≡ session.DiskFault) ⊎ (fault ≡ session.Memory) → (fault ≡ session.DiskFault → IsSome answer.event) → (fault ≡ session.Memory → KeepsDisk b d)
+      → (IsTrue d.tells → MayLeave (disk_now d) (disk_now d).now) → (made : List Event) → IsStoreOf (disk_now entry) s0 made → IsDone (filling s0 items) made entry d (session_status fault)
+  fault_done fault which event still left made holds = record {
+    ends = λ told. fault_ends fault which event still left told made holds;
+    part = fill_part made holds;
+    moments = fill_moments made holds;
+    still = fill_still made holds;
+  }
 
   -- it was answered
   module _ (now : State) (now_is : now ≡ after play state answer.event) (added : IsTrue b.tells → (made : List Event) → IsStoreOf (disk_now b) state made → IsStoreOf (disk_now d) now (made ++ listed answer.event)) where
@@ -235,3 +246,12 @@ module _ (entry b : Told) (s0 : State) (items : List Item) (at refused : ℕ) (s
       → Going StandsForEvents entry b made (filling s0 items).answers (printing (outcome s0 (given s0 items)) ∷ []) (λ events. IsStoreOf (disk_now b) state events)
   at_outcome told made holds =
       subst (λ (l : List Item). Going StandsForEvents entry b made (filling s0 items).answers (ahead s0 items state l) (λ events. IsStoreOf (disk_now b) state events)) none_left (fills.going told made holds)
+
+  -- and memory ran out before the outcome was printed
+  pub memory_done : (made : List Event) → IsStoreOf (disk_now entry) s0 made → IsDone (filling s0 items) made entry b Memory
+  memory_done made holds = record {
+    ends = λ told. halted entry b made (filling s0 items) (ahead s0 items state (drop at items)) state (fills.going told made holds);
+    part = λ told. (fills.going told made holds).part told;
+    moments = λ told. (fills.going told made holds).moments told;
+    still = λ none told. (fills.going told made holds).still none told;
+  }

@@ -1,10 +1,8 @@
--- What a run has to do.
-use Rattle.std.specs.Prelude.{ℕ, List, [], ◌∷◌, ◌++◌, codes, not, Bool, true, false, length, Option, Some, None, count_by}
+-- What is asked for, as tasks.
+use Rattle.std.specs.Prelude.{◌≡◌, refl, ℕ, List, [], ◌∷◌, ◌++◌, codes, not, false, length, count_by}
 use Rattle.std.specs.Fmt.{decimal}
-use Rattle.host_port.specs.Cut.{Item, Script}
-use Rattle.host_port.specs.declared.lines.LineFault.{LineFault}
-use Rattle.host_port.specs.declared.lines.LineFault.TheVariants as faults
-use Rattle.command_runs.specs.Runs.{Answer, answers, events, refuses, played}
+use Rattle.host_port.specs.Cut.{Item}
+use Rattle.command_runs.specs.Runs.{Answer, answers, events, played}
 use Rattle.op_form.specs.declared.event.Event.{Event}
 use Rattle.plain_repository.specs.State.{State}
 use Rattle.plain_repository.specs.Events.{play}
@@ -15,42 +13,10 @@ use Rattle.script_items.specs.Items.{script}
 use Rattle.script_items.specs.Generator.{generated}
 use Rattle.script_items.specs.declared.words.Request.{Request}
 use Rattle.script_items.specs.declared.words.Request.TheVariants.{Serve, Check, Generate}
-use Rattle.emf_top.specs.declared.top.Status.{Status}
-use Rattle.emf_top.specs.declared.top.Status.TheVariants.{Accepted, Refused, ReadFault, Memory, Input}
-
--- What a run has to do: the answers that it gives, one after the other, each printed once its event is kept. Then how it ends
--- where nothing fails, and whether it reads its input.
-pub record Task : Type 0 where
-  pub answers : List (Answer Event)
-  pub end : Status
-  pub reads : Bool
-
--- ---- without words
--- the status of a fault of the input
-abbrev pub input_status : LineFault → Status
-input_status (faults.LineTooLong at) = Input 1 at
-input_status (faults.BlockTooLong at) = Input 2 at
-input_status (faults.NotText at) = Input 3 at
-input_status (faults.UnendedBlock at) = Input 4 at
-input_status (faults.InputTooLong at) = Input 5 at
-input_status faults.Failed = ReadFault
-input_status faults.Memory = Memory
-
--- the status of a script that is served to its end
-abbrev pub end_of : Option LineFault → Bool → Status
-end_of (Some fault) refused = input_status fault
-end_of None true = Refused
-end_of None false = Accepted
-
--- a script is served: each of its items is answered
-abbrev pub serving : State → Script → Task
-serving s commands = record { answers = answers decide play s commands.items; end = end_of commands.fault (refuses (answers decide play s commands.items)); reads = true }
+use Rattle.store_runs.specs.Tasks.{Task, serving, printing}
+use Rattle.store_runs.specs.declared.status.Status.TheVariants.{Accepted}
 
 -- ---- --check
--- a line that is printed, and no event
-abbrev pub printing : List ℕ → Answer Event
-printing line = record { reply = line; refused = false; event = None }
-
 -- how many there are of each, as a line
 abbrev pub check_line : State → List ℕ
 check_line s = codes "check events " ++ (decimal s.events ++ (codes " versions " ++ (decimal (length s.history.versions)
@@ -98,3 +64,9 @@ abbrev pub task_of : Request → State → List ℕ → Task
 task_of Serve s input = serving s (script input)
 task_of Check s input = checking s
 task_of (Generate seed count) s input = filling s (generated seed count)
+
+-- whether the input is read goes by what is asked for alone
+pub same_reads : (request : Request) (s t : State) (one two : List ℕ) → (task_of request s one).reads ≡ (task_of request t two).reads
+same_reads Serve s t one two = refl
+same_reads Check s t one two = refl
+same_reads (Generate seed count) s t one two = refl

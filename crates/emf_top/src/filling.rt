@@ -1,21 +1,17 @@
 //! What `--generate` does: items are answered quietly, and one line says what came of it.
-ghost use Rattle.std.specs.Prelude.{◌≡◌, ◌≢◌, ◌+◌, ◌<◌, ◌≤◌, ◌^◌, ℕ, List, [], Bool, All, IfOk, IsTrue, false, if◌then◌else◌, string_bytes};
-ghost use Rattle.host_port.specs.Host.{disk_now, said_now, Rose, GoesOn, Throughout, KeepsDisk, AddsPart};
-ghost use Rattle.command_runs.specs.Runs.{replies, events, events_due};
-ghost use Rattle.command_runs.specs.Crashes.{IsRunning};
+ghost use Rattle.std.specs.Prelude.{◌≡◌, ◌≢◌, ◌≤◌, ℕ, List, Bool, All, IfOk, IsTrue, false, if◌then◌else◌, string_bytes};
+ghost use Rattle.host_port.specs.Host.{disk_now, Rose, GoesOn};
 ghost use Rattle.op_form.specs.declared.event.Event.{Event};
-ghost use Rattle.plain_repository.specs.Store.{StandsForEvents};
-ghost use Rattle.emf_top.specs.Session.{IsStoreOf, answered_as};
-ghost use Rattle.emf_top.specs.Headline.{Ends, KeepsUnread};
+ghost use Rattle.store_session.specs.Session.{IsStoreOf, answered_as};
+ghost use Rattle.store_runs.specs.Endings.{IsDone, KeepsUnread};
 ghost use Rattle.script_items.specs.Items.{IsAnswered};
 ghost use Rattle.emf_top.specs.Tasks.{filling, outcome_line};
 
-use crate::answered::Answered;
-use crate::session::Session;
-use crate::top::{Status, status_of};
 use host_port::Host;
 use script_items::{Item, push_count};
 use std::alloc::{AllocError, Global};
+use store_runs::{Status, status_of};
+use store_session::{Answered, Session};
 
 /// How many refusals an answer is.
 fn refusals(answered: Answered) -> u64
@@ -59,14 +55,8 @@ pub(crate) fn fill<H: Host>(
     requires whole { session.old.broken ≡ false }
     requires open { IsTrue (H.told host.old).tells → ((made : List Event) × IsStoreOf (disk_now (H.told host.old)) session.old.state made) }
     requires plain { All IsAnswered items.now }
-    ensures ends { IsTrue (H.told host.old).tells → (made : List Event) → IsStoreOf (disk_now (H.told host.old)) session.old.state made
-        → Ends (filling session.old.state items.now) made (H.told host.old) (H.told host.new) result }
-    ensures part { (made : List Event) → IsStoreOf (disk_now (H.told host.old)) session.old.state made
-        → Throughout (H.told host.old) (H.told host.new) (λ _ said. AddsPart (said_now (H.told host.old)) (replies (filling session.old.state items.now).answers) said) }
-    ensures moments { (made : List Event) → IsStoreOf (disk_now (H.told host.old)) session.old.state made
-        → Throughout (H.told host.old) (H.told host.new) (IsRunning StandsForEvents made (events (filling session.old.state items.now).answers)
-        (events_due (filling session.old.state items.now).answers) (said_now (H.told host.old))) }
-    ensures still { (made : List Event) → IsStoreOf (disk_now (H.told host.old)) session.old.state made → events (filling session.old.state items.now).answers ≡ [] → KeepsDisk (H.told host.old) (H.told host.new) }
+    ensures done { (made : List Event) → IsStoreOf (disk_now (H.told host.old)) session.old.state made
+        → IsDone (filling session.old.state items.now) made (H.told host.old) (H.told host.new) result }
     ensures unread { KeepsUnread (filling session.old.state items.now) (H.told host.old) (H.told host.new) }
     ensures words { result ≢ Status.BadWords }
     ensures read { result ≡ Status.ReadFault → Rose (H.told host.old).take_faults (H.told host.new).take_faults }

@@ -1,49 +1,49 @@
-use Rattle.std.proofs.Common.{◌≡◌, ◌⊎◌, ◌<◌, [], length, inl, inr, arith, refl, subst}
+use Rattle.std.proofs.Common.{◌≡◌, ◌⊎◌, ◌<◌, [], length, inl, inr, refl, subst}
 use Rattle.std.specs.Prelude.{map, string_bytes}
 use Rattle.host_port.specs.Host.{Throughout, AddsPart, disk_now, said_now}
-use Rattle.host_port.proofs.Course.{told_next, still_said, still_input}
+use Rattle.host_port.proofs.Course.{still_said, still_input}
 use Rattle.commit_journal.specs.Journal.{IsAtMostSynced}
 use Rattle.command_runs.specs.Runs.{played, replies, events, events_due}
 use Rattle.command_runs.specs.Crashes.{IsOpenedRunning}
 use Rattle.plain_repository.specs.State.{empty}
 use Rattle.plain_repository.specs.Events.{play}
 use Rattle.plain_repository.specs.Store.{StandsForEvents}
-use Rattle.emf_top.specs.declared.top.Status.TheVariants.{Memory}
+use Rattle.store_runs.specs.declared.status.Status.TheVariants.{Memory}
 use Rattle.script_items.specs.declared.words.Request.{Request}
-use Rattle.emf_top.specs.Headline.{Ends, IsKept, KeepsUnread}
+use Rattle.store_runs.specs.Endings.{Ends, IsKept, KeepsUnread}
 use Rattle.emf_top.specs.Tasks.{task_of}
 use Rattle.script_items.proofs.Asked.{same_request}
-use Rattle.emf_top.proofs.Headlines.{file_still, complete, stopped}
+use Rattle.store_runs.proofs.Headlines.{file_still}
 use Rattle.emf_top.proofs.top.run.Goals as goal
 
 pub returns-in-Some-clause-ends : goal.returns-in-Some-clause-ends
-returns-in-Some-clause-ends g c = λ told request first stood asks. subst (λ (r : Request). Ends (task_of r (played play empty first) (g.H.Host.told c.args.host.now).left) first (g.H.Host.told c.args.host.now) (g.H.Host.told c.run_request.new.host) c.run_request.result) (same_request (map string_bytes c.args.words.now) c.in-Some.request request c.in-Some.ensures.asked asks) (c.run_request.ensures.ends told first stood)
+returns-in-Some-clause-ends g c = λ told request first stood asks. subst (λ (r : Request). Ends (task_of r (played play empty first) (g.H.Host.told c.args.host.now).left) first (g.H.Host.told c.args.host.now) (g.H.Host.told c.over_store.new.host) c.over_store.result) (same_request (map string_bytes c.args.words.now) c.in-Some.request request c.in-Some.ensures.asked asks) (c.over_store.ensures.ends told first stood)
 
 pub returns-in-Some-clause-part : goal.returns-in-Some-clause-part
-returns-in-Some-clause-part g c = λ request first stood asks. subst (λ (r : Request). Throughout (g.H.Host.told c.args.host.now) (g.H.Host.told c.run_request.new.host) (λ disk said. AddsPart (said_now (g.H.Host.told c.args.host.now)) (replies (task_of r (played play empty first) (g.H.Host.told c.args.host.now).left).answers) said)) (same_request (map string_bytes c.args.words.now) c.in-Some.request request c.in-Some.ensures.asked asks) (c.run_request.ensures.part first stood)
+returns-in-Some-clause-part g c = λ request first stood asks. subst (λ (r : Request). Throughout (g.H.Host.told c.args.host.now) (g.H.Host.told c.over_store.new.host) (λ disk said. AddsPart (said_now (g.H.Host.told c.args.host.now)) (replies (task_of r (played play empty first) (g.H.Host.told c.args.host.now).left).answers) said)) (same_request (map string_bytes c.args.words.now) c.in-Some.request request c.in-Some.ensures.asked asks) (c.over_store.ensures.part first stood)
 
 pub returns-in-Some-clause-moments : goal.returns-in-Some-clause-moments
-returns-in-Some-clause-moments g c = λ request first stood asks. subst (λ (r : Request). Throughout (g.H.Host.told c.args.host.now) (g.H.Host.told c.run_request.new.host) (IsOpenedRunning (disk_now (g.H.Host.told c.args.host.now)) StandsForEvents first (events (task_of r (played play empty first) (g.H.Host.told c.args.host.now).left).answers) (events_due (task_of r (played play empty first) (g.H.Host.told c.args.host.now).left).answers) (said_now (g.H.Host.told c.args.host.now)))) (same_request (map string_bytes c.args.words.now) c.in-Some.request request c.in-Some.ensures.asked asks) (c.run_request.ensures.moments first stood)
+returns-in-Some-clause-moments g c = λ request first stood asks. subst (λ (r : Request). Throughout (g.H.Host.told c.args.host.now) (g.H.Host.told c.over_store.new.host) (IsOpenedRunning (disk_now (g.H.Host.told c.args.host.now)) StandsForEvents first (events (task_of r (played play empty first) (g.H.Host.told c.args.host.now).left).answers) (events_due (task_of r (played play empty first) (g.H.Host.told c.args.host.now).left).answers) (said_now (g.H.Host.told c.args.host.now)))) (same_request (map string_bytes c.args.words.now) c.in-Some.request request c.in-Some.ensures.asked asks) (c.over_store.ensures.moments first stood)
 
 pub returns-in-Some-clause-stopped : goal.returns-in-Some-clause-stopped
-returns-in-Some-clause-stopped g c = λ told request first stood asks. subst (λ (r : Request). IsKept (task_of r (played play empty first) (g.H.Host.told c.args.host.now).left) first (g.H.Host.told c.args.host.now) (g.H.Host.told c.run_request.new.host)) (same_request (map string_bytes c.args.words.now) c.in-Some.request request c.in-Some.ensures.asked asks)
-    (stopped (g.H.Host.told c.args.host.now) (g.H.Host.told c.run_request.new.host) first (task_of c.in-Some.request (played play empty first) (g.H.Host.told c.args.host.now).left) c.run_request.ensures.course (c.run_request.ensures.moments first stood) stood (g.met.H.Host.now_is_left c.run_request.new.host (g.H.Host.told c.run_request.new.host).clock (told_next (g.H.Host.told c.args.host.now) (g.H.Host.told c.run_request.new.host) c.run_request.ensures.course told) (omega arith)) told)
+returns-in-Some-clause-stopped g c = λ told request first stood asks. subst (λ (r : Request). IsKept (task_of r (played play empty first) (g.H.Host.told c.args.host.now).left) first (g.H.Host.told c.args.host.now) (g.H.Host.told c.over_store.new.host))
+    (same_request (map string_bytes c.args.words.now) c.in-Some.request request c.in-Some.ensures.asked asks) (c.over_store.ensures.stopped told first stood)
 
 pub returns-in-Some-clause-complete : goal.returns-in-Some-clause-complete
-returns-in-Some-clause-complete g c = λ told request first stood asks none. subst (λ (r : Request). (c.run_request.result ≡ (task_of r (played play empty first) (g.H.Host.told c.args.host.now).left).end) ⊎ (c.run_request.result ≡ Memory)) (same_request (map string_bytes c.args.words.now) c.in-Some.request request c.in-Some.ensures.asked asks)
-    (complete (task_of c.in-Some.request (played play empty first) (g.H.Host.told c.args.host.now).left) first (g.H.Host.told c.args.host.now) (g.H.Host.told c.run_request.new.host) c.run_request.result (c.run_request.ensures.ends told first stood) none c.run_request.ensures.read c.run_request.ensures.write c.run_request.ensures.disk)
+returns-in-Some-clause-complete g c = λ told request first stood asks none. subst (λ (r : Request). (c.over_store.result ≡ (task_of r (played play empty first) (g.H.Host.told c.args.host.now).left).end) ⊎ (c.over_store.result ≡ Memory))
+    (same_request (map string_bytes c.args.words.now) c.in-Some.request request c.in-Some.ensures.asked asks) (c.over_store.ensures.complete told first stood none)
 
 pub returns-in-Some-clause-unread : goal.returns-in-Some-clause-unread
-returns-in-Some-clause-unread g c = λ request first stood asks. subst (λ (r : Request). KeepsUnread (task_of r (played play empty first) (g.H.Host.told c.args.host.now).left) (g.H.Host.told c.args.host.now) (g.H.Host.told c.run_request.new.host)) (same_request (map string_bytes c.args.words.now) c.in-Some.request request c.in-Some.ensures.asked asks) (c.run_request.ensures.unread first)
+returns-in-Some-clause-unread g c = λ request first stood asks. subst (λ (r : Request). KeepsUnread (task_of r (played play empty first) (g.H.Host.told c.args.host.now).left) (g.H.Host.told c.args.host.now) (g.H.Host.told c.over_store.new.host)) (same_request (map string_bytes c.args.words.now) c.in-Some.request request c.in-Some.ensures.asked asks) (c.over_store.ensures.unread first)
 
 pub returns-in-Some-clause-words : goal.returns-in-Some-clause-words
-returns-in-Some-clause-words g c = (λ is. absurd (c.run_request.ensures.words is), λ bad. absurd (bad c.in-Some.request c.in-Some.ensures.asked))
+returns-in-Some-clause-words g c = (λ is. absurd (c.over_store.ensures.words is), λ bad. absurd (bad c.in-Some.request c.in-Some.ensures.asked))
 
 pub returns-in-Some-clause-damages : goal.returns-in-Some-clause-damages
-returns-in-Some-clause-damages g c = λ told none. inr (c.run_request.ensures.damages told none)
+returns-in-Some-clause-damages g c = λ told none. inr (c.over_store.ensures.damages told none)
 
 pub returns-in-Some-clause-untouched : goal.returns-in-Some-clause-untouched
-returns-in-Some-clause-untouched g c = λ is. absurd (c.run_request.ensures.words is)
+returns-in-Some-clause-untouched g c = λ is. absurd (c.over_store.ensures.words is)
 
 pub returns-in-None-clause-ends : goal.returns-in-None-clause-ends
 returns-in-None-clause-ends g c = λ told request first stood asks. absurd (c.in-None.ensures.bad request asks)
@@ -76,7 +76,7 @@ pub returns-in-None-clause-damages : goal.returns-in-None-clause-damages
 returns-in-None-clause-damages g c = λ told none. inl c.in-None.ensures.bad
 
 pub returns-in-Some-clause-still : goal.returns-in-Some-clause-still
-returns-in-Some-clause-still g c = λ request first stood asks. subst (λ (r : Request). events (task_of r (played play empty first) (g.H.Host.told c.args.host.now).left).answers ≡ [] → 17 < length (disk_now (g.H.Host.told c.args.host.now)).now → Throughout (g.H.Host.told c.args.host.now) (g.H.Host.told c.run_request.new.host) (λ disk said. IsAtMostSynced (disk_now (g.H.Host.told c.args.host.now)) disk)) (same_request (map string_bytes c.args.words.now) c.in-Some.request request c.in-Some.ensures.asked asks) (c.run_request.ensures.still first stood)
+returns-in-Some-clause-still g c = λ request first stood asks. subst (λ (r : Request). events (task_of r (played play empty first) (g.H.Host.told c.args.host.now).left).answers ≡ [] → 17 < length (disk_now (g.H.Host.told c.args.host.now)).now → Throughout (g.H.Host.told c.args.host.now) (g.H.Host.told c.over_store.new.host) (λ disk said. IsAtMostSynced (disk_now (g.H.Host.told c.args.host.now)) disk)) (same_request (map string_bytes c.args.words.now) c.in-Some.request request c.in-Some.ensures.asked asks) (c.over_store.ensures.still first stood)
 
 pub returns-in-None-clause-still : goal.returns-in-None-clause-still
 returns-in-None-clause-still g c = λ request first stood asks. absurd (c.in-None.ensures.bad request asks)

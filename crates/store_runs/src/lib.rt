@@ -1,0 +1,15 @@
+//! A run over a store: what there is to do is a list of answers, each printed once its event is kept. The store is opened, and then the
+//! work is done: a script is served, behind a gate that may refuse a line, or one reply is shown.
+#![tactic(auto)]
+
+mod gate;
+mod serving;
+mod showing;
+mod status;
+mod work;
+
+pub use gate::{Gate, Unguarded};
+pub use serving::serve;
+pub use showing::show;
+pub use status::{Status, status_of};
+pub use work::{Work, over_store};

@@ -1,0 +1,6 @@
+pub mod Answering
+pub mod Entering
+pub mod Faults
+pub mod Holding
+pub mod Opening
+pub mod Playing
