@@ -97,8 +97,12 @@ query_reply s spec word class feature = version_told (query_of s spec word class
 abbrev pub blame_reply : State → Spec → List ℕ → Reply
 blame_reply s spec word = lines_told (blame_of s spec word)
 
--- a call gave what is asked, or its refusal; out of memory says nothing of it
+-- the fault names the refusal; out of memory says nothing of what is asked
+abbrev pub IsRefused : {X : Type 0} → Fault → Result X Refusal → Type 0
+IsRefused faults.Memory asked = Unit {0}
+IsRefused (faults.Refused refusal) asked = asked ≡ Err refusal
+
+-- a call gave what is asked, or its refusal
 abbrev pub Gives : {X : Type 0} → Result X Fault → Result X Refusal → Type 0
 Gives (Ok x) asked = asked ≡ Ok x
-Gives (Err (faults.Refused refusal)) asked = asked ≡ Err refusal
-Gives (Err faults.Memory) asked = Unit {0}
+Gives (Err e) asked = IsRefused e asked

@@ -1,12 +1,11 @@
 //! What the words ask for, as work over a store.
-ghost use Rattle.std.specs.Prelude.{◌≡◌, ◌≢◌, ℕ, List, IfOk};
-ghost use Rattle.host_port.specs.Host.{disk_now, Rose, GoesOn};
+ghost use Rattle.std.specs.Prelude.{◌≡◌, ◌≢◌, ℕ, List};
+ghost use Rattle.host_port.specs.Host.{disk_now, Rose, GoesOn, KeepsInput};
 ghost use Rattle.op_form.specs.declared.event.Event.{Event};
 ghost use Rattle.plain_repository.specs.Answers.{is_refusal};
 ghost use Rattle.plain_repository.specs.State.{State};
-ghost use Rattle.script_lang.specs.declared.reply.Reply as replies;
 ghost use Rattle.store_session.specs.Session.{IsStoreOf};
-ghost use Rattle.store_runs.specs.Endings.{IsDone, KeepsUnread};
+ghost use Rattle.store_runs.specs.Endings.{IsDone};
 ghost use Rattle.tools_top.specs.Tasks.{refusal_of, replying, same_reads, task_of};
 
 use feature_writers::{blame, query};
@@ -41,11 +40,10 @@ fn is_refusal(reply: &Reply) -> bool
     }
 }
 
-/// Prints the one reply that is made, of a store that is open, if there was memory for it.
-fn tell<H: Host>(alloc: Global, host: &mut H, reply: Result<Reply, AllocError>) -> Status
-    ensures done { (x : replies.Reply) → IfOk reply (λ r. r ≡ x) → (state : State) (made : List Event) → IsStoreOf (disk_now (H.told host.old)) state made
-        → IsDone (replying x) made (H.told host.old) (H.told host.new) result }
-    ensures unread { (x : replies.Reply) → IfOk reply (λ r. r ≡ x) → KeepsUnread (replying x) (H.told host.old) (H.told host.new) }
+/// Prints a reply, of a store that is open.
+fn tell<H: Host>(alloc: Global, host: &mut H, reply: &Reply) -> Status
+    ensures done { (state : State) (made : List Event) → IsStoreOf (disk_now (H.told host.old)) state made → IsDone (replying reply.now) made (H.told host.old) (H.told host.new) result }
+    ensures unread { KeepsInput (H.told host.old) (H.told host.new) }
     ensures words { result ≢ Status.BadWords }
     ensures read { result ≡ Status.ReadFault → Rose (H.told host.old).take_faults (H.told host.new).take_faults }
     ensures write { result ≡ Status.WriteFault → Rose (H.told host.old).say_faults (H.told host.new).say_faults }
@@ -53,13 +51,10 @@ fn tell<H: Host>(alloc: Global, host: &mut H, reply: Result<Reply, AllocError>) 
     ensures damaged { (at : ℕ) → result ≢ Status.Damaged at }
     ensures course { GoesOn (H.told host.old) (H.told host.new) }
 {
-    let Ok(reply) = reply else {
-        return Status::Memory;
-    };
-    let Ok(bytes) = print_reply(alloc, &reply) else {
-        return Status::Memory;
-    };
-    show(host, bytes.as_slice(), is_refusal(&reply))
+    match print_reply(alloc, reply) {
+        Ok(bytes) => show(host, bytes.as_slice(), is_refusal(reply)),
+        Err(_) => Status::Memory,
+    }
 }
 
 impl Work for Tool {
@@ -72,20 +67,22 @@ impl Work for Tool {
                 element,
                 class,
                 feature,
-            } => {
-                let reply = query(
-                    alloc,
-                    session.repo(),
-                    spec,
-                    element.as_str(),
-                    class.as_str(),
-                    feature.as_str(),
-                );
-                tell(alloc, host, reply)
-            }
+            } => match query(
+                alloc,
+                session.repo(),
+                spec,
+                element.as_str(),
+                class.as_str(),
+                feature.as_str(),
+            ) {
+                Ok(reply) => tell(alloc, host, &reply),
+                Err(_) => Status::Memory,
+            },
             Tool::Blame { spec, element } => {
-                let reply = blame(alloc, session.repo(), spec, element.as_str());
-                tell(alloc, host, reply)
+                match blame(alloc, session.repo(), spec, element.as_str()) {
+                    Ok(reply) => tell(alloc, host, &reply),
+                    Err(_) => Status::Memory,
+                }
             }
             Tool::Guard(guard) => serve(alloc, host, session, guard),
         }
