@@ -107,6 +107,23 @@ fn pair_in(alloc: Global, name: &str, first: &str, second: &str) -> Result<Optio
     }
 }
 
+/// What a first word and four others ask for, if they are of a form.
+fn query_named(
+    alloc: Global,
+    name: &str,
+    spec: &str,
+    element: &str,
+    class: &str,
+    feature: &str,
+) -> Result<Option<Tool>, AllocError>
+    ensures { IfOk result (λ tool. tool ≡ tool_in (name.now ∷ spec.now ∷ element.now ∷ class.now ∷ feature.now ∷ [])) }
+{
+    match name {
+        "query" => query_in(alloc, spec, element, class, feature),
+        _ => Ok(None),
+    }
+}
+
 /// What the words ask for: `query SPEC ID CLASS FEATURE`, `blame SPEC ID` or `guard USER POLICY`; none where they are of no
 /// form. A SPEC is a word with which `cat SPEC` is a line that spells a command. A USER is a name, and a POLICY one as
 /// `access_rules` reads it.
@@ -118,8 +135,9 @@ pub fn tool_of(alloc: Global, words: &[String]) -> Result<Option<Tool>, AllocErr
     ensures { IfOk result (λ tool. tool ≡ tool_in (map string_bytes words.now)) }
 {
     match words {
-        [name, spec, element, class, feature] if name == "query" => query_in(
+        [name, spec, element, class, feature] => query_named(
             alloc,
+            name.as_str(),
             spec.as_str(),
             element.as_str(),
             class.as_str(),
