@@ -1,5 +1,5 @@
 pub mod Halting
 pub mod Headlines
 pub mod Printing
-pub mod Serving
+pub mod Script
 pub mod Starting

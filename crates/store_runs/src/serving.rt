@@ -58,9 +58,10 @@ fn answer_item<H: Host, G: Gate>(
     ensures memory { IsErrOf result SessionFault.Memory → KeepsDisk (H.told host.old) (H.told host.new) × KeepsSaid (H.told host.old) (H.told host.new) }
     ensures never { IfErr result (λ e. (at : ℕ) → e ≡ SessionFault.Damaged at → ⊥) }
 {
-    let reply = match gate.refusal_of(alloc, session.repo(), item.line()) {
+    let line = item.line();
+    let reply = match gate.refusal_of(alloc, session.repo(), line) {
         Ok(Some(reply)) => reply,
-        Ok(None) => return session.step(alloc, host, item.line(), item.block()),
+        Ok(None) => return session.step(alloc, host, line, item.block()),
         Err(_) => return Err(SessionFault::Memory),
     };
     match host.say(&reply) {

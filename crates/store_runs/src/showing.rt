@@ -23,8 +23,12 @@ pub fn show<H: Host>(host: &mut H, reply: &[u8], refused: bool) -> Status
     ensures course { GoesOn (H.told host.old) (H.told host.new) }
 {
     match host.say(reply) {
-        Ok(()) if refused => Status::Refused,
-        Ok(()) => Status::Accepted,
+        Ok(()) => {
+            if refused {
+                return Status::Refused;
+            }
+            Status::Accepted
+        }
         Err(_) => Status::WriteFault,
     }
 }

@@ -2,5 +2,5 @@ pub mod Answering
 pub mod Entering
 pub mod Faults
 pub mod Holding
-pub mod Opening
 pub mod Playing
+pub mod Reading

@@ -1,7 +1,7 @@
 use Rattle.std.proofs.Common.{◌-◌, ◌+◌, length, arith, ℕ, List, Option, refl, sym, ◌∙◌, ap, false}
 use Rattle.store_session.specs.Session.{answer_to}
 use Rattle.store_runs.proofs.Printing.{accepted_told, untold}
-use Rattle.store_runs.proofs.Serving.{decide_read}
+use Rattle.store_runs.proofs.Script.{decide_read}
 use Rattle.emf_top.specs.Tasks.{filling, outcome}
 use Rattle.emf_top.proofs.Quietly.{at_outcome, fault_done, filled_on, fills_start, gets_reply, given, memory_done, outcome_is}
 use Rattle.emf_top.proofs.filling.fill.Goals as goal

@@ -4,7 +4,7 @@ use Rattle.host_port.proofs.Course.{told_next, rose_second, keeps_input_on, cour
 use Rattle.command_runs.specs.Runs.{played}
 use Rattle.plain_repository.specs.State.{empty}
 use Rattle.plain_repository.specs.Events.{play}
-use Rattle.store_session.proofs.Opening.{is_long}
+use Rattle.store_session.proofs.Reading.{is_long}
 use Rattle.store_runs.proofs.Headlines.{complete, file_reads, never_read, opening_moments, opening_part, status_disk, status_say, stopped, unopened, unopened_damaged, unopened_damages, unopened_ends, whole_ends, whole_moments, whole_part, whole_still}
 use Rattle.store_runs.proofs.work.over_store.Goals as goal
 

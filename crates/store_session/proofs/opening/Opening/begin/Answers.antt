@@ -1,9 +1,9 @@
-use Rattle.std.proofs.Common.{ℕ, inl, sym, ap, refl, ◌∙◌}
+use Rattle.std.proofs.Common.{ℕ, inl}
 use Rattle.std.specs.Prelude.{IsTrue}
 use Rattle.host_port.specs.Host.{disk_now}
-use Rattle.commit_journal.specs.Journal.{WalkState, IsNoHeader, StandsForNone}
+use Rattle.commit_journal.specs.Journal.{IsNoHeader, StandsForNone}
 use Rattle.plain_repository.specs.Store.{IsDamaged, StandsForNoEvents}
-use Rattle.store_session.proofs.Opening.{begun, damage_of, is_long, none_stands}
+use Rattle.store_session.proofs.Reading.{damage_of, is_long, none_stands}
 use Rattle.store_session.proofs.opening.Opening.begin.Goals as goal
 
 pub returns-in-Err-clause-damaged : goal.returns-in-Err-clause-damaged

@@ -1,14 +1,14 @@
-use Rattle.std.proofs.Common.{◌≡◌, ◌+◌, ◌^◌, ◌<◌, ℕ, List, arith, length, refl, sym, ◌∙◌, ap, subst}
+use Rattle.std.proofs.Common.{◌≡◌, ◌^◌, ◌<◌, ◌++◌, ℕ, List, [], ◌∷◌, arith, length, refl, sym, ◌∙◌, ap, subst}
 use Rattle.std.specs.Prelude.{IsTrue, map}
 use Rattle.host_port.specs.Host.{disk_now}
-use Rattle.commit_journal.specs.Journal.{WalkState, IsStuck, StandsForNone}
+use Rattle.host_port.proofs.Course.{kept_now}
+use Rattle.commit_journal.specs.Journal.{WalkState, IsStuck, ReadsTo, StandsForNone}
 use Rattle.op_form.specs.declared.event.Event.{Event}
 use Rattle.op_form.specs.Events.{event_encoding}
 use Rattle.plain_repository.specs.Store.{IsDamaged, StandsForNoEvents}
 use Rattle.store_session.specs.Session.{IsReplayed}
 use Rattle.store_session.specs.State.{OpeningState}
-use Rattle.store_session.proofs.Holding.{all_on}
-use Rattle.store_session.proofs.Opening.{at_closed_gate, damage_of, end_on, event_is_damage, plays_event, spells, stuck_is_damage}
+use Rattle.store_session.proofs.Reading.{at_closed_gate, damage_of, end_on, event_is_damage, plays_event, spells, stuck_is_damage}
 use Rattle.store_session.proofs.opening.Opening.next_event.Goals as goal
 
 abbrev next_of : WalkState → ℕ
@@ -18,9 +18,11 @@ abbrev place_of : WalkState → ℕ
 place_of w = w.place
 
 pub next_bytes-requires : goal.next_bytes-requires
-next_bytes-requires g c = λ told.
-    let had = subst (λ (o : OpeningState). (made : List Event) × IsReplayed (disk_now (g.H.Host.told c.args.host.now)) o.state o.next made) (sym c.self.view_is) (c.requires.replayed told) in
-    (map event_encoding had.0, had.1.walked)
+next_bytes-requires g c = record {
+  walked = λ told.
+      let had = subst (λ (o : OpeningState). (made : List Event) × IsReplayed (disk_now (g.H.Host.told c.args.host.now)) o.state o.next made) (sym c.self.view_is) (c.requires.replayed told) in
+      (map event_encoding had.0, had.1.walked);
+}
 
 pub replay-requires-clause-room : goal.replay-requires-clause-room
 replay-requires-clause-room g c =
@@ -53,17 +55,17 @@ returns-in-Ok-None-clause-store g c =
     rw (sym c.self.view_is) (λ told made had. at_closed_gate (disk_now (g.H.Host.told c.args.host.now)) (disk_now (g.H.Host.told c.next_bytes.new.host)) c.self.inside.repo c.self.inside.walk.next c.next_bytes.new.self.next made had
     (at ∙ sym (ap next_of none)) (closed told (map event_encoding made)))
 
-pub returns-in-Ok-replay-clause-played : goal.returns-in-Ok-replay-clause-played
-returns-in-Ok-replay-clause-played g c =
+pub returns-in-Ok-clause-played : goal.returns-in-Ok-clause-played
+returns-in-Ok-clause-played g c =
     let walked = rw c.in-Ok-Some.field-0-is at c.in-Ok-Some.ensures.walked in
-    let played = c.in-Ok-replay.ensures.played in
+    let played = c.in-Ok.ensures.played in
     rw (sym c.self.view_is) (plays_event (g.H.Host.told c.args.host.now) (g.H.Host.told c.next_bytes.new.host) _ _ c.in-Ok-Some.bytes.items (played.0, played.1, sym c.deref.ensures.value ∙ played.2, played.3) walked)
 
-pub returns-in-Ok-replay-clause-at : goal.returns-in-Ok-replay-clause-at
-returns-in-Ok-replay-clause-at g c =
+pub returns-in-Ok-clause-at : goal.returns-in-Ok-clause-at
+returns-in-Ok-clause-at g c =
     let at = subst (λ (o : OpeningState). o.state.end ≡ o.next) (sym c.self.view_is) c.requires.at in
     let some = rw c.in-Ok-Some.field-0-is at c.in-Ok-Some.ensures.some in
-    let played = c.in-Ok-replay.ensures.played in
+    let played = c.in-Ok.ensures.played in
     end_on c.self.inside.repo c.replay.new.repo c.self.inside.walk.next c.next_bytes.new.self.next c.in-Ok-Some.bytes.items at (ap next_of some.0) (played.0, played.1, sym c.deref.ensures.value ∙ played.2, played.3)
 
 pub returns-in-Err-NotPlayable-clause-damaged : goal.returns-in-Err-NotPlayable-clause-damaged
@@ -73,12 +75,16 @@ returns-in-Err-NotPlayable-clause-damaged g c = λ told.
     let walked = rw c.in-Ok-Some.field-0-is at c.in-Ok-Some.ensures.walked in
     event_is_damage (disk_now (g.H.Host.told c.args.host.now)) c.self.inside.repo c.self.inside.walk.next c.next_bytes.new.self.next c.place.result c.in-Ok-Some.bytes.items had.0 had.1 (omega (arith, ap next_of some.0, c.next_bytes.ensures.low))
     (c.place.ensures ∙ ap place_of some.0) (ap next_of some.0)
-    (λ event can is. (rw c.in-Err-NotPlayable.field-0-is at c.in-Err-NotPlayable.ensures.refused) refl event can (c.deref.ensures.value ∙ is)) (walked told (map event_encoding had.0) had.1.walked).reads
+    (λ event can is. (rw c.in-Err-NotPlayable.field-0-is at c.in-Err-NotPlayable.ensures.refused) refl event can (c.deref.ensures.value ∙ is))
+    (subst (λ d. ReadsTo d.now (map event_encoding had.0 ++ c.in-Ok-Some.bytes.items ∷ []) c.next_bytes.new.self.next) (kept_now (g.H.Host.told c.args.host.now) (g.H.Host.told c.next_bytes.new.host) c.next_bytes.ensures.course c.next_bytes.ensures.disk told)
+    (walked told (map event_encoding had.0) had.1.walked).reads)
 
 pub returns-in-Err-NotPlayable-clause-place : goal.returns-in-Err-NotPlayable-clause-place
 returns-in-Err-NotPlayable-clause-place g c =
     let some = rw c.in-Ok-Some.field-0-is at c.in-Ok-Some.ensures.some in
     c.place.ensures ∙ ap place_of some.0 ∙ ap (λ (o : OpeningState). o.next) c.self.view_is
 
-pub invariant_of-self : goal.invariant_of-self
-invariant_of-self g c = (all_on c.self.inside.pool c.replay.new.pool c.self.inside.cache c.replay.new.cache c.self.invariant.0 c.replay.ensures.uses, c.replay.ensures.forms)
+pub invariant_of-result : goal.invariant_of-result
+invariant_of-result g c =
+    let played = c.in-Ok.ensures.played in
+    spells c.self.inside.repo c.in-Ok-Some.bytes.items c.replay.new.repo (played.0, played.1, sym c.deref.ensures.value ∙ played.2, played.3)

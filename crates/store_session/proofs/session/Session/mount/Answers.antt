@@ -1,9 +1,9 @@
-use Rattle.std.proofs.Common.{ℕ}
+use Rattle.std.proofs.Common.{ℕ, []}
 use Rattle.std.specs.Prelude.{IsTrue}
 use Rattle.host_port.specs.Host.{disk_now}
-use Rattle.host_port.proofs.Course.{told_next, rose_second}
+use Rattle.host_port.proofs.Course.{told_next}
 use Rattle.plain_repository.specs.Store.{IsDamaged, StandsForNoEvents}
-use Rattle.store_session.proofs.Opening.{damage_on, damage_since, mounted, mounts_course, mounts_input, mounts_on, mounts_said, mounts_since}
+use Rattle.store_session.proofs.Reading.{damage_on, damage_since, mounted, mounts_on, mounts_said, mounts_since}
 use Rattle.store_session.proofs.session.Session.mount.Goals as goal
 
 pub records-init : goal.records-init
@@ -18,7 +18,11 @@ records-init g c = record {
 
 pub records-preserved : goal.records-preserved
 records-preserved g c = mounts_on (g.H.Host.told c.args.host.now) (g.H.Host.told c.records.host) (g.H.Host.told c.next_event.new.host) c.records.opening c.records.invariant c.next_event.ensures.course c.next_event.ensures.disk c.next_event.ensures.said c.next_event.ensures.input
-    c.next_event.new.self _ c.in-Ok-next_event.ensures.at (rw c.in-Ok-Some.field-0-is at c.in-Ok-Some.ensures.played)
+    c.next_event.new.self _ c.in-Ok-Some.ensures.at (rw c.in-Ok-Some.field-0-is at c.in-Ok-Some.ensures.played)
+
+pub records-preserved-in-Ok-Some : goal.records-preserved-in-Ok-Some
+records-preserved-in-Ok-Some g c = mounts_on (g.H.Host.told c.args.host.now) (g.H.Host.told c.records.host) (g.H.Host.told c.next_event.new.host) c.records.opening c.records.invariant c.next_event.ensures.course c.next_event.ensures.disk c.next_event.ensures.said c.next_event.ensures.input
+    c.next_event.new.self _ c.in-Ok-Some.ensures.at (rw c.in-Ok-Some.field-0-is at c.in-Ok-Some.ensures.played)
 
 pub returns-in-Err-next_event-clause-damaged : goal.returns-in-Err-next_event-clause-damaged
 returns-in-Err-next_event-clause-damaged g c = damage_on c.in-Err-next_event.fault
@@ -46,5 +50,5 @@ pub returns-in-Ok-None-clause-said : goal.returns-in-Ok-None-clause-said
 returns-in-Ok-None-clause-said g c = mounts_said (g.H.Host.told c.args.host.now) (g.H.Host.told c.records.host) (g.H.Host.told c.next_event.new.host) c.records.opening c.records.invariant c.next_event.ensures.course c.next_event.ensures.disk c.next_event.ensures.said c.next_event.ensures.input
 
 pub returns-in-Ok-None-clause-opened : goal.returns-in-Ok-None-clause-opened
-returns-in-Ok-None-clause-opened g c = mounted (g.H.Host.told c.args.host.now) (g.H.Host.told c.records.host) (g.H.Host.told c.next_event.new.host) c.records.opening c.records.invariant c.next_event.ensures.course c.next_event.ensures.disk c.next_event.ensures.said c.next_event.ensures.input
-    c.next_event.new.self.state (rw c.in-Ok-None.field-0-is at c.in-Ok-None.ensures.store)
+returns-in-Ok-None-clause-opened g c = rw c.finish.ensures (mounted (g.H.Host.told c.args.host.now) (g.H.Host.told c.records.host) (g.H.Host.told c.next_event.new.host) c.records.opening c.records.invariant c.next_event.ensures.course c.next_event.ensures.disk c.next_event.ensures.said c.next_event.ensures.input
+    c.next_event.new.self.state (rw c.in-Ok-None.field-0-is at c.in-Ok-None.ensures.store))

@@ -1,5 +1,5 @@
 use Rattle.std.proofs.Common.{◌-◌, ◌^◌}
-use Rattle.store_session.proofs.Opening.{Mounts}
+use Rattle.store_session.proofs.Reading.{Mounts}
 use Rattle.store_session.proofs.session.Session.mount.Given as goal
 
 abbrev pub invariant-records : goal.invariant-records

@@ -26,7 +26,7 @@ use Rattle.store_runs.specs.declared.status.Status.{Status}
 use Rattle.store_runs.specs.declared.status.Status.TheVariants.{Accepted, Refused, ReadFault}
 use Rattle.script_items.specs.Items.{GotItem}
 use Rattle.store_runs.specs.Endings.{IsServed, IsUnsaid, IsUnanswered, IsHalted, Ends, IsDone, session_status}
-use Rattle.store_runs.specs.Tasks.{Task, serving_by, input_status, end_of, telling_one, gated_by}
+use Rattle.store_runs.specs.Tasks.{Task, serving_by, input_status, end_of, telling_one, gated, gated_by}
 use Rattle.store_runs.proofs.Halting.{halted, kept_too, unanswered}
 
 -- a run between two commands, where the store rests
@@ -196,15 +196,27 @@ gated_skipped s item is None = decide_skipped s item is
 gated_skipped s item is (Some reply) = rw is refl
 
 -- it is refused
-pub gated_refused : (s : State) (item : Item) → is_skipped item.line ≡ false → (refusal : Option (List ℕ)) (reply : List ℕ) → Some reply ≡ refusal → gated_by s item refusal ≡ telling_one reply true
+gated_refused : (s : State) (item : Item) → is_skipped item.line ≡ false → (refusal : Option (List ℕ)) (reply : List ℕ) → Some reply ≡ refusal → gated_by s item refusal ≡ telling_one reply true
 gated_refused s item is refusal reply some = subst (λ (o : Option (List ℕ)). gated_by s item o ≡ telling_one reply true) some (by is)
   where
     by : is_skipped item.line ≡ false → gated_by s item (Some reply) ≡ telling_one reply true
     by not_skipped = rw not_skipped refl
 
 -- or let in
-pub gated_let_in : (s : State) (item : Item) → is_skipped item.line ≡ false → (refusal : Option (List ℕ)) → None ≡ refusal → gated_by s item refusal ≡ answer_to s item.line item.block
+gated_let_in : (s : State) (item : Item) → is_skipped item.line ≡ false → (refusal : Option (List ℕ)) → None ≡ refusal → gated_by s item refusal ≡ answer_to s item.line item.block
 gated_let_in s item is refusal none = subst (λ (o : Option (List ℕ)). gated_by s item o ≡ answer_to s item.line item.block) none (decide_read s item is)
+
+-- the same of a gate that was asked for the line, over the repository that it was shown
+module _ (refusal : State → List ℕ → Option (List ℕ)) (s shown : State) (item : Item) (line : List ℕ) (read : is_skipped item.line ≡ false) (shown_is : shown ≡ s) (line_is : line ≡ item.line) where
+  asked : refusal shown line ≡ refusal s item.line
+  asked = ap (λ (x : State). refusal x line) shown_is ∙ ap (λ (l : List ℕ). refusal s l) line_is
+
+  pub let_in : (block : Option (List ℕ)) → block ≡ item.block → None ≡ refusal shown line → answer_to s line block ≡ gated refusal s item
+  let_in block block_is none = ap (λ (l : List ℕ). answer_to s l block) line_is ∙ ap (λ (b : Option (List ℕ)). answer_to s item.line b) block_is
+      ∙ sym (gated_let_in s item read (refusal s item.line) (none ∙ asked))
+
+  pub refused_by : (reply : List ℕ) → Some reply ≡ refusal shown line → gated refusal s item ≡ telling_one reply true
+  refused_by reply some = gated_refused s item read (refusal s item.line) reply (some ∙ asked)
 
 -- its refusal is printed, and was its answer
 module _ (a b : Told) (s : State) (answer : Answer Event) (reply bytes : List ℕ) (answer_is : answer ≡ telling_one reply true) (bytes_are : bytes ≡ reply) (on : GoesOn a b) (disk : KeepsDisk a b)

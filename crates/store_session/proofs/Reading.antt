@@ -1,12 +1,12 @@
 -- How the store is opened: its records are read one after the other, and their events played.
-use Rattle.std.proofs.Common.{◌≡◌, ◌⊎◌, inl, inr, ℕ, ◌+◌, ◌^◌, ◌<◌, List, [], ◌∷◌, ◌++◌, Ok, length, false, refl, sym, ◌∙◌, ap, subst, arith, length-append}
+use Rattle.std.proofs.Common.{◌≡◌, inl, inr, ℕ, ◌+◌, ◌^◌, ◌<◌, List, [], ◌∷◌, ◌++◌, Ok, Err, length, false, refl, sym, ◌∙◌, ap, subst, arith, length-append}
 use Rattle.std.specs.Prelude.{IsTrue, map}
 use Rattle.std.proofs.lemmas.Bool.{cases_lt}
 use Rattle.std.proofs.lemmas.List.{append-nil, length-take}
-use Rattle.host_port.specs.Host.{Told, Disk, MayLeave, GoesOn, Throughout, KeepsDisk, KeepsSaid, KeepsInput, disk_now, CrashLeaves}
+use Rattle.host_port.specs.Host.{Told, Disk, MayLeave, GoesOn, KeepsDisk, KeepsSaid, KeepsInput, disk_now}
 use Rattle.host_port.proofs.Course.{carry_on, at_last, told_next, course_on, kept_now, keeps_said_on, keeps_input_on}
 use Rattle.commit_journal.specs.TornWrites.{IsSettled}
-use Rattle.commit_journal.specs.Journal.{WalkState, StandsFor, StandsForSame, StandsForNone, IsWalked, IsAtRest, IsStuck, ReadsTo, MountedFrom, IsAtMostSynced, records, record_of, header, new_file, open_gate}
+use Rattle.commit_journal.specs.Journal.{WalkState, StandsFor, StandsForNone, IsWalked, IsAtRest, IsStuck, ReadsTo, MountedFrom, IsAtMostSynced, records, record_of, header, open_gate}
 use Rattle.commit_journal.proofs.Torn.{left_settled}
 use Rattle.commit_journal.proofs.Ends.{records-push, length-record_of, length-header, stands}
 use Rattle.commit_journal.proofs.Mounting.{length-new_file}
@@ -15,6 +15,7 @@ use Rattle.command_runs.proofs.RunLaws.{played-append}
 use Rattle.op_form.specs.declared.event.Event.{Event}
 use Rattle.op_form.specs.Events.{event_encoding}
 use Rattle.op_form.specs.Formed.{IsEvent}
+use Rattle.op_reading.specs.declared.fault.FormFault.{FormFault}
 use Rattle.op_reading.specs.Events.{event_at, whole_of}
 use Rattle.op_reading.proofs.Codes.{whole_again}
 use Rattle.op_reading.proofs.EventCodes.{event_codes}
@@ -140,6 +141,12 @@ spells s bytes next event = (event.0, playable_is_event s event.0 event.1, event
 pub read_again : (bytes : List ℕ) (found : Event) → whole_of event_at bytes ≡ Ok found → (event : Event) → IsEvent event → bytes ≡ event_encoding event → found ≡ event
 read_again bytes found is event formed spelt =
     let read : whole_of event_at bytes ≡ Ok event = ap (λ (b : List ℕ). whole_of event_at b) spelt ∙ whole_again event_codes event formed in
+    cc
+
+-- bytes of an event are read as one
+pub spelt_is_read : (bytes : List ℕ) (fault : FormFault) → SpellsEvent bytes → whole_of event_at bytes ≡ Err fault → ⊥
+spelt_is_read bytes fault spells is =
+    let read : whole_of event_at bytes ≡ Ok spells.0 = ap (λ (b : List ℕ). whole_of event_at b) spells.2 ∙ whole_again event_codes spells.0 spells.1 in
     cc
 
 -- the journal's end goes on with the record
