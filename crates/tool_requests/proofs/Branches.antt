@@ -1,5 +1,5 @@
 -- Where the workspace of a command stands.
-use Rattle.std.proofs.Common.{◌≡◌, ℕ, zero, suc, ◌<◌, [], length, refl, ap, subst}
+use Rattle.std.proofs.Common.{◌≡◌, ℕ, zero, suc, ◌<◌, length, refl, ap, subst}
 use Rattle.std.specs.Prelude.{Option, None, Some, slice_get}
 use Rattle.ecore_meta.specs.Meta.{Meta}
 use Rattle.plain_repository.specs.State.{State, Workspace, there, workspace_of}

@@ -1,5 +1,5 @@
 -- What a guard refuses.
-use Rattle.std.specs.Prelude.{ℕ, List, [], option_map, Option, Some, None}
+use Rattle.std.specs.Prelude.{ℕ, List, [], option_map, Option}
 use Rattle.std.specs.Option.{option_and_then}
 use Rattle.history_tree.specs.Found.{branch_name}
 use Rattle.script_lang.specs.declared.command.Command.{Command}

@@ -1,5 +1,5 @@
 -- words of another number
-use Rattle.std.proofs.Common.{arith, length, map, string_bytes}
+use Rattle.std.proofs.Common.{arith, map, string_bytes}
 use Rattle.std.proofs.lemmas.Bool.{ltb-true, ltb-false}
 use Rattle.std.proofs.lemmas.List.{length-map}
 use Rattle.tool_requests.proofs.Other.{other_words}
