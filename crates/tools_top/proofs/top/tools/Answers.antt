@@ -24,14 +24,14 @@ returns-in-Some-clause-ends g c = λ told tool first stood asks.
     let old = g.H.Host.told c.args.host.now in
     let new = g.H.Host.told c.over_store.new.host in
     let words = map string_bytes c.args.words.now in
-    for_each (λ t. Ends (task_of t (played play empty first) old.left) first old new c.over_store.result) words c.in-Some.tool SOMEASK (c.over_store.ensures.ends told first stood) tool asks
+    for_each (λ t. Ends (task_of t (played play empty first) old.left) first old new c.over_store.result) words c.in-Some.tool (sym c.in-Ok.ensures ∙ c.in-Some.is) (c.over_store.ensures.ends told first stood) tool asks
 
 pub returns-in-Some-clause-part : goal.returns-in-Some-clause-part
 returns-in-Some-clause-part g c = λ tool first stood asks.
     let old = g.H.Host.told c.args.host.now in
     let new = g.H.Host.told c.over_store.new.host in
     let words = map string_bytes c.args.words.now in
-    for_each (λ t. Throughout old new (λ disk said. AddsPart (said_now old) (replies (task_of t (played play empty first) old.left).answers) said)) words c.in-Some.tool SOMEASK (c.over_store.ensures.part first stood) tool asks
+    for_each (λ t. Throughout old new (λ disk said. AddsPart (said_now old) (replies (task_of t (played play empty first) old.left).answers) said)) words c.in-Some.tool (sym c.in-Ok.ensures ∙ c.in-Some.is) (c.over_store.ensures.part first stood) tool asks
 
 pub returns-in-Some-clause-moments : goal.returns-in-Some-clause-moments
 returns-in-Some-clause-moments g c = λ tool first stood asks.
@@ -42,28 +42,28 @@ returns-in-Some-clause-moments g c = λ tool first stood asks.
     (λ t.
     let answers = (task_of t (played play empty first) old.left).answers in
     Throughout old new (IsOpenedRunning (disk_now old) StandsForEvents first (events answers) (events_due answers) (said_now old)))
-    words c.in-Some.tool SOMEASK (c.over_store.ensures.moments first stood) tool asks
+    words c.in-Some.tool (sym c.in-Ok.ensures ∙ c.in-Some.is) (c.over_store.ensures.moments first stood) tool asks
 
 pub returns-in-Some-clause-stopped : goal.returns-in-Some-clause-stopped
 returns-in-Some-clause-stopped g c = λ told tool first stood asks.
     let old = g.H.Host.told c.args.host.now in
     let new = g.H.Host.told c.over_store.new.host in
     let words = map string_bytes c.args.words.now in
-    for_each (λ t. IsKept (task_of t (played play empty first) old.left) first old new) words c.in-Some.tool SOMEASK (c.over_store.ensures.stopped told first stood) tool asks
+    for_each (λ t. IsKept (task_of t (played play empty first) old.left) first old new) words c.in-Some.tool (sym c.in-Ok.ensures ∙ c.in-Some.is) (c.over_store.ensures.stopped told first stood) tool asks
 
 pub returns-in-Some-clause-complete : goal.returns-in-Some-clause-complete
 returns-in-Some-clause-complete g c = λ told tool first stood asks none.
     let old = g.H.Host.told c.args.host.now in
     let new = g.H.Host.told c.over_store.new.host in
     let words = map string_bytes c.args.words.now in
-    for_each (λ t. (c.over_store.result ≡ (task_of t (played play empty first) old.left).end) ⊎ (c.over_store.result ≡ Memory)) words c.in-Some.tool SOMEASK (c.over_store.ensures.complete told first stood none) tool asks
+    for_each (λ t. (c.over_store.result ≡ (task_of t (played play empty first) old.left).end) ⊎ (c.over_store.result ≡ Memory)) words c.in-Some.tool (sym c.in-Ok.ensures ∙ c.in-Some.is) (c.over_store.ensures.complete told first stood none) tool asks
 
 pub returns-in-Some-clause-unread : goal.returns-in-Some-clause-unread
 returns-in-Some-clause-unread g c = λ tool first stood asks.
     let old = g.H.Host.told c.args.host.now in
     let new = g.H.Host.told c.over_store.new.host in
     let words = map string_bytes c.args.words.now in
-    for_each (λ t. KeepsUnread (task_of t (played play empty first) old.left) old new) words c.in-Some.tool SOMEASK (c.over_store.ensures.unread first) tool asks
+    for_each (λ t. KeepsUnread (task_of t (played play empty first) old.left) old new) words c.in-Some.tool (sym c.in-Ok.ensures ∙ c.in-Some.is) (c.over_store.ensures.unread first) tool asks
 
 pub returns-in-Some-clause-still : goal.returns-in-Some-clause-still
 returns-in-Some-clause-still g c = λ tool first stood asks.
@@ -73,13 +73,13 @@ returns-in-Some-clause-still g c = λ tool first stood asks.
     for_each
     (λ t.
     events (task_of t (played play empty first) old.left).answers ≡ [] → new_size < length (disk_now old).now → Throughout old new (λ disk said. IsAtMostSynced (disk_now old) disk))
-    words c.in-Some.tool SOMEASK (c.over_store.ensures.still first stood) tool asks
+    words c.in-Some.tool (sym c.in-Ok.ensures ∙ c.in-Some.is) (c.over_store.ensures.still first stood) tool asks
 
 pub returns-in-Some-clause-bad : goal.returns-in-Some-clause-bad
 returns-in-Some-clause-bad g c = λ is. absurd (c.over_store.ensures.words is)
 
 pub returns-in-Some-clause-words : goal.returns-in-Some-clause-words
-returns-in-Some-clause-words g c = λ bad. absurd (none_asked (map string_bytes c.args.words.now) c.in-Some.tool bad SOMEASK)
+returns-in-Some-clause-words g c = λ bad. absurd (none_asked (map string_bytes c.args.words.now) c.in-Some.tool bad (sym c.in-Ok.ensures ∙ c.in-Some.is))
 
 pub returns-in-Some-clause-untouched : goal.returns-in-Some-clause-untouched
 returns-in-Some-clause-untouched g c = λ is. absurd (c.over_store.ensures.words is)
@@ -89,28 +89,28 @@ returns-in-Some-clause-damages g c = λ told none. inr (c.over_store.ensures.dam
 
 -- ---- nothing is asked for
 pub returns-in-None-clause-ends : goal.returns-in-None-clause-ends
-returns-in-None-clause-ends g c = λ told tool first stood asks. absurd (none_asked (map string_bytes c.args.words.now) tool NONEASK asks)
+returns-in-None-clause-ends g c = λ told tool first stood asks. absurd (none_asked (map string_bytes c.args.words.now) tool (sym c.in-Ok.ensures ∙ c.in-None.is) asks)
 
 pub returns-in-None-clause-part : goal.returns-in-None-clause-part
-returns-in-None-clause-part g c = λ tool first stood asks. absurd (none_asked (map string_bytes c.args.words.now) tool NONEASK asks)
+returns-in-None-clause-part g c = λ tool first stood asks. absurd (none_asked (map string_bytes c.args.words.now) tool (sym c.in-Ok.ensures ∙ c.in-None.is) asks)
 
 pub returns-in-None-clause-moments : goal.returns-in-None-clause-moments
-returns-in-None-clause-moments g c = λ tool first stood asks. absurd (none_asked (map string_bytes c.args.words.now) tool NONEASK asks)
+returns-in-None-clause-moments g c = λ tool first stood asks. absurd (none_asked (map string_bytes c.args.words.now) tool (sym c.in-Ok.ensures ∙ c.in-None.is) asks)
 
 pub returns-in-None-clause-stopped : goal.returns-in-None-clause-stopped
-returns-in-None-clause-stopped g c = λ told tool first stood asks. absurd (none_asked (map string_bytes c.args.words.now) tool NONEASK asks)
+returns-in-None-clause-stopped g c = λ told tool first stood asks. absurd (none_asked (map string_bytes c.args.words.now) tool (sym c.in-Ok.ensures ∙ c.in-None.is) asks)
 
 pub returns-in-None-clause-complete : goal.returns-in-None-clause-complete
-returns-in-None-clause-complete g c = λ told tool first stood asks none. absurd (none_asked (map string_bytes c.args.words.now) tool NONEASK asks)
+returns-in-None-clause-complete g c = λ told tool first stood asks none. absurd (none_asked (map string_bytes c.args.words.now) tool (sym c.in-Ok.ensures ∙ c.in-None.is) asks)
 
 pub returns-in-None-clause-still : goal.returns-in-None-clause-still
-returns-in-None-clause-still g c = λ tool first stood asks. absurd (none_asked (map string_bytes c.args.words.now) tool NONEASK asks)
+returns-in-None-clause-still g c = λ tool first stood asks. absurd (none_asked (map string_bytes c.args.words.now) tool (sym c.in-Ok.ensures ∙ c.in-None.is) asks)
 
 pub returns-in-None-clause-unread : goal.returns-in-None-clause-unread
-returns-in-None-clause-unread g c = λ tool first stood asks. absurd (none_asked (map string_bytes c.args.words.now) tool NONEASK asks)
+returns-in-None-clause-unread g c = λ tool first stood asks. absurd (none_asked (map string_bytes c.args.words.now) tool (sym c.in-Ok.ensures ∙ c.in-None.is) asks)
 
 pub returns-in-None-clause-bad : goal.returns-in-None-clause-bad
-returns-in-None-clause-bad g c = λ is. NONEASK
+returns-in-None-clause-bad g c = λ is. (sym c.in-Ok.ensures ∙ c.in-None.is)
 
 pub returns-in-None-clause-words : goal.returns-in-None-clause-words
 returns-in-None-clause-words g c = λ bad. inl refl
@@ -122,7 +122,7 @@ pub returns-in-None-clause-silent : goal.returns-in-None-clause-silent
 returns-in-None-clause-silent g c = λ told none. (still_said (g.H.Host.told c.args.host.now), still_input (g.H.Host.told c.args.host.now))
 
 pub returns-in-None-clause-damages : goal.returns-in-None-clause-damages
-returns-in-None-clause-damages g c = λ told none. inl NONEASK
+returns-in-None-clause-damages g c = λ told none. inl (sym c.in-Ok.ensures ∙ c.in-None.is)
 
 -- ---- no memory
 pub returns-in_default-clause-ends : goal.returns-in_default-clause-ends
