@@ -17,8 +17,13 @@ use store_runs::{Gate, Status, Work, serve, show};
 use store_session::Session;
 use tool_requests::{Guard, Tool};
 
-impl Gate for Guard {
-    ghost refusal = { refusal_of };
+/// A guard as a gate.
+struct Behind<'a> {
+    guard: &'a Guard,
+}
+
+impl<'a> Gate for Behind<'a> {
+    ghost refusal = { λ behind. refusal_of behind.guard.now };
 
     fn refusal_of(
         &self,
@@ -26,7 +31,7 @@ impl Gate for Guard {
         repo: &Repo,
         line: &str,
     ) -> Result<Option<Vec<u8>>, AllocError> {
-        self.refusal(alloc, repo, line)
+        self.guard.refusal(alloc, repo, line)
     }
 }
 
@@ -57,11 +62,17 @@ fn tell<H: Host>(alloc: Global, host: &mut H, reply: &Reply) -> Status
     }
 }
 
-impl Work for Tool {
-    ghost task = { task_of };
+/// What is asked for, as work.
+#[derive(Drop)]
+pub(crate) struct Asked {
+    pub(crate) tool: Tool,
+}
+
+impl Work for Asked {
+    ghost task = { λ asked. task_of asked.tool };
 
     fn fulfil<H: Host>(&self, alloc: Global, host: &mut H, session: &mut Session) -> Status {
-        match self {
+        match &self.tool {
             Tool::Query {
                 spec,
                 element,
@@ -84,9 +95,9 @@ impl Work for Tool {
                     Err(_) => Status::Memory,
                 }
             }
-            Tool::Guard(guard) => serve(alloc, host, session, guard),
+            Tool::Guard(guard) => serve(alloc, host, session, &Behind { guard }),
         }
     }
 
-    ghost reads_alike = { same_reads };
+    ghost reads_alike = { λ asked. same_reads asked.tool };
 }

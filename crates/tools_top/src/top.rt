@@ -13,6 +13,7 @@ ghost use Rattle.tool_requests.specs.Words.{AskFor, AreBad};
 ghost use Rattle.tool_requests.specs.declared.tool.Tool.{Tool};
 ghost use Rattle.tools_top.specs.Tasks.{task_of};
 
+use crate::asked::Asked;
 use host_port::Host;
 use std::alloc::Global;
 use store_runs::{Status, over_store};
@@ -72,6 +73,6 @@ pub fn tools<H: Host>(alloc: Global, words: &[String], host: &mut H) -> Status
     };
     match asked {
         None => Status::BadWords,
-        Some(tool) => over_store(alloc, &tool, host),
+        Some(tool) => over_store(alloc, &Asked { tool }, host),
     }
 }
