@@ -18,6 +18,7 @@ use store_session::Session;
 use tool_requests::{Guard, Tool};
 
 /// A guard as a gate.
+#[derive(Clone, Copy)]
 struct Behind<'a> {
     guard: &'a Guard,
 }
