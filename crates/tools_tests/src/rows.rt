@@ -1,0 +1,99 @@
+//! What `emftools` answers with ample memory, over a store that a script makes.
+use emf_top::run;
+use host_port::MemoryHost;
+use std::alloc::Global;
+use std::process::Abort;
+use std::test::Fail;
+use tools_top::{Status, tools};
+
+// A book, and on another branch its page count.
+const SCRIPT: &str = r#"init
+{"eClass":"http://www.eclipse.org/emf/2002/Ecore#//EPackage","name":"lib","nsURI":"http://lib/1","nsPrefix":"lib","eClassifiers":[
+{"eClass":"http://www.eclipse.org/emf/2002/Ecore#//EClass","name":"Book","eStructuralFeatures":[
+{"eClass":"http://www.eclipse.org/emf/2002/Ecore#//EAttribute","name":"title","eType":{"$ref":"http://www.eclipse.org/emf/2002/Ecore#//EString"}},
+{"eClass":"http://www.eclipse.org/emf/2002/Ecore#//EAttribute","name":"pages","eType":{"$ref":"http://www.eclipse.org/emf/2002/Ecore#//EInt"}}]}
+]}
+.
+checkout 0
+create 1 Book / b
+set 1 b title "Emma"
+commit 1 title
+branch 1 dev
+checkout dev
+set 2 b pages 474
+commit 2 pages
+set 1 b title "Persuasion"
+commit 1 other title
+"#;
+
+// The words of a run and its input, and then what is said, `|` for each end of a line, and the status.
+const ROWS: &str = "query trunk b Book title <  > ok 3| 0
+query dev b Book title <  > ok 1| 0
+query dev b Book pages <  > ok 2| 0
+query trunk b Book pages <  > ok -| 0
+query trunk b Shelf pages <  > no 13 NoClass| 1
+blame trunk b <  > Book.title 3|ok| 0
+blame dev b <  > Book.title 1|Book.pages 2|ok| 0
+blame @none b <  > no 6 NoVersion| 1
+blame trunk <  >  2
+guard bob bob:writer@dev < set 1 b pages 1|set 2 b pages 475|tag t 0|fly| > no 41 Denied 4|ok|no 41 Denied 3|no 1 BadLine 1| 1
+guard ann ann:admin < tag t 0| > ok| 0
+guard ann bob:admin < show 1| > no 41 Denied 0| 1
+guard ann ann:all < show 1| >  2";
+
+fn over(alloc: Global, input: Vec<u8>, file: Vec<u8>) -> MemoryHost {
+    MemoryHost::new(alloc, input, 4096, file, Vec::new(alloc))
+}
+
+// The file that the script makes.
+fn store(rt: &impl Abort, alloc: Global) -> Result<Vec<u8>, Fail> {
+    let mut host = over(alloc, SCRIPT.as_bytes().to_vec(alloc)?, Vec::new(alloc));
+    let words = Vec::new(alloc);
+    let status = run(alloc, words.as_slice(), &mut host);
+    assert_eq!(rt; status.code(), 0);
+    Ok(host.file().to_vec(alloc)?)
+}
+
+// What stands before the mark and after it.
+fn cut<'a>(text: &'a str, mark: &str) -> (&'a str, &'a str) {
+    match text.split_once(mark) {
+        Some(parts) => parts,
+        None => (text, ""),
+    }
+}
+
+fn asked(alloc: Global, words: &str, host: &mut MemoryHost) -> Result<Status, Fail> {
+    let mut list = Vec::new(alloc);
+    for word in words.split(' ') {
+        list.push(String::from_str(alloc, word)?)?;
+    }
+    Ok(tools(alloc, list.as_slice(), host))
+}
+
+fn check_run(
+    rt: &impl Abort,
+    alloc: Global,
+    file: Vec<u8>,
+    run: &str,
+    wanted: &str,
+) -> Result<(), Fail> {
+    let (words, input) = cut(run, " < ");
+    let input = input.replace(alloc, "|", "\n")?;
+    let mut host = over(alloc, input.into_bytes(), file);
+    let status = asked(alloc, words, &mut host)?.code();
+    let said = std::str::from_utf8(host.said())?.replace(alloc, "\n", "|")?;
+    let found = format!(in alloc; "{said} {status}")?;
+    assert_eq!(rt; found.as_str(), wanted, "{run}");
+    Ok(())
+}
+
+#[test]
+fn each_row_is_answered(rt: HostRuntime) -> Result<(), Fail> {
+    let alloc = rt.alloc();
+    let file = store(&rt, alloc)?;
+    for row in ROWS.lines() {
+        let (run, wanted) = cut(row, " > ");
+        check_run(&rt, alloc, file.clone()?, run, wanted)?;
+    }
+    Ok(())
+}

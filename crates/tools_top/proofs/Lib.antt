@@ -1,0 +1,2 @@
+pub mod AtMostOne
+pub mod Starved
