@@ -1,14 +1,20 @@
-"""What all checks share: the check's name, the built program, and how a check says what came of it."""
+"""What all checks share: the check's name, the built programs, and how a check says what came of it."""
 import os
 import sys
 
 NAME = os.path.basename(sys.argv[0])
 PROGRAM = os.path.abspath(os.environ.get("EMFSTORE", "crates/emfstore/out/emfstore"))
+TOOLS = os.path.abspath(os.environ.get("EMFTOOLS", "crates/emftools/out/emftools"))
 NO_PROGRAM = "no built program"
 
 
 def is_built():
     return os.path.exists(PROGRAM)
+
+
+def are_built():
+    """Whether both programs are there."""
+    return is_built() and os.path.exists(TOOLS)
 
 
 def built():
