@@ -1,9 +1,9 @@
 -- The words ask for one thing at most.
 use Rattle.std.proofs.Common.{◌≡◌, ℕ, List, sym, ◌∙◌, subst}
-use Rattle.std.specs.Prelude.{None, Some}
+use Rattle.std.specs.Prelude.{Option, None, Some}
 use Rattle.std.proofs.lemmas.Option.{same_Some}
 use Rattle.tool_requests.specs.declared.tool.Tool.{Tool}
-use Rattle.tool_requests.specs.Words.{AskFor, AreBad}
+use Rattle.tool_requests.specs.Words.{tool_in, AskFor, AreBad}
 
 -- what holds of it holds of whatever they ask for
 pub for_each : (P : Tool → Type 0) (words : List (List ℕ)) (asked : Tool) → AskFor words asked → P asked → (tool : Tool) → AskFor words tool → P tool

@@ -1,5 +1,5 @@
 -- A run that has no memory for what its words ask for: no call of the host was made.
-use Rattle.std.proofs.Common.{inl, List, refl}
+use Rattle.std.proofs.Common.{◌≡◌, inl, List, refl}
 use Rattle.std.specs.Prelude.{IsTrue}
 use Rattle.commit_journal.specs.Journal.{IsAtMostSynced}
 use Rattle.host_port.specs.Host.{Told, MayLeave, Throughout, AddsPart, disk_now, said_now}

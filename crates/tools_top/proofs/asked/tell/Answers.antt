@@ -1,5 +1,7 @@
 -- what is printed is the reply
-use Rattle.std.proofs.Common.{◌≡◌, ◌∙◌, ap, subst}
+use Rattle.std.proofs.Common.{◌≡◌, ◌∙◌, sym, ap, subst}
+use Rattle.host_port.proofs.Course.{still_input}
+use Rattle.plain_repository.specs.Answers.{is_refusal}
 use Rattle.script_lang.specs.Reply.{printed}
 use Rattle.store_runs.specs.Endings.{IsDone}
 use Rattle.store_runs.specs.Tasks.{Task, telling}

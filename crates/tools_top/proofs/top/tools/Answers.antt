@@ -1,8 +1,8 @@
 -- The words ask for one thing, for nothing, or there was no memory to tell.
-use Rattle.std.proofs.Common.{◌≡◌, ◌⊎◌, ◌<◌, [], length, inl, inr, arith, refl, sym, ◌∙◌}
+use Rattle.std.proofs.Common.{◌≡◌, ◌⊎◌, ◌<◌, ℕ, List, [], length, inl, inr, arith, refl, sym, ◌∙◌}
 use Rattle.std.specs.Prelude.{map, string_bytes}
 use Rattle.host_port.specs.Host.{Throughout, AddsPart, disk_now, said_now}
-use Rattle.host_port.proofs.Course.{still_said, still_input}
+use Rattle.host_port.proofs.Course.{course_still, still_said, still_input}
 use Rattle.commit_journal.specs.Journal.{IsAtMostSynced, new_size}
 use Rattle.command_runs.specs.Runs.{played, replies, events, events_due}
 use Rattle.command_runs.specs.Crashes.{IsOpenedRunning}
@@ -12,6 +12,7 @@ use Rattle.plain_repository.specs.Store.{StandsForEvents}
 use Rattle.store_runs.specs.declared.status.Status.TheVariants.{Memory}
 use Rattle.store_runs.specs.Endings.{Ends, IsKept, KeepsUnread}
 use Rattle.store_runs.proofs.Headlines.{file_still}
+use Rattle.tool_requests.specs.Words.{tool_in}
 use Rattle.tools_top.specs.Tasks.{task_of}
 use Rattle.tools_top.proofs.AtMostOne.{for_each, none_asked}
 use Rattle.tools_top.proofs.Starved.{at_most_synced, starved, starved_part, starved_moments, starved_kept}
