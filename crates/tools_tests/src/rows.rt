@@ -19,11 +19,11 @@ create 1 Book / b
 set 1 b title "Emma"
 commit 1 title
 branch 1 dev
-checkout dev
-set 2 b pages 474
-commit 2 pages
-set 1 b title "Persuasion"
-commit 1 other title
+set 1 b pages 474
+commit 1 pages
+checkout trunk
+set 2 b title "Persuasion"
+commit 2 other title
 "#;
 
 // The words of a run and its input, and then what is said, `|` for each end of a line, and the status.
@@ -36,7 +36,7 @@ blame trunk b <  > Book.title 3|ok| 0
 blame dev b <  > Book.title 1|Book.pages 2|ok| 0
 blame @none b <  > no 6 NoVersion| 1
 blame trunk <  >  2
-guard bob bob:writer@dev < set 1 b pages 1|set 2 b pages 475|tag t 0|fly| > no 41 Denied 4|ok|no 41 Denied 3|no 1 BadLine 1| 1
+guard bob bob:writer@dev < set 2 b pages 1|set 1 b pages 475|tag t 0|fly| > no 41 Denied 4|ok|no 41 Denied 3|no 1 BadLine 1| 1
 guard ann ann:admin < tag t 0| > ok| 0
 guard ann bob:admin < show 1| > no 41 Denied 0| 1
 guard ann ann:all < show 1| >  2";
