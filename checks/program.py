@@ -22,6 +22,11 @@ def built():
     return PROGRAM if is_built() else skip(NO_PROGRAM)
 
 
+def of_scripts():
+    """The words of each built program that answers a script: `emfstore`, and `emftools` as a guard that lets all in. Without the first it is skipped."""
+    return [[built()]] + ([[TOOLS, "guard", "ann", "ann:admin"]] if are_built() else [])
+
+
 def skip(why):
     """Ends a check that can't be made here."""
     print(f"{NAME}: skipped, {why}")
