@@ -6,7 +6,7 @@ mod EndLaws
 mod BuiltNames
 mod BoundLaws
 mod RangeLaws
-mod ChainLaws
+pub mod ChainLaws
 mod AboveLaws
 pub mod PromiseLaws
 mod OwnLaws
