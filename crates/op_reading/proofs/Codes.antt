@@ -14,7 +14,7 @@ use Rattle.op_reading.specs.declared.fault.FormFault.TheVariants.{NotForm}
 use Rattle.op_reading.specs.Reading.{Reading, field, made, ◌⊗◌, nothing_at, u8_at, u32_at, u64_at, any_text_at, option_at, option_of, items_at, list_at, some_at}
 use Rattle.op_form.specs.Lists.{option_encoding, items_encoding, list_encoding}
 use Rattle.op_reading.specs.Events.{whole_of}
-use Rattle.op_reading.specs.Laws.{AreReadAgain, AreSpelledSo}
+use Rattle.op_reading.specs.Laws.{AreReadAgain, AreSpelledSo, MoreIsLeftOver}
 use Rattle.op_form.specs.Formed.{IsU32, IsU64, IsGiven, IsList, IsSomeList}
 
 -- values of a kind, their encoding and their reading
@@ -267,3 +267,15 @@ module _ {X : Type 0} {Is : X → Type 0} {form : X → List ℕ} {read : Readin
       let s = codes.spelled (at bytes 0) are k.0.0 k.0.1 k.1 in
       let same = ok_is k.0.0 x l.2 in
       (subst Is same s.is, s.bytes ∙ ap (λ more. form k.0.0 ++ more) (ended k.0.1.bytes k.0.1.place l.1) ∙ append-nil (form k.0.0) ∙ ap form same)
+
+  -- what is left over, and where it begins
+  pub more_left : MoreIsLeftOver Is form (whole_of read)
+  unfolding whole_of
+  more_left x is byte more =
+      let e = codes.again x is (byte ∷ more) 0 in
+      ap (λ r. r >>= λ x. field (ends_at x.1) >>= λ end. Ok x.0) e ∙ spare byte more (0 + length (form x)) ∙ ap (λ n. Err (NotForm n)) (omega arith)
+    where
+      spare : (byte : ℕ) (more : List ℕ) (place : ℕ) → ◌≡◌ {A = Result X FormFault} (field (ends_at (at (byte ∷ more) place)) >>= λ end. Ok x) (Err (NotForm place))
+      spare byte more place =
+          let left : nat_lt 0 (length (byte ∷ more)) ≡ true = le-leb 1 (length (byte ∷ more)) (omega arith) in
+          ap (λ t. field (cond t (Err (Spare place)) (Ok tt)) >>= λ end. Ok x) left

@@ -1,8 +1,9 @@
 -- The laws of packages and events.
-use Rattle.std.specs.Prelude.{◌≡◌, ◌↔◌, IsTrue, List, ℕ, Result, Ok}
+use Rattle.std.specs.Prelude.{◌≡◌, ◌↔◌, IsTrue, List, ◌∷◌, ◌++◌, length, ℕ, Result, Ok, Err}
 use Rattle.byte_form.specs.Laws.{AreBytes, NoneBeginsAnother}
 use Rattle.op_form.specs.declared.event.Event.{Event}
 use Rattle.op_reading.specs.declared.fault.FormFault.{FormFault}
+use Rattle.op_reading.specs.declared.fault.FormFault.TheVariants.{NotForm}
 use Rattle.op_reading.specs.Packages.{package_at}
 use Rattle.op_form.specs.Packages.{package_encoding}
 use Rattle.op_reading.specs.Events.{event_at, whole_of}
@@ -17,6 +18,10 @@ AreReadAgain Is form read = (x : _) → Is x → read (form x) ≡ Ok x
 abbrev pub AreSpelledSo : {X : Type 0} → (X → Type 0) → (X → List ℕ) → (List ℕ → Result X FormFault) → Type 0
 AreSpelledSo Is form read = (bytes : List ℕ) → AreBytes bytes → (x : _) → read bytes ≡ Ok x → Is x × (bytes ≡ form x)
 
+-- bytes after the encoding of a value are no part of it: the fault is at the first of them
+abbrev pub MoreIsLeftOver : {X : Type 0} → (X → Type 0) → (X → List ℕ) → (List ℕ → Result X FormFault) → Type 0
+MoreIsLeftOver Is form read = (x : _) → Is x → (byte : ℕ) (more : List ℕ) → read (form x ++ (byte ∷ more)) ≡ Err (NotForm (length (form x)))
+
 -- the encoding of each package is read as it
 abbrev pub PackagesAreReadAgain : Type 0
 PackagesAreReadAgain = AreReadAgain IsPackage package_encoding (whole_of package_at)
@@ -24,6 +29,10 @@ PackagesAreReadAgain = AreReadAgain IsPackage package_encoding (whole_of package
 -- bytes that are read as a package are its encoding
 abbrev pub PackagesAreSpelledSo : Type 0
 PackagesAreSpelledSo = AreSpelledSo IsPackage package_encoding (whole_of package_at)
+
+-- where bytes stand after the encoding of a package, the fault is at the first of them
+abbrev pub MoreThanPackagesIsLeftOver : Type 0
+MoreThanPackagesIsLeftOver = MoreIsLeftOver IsPackage package_encoding (whole_of package_at)
 
 -- no package's encoding begins that of another
 abbrev pub NoPackageBeginsAnother : Type 0
@@ -36,6 +45,10 @@ EventsAreReadAgain = AreReadAgain IsEvent event_encoding (whole_of event_at)
 -- bytes that are read as an event are its encoding
 abbrev pub EventsAreSpelledSo : Type 0
 EventsAreSpelledSo = AreSpelledSo IsEvent event_encoding (whole_of event_at)
+
+-- where bytes stand after the encoding of an event, the fault is at the first of them
+abbrev pub MoreThanEventsIsLeftOver : Type 0
+MoreThanEventsIsLeftOver = MoreIsLeftOver IsEvent event_encoding (whole_of event_at)
 
 -- no event's encoding begins that of another
 abbrev pub NoEventBeginsAnother : Type 0

@@ -4,7 +4,7 @@ use Rattle.op_form.specs.Packages.{package_encoding}
 use Rattle.op_reading.specs.Events.{event_at}
 use Rattle.op_form.specs.Events.{event_encoding}
 use Rattle.op_form.specs.Formed.{IsPackage, IsEvent}
-use Rattle.op_reading.proofs.Codes.{whole_again, whole_spelled}
+use Rattle.op_reading.proofs.Codes.{whole_again, whole_spelled, more_left}
 use Rattle.op_reading.proofs.PackageCodes.{package_codes}
 use Rattle.op_reading.proofs.EventCodes.{event_codes}
 use Rattle.op_reading.proofs.EventCodes.{events_tested}
@@ -16,6 +16,9 @@ returns-clause-packages_again c = whole_again package_codes
 pub returns-clause-packages_spelled : goal.returns-clause-packages_spelled
 returns-clause-packages_spelled c = whole_spelled package_codes
 
+pub returns-clause-packages_left : goal.returns-clause-packages_left
+returns-clause-packages_left c = more_left package_codes
+
 pub returns-clause-packages_apart : goal.returns-clause-packages_apart
 returns-clause-packages_apart c = apart IsPackage package_encoding package_at package_codes.again
 
@@ -24,6 +27,9 @@ returns-clause-events_again c = whole_again event_codes
 
 pub returns-clause-events_spelled : goal.returns-clause-events_spelled
 returns-clause-events_spelled c = whole_spelled event_codes
+
+pub returns-clause-events_left : goal.returns-clause-events_left
+returns-clause-events_left c = more_left event_codes
 
 pub returns-clause-events_apart : goal.returns-clause-events_apart
 returns-clause-events_apart c = apart IsEvent event_encoding event_at event_codes.again
