@@ -4,4 +4,4 @@
 
 mod laws;
 
-pub use laws::{law_of_growth, law_of_growth_texts};
+pub use laws::{law_of_evolved_metamodels, law_of_evolved_texts};

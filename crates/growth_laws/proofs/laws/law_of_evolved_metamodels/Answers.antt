@@ -1,6 +1,6 @@
 -- The laws hold step by step.
 use Rattle.growth_laws.proofs.Runs.{extension_evolves, growth_keeps_good, growth_keeps_steps, growth_keeps_runs}
-use Rattle.growth_laws.proofs.laws.law_of_growth.Goals as goal
+use Rattle.growth_laws.proofs.laws.law_of_evolved_metamodels.Goals as goal
 
 pub returns-clause-extension : goal.returns-clause-extension
 returns-clause-extension c = extension_evolves
