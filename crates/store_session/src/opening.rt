@@ -1,7 +1,7 @@
 //! A store that is being opened: its records are read, and the event of each is played.
 ghost use Rattle.std.specs.Prelude.{◌≡◌, ◌≢◌, ◌<◌, ◌^◌, [], List, length, IsTrue, IfOk, OnOk, IfErr, IfSome, IfNone, IsErrOf, true, false};
 ghost use Rattle.host_port.specs.Host.{disk_now, Rose, GoesOn, Throughout, KeepsDisk, KeepsSaid, KeepsInput};
-ghost use Rattle.commit_journal.specs.Journal.{IsAtMostSynced, new_size};
+ghost use Rattle.commit_journal.specs.Journal.{IsAtMostSynced, IsNoHeader, new_size};
 ghost use Rattle.op_form.specs.declared.event.Event.{Event};
 ghost use Rattle.op_form.specs.Events.{event_encoding};
 ghost use Rattle.op_form.specs.Formed.{IsEvent};
@@ -87,6 +87,7 @@ impl Opening {
         ensures since { OnOk result (IsOpenedSince (H.told host.old) (H.told host.new)) }
         ensures moments { Throughout (H.told host.old) (H.told host.new) (λ disk _. IsMounting (disk_now (H.told host.old)) disk) }
         ensures damaged { IfErr result (λ e. AtDamage e (λ at. IsTrue (H.told host.old).tells → IsDamaged (disk_now (H.told host.old)).now at × StandsForNoEvents (disk_now (H.told host.old)).now)) }
+        ensures header { IfErr result (λ e. AtDamage e (λ at. IsTrue (H.told host.old).tells → IsNoHeader (disk_now (H.told host.old)).now at)) }
         // A file of more than 17 bytes is at each moment as it was, or that synced, whatever the answer.
         ensures long { new_size < length (disk_now (H.told host.old)).now → Throughout (H.told host.old) (H.told host.new) (λ disk _. IsAtMostSynced (disk_now (H.told host.old)) disk) }
         ensures never { IfErr result (λ e. e ≢ SessionFault.SayFault) }
