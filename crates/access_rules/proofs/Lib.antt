@@ -1,3 +1,4 @@
 pub mod Pieces
 pub mod Grants
+pub mod Users
 pub mod Spellings

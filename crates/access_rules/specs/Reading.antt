@@ -1,5 +1,6 @@
 -- How a policy is read from its text.
-use Rattle.std.specs.Prelude.{◌≡◌, ℕ, ◌+◌, ◌==◌, Bool, List, [], ◌∷◌, ◌++◌, codes, length, Option, None, Some, Result, Ok, Err, if◌then◌else◌}
+use Rattle.std.specs.Prelude.{String, ◌≡◌, ℕ, ◌+◌, ◌==◌, Bool, List, [], ◌∷◌, ◌++◌, codes, length, Option, None, Some, Result, Ok, Err, if◌then◌else◌}
+use Rattle.std.specs.BTreeSet.{BTreeSet, contains_text}
 use Rattle.std.specs.List.{list_any, before_first, after_first}
 use Rattle.model_state.specs.Names.{is_name}
 use Rattle.script_lang.specs.Words.{is_word}
@@ -56,6 +57,10 @@ grant_of piece = granted (before_first is_colon piece) (role_of (after_first is_
 -- has the user a grant
 abbrev pub has_user : List Grant → List ℕ → Bool
 has_user grants user = list_any (λ g. is_word g.user user) grants
+
+-- the set has the users of the grants, and no others
+abbrev pub HasUsers : {Y : Type 0} → BTreeSet (String Y) → List Grant → Type 0
+HasUsers users grants = (user : List ℕ) → contains_text users user ≡ has_user grants user
 
 -- the grant, where its user has none yet
 abbrev pub if_new : List Grant → Option Grant → Option Grant

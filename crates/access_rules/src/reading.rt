@@ -1,11 +1,15 @@
 //! Reading a policy from a text.
-ghost use Rattle.std.specs.Prelude.{◌≡◌, ◌<◌, ◌^◌, length, IfOk, Some};
-ghost use Rattle.access_rules.specs.Reading.{role_of, writer_of, grant_of, has_user, if_new, grants_of, GivesPolicy};
+ghost use Rattle.std.specs.Prelude.{◌≡◌, ◌<◌, ◌^◌, ◌||◌, ◌++◌, ◌∷◌, [], ℕ, List, length, not, IfOk, IfSome, OnOk};
+ghost use Rattle.std.specs.BTreeSet.{contains_text};
+ghost use Rattle.script_lang.specs.Words.{is_word};
+ghost use Rattle.access_rules.specs.declared.policy.Grant.{Grant};
+ghost use Rattle.access_rules.specs.Reading.{role_of, writer_of, grant_of, if_new, grants_of, GivesPolicy, HasUsers};
 
 use crate::{Grant, Policy, PolicyFault, Role};
 use ecore_meta::{List, Text};
 use model_state::is_name;
 use std::alloc::{AllocError, Global};
+use std::collections::BTreeSet;
 
 /// A writer of one branch, by what stands before `@` and after it.
 fn writer_of(alloc: Global, first: &str, branch: &str) -> Result<Option<Role>, AllocError>
@@ -54,24 +58,32 @@ fn grant_of(alloc: Global, piece: &str) -> Result<Option<Grant>, AllocError>
     }
 }
 
-/// Whether the user has a grant.
-fn has_user(grants: &[Grant], user: &str) -> bool
-    ensures { result ≡ has_user grants.now user.now }
+/// Puts the user into the set, and says whether it is new there.
+fn enter(alloc: Global, user: &str, users: &mut BTreeSet<String>) -> Result<bool, AllocError>
+    ensures new { IfOk result (λ new. new ≡ not (contains_text users.old user.now)) }
+    ensures users { OnOk result ((name : List ℕ) → contains_text users.new name ≡ is_word user.now name || contains_text users.old name) }
 {
-    grants.iter().any(|grant| grant.user.as_str() == user)
+    let user = String::from_str(alloc, user)?;
+    Ok(users.insert(user)?)
 }
 
-/// The grant that a piece of a policy spells, where its user has none yet.
-fn new_grant(alloc: Global, earlier: &[Grant], piece: &str) -> Result<Option<Grant>, AllocError>
-    ensures { IfOk result (λ grant. grant ≡ if_new earlier.now (grant_of piece.now)) }
+/// The grant that a piece of a policy spells, where its user has none yet. `users` are those who have one, and the
+/// grant's user becomes one of them.
+fn new_grant(
+    alloc: Global,
+    piece: &str,
+    users: &mut BTreeSet<String>,
+) -> Result<Option<Grant>, AllocError>
+    ensures grant { IfOk result (λ grant. (earlier : List Grant) → HasUsers users.old earlier → grant ≡ if_new earlier (grant_of piece.now)) }
+    ensures users { IfOk result (λ grant. IfSome grant (λ new. (earlier : List Grant) → HasUsers users.old earlier → HasUsers users.new (earlier ++ new ∷ []))) }
 {
     match grant_of(alloc, piece)? {
         None => Ok(None),
         Some(grant) => {
-            if has_user(earlier, grant.user.as_str()) {
-                Ok(None)
-            } else {
+            if enter(alloc, grant.user.as_str(), users)? {
                 Ok(Some(grant))
+            } else {
+                Ok(None)
             }
         }
     }
@@ -89,18 +101,19 @@ pub fn read_policy(alloc: Global, text: &str) -> Result<Policy, PolicyFault>
     requires short { length text.now < 2 ^ 32 }
     ensures policy { GivesPolicy result (grants_of text.now) }
 {
+    let mut users = BTreeSet::new(alloc);
     let mut grants = List::new(alloc);
     let mut rest = text;
     let mut place: usize = 0;
     'pieces: while let Some((piece, after)) = rest.split_once(',') {
-        match new_grant(alloc, grants.as_slice(), piece)? {
+        match new_grant(alloc, piece, &mut users)? {
             None => return Err(PolicyFault::BadPolicy { at: place as u32 }),
             Some(grant) => grants.push(grant)?,
         }
         place = place + piece.len() + 1;
         rest = after;
     }
-    match new_grant(alloc, grants.as_slice(), rest)? {
+    match new_grant(alloc, rest, &mut users)? {
         None => Err(PolicyFault::BadPolicy { at: place as u32 }),
         Some(grant) => {
             grants.push(grant)?;
