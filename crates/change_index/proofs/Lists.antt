@@ -1,8 +1,10 @@
 -- Rising lists, the numbers below a bound, and a number that is put at an end.
-use Rattle.std.proofs.Common.{◌≡◌, ℕ, zero, suc, ◌+◌, ◌-◌, ◌<◌, ◌≤◌, Bool, true, false, cond, ◌||◌, List, [], ◌∷◌, ◌++◌, length, get_or, nat_eq, nat_lt, refl, sym, ◌∙◌, ap, arith, append-nil, inl, inr}
+use Rattle.std.proofs.Common.{◌≡◌, ℕ, zero, suc, ◌+◌, ◌-◌, ◌<◌, ◌≤◌, Bool, true, false, cond, ◌||◌, List, [], ◌∷◌, ◌++◌, length, get_or, take, drop, nat_eq, nat_lt, refl, sym, ◌∙◌, ap, arith, append-nil, inl, inr}
 use Rattle.std.specs.Prelude.{All, ◌⊎◌, Some, slice_get}
 use Rattle.std.specs.List.{filter}
+use Rattle.std.specs.List.Sorted.{IsNonDecreasingBy}
 use Rattle.std.specs.Option.{option_map_or}
+use Rattle.std.proofs.lemmas.List.{get_or-take, get_or-drop, length-drop, length-take-le}
 use Rattle.std.proofs.lemmas.List.Elements.{All-cons, All-head, All-tail, All-push, All-weaker, All-contains, Contains-push, filter-append, filter_passes}
 use Rattle.history_tree.specs.Laws.{Rises}
 use Rattle.history_tree.specs.MergeBase.{is_among}
@@ -113,6 +115,31 @@ pub same_within : (us : List ℕ) (k d e : ℕ) → k < length us → get_or us 
 same_within [] k d e within = absurd (omega (arith, within))
 same_within (u ∷ us) zero d e within = refl
 same_within (u ∷ us) (suc k) d e within = same_within us k d e (omega (arith, within))
+
+-- ---- a slice of a rising list
+pub slice_length : (us : List ℕ) (m n : ℕ) → n ≤ length us → length (take (n - m) (drop m us)) ≡ n - m
+slice_length us m n fits =
+    let rest : length (drop m us) ≡ length us - m = length-drop m us in
+    length-take-le (n - m) (drop m us) (omega (arith, rest, fits))
+
+slice_at : (us : List ℕ) (m n i d : ℕ) → i < n - m → get_or (take (n - m) (drop m us)) i d ≡ get_or us (m + i) d
+slice_at us m n i d within = get_or-take (n - m) (drop m us) i d within ∙ get_or-drop m us i d
+
+-- what stands at a place of the list stands in the slice
+pub in_slice : (us : List ℕ) (m n k : ℕ) → m ≤ k → k < n → get_or (take (n - m) (drop m us)) (k - m) 0 ≡ get_or us k 0
+in_slice us m n k low high =
+    let same : m + (k - m) ≡ k = omega (arith, low) in
+    slice_at us m n (k - m) 0 (omega (arith, low, high)) ∙ ap (λ j. get_or us j 0) same
+
+-- no number of the slice is greater than one that doesn't stand before it
+pub slice_rises : (us : List ℕ) (m n : ℕ) → Rises us → n ≤ length us → IsNonDecreasingBy (λ u. u) (take (n - m) (drop m us))
+slice_rises us m n rises fits i j d low within =
+    let size : length (take (n - m) (drop m us)) ≡ n - m = slice_length us m n fits in
+    let inside : j < n - m = omega (arith, within, size) in
+    let first : get_or (take (n - m) (drop m us)) i d ≡ get_or us (m + i) d = slice_at us m n i d (omega (arith, low, inside)) in
+    let second : get_or (take (n - m) (drop m us)) j d ≡ get_or us (m + j) d = slice_at us m n j d inside in
+    let most : get_or us (m + i) d ≤ get_or us (m + j) d = rises_to us rises (m + i) (m + j) d (omega (arith, low)) (omega (arith, inside, fits)) in
+    omega (arith, first, second, most)
 
 -- a list that rises to its last number has none above it
 pub upto_last : (us : List ℕ) (v : ℕ) → Rises (us ++ v ∷ []) → All (λ u. u < suc v) (us ++ v ∷ [])
