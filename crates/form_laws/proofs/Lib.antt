@@ -1,0 +1,9 @@
+mod Ends
+mod Faults
+mod Texts
+mod Parts
+mod Wholes
+mod Values
+mod Steps
+mod Packages
+mod Events

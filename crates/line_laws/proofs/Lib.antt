@@ -1,0 +1,5 @@
+mod Bytes
+mod Faults
+mod Fields
+mod Commands
+mod Lines
