@@ -9,6 +9,8 @@ use Rattle.script_lang.specs.Command.{command_of}
 use Rattle.script_lang.specs.Words.{is_word}
 use Rattle.access_rules.specs.declared.policy.Grant.{Grant}
 use Rattle.access_rules.specs.Reading.{grants_of}
+use Rattle.tool_requests.specs.declared.tool.Request.{Request}
+use Rattle.tool_requests.specs.declared.tool.Request.TheVariants.{Replay, Work}
 use Rattle.tool_requests.specs.declared.tool.Tool.{Tool}
 use Rattle.tool_requests.specs.declared.tool.Tool.TheVariants.{Query, Blame, Guard}
 
@@ -46,7 +48,7 @@ abbrev pub guard_in : List ℕ → List ℕ → Option Tool
 guard_in user text = if is_name user then option_map (λ grants. Guard (record { user = user; policy = record { grants = grants } })) (grants_in text) else None
 
 -- ---- all forms
--- what the words ask for: `query SPEC ID CLASS FEATURE`, `blame SPEC ID` or `guard USER POLICY`
+-- what the words ask of a store that is open: `query SPEC ID CLASS FEATURE`, `blame SPEC ID` or `guard USER POLICY`
 abbrev pub tool_in : List (List ℕ) → Option Tool
 tool_in (name ∷ spec ∷ element ∷ class ∷ feature ∷ []) = if is_word name (codes "query") then option_map (λ s. Query s element class feature) (spec_in spec) else None
 tool_in (name ∷ first ∷ second ∷ []) =
@@ -59,6 +61,16 @@ tool_in words = None
 abbrev pub AskFor : List (List ℕ) → Tool → Type 0
 AskFor words tool = tool_in words ≡ Some tool
 
+-- the words ask for the store as a script: there is one, `replay`
+abbrev pub AskForReplay : List (List ℕ) → Type 0
+AskForReplay words = words ≡ codes "replay" ∷ []
+
 -- the words ask for nothing
 abbrev pub AreBad : List (List ℕ) → Type 0
-AreBad words = tool_in words ≡ None
+AreBad words = (tool_in words ≡ None) × ¬ AskForReplay words
+
+-- the words ask for this, or for nothing
+abbrev pub Asks : List (List ℕ) → Option Request → Type 0
+Asks words None = AreBad words
+Asks words (Some Replay) = AskForReplay words
+Asks words (Some (Work tool)) = AskFor words tool

@@ -6,5 +6,5 @@ mod tool;
 mod words;
 
 pub use guard::Guard;
-pub use tool::Tool;
-pub use words::tool_of;
+pub use tool::{Request, Tool};
+pub use words::request_of;

@@ -5,6 +5,15 @@ use script_lang::Spec;
 
 /// What the words of the command line ask for.
 #[derive(Drop)]
+pub enum Request {
+    /// `replay`: the store is printed as the script that makes it again.
+    Replay,
+    /// One of the others, which work over a store that is open.
+    Work(Tool),
+}
+
+/// What may be asked of a store that is open.
+#[derive(Drop)]
 pub enum Tool {
     /// `query SPEC ID CLASS FEATURE`: which version up to SPEC wrote the feature of the element last.
     Query {

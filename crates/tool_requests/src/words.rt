@@ -1,11 +1,11 @@
 //! The words of the command line, as what they ask for.
 ghost use Rattle.std.specs.Prelude.{◌≡◌, [], ◌∷◌, IfOk, map, string_bytes};
 ghost use Rattle.std.specs.Option.{option_map};
-ghost use Rattle.tool_requests.specs.Words.{spec_in, grants_in, guard_in, tool_in, shown_by};
+ghost use Rattle.tool_requests.specs.Words.{spec_in, grants_in, guard_in, tool_in, shown_by, Asks};
 ghost use Rattle.tool_requests.specs.declared.tool.Tool.TheVariants.{Query, Blame};
 
 use crate::guard::{Guard, command_in};
-use crate::tool::Tool;
+use crate::tool::{Request, Tool};
 use access_rules::{Policy, PolicyFault, read_policy};
 use ecore_meta::Text;
 use model_state::is_name;
@@ -124,14 +124,8 @@ fn query_named(
     }
 }
 
-/// What the words ask for: `query SPEC ID CLASS FEATURE`, `blame SPEC ID` or `guard USER POLICY`; none where they are of no
-/// form. A SPEC is a word with which `cat SPEC` is a line that spells a command. A USER is a name, and a POLICY one as
-/// `access_rules` reads it.
-///
-/// # Errors
-///
-/// The error is out of memory: what is asked for has texts of its own.
-pub fn tool_of(alloc: Global, words: &[String]) -> Result<Option<Tool>, AllocError>
+/// What the words ask of a store that is open; none where they are of no form.
+fn tool_of(alloc: Global, words: &[String]) -> Result<Option<Tool>, AllocError>
     ensures { IfOk result (λ tool. tool ≡ tool_in (map string_bytes words.now)) }
 {
     match words {
@@ -145,5 +139,34 @@ pub fn tool_of(alloc: Global, words: &[String]) -> Result<Option<Tool>, AllocErr
         ),
         [name, first, second] => pair_in(alloc, name.as_str(), first.as_str(), second.as_str()),
         _ => Ok(None),
+    }
+}
+
+/// What one word asks for.
+fn request_alone(word: &str) -> Option<Request>
+    ensures { Asks (word.now ∷ []) result }
+{
+    match word {
+        "replay" => Some(Request::Replay),
+        _ => None,
+    }
+}
+
+/// What the words ask for: `replay`, `query SPEC ID CLASS FEATURE`, `blame SPEC ID` or `guard USER POLICY`; none where they are
+/// of no form. A SPEC is a word with which `cat SPEC` is a line that spells a command. A USER is a name, and a POLICY one as
+/// `access_rules` reads it.
+///
+/// # Errors
+///
+/// The error is out of memory: what is asked for has texts of its own.
+pub fn request_of(alloc: Global, words: &[String]) -> Result<Option<Request>, AllocError>
+    ensures { IfOk result (λ request. Asks (map string_bytes words.now) request) }
+{
+    if let [word] = words {
+        return Ok(request_alone(word.as_str()));
+    }
+    match tool_of(alloc, words)? {
+        None => Ok(None),
+        Some(tool) => Ok(Some(Request::Work(tool))),
     }
 }

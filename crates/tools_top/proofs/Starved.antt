@@ -3,18 +3,33 @@ use Rattle.std.proofs.Common.{◌≡◌, inl, List, refl}
 use Rattle.std.specs.Prelude.{IsTrue}
 use Rattle.commit_journal.specs.Journal.{IsAtMostSynced}
 use Rattle.host_port.specs.Host.{Told, MayLeave, Throughout, AddsPart, disk_now, said_now}
-use Rattle.host_port.proofs.Course.{course_still, still_disk, still_said, still_input}
+use Rattle.host_port.proofs.Course.{adds_none, course_still, still_disk, still_said, still_input}
 use Rattle.command_runs.specs.Runs.{replies, events, events_due}
 use Rattle.command_runs.specs.Crashes.{IsOpenedRunning}
 use Rattle.op_form.specs.declared.event.Event.{Event}
+use Rattle.plain_repository.specs.State.{empty}
 use Rattle.plain_repository.specs.Store.{StandsForEvents}
 use Rattle.store_session.specs.Opening.{IsMounting}
 use Rattle.store_runs.specs.Endings.{IsHalted, IsKept}
 use Rattle.store_runs.specs.Tasks.{Task}
+use Rattle.store_runs.specs.declared.status.Status.TheVariants.{Memory}
+use Rattle.store_replay.specs.Endings.{IsReplay}
+use Rattle.store_replay.specs.Printing.{said_of_all}
 use Rattle.store_runs.proofs.Headlines.{none_answered, opening_part, opening_moments, stopped}
 
 pub at_most_synced : (entry : Told) → Throughout entry entry (λ disk said. IsAtMostSynced (disk_now entry) disk)
 at_most_synced entry told t low high = inl (still_disk entry told t low high)
+
+pub starved_replay : (entry : Told) → IsReplay entry entry Memory
+starved_replay entry = record {
+  ends = λ told. tt;
+  part = λ events stood. adds_none entry entry (said_of_all empty events) (still_said entry);
+  moments = λ told t low high. inl (still_disk entry told t low high, still_said entry told t low high);
+  long = λ long. at_most_synced entry;
+  cause = tt;
+  input = still_input entry;
+  course = course_still entry;
+}
 
 module _ (entry : Told) (first : List Event) (stood : StandsForEvents (disk_now entry).now first) (task : Task) where
   mounting : Throughout entry entry (λ disk said. IsMounting (disk_now entry) disk)

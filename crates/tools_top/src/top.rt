@@ -1,5 +1,5 @@
 //! The top call.
-ghost use Rattle.std.specs.Prelude.{◌≡◌, ◌<◌, ◌⊎◌, ℕ, List, [], length, map, string_bytes, IsTrue};
+ghost use Rattle.std.specs.Prelude.{◌≡◌, ◌≢◌, ◌<◌, ◌⊎◌, ℕ, List, [], length, map, string_bytes, IsTrue};
 ghost use Rattle.host_port.specs.Host.{disk_now, said_now, Rose, GoesOn, Throughout, AddsPart, KeepsSaid, KeepsInput};
 ghost use Rattle.commit_journal.specs.Journal.{IsAtMostSynced, new_size};
 ghost use Rattle.command_runs.specs.Runs.{played, replies, events, events_due};
@@ -9,18 +9,21 @@ ghost use Rattle.plain_repository.specs.State.{empty};
 ghost use Rattle.plain_repository.specs.Events.{play};
 ghost use Rattle.plain_repository.specs.Store.{StandsForEvents, StandsForNoEvents};
 ghost use Rattle.store_runs.specs.Endings.{Ends, NothingRose, IsKept, KeepsFile, KeepsUnread, IsFoundDamaged};
-ghost use Rattle.tool_requests.specs.Words.{AskFor, AreBad};
+ghost use Rattle.store_replay.specs.Endings.{EndsPrinted, IsReplay, end_of_events};
+ghost use Rattle.tool_requests.specs.Words.{AskFor, AskForReplay, AreBad};
 ghost use Rattle.tool_requests.specs.declared.tool.Tool.{Tool};
 ghost use Rattle.tools_top.specs.Tasks.{task_of};
 
 use crate::asked::Asked;
 use host_port::Host;
 use std::alloc::Global;
+use store_replay::replay_store;
 use store_runs::{Status, over_store};
-use tool_requests::tool_of;
+use tool_requests::{Request, request_of};
 
 /// All that the program does: it opens the store and does what the words ask for. `query` and `blame` are answered by one
 /// reply. Behind a guard the lines of the input are answered, one after the other, but for those that the policy denies.
+/// With `replay` the store is printed as the script that makes it again.
 pub fn tools<H: Host>(alloc: Global, words: &[String], host: &mut H) -> Status
     // What is printed and kept, where the file stands for a list of events. With Accepted, Refused and Input these are
     // all of the task's replies, and all of its events. With WriteFault these are the replies before the one that
@@ -59,20 +62,29 @@ pub fn tools<H: Host>(alloc: Global, words: &[String], host: &mut H) -> Status
     ensures write { result ≡ Status.WriteFault → Rose (H.told host.old).say_faults (H.told host.new).say_faults }
     ensures disk { result ≡ Status.DiskFault → Rose (H.told host.old).disk_faults (H.told host.new).disk_faults }
     // Damaged comes where the file stands for no list of events, with the exact offset. Such a file reads as it was at each
-    // moment, nothing is printed and no input taken, whatever the status.
-    ensures damaged { (at : ℕ) → result ≡ Status.Damaged at → IsFoundDamaged (H.told host.old) (H.told host.new) at }
+    // moment, nothing is printed and no input taken, whatever the status. With `replay` what stands before the damage is printed.
+    ensures damaged { ¬ AskForReplay (map string_bytes words.now) → (at : ℕ) → result ≡ Status.Damaged at → IsFoundDamaged (H.told host.old) (H.told host.new) at }
     ensures kept { StandsForNoEvents (disk_now (H.told host.old)).now → KeepsFile (H.told host.old) (H.told host.new) }
-    ensures silent { IsTrue (H.told host.old).tells → StandsForNoEvents (disk_now (H.told host.old)).now
+    ensures silent { ¬ AskForReplay (map string_bytes words.now) → IsTrue (H.told host.old).tells → StandsForNoEvents (disk_now (H.told host.old)).now
         → KeepsSaid (H.told host.old) (H.told host.new) × KeepsInput (H.told host.old) (H.told host.new) }
-    ensures damages { IsTrue (H.told host.old).tells → StandsForNoEvents (disk_now (H.told host.old)).now
+    ensures damages { ¬ AskForReplay (map string_bytes words.now) → IsTrue (H.told host.old).tells → StandsForNoEvents (disk_now (H.told host.old)).now
         → AreBad (map string_bytes words.now) ⊎ ((at : ℕ) × (result ≡ Status.Damaged at)) ⊎ (result ≡ Status.DiskFault) ⊎ (result ≡ Status.Memory) }
+    // With `replay` the store is printed as a script: what is printed and kept at each moment, and how it ends, whatever the file holds.
+    ensures replay { AskForReplay (map string_bytes words.now) → IsReplay (H.told host.old) (H.told host.new) result }
+    // Where the file stands for events: with Accepted their script is printed, and with Refused what there is up to the line that says why.
+    ensures script { AskForReplay (map string_bytes words.now) → IsTrue (H.told host.old).tells → (first : List Event) → StandsForEvents (disk_now (H.told host.old)).now first
+        → EndsPrinted first (H.told host.old) (H.told host.new) result }
+    ensures whole { AskForReplay (map string_bytes words.now) → IsTrue (H.told host.old).tells → (first : List Event) → StandsForEvents (disk_now (H.told host.old)).now first
+        → NothingRose (H.told host.old) (H.told host.new) → (result ≡ end_of_events first) ⊎ (result ≡ Status.Memory) }
+    ensures broken { AskForReplay (map string_bytes words.now) → IsTrue (H.told host.old).tells → StandsForNoEvents (disk_now (H.told host.old)).now → result ≢ Status.Accepted }
     ensures course { GoesOn (H.told host.old) (H.told host.new) }
 {
-    let Ok(asked) = tool_of(alloc, words) else {
+    let Ok(asked) = request_of(alloc, words) else {
         return Status::Memory;
     };
     match asked {
         None => Status::BadWords,
-        Some(tool) => over_store(alloc, &Asked { tool }, host),
+        Some(Request::Replay) => replay_store(alloc, host),
+        Some(Request::Work(tool)) => over_store(alloc, &Asked { tool }, host),
     }
 }

@@ -1,0 +1,5 @@
+pub mod Events
+pub mod Scripts
+pub mod Moving
+pub mod Walking
+pub mod Endings
