@@ -1,8 +1,9 @@
-//! Runs of the program over hosts in memory.
+//! Runs of both programs over hosts in memory.
 use emf_top::{Status, run};
 use host_port::{Host, MemoryHost};
 use std::alloc::Global;
 use std::test::Fail;
+use tools_top::tools;
 
 // A library has books; a book has a title, which it needs, a genre, pages, tags, authors, a sequel and a prequel.
 pub(crate) const LIBRARY: &str =
@@ -43,11 +44,27 @@ pub(crate) fn serve<H: Host>(alloc: Global, host: &mut H) -> Status {
     run(alloc, words.as_slice(), host)
 }
 
-// How a run with these words ends, the words between single spaces.
-pub(crate) fn asked<H: Host>(alloc: Global, words: &str, host: &mut H) -> Result<Status, Fail> {
+// The words between single spaces.
+fn listed(alloc: Global, words: &str) -> Result<Vec<String>, Fail> {
     let mut list = Vec::new(alloc);
     for word in words.split(' ') {
         list.push(String::from_str(alloc, word)?)?;
     }
+    Ok(list)
+}
+
+// How a run of the first program with these words ends.
+pub(crate) fn asked<H: Host>(alloc: Global, words: &str, host: &mut H) -> Result<Status, Fail> {
+    let list = listed(alloc, words)?;
     Ok(run(alloc, list.as_slice(), host))
+}
+
+// How a run of the second program with these words ends.
+pub(crate) fn tools_asked<H: Host>(
+    alloc: Global,
+    words: &str,
+    host: &mut H,
+) -> Result<Status, Fail> {
+    let list = listed(alloc, words)?;
+    Ok(tools(alloc, list.as_slice(), host))
 }

@@ -1,6 +1,6 @@
-//! Tests of the whole program over its public call, with hosts in memory whose calls fail. A crate that holds its own
-//! tests is proved twice. What the program answers is told by the sessions of sessions/, which run on the built
-//! program.
+//! Tests of both programs over their public calls, with hosts in memory, some of whose calls fail, and of the policies
+//! that the second one reads. A crate that holds its own tests is proved twice. What the first one answers is told by
+//! the sessions of sessions/, which run on the built program.
 #![tactic(auto)]
 
 #[cfg(test)]
@@ -10,4 +10,8 @@ mod frames;
 #[cfg(test)]
 mod hosts;
 #[cfg(test)]
+mod policies;
+#[cfg(test)]
 mod replies;
+#[cfg(test)]
+mod tool_runs;

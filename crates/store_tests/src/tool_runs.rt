@@ -1,10 +1,8 @@
 //! What `emftools` answers with ample memory, over a store that a script makes.
-use emf_top::run;
-use host_port::MemoryHost;
+use crate::hosts::{over, serve, tools_asked};
 use std::alloc::Global;
 use std::process::Abort;
 use std::test::Fail;
-use tools_top::{Status, tools};
 
 // A book, and on another branch its page count.
 const SCRIPT: &str = r#"init
@@ -41,16 +39,10 @@ guard ann ann:admin < tag t 0| > ok| 0
 guard ann bob:admin < show 1| > no 41 Denied 0| 1
 guard ann ann:all < show 1| >  2";
 
-fn over(alloc: Global, input: Vec<u8>, file: Vec<u8>) -> MemoryHost {
-    MemoryHost::new(alloc, input, 4096, file, Vec::new(alloc))
-}
-
-// The file that the script makes.
-fn store(rt: &impl Abort, alloc: Global) -> Result<Vec<u8>, Fail> {
-    let mut host = over(alloc, SCRIPT.as_bytes().to_vec(alloc)?, Vec::new(alloc));
-    let words = Vec::new(alloc);
-    let status = run(alloc, words.as_slice(), &mut host);
-    assert_eq!(rt; status.code(), 0);
+// The file that a script makes.
+fn store(rt: &impl Abort, alloc: Global, script: &[u8]) -> Result<Vec<u8>, Fail> {
+    let mut host = over(alloc, script.to_vec(alloc)?, Vec::new(alloc));
+    assert_eq!(rt; serve(alloc, &mut host).code(), 0);
     Ok(host.file().to_vec(alloc)?)
 }
 
@@ -60,14 +52,6 @@ fn cut<'a>(text: &'a str, mark: &str) -> (&'a str, &'a str) {
         Some(parts) => parts,
         None => (text, ""),
     }
-}
-
-fn asked(alloc: Global, words: &str, host: &mut MemoryHost) -> Result<Status, Fail> {
-    let mut list = Vec::new(alloc);
-    for word in words.split(' ') {
-        list.push(String::from_str(alloc, word)?)?;
-    }
-    Ok(tools(alloc, list.as_slice(), host))
 }
 
 fn check_run(
@@ -80,7 +64,7 @@ fn check_run(
     let (words, input) = cut(run, " < ");
     let input = input.replace(alloc, "|", "\n")?;
     let mut host = over(alloc, input.into_bytes(), file);
-    let status = asked(alloc, words, &mut host)?.code();
+    let status = tools_asked(alloc, words, &mut host)?.code();
     let said = std::str::from_utf8(host.said())?.replace(alloc, "\n", "|")?;
     let found = format!(in alloc; "{said} {status}")?;
     assert_eq!(rt; found.as_str(), wanted, "{run}");
@@ -90,10 +74,43 @@ fn check_run(
 #[test]
 fn each_row_is_answered(rt: HostRuntime) -> Result<(), Fail> {
     let alloc = rt.alloc();
-    let file = store(&rt, alloc)?;
+    let file = store(&rt, alloc, SCRIPT.as_bytes())?;
     for row in ROWS.lines() {
         let (run, wanted) = cut(row, " > ");
         check_run(&rt, alloc, file.clone()?, run, wanted)?;
     }
+    Ok(())
+}
+
+// The lines of the script again that name a command.
+const COMMANDS: &str =
+    "init|checkout 0|load 1|load 1|commit 1 title|branch 1 dev|load 1|commit 1 pages|checkout 1|load 2|commit 2 other title|";
+
+// Whether a line is one of a block.
+fn is_in_block(line: &str) -> bool {
+    line == "." || line.starts_with("{") || line.starts_with("]") || line.starts_with("0")
+}
+
+fn commands(alloc: Global, script: &str) -> Result<String, Fail> {
+    let mut commands = String::new(alloc);
+    for line in script.lines() {
+        if !is_in_block(line) {
+            commands.push_str(line)?;
+            commands.push_str("|")?;
+        }
+    }
+    Ok(commands)
+}
+
+#[test]
+fn a_store_is_printed_as_the_script_that_makes_it_again(rt: HostRuntime) -> Result<(), Fail> {
+    let alloc = rt.alloc();
+    let file = store(&rt, alloc, SCRIPT.as_bytes())?;
+    let mut host = over(alloc, Vec::new(alloc), file.clone()?);
+    assert_eq!(rt; tools_asked(alloc, "replay", &mut host)?.code(), 0);
+    let script = std::str::from_utf8(host.said())?;
+    assert_eq!(rt; commands(alloc, script)?.as_str(), COMMANDS);
+    let again = store(&rt, alloc, host.said())?;
+    assert!(rt; again.as_slice() == file.as_slice());
     Ok(())
 }
