@@ -15,5 +15,5 @@ pub use enums::Enums;
 pub use fault::ValueFault;
 pub use meta::{Class, Enum, EnumLiteral, Feature, Kind, Scalar, Value};
 pub use metamodel::{Metamodel, Parts};
-pub use texts::{List, Text};
+pub use texts::{Boxed, CompactList, List, Text};
 pub use values::{default_of, value_of};
