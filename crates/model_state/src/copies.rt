@@ -3,7 +3,7 @@ ghost use Rattle.std.specs.Prelude.{◌≡◌, IfOk};
 ghost use Rattle.model_state.specs.declared.step.Step.TheVariants.{Put, Ins, Del, Shift, Link, Unlink, RerankRow, New, Gone, Move, RerankPlace};
 
 use crate::{Id, Place, Step};
-use ecore_meta::{List, Value};
+use ecore_meta::{Boxed, List, Value};
 use std::alloc::{AllocError, Global};
 
 /// A copy of a value that may be missing.
@@ -191,12 +191,12 @@ fn copy_move(
 {
     Ok(Step::Move {
         e: e.copy(alloc)?,
-        from: from.copy(alloc)?,
+        from: Boxed::new(alloc, from.copy(alloc)?)?,
         from_rank,
-        to: to.copy(alloc)?,
+        to: Boxed::new(alloc, to.copy(alloc)?)?,
         to_rank,
-        above_from: copy_ids(alloc, above_from)?,
-        above_to: copy_ids(alloc, above_to)?,
+        above_from: Boxed::new(alloc, copy_ids(alloc, above_from)?)?,
+        above_to: Boxed::new(alloc, copy_ids(alloc, above_to)?)?,
     })
 }
 
@@ -234,7 +234,14 @@ impl Step {
                 above_from,
                 above_to,
             } => copy_move(
-                alloc, e, from, *from_rank, to, *to_rank, above_from, above_to,
+                alloc,
+                e,
+                from.get(),
+                *from_rank,
+                to.get(),
+                *to_rank,
+                above_from.get(),
+                above_to.get(),
             ),
             Step::RerankPlace { e, old, new } => copy_rerank_place(alloc, e, *old, *new),
         }

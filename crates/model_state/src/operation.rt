@@ -3,8 +3,9 @@ ghost use Rattle.std.specs.Prelude.{◌≡◌, IfOk};
 ghost use Rattle.model_state.specs.Packages.{steps_of};
 
 use crate::Step;
-use ecore_meta::{List, Text};
+use ecore_meta::{CompactList, List, Text};
 use std::alloc::{AllocError, Global};
+use std::mem::size_of;
 
 /// The kind of a simple operation, after the operations of EMFStore.
 #[derive(Clone, Copy, Debug, PartialEq, Eq, Drop)]
@@ -17,24 +18,44 @@ pub enum OpKind {
     Move,
 }
 
-/// An operation: the steps of one edit, or a composite of several under a name.
+/// An operation: the steps of one edit, or a composite of several under a name. Most edits make one step, which lies in
+/// the operation itself.
 #[derive(Debug, Drop)]
 pub enum Operation {
-    Simple { kind: OpKind, steps: List<Step> },
-    Composite { name: Text, steps: List<Step> },
+    Simple {
+        kind: OpKind,
+        steps: CompactList<Step>,
+    },
+    Composite {
+        name: Text,
+        steps: List<Step>,
+    },
 }
+
+// An operation of one step takes no memory beside this, but for long texts.
+const _: () = prove!(size_of::<Operation>() == 112);
 
 /// A change package: operations in the order in which they were recorded.
 pub type Package = List<Operation>;
 
-fn copy_steps(alloc: Global, steps: &List<Step>) -> Result<List<Step>, AllocError>
+fn copy_steps(alloc: Global, steps: &[Step]) -> Result<List<Step>, AllocError>
     ensures { IfOk result (λ w. w ≡ steps.now) }
 {
     let mut copied = List::new(alloc);
-    for step in steps.as_slice() {
+    for step in steps {
         copied.push(step.copy(alloc)?)?;
     }
     Ok(copied)
+}
+
+/// The same steps; a single one takes no block of its own.
+fn copy_compact(alloc: Global, steps: &[Step]) -> Result<CompactList<Step>, AllocError>
+    ensures { IfOk result (λ w. w ≡ steps.now) }
+{
+    match steps {
+        [step] => Ok(CompactList::one(step.copy(alloc)?)),
+        _ => Ok(CompactList::from_list(copy_steps(alloc, steps)?)),
+    }
 }
 
 impl Operation {
@@ -55,11 +76,11 @@ impl Operation {
         match self {
             Operation::Simple { kind, steps } => Ok(Operation::Simple {
                 kind: *kind,
-                steps: copy_steps(alloc, steps)?,
+                steps: copy_compact(alloc, steps.as_slice())?,
             }),
             Operation::Composite { name, steps } => Ok(Operation::Composite {
                 name: name.copy(alloc)?,
-                steps: copy_steps(alloc, steps)?,
+                steps: copy_steps(alloc, steps.as_slice())?,
             }),
         }
     }

@@ -5,8 +5,9 @@ ghost use Rattle.model_state.specs.Chains.{parent_of};
 ghost use Rattle.model_state.specs.State.{place_eq, is_inside};
 
 use crate::Id;
-use ecore_meta::{List, Value};
+use ecore_meta::{Boxed, List, Value};
 use std::alloc::{AllocError, Global};
+use std::mem::size_of;
 use thiserror::Error;
 
 /// Where an element stands: at the root of the model, or in a containment of its parent.
@@ -94,15 +95,15 @@ pub enum Step {
         rank: u64,
     },
     /// An element is moved to another place. The containers of both places are recorded, so that moves which would
-    /// make a cycle touch what each other reads.
+    /// make a cycle touch what each other reads. Its large parts are boxed, so that other steps take no room for them.
     Move {
         e: Id,
-        from: Place,
+        from: Boxed<Place>,
         from_rank: u64,
-        to: Place,
+        to: Boxed<Place>,
         to_rank: u64,
-        above_from: List<Id>,
-        above_to: List<Id>,
+        above_from: Boxed<List<Id>>,
+        above_to: Boxed<List<Id>>,
     },
     /// An element gets another rank where it stands.
     RerankPlace {
@@ -111,6 +112,9 @@ pub enum Step {
         new: u64,
     },
 }
+
+// A step of any kind takes as much as the largest, and a history has millions of them.
+const _: () = prove!(size_of::<Step>() == 96);
 
 /// Why a step can't be taken: the first of its tests that fails.
 #[derive(Clone, Copy, Debug, PartialEq, Eq, Drop, Error)]
