@@ -11,7 +11,7 @@ ghost use Rattle.history_tree.specs.Room.{most_numbered};
 use crate::found::{FindFault, Found};
 use crate::names::NameIndex;
 use crate::version::{Branch, Tag, Version};
-use ecore_meta::{List, Text};
+use ecore_meta::{CompactList, List, Text};
 use std::alloc::{AllocError, Global};
 use std::marker::Model;
 
@@ -54,7 +54,7 @@ fn first_version(alloc: Global) -> Result<Version, AllocError>
         author: None,
         moment: None,
         message,
-        package: List::new(alloc),
+        package: CompactList::new(alloc),
     })
 }
 

@@ -1,7 +1,8 @@
 //! Versions, branches and tags, one by one.
 
-use ecore_meta::{List, Text};
-use model_state::Package;
+use ecore_meta::{CompactList, List, Text};
+use model_state::Operation;
+use std::mem::size_of;
 
 /// What one commit recorded after its parent. Versions and branches are numbered in the order in which they are made, from 0.
 #[derive(Drop)]
@@ -19,8 +20,11 @@ pub struct Version {
     /// What the user says of it.
     pub message: Text,
     /// The operations that lead from the parent's state to its own.
-    pub package: Package,
+    pub package: CompactList<Operation>,
 }
+
+// A version of one operation takes no memory beside this, but for long texts.
+const _: () = prove!(size_of::<Version>() == 216);
 
 /// Who makes a version, and when: a number that the author gives, of any unit.
 #[derive(Drop)]
