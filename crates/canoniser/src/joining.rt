@@ -6,7 +6,7 @@ ghost use Rattle.tidy_laws.specs.Rules.{joined_op, met};
 ghost use Rattle.canoniser.specs.Meetings.{list_of};
 
 use crate::undoing::takes_back;
-use ecore_meta::List;
+use ecore_meta::CompactList;
 use model_state::{OpKind, Operation, Step, copy_value};
 use std::alloc::{AllocError, Global};
 
@@ -75,12 +75,13 @@ fn join_steps(alloc: Global, s: &Step, t: &Step) -> Result<Option<Step>, AllocEr
     }
 }
 
-pub(crate) fn single(alloc: Global, kind: OpKind, step: Step) -> Result<Operation, AllocError>
-    ensures { IfOk result (λ o. o ≡ Simple kind (step ∷ [])) }
+pub(crate) fn single(kind: OpKind, step: Step) -> Operation
+    ensures { result ≡ Simple kind (step ∷ []) }
 {
-    let mut steps = List::new(alloc);
-    steps.push(step)?;
-    Ok(Operation::Simple { kind, steps })
+    Operation::Simple {
+        kind,
+        steps: CompactList::one(step),
+    }
 }
 
 fn join(alloc: Global, a: &Operation, b: &Operation) -> Result<Option<Operation>, AllocError>
@@ -92,7 +93,7 @@ fn join(alloc: Global, a: &Operation, b: &Operation) -> Result<Option<Operation>
                 [s] => match later.as_slice() {
                     [t] => match join_steps(alloc, s, t)? {
                         None => Ok(None),
-                        Some(u) => Ok(Some(single(alloc, *kind, u)?)),
+                        Some(u) => Ok(Some(single(*kind, u))),
                     },
                     _ => Ok(None),
                 },

@@ -63,7 +63,7 @@ fn put_singles(alloc: Global, list: &mut Vec<Operation>, steps: &[Step]) -> Resu
     ensures { OnOk result (list.new.items ≡ list.old.items ++ singles steps.now) }
 {
     for step in steps {
-        list.push(single(alloc, own_kind(step), step.copy(alloc)?)?)?;
+        list.push(single(own_kind(step), step.copy(alloc)?))?;
     }
     Ok(())
 }

@@ -176,12 +176,12 @@ fn undoes_move(
             above_to: above_forth,
         } => {
             e == x
-                && from.is_same(forth)
+                && from.is_same(forth.get())
                 && ranks.0 == *forth_rank
-                && to.is_same(back)
+                && to.is_same(back.get())
                 && ranks.1 == *back_rank
-                && are_same_ids(above_from, above_forth)
-                && are_same_ids(above_to, above_back)
+                && are_same_ids(above_from, above_forth.get())
+                && are_same_ids(above_to, above_back.get())
         }
         _ => false,
     }
@@ -235,7 +235,15 @@ fn undoes(s: &Step, t: &Step) -> bool
             above_to,
         } => {
             let ranks = (*from_rank, *to_rank);
-            undoes_move(e, from, to, ranks, above_from, above_to, t)
+            undoes_move(
+                e,
+                from.get(),
+                to.get(),
+                ranks,
+                above_from.get(),
+                above_to.get(),
+                t,
+            )
         },
         Step::RerankPlace { e, old, new } => undoes_rerank_place(e, *old, *new, t),
     }

@@ -11,7 +11,7 @@ ghost use Rattle.containment.specs.Moves.{HasRefusal, IsMove, IsMoveRefusal};
 
 use crate::MoveFault;
 use crate::spots::{arrival_spot, find_spot};
-use ecore_meta::{List, Metamodel};
+use ecore_meta::{Boxed, List, Metamodel};
 use model_state::{Id, Look, Place, Placed, Step, chain, has_room, may_move};
 use opposites::{index_or_end, stands_at, without_entry};
 use std::alloc::Global;
@@ -82,12 +82,12 @@ fn move_to<L: Look>(
     let mut steps = spot.steps;
     steps.push(Step::Move {
         e: e.copy(alloc)?,
-        from: from.place.copy(alloc)?,
+        from: Boxed::new(alloc, from.place.copy(alloc)?)?,
         from_rank: from.rank,
-        to: to.copy(alloc)?,
+        to: Boxed::new(alloc, to.copy(alloc)?)?,
         to_rank: spot.rank,
-        above_from,
-        above_to,
+        above_from: Boxed::new(alloc, above_from)?,
+        above_to: Boxed::new(alloc, above_to)?,
     })?;
     Ok(steps)
 }

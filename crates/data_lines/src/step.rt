@@ -54,7 +54,7 @@ fn push_step(line: &mut Line, meta: &Metamodel, step: &Step) -> Result<(), Alloc
             to,
             to_rank,
             ..
-        } => push_move(line, meta, e, from, *from_rank, to, *to_rank),
+        } => push_move(line, meta, e, from.get(), *from_rank, to.get(), *to_rank),
         Step::RerankPlace { e, old, new } => push_rank_of_place(line, e, *old, *new),
     }
 }

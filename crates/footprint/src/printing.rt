@@ -147,7 +147,7 @@ fn put_writes(
         Step::RerankRow { a, f, b, .. } => put_side(alloc, list, meta, a, *f, b),
         Step::New { e, place, .. } => put_birth(alloc, list, meta, e, place),
         Step::Gone { e, place, .. } => put_birth(alloc, list, meta, e, place),
-        Step::Move { e, from, to, .. } => put_move(alloc, list, meta, e, from, to),
+        Step::Move { e, from, to, .. } => put_move(alloc, list, meta, e, from.get(), to.get()),
         Step::RerankPlace { e, .. } => put_cell(list, Cell::Rank(e.copy(alloc)?)),
     }
 }
@@ -230,8 +230,8 @@ fn put_reads(alloc: Global, list: &mut List<Cell>, step: &Step) -> Result<(), Al
             above_to,
             ..
         } => {
-            put_kinds_of_move(alloc, list, e, from, to)?;
-            put_containers(alloc, list, above_from, above_to)
+            put_kinds_of_move(alloc, list, e, from.get(), to.get())?;
+            put_containers(alloc, list, above_from.get(), above_to.get())
         }
         Step::RerankPlace { e, .. } => put_cell(list, Cell::Place(e.copy(alloc)?)),
     }

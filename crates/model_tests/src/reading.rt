@@ -3,7 +3,7 @@
 //! A place is `/`, or `a.4` inside the element a, in its feature 4. A value is `"Emma"`, with `\n` and `\"` in it as in JSON, `-5`, `true`, or `#1`,
 //! the literal of that number. Containers have commas between them. `-` is no value, no rank, or no containers. Only a value at the end may have
 //! blanks. Steps have `; ` between them. An operation is its steps, and before those of a composite stand its name and `: `.
-use ecore_meta::{List, Text, Value};
+use ecore_meta::{Boxed, CompactList, List, Text, Value};
 use model_state::{Id, OpKind, Operation, Place, Step};
 use std::alloc::Global;
 use std::test::Fail;
@@ -253,12 +253,12 @@ fn move_element(alloc: Global, words: &mut Words) -> Result<Step, Fail> {
     let (above_from, above_to) = both_containers(alloc, words)?;
     Ok(Step::Move {
         e: id(alloc, e)?,
-        from,
+        from: Boxed::new(alloc, from)?,
         from_rank,
-        to,
+        to: Boxed::new(alloc, to)?,
         to_rank,
-        above_from,
-        above_to,
+        above_from: Boxed::new(alloc, above_from)?,
+        above_to: Boxed::new(alloc, above_to)?,
     })
 }
 
@@ -315,7 +315,7 @@ pub(crate) fn operation(alloc: Global, text: &str) -> Result<Operation, Fail> {
         Some((name, lines)) => composite(alloc, name, lines),
         None => {
             let kind = OpKind::Create;
-            let steps = steps(alloc, text)?;
+            let steps = CompactList::from_list(steps(alloc, text)?);
             Ok(Operation::Simple { kind, steps })
         }
     }

@@ -1,6 +1,6 @@
 //! The lines of events, and which events a script can't hold: each reason, and what is just on its edge.
 use crate::reading::cut;
-use ecore_meta::{List, Text, Value};
+use ecore_meta::{CompactList, List, Text, Value};
 use history_tree::History;
 use model_state::{Id, OpKind, Operation, Step};
 use op_form::{Event, has_encoding};
@@ -92,13 +92,12 @@ fn event_of(alloc: Global, kind: &str, text: Text) -> Result<Event, Fail> {
 
 // An edit by one operation that sets a text of so many bytes.
 fn long_edit(alloc: Global, count: usize) -> Result<Event, Fail> {
-    let mut steps = List::new(alloc);
-    steps.push(Step::Put {
+    let steps = CompactList::one(Step::Put {
         e: Id::read(alloc, "b")?,
         f: 1,
         old: None,
         new: Some(Value::Text(filled(alloc, "", count, "")?)),
-    })?;
+    });
     let mut package = List::new(alloc);
     package.push(Operation::Simple {
         kind: OpKind::Attribute,

@@ -6,7 +6,7 @@
 
 use crate::fault::TimesFault;
 use crate::spread::{Spread, Turn};
-use ecore_meta::{List, Text, Value};
+use ecore_meta::{Boxed, List, Text, Value};
 use model_state::{Id, OpKind, Place, Step};
 use std::alloc::Global;
 
@@ -295,12 +295,12 @@ fn move_step(alloc: Global, e: Id, rank: u64, target: u64) -> Result<Step, Times
     let above_to = containers(alloc, target)?;
     Ok(Step::Move {
         e,
-        from: Place::Root,
+        from: Boxed::new(alloc, Place::Root)?,
         from_rank: rank.saturating_add(1),
-        to,
+        to: Boxed::new(alloc, to)?,
         to_rank: rank,
-        above_from: List::new(alloc),
-        above_to,
+        above_from: Boxed::new(alloc, List::new(alloc))?,
+        above_to: Boxed::new(alloc, above_to)?,
     })
 }
 

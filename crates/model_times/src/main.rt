@@ -16,7 +16,7 @@ ghost use Rattle.model_times.specs.Models.{AreGood};
 
 use anyhow::Result;
 use batches::{BATCHES, Batch, batch_of, building, pieces, steps_of_one};
-use ecore_meta::{List, Metamodel};
+use ecore_meta::{CompactList, List, Metamodel};
 use fault::TimesFault;
 use growth::{measure_growth, read};
 use model_graph::Graph;
@@ -173,7 +173,7 @@ fn measure_batch<M: Change>(
     println!(rt; "{}: {}", batch.word(), turns.len())?;
     print_time(rt, is_timed, taken)?;
     let kind = batch.kind();
-    let steps = steps_of_one(rt.alloc(), turns.as_slice())?;
+    let steps = CompactList::from_list(steps_of_one(rt.alloc(), turns.as_slice())?);
     Ok(Operation::Simple { kind, steps })
 }
 

@@ -207,16 +207,24 @@ fn is_step(step: &Step) -> bool
             to_rank,
             above_from,
             above_to,
-        } => is_move(e, from, *from_rank, to, *to_rank, above_from, above_to),
+        } => is_move(
+            e,
+            from.get(),
+            *from_rank,
+            to.get(),
+            *to_rank,
+            above_from.get(),
+            above_to.get(),
+        ),
         Step::RerankPlace { e, old, new } => is_id(e) && is_u64(*old) && is_u64(*new),
     }
 }
 
 /// A list with at least one step.
-fn are_steps(steps: &List<Step>) -> bool
+fn are_steps(steps: &[Step]) -> bool
     ensures { result ≡ is_some_list is_step steps.now }
 {
-    1 <= steps.len() && is_short(steps.len()) && all_steps(steps.as_slice())
+    1 <= steps.len() && is_short(steps.len()) && all_steps(steps)
 }
 
 fn all_steps(steps: &[Step]) -> bool
@@ -230,8 +238,10 @@ fn is_operation(operation: &Operation) -> bool
     ensures { result ≡ is_operation operation.now }
 {
     match operation {
-        Operation::Simple { steps, .. } => are_steps(steps),
-        Operation::Composite { name, steps } => is_name(name.as_str()) && are_steps(steps),
+        Operation::Simple { steps, .. } => are_steps(steps.as_slice()),
+        Operation::Composite { name, steps } => {
+            is_name(name.as_str()) && are_steps(steps.as_slice())
+        }
     }
 }
 

@@ -3,7 +3,7 @@ ghost use Rattle.std.specs.Prelude.{◌≡◌, IfOk};
 ghost use Rattle.model_state.specs.Steps.{rev, rev_all};
 ghost use Rattle.model_state.specs.Packages.{rev_kind, rev_op, rev_package};
 
-use ecore_meta::List;
+use ecore_meta::{CompactList, List};
 use model_state::{OpKind, Operation, Package, Step};
 use std::alloc::{AllocError, Global};
 
@@ -91,11 +91,11 @@ fn reverse_kind(kind: OpKind) -> OpKind
     }
 }
 
-fn reverse_steps(alloc: Global, steps: &List<Step>) -> Result<List<Step>, AllocError>
+fn reverse_steps(alloc: Global, steps: &[Step]) -> Result<List<Step>, AllocError>
     ensures { IfOk result (λ w. w ≡ rev_all steps.now) }
 {
     let mut reversals = List::new(alloc);
-    for step in steps.as_slice().iter().rev() {
+    for step in steps.iter().rev() {
         reversals.push(reversed(step.copy(alloc)?))?;
     }
     Ok(reversals)
@@ -108,11 +108,11 @@ pub fn reverse_op(alloc: Global, op: &Operation) -> Result<Operation, AllocError
     match op {
         Operation::Simple { kind, steps } => Ok(Operation::Simple {
             kind: reverse_kind(*kind),
-            steps: reverse_steps(alloc, steps)?,
+            steps: CompactList::from_list(reverse_steps(alloc, steps.as_slice())?),
         }),
         Operation::Composite { name, steps } => Ok(Operation::Composite {
             name: name.copy(alloc)?,
-            steps: reverse_steps(alloc, steps)?,
+            steps: reverse_steps(alloc, steps.as_slice())?,
         }),
     }
 }

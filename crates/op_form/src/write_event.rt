@@ -10,7 +10,6 @@ ghost use Rattle.op_form.specs.Formed.{IsSomeList, IsStep, IsOperation, IsPackag
 use crate::Event;
 use crate::write_step::put_step;
 use byte_form::Form;
-use ecore_meta::List;
 use model_state::{OpKind, Operation, Package, Step};
 use std::alloc::{AllocError, Global};
 
@@ -57,12 +56,12 @@ fn put_step_items(form: &mut Form, steps: &[Step]) -> Result<(), AllocError>
     Ok(())
 }
 
-fn put_steps(form: &mut Form, steps: &List<Step>) -> Result<(), AllocError>
+fn put_steps(form: &mut Form, steps: &[Step]) -> Result<(), AllocError>
     requires { IsSomeList IsStep steps.now }
     ensures { OnOk result (form.new ≡ form.old ++ list_encoding step_encoding steps.now) }
 {
     form.put_u32(steps.len() as u32)?;
-    put_step_items(form, steps.as_slice())
+    put_step_items(form, steps)
 }
 
 #[tactic(auto, unfolding(crate::specs::Packages::operation_encoding))]
@@ -74,12 +73,12 @@ fn put_operation(form: &mut Form, operation: &Operation) -> Result<(), AllocErro
         Operation::Simple { kind, steps } => {
             form.put_u8(1)?;
             put_kind(form, *kind)?;
-            put_steps(form, steps)
+            put_steps(form, steps.as_slice())
         }
         Operation::Composite { name, steps } => {
             form.put_u8(2)?;
             form.put_text(name.as_str())?;
-            put_steps(form, steps)
+            put_steps(form, steps.as_slice())
         }
     }
 }

@@ -142,7 +142,14 @@ pub(crate) fn put_step(form: &mut Form, step: &Step) -> Result<(), AllocError>
             above_from,
             above_to,
         } => put_move(
-            form, e, from, *from_rank, to, *to_rank, above_from, above_to,
+            form,
+            e,
+            from.get(),
+            *from_rank,
+            to.get(),
+            *to_rank,
+            above_from.get(),
+            above_to.get(),
         ),
         Step::RerankPlace { e, old, new } => put_rank_of_place(form, e, *old, *new),
     }

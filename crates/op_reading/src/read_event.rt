@@ -9,7 +9,7 @@ use crate::FormFault;
 use crate::read_step::take_step;
 use crate::read_value::take_text;
 use byte_form::Reader;
-use ecore_meta::{List, Text};
+use ecore_meta::{CompactList, List, Text};
 use model_state::{OpKind, Operation, Package, Step, is_name};
 use op_form::Event;
 use std::alloc::Global;
@@ -100,7 +100,10 @@ fn take_simple(alloc: Global, reader: &mut Reader<'_>) -> Result<Operation, Form
 {
     let kind = take_kind(reader)?;
     let steps = take_steps(alloc, reader)?;
-    Ok(Operation::Simple { kind, steps })
+    Ok(Operation::Simple {
+        kind,
+        steps: CompactList::from_list(steps),
+    })
 }
 
 #[tactic(auto, unfolding(crate::specs::Packages::composite_at))]

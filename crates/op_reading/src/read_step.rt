@@ -7,6 +7,7 @@ use crate::read_value::{
     take_id, take_ids, take_place, take_rank_if_any, take_value, take_value_if_any,
 };
 use byte_form::Reader;
+use ecore_meta::Boxed;
 use model_state::Step;
 use std::alloc::Global;
 
@@ -157,12 +158,12 @@ fn move_(alloc: Global, reader: &mut Reader<'_>) -> Result<Step, FormFault>
     let above_to = take_ids(alloc, reader)?;
     Ok(Step::Move {
         e,
-        from,
+        from: Boxed::new(alloc, from)?,
         from_rank,
-        to,
+        to: Boxed::new(alloc, to)?,
         to_rank,
-        above_from,
-        above_to,
+        above_from: Boxed::new(alloc, above_from)?,
+        above_to: Boxed::new(alloc, above_to)?,
     })
 }
 

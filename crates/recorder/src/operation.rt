@@ -2,7 +2,7 @@
 ghost use Rattle.std.specs.Prelude.{◌≡◌, ◌∷◌, [], IfOk};
 ghost use Rattle.edits.specs.Edits.{operation_of};
 
-use ecore_meta::List;
+use ecore_meta::{CompactList, List};
 use model_state::{OpKind, Operation, Step};
 use std::alloc::{AllocError, Global};
 
@@ -22,6 +22,9 @@ pub fn operation(kind: OpKind, steps: List<Step>) -> Option<Operation>
     if steps.len() == 0 {
         None
     } else {
-        Some(Operation::Simple { kind, steps })
+        Some(Operation::Simple {
+            kind,
+            steps: CompactList::from_list(steps),
+        })
     }
 }

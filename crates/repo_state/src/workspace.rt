@@ -19,7 +19,7 @@ ghost use Rattle.repo_state.specs.Planning.{replaced, restarted, taken_up};
 
 use crate::following::{model_after, model_before, model_before_one, updated_model};
 use crate::merged::{Merged, Updated};
-use ecore_meta::{List, Metamodel, Text};
+use ecore_meta::{CompactList, List, Metamodel, Text};
 use history_tree::{History, Signature, Version};
 use model_state::{Operation, Package, Step, StepFault};
 use operation_room::fitted;
@@ -62,12 +62,11 @@ fn append_operations(
 }
 
 /// Moves steps after others. When out of memory the others stay as they are.
-fn append_steps(steps: &mut Vec<Step>, more: List<Step>) -> Result<(), AllocError>
+fn append_steps(steps: &mut Vec<Step>, more: CompactList<Step>) -> Result<(), AllocError>
     ensures more { OnOk result (steps.new.items ≡ steps.old.items ++ more) }
     ensures same { OnErr result (steps.new.items ≡ steps.old.items) }
 {
-    let mut more = more.into_vec();
-    steps.append(&mut more)
+    more.append_to(steps)
 }
 
 /// The author and the moment of a signature, or neither.
@@ -309,7 +308,7 @@ impl Workspace {
             author,
             moment,
             message,
-            package: List::from_vec(operations),
+            package: CompactList::from_list(List::from_vec(operations)),
         }
     }
 

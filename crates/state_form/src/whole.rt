@@ -8,7 +8,7 @@ ghost use Rattle.op_form.specs.Packages.{package_encoding};
 ghost use Rattle.state_form.specs.Form.{as_package, state_encoding, state_size, IsStateForm};
 ghost use Rattle.state_form.specs.Spelled.{IsSpelled};
 
-use ecore_meta::{List, Metamodel};
+use ecore_meta::{CompactList, List, Metamodel};
 use model_state::{Look, OpKind, Operation, Package, Step};
 use op_form::encode;
 use state_steps::as_steps;
@@ -21,7 +21,7 @@ fn one_operation(alloc: Global, steps: List<Step>) -> Result<Package, AllocError
     let mut made = List::new(alloc);
     made.push(Operation::Simple {
         kind: OpKind::Create,
-        steps,
+        steps: CompactList::from_list(steps),
     })?;
     Ok(made)
 }

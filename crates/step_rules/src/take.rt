@@ -58,7 +58,15 @@ pub fn take_step<S: Write>(
             above_from,
             above_to,
         } => take_move(
-            model, meta, e, from, *from_rank, to, *to_rank, above_from, above_to,
+            model,
+            meta,
+            e,
+            from.get(),
+            *from_rank,
+            to.get(),
+            *to_rank,
+            above_from.get(),
+            above_to.get(),
         ),
         Step::RerankPlace { e, old, new } => take_rerank_place(model, meta, e, *old, *new),
     }

@@ -12,7 +12,7 @@ ghost use Rattle.version_states.specs.Cached.{AreForms, LeavesFirst, MayUse, Use
 ghost use Rattle.version_states.specs.Taking.{LedTo, StepsLedTo};
 
 use crate::cached::{cached_state, keep_state, nearest};
-use ecore_meta::{List, Metamodel};
+use ecore_meta::{CompactList, List, Metamodel};
 use history_tree::History;
 use model_state::{OpKind, Operation, Package, Step, StepFault};
 use op_form::reverse;
@@ -22,14 +22,14 @@ use std::alloc::{AllocError, Global};
 use working_model::Working;
 
 /// The steps of the one operation of a package.
-pub fn steps_out(package: Package) -> List<Step>
+pub fn steps_out(package: Package) -> CompactList<Step>
     requires one { length «package» ≡ 1 }
     ensures { result ≡ steps_all «package» }
 {
     let mut package = package;
     match package.pop() {
         Some(Operation::Simple { steps, .. }) => steps,
-        Some(Operation::Composite { steps, .. }) => steps,
+        Some(Operation::Composite { steps, .. }) => CompactList::from_list(steps),
         None => unreachable!(),
     }
 }
@@ -139,6 +139,7 @@ fn untake(
     // What kind of operation has the steps is nothing to a model.
     let kind = OpKind::Attribute;
     let mut package = List::new(alloc);
+    let steps = CompactList::from_list(steps);
     package.push(Operation::Simple { kind, steps })?;
     take_back(alloc, model, meta, &package)
 }

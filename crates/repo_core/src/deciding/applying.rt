@@ -227,16 +227,16 @@ fn decide_revert_of(
 {
     repo.orderly();
     let history = &begun.history;
-    let package = &history.version(version).package;
+    let package = copy_operations(alloc, history.version(version).package.as_slice())?;
     let later = path_after(alloc, history, version, workspace.base)?;
-    let found = first_interfering(alloc, &begun.meta, history, package, later.as_slice())?;
+    let found = first_interfering(alloc, &begun.meta, history, &package, later.as_slice())?;
     if found.is_some() {
         return Ok(refuse(alloc, Refusal::Interferes { version: found }));
     }
     let local = copy_operations(alloc, workspace.operations())?;
-    if have_pair(alloc, &begun.meta, package, &local)? {
+    if have_pair(alloc, &begun.meta, &package, &local)? {
         return Ok(refuse(alloc, Refusal::Interferes { version: None }));
     }
-    let reversal = reverse(alloc, package)?;
+    let reversal = reverse(alloc, &package)?;
     with_operations(alloc, repo, ws, reversal)
 }

@@ -17,6 +17,7 @@ use crate::deciding::models::settle;
 use crate::deciding::naming::{find, model_lines, text_of, unknown};
 use data_lines::{log_lines, open_lines, operation_lines, package_lines, validate_lines};
 use ecore_meta::{List, Metamodel, Text};
+use merge_plans::copy_operations;
 use model_graph::Graph;
 use op_form::is_package;
 use page_pool::Pool;
@@ -175,12 +176,13 @@ pub(crate) fn decide_package(
         Err(fault) => return Ok(refuse(alloc, unknown(fault))),
     };
     let version = begun.history.version(found.version);
-    if !is_package(&version.package) {
+    let package = copy_operations(alloc, version.package.as_slice())?;
+    if !is_package(&package) {
         return Ok(refuse(alloc, Refusal::TooLarge));
     }
     repo.orderly();
     begun.meta.sound();
-    let lines = package_lines(alloc, &version.package, &begun.meta)?;
+    let lines = package_lines(alloc, &package, &begun.meta)?;
     tell_lines(alloc, lines)
 }
 
