@@ -3,7 +3,7 @@
 
 ghost use Rattle.std.specs.Prelude.{◌≡◌};
 
-use ecore_meta::List;
+use ecore_meta::{CompactList, List};
 use model_state::{Operation, Package, Step};
 use std::alloc::Global;
 use std::mem::replace;
@@ -17,11 +17,18 @@ fn fit_steps(alloc: Global, steps: &mut List<Step>)
     *steps = List::from_vec(items);
 }
 
+/// Gives back the room that a compact list doesn't use.
+fn fit_compact(alloc: Global, steps: &mut CompactList<Step>)
+    ensures { steps.new ≡ steps.old }
+{
+    *steps = replace(steps, CompactList::new(alloc)).fitted();
+}
+
 fn fit_operation(alloc: Global, operation: &mut Operation)
     ensures { operation.new ≡ operation.old }
 {
     match operation {
-        Operation::Simple { steps, .. } => fit_steps(alloc, steps),
+        Operation::Simple { steps, .. } => fit_compact(alloc, steps),
         Operation::Composite { steps, .. } => fit_steps(alloc, steps),
     }
 }
