@@ -8,8 +8,8 @@ use Rattle.history_tree.specs.History.{History, head}
 use Rattle.history_tree.specs.States.{state_of}
 use Rattle.history_tree.proofs.Heads.{head_within}
 use Rattle.model_state.specs.Packages.{fold_package}
-use Rattle.merge_plans.specs.Choices.{are_choices}
-use Rattle.merge_plans.specs.Plans.{incoming}
+use Rattle.merge_laws.specs.Choices.{are_choices}
+use Rattle.merge_laws.specs.Plans.{incoming}
 use Rattle.tidy_laws.specs.Tidy.{tidy}
 use Rattle.op_form.specs.declared.event.Event.{Event}
 use Rattle.op_form.specs.declared.event.Event.TheVariants.{Tidy, Update, Merge}

@@ -1,7 +1,7 @@
 //! Choices as they are written: a letter a bucket.
 ghost use Rattle.std.specs.Prelude.{◌≡◌, IfOk, map};
 ghost use Rattle.std.specs.List.{list_all};
-ghost use Rattle.merge_plans.specs.Choices.{are_choices, is_choice, side_of};
+ghost use Rattle.merge_laws.specs.Choices.{are_choices, is_choice, side_of};
 
 use footprint::Bucket;
 use merge_laws::Side;

@@ -1,6 +1,6 @@
 //! Operations of two packages that interfere.
 ghost use Rattle.std.specs.Prelude.{◌≡◌, ◌<◌, All, IfOk, length};
-ghost use Rattle.merge_plans.specs.Pairs.{first_interfering, have_pair};
+ghost use Rattle.merge_laws.specs.Pairs.{first_interfering, have_pair};
 
 use conflict_buckets::PackageIndex;
 use ecore_meta::Metamodel;

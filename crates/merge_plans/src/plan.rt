@@ -4,8 +4,8 @@ ghost use Rattle.footprint.specs.Buckets.{buckets as buckets_of};
 ghost use Rattle.tidy_laws.specs.Tidy.{tidy as tidy_of};
 ghost use Rattle.merge_laws.specs.Merge.{merge_list, update_list};
 ghost use Rattle.history_tree.specs.MergeBase.{merge_base};
-ghost use Rattle.merge_plans.specs.Choices.{are_choices, side_of};
-ghost use Rattle.merge_plans.specs.Plans.{incoming, mine_of, theirs_of};
+ghost use Rattle.merge_laws.specs.Choices.{are_choices, side_of};
+ghost use Rattle.merge_laws.specs.Plans.{incoming, mine_of, theirs_of};
 
 use crate::gathering::{copy_operations, operations_after, push_copies};
 use crate::letters::sides_of;

@@ -41,8 +41,8 @@ use Rattle.history_tree.specs.Since.{path_after}
 use Rattle.history_tree.specs.States.{package_at}
 use Rattle.history_tree.proofs.Greatest.{of_among}
 use Rattle.footprint.specs.declared.bucket.Bucket.{Bucket}
-use Rattle.merge_plans.specs.Choices.{are_choices}
-use Rattle.merge_plans.specs.Pairs.{have_pair, first_interfering}
+use Rattle.merge_laws.specs.Choices.{are_choices}
+use Rattle.merge_laws.specs.Pairs.{have_pair, first_interfering}
 use Rattle.tidy_laws.specs.Tidy.{is_tidy}
 use Rattle.op_form.specs.declared.event.Event.{Event}
 use Rattle.op_form.specs.declared.event.Event.TheVariants.{Init, Checkout, Edit, Begin, End, Undo, Discard, Tidy, Commit, Branch, Tag, Update, Merge, Drop, Evolve, Upgrade, Signed}

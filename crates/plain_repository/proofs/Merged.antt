@@ -28,8 +28,8 @@ use Rattle.footprint.proofs.Runs.{Leads, one_end, cut, join, packages_keep}
 use Rattle.tidy_laws.proofs.Whole.{tidy_keeps_effect}
 use Rattle.merge_laws.specs.Merge.{merged}
 use Rattle.merge_laws.proofs.Merges.{update_gives_merged, merge_leads_to_merged}
-use Rattle.merge_plans.specs.Choices.{is_choice, are_choices, side_of}
-use Rattle.merge_plans.specs.Plans.{incoming}
+use Rattle.merge_laws.specs.Choices.{is_choice, are_choices, side_of}
+use Rattle.merge_laws.specs.Plans.{incoming}
 use Rattle.op_form.specs.Formed.{IsStep}
 use Rattle.plain_repository.specs.State.{Workspace, recorded_steps, model_of, is_closed}
 use Rattle.plain_repository.specs.Tidying.{tidied}

@@ -15,8 +15,8 @@ use Rattle.history_tree.proofs.Heads.{head_within}
 use Rattle.history_tree.proofs.Since.{nothing_after, on_path_low}
 use Rattle.history_tree.proofs.Steady.{path_ends}
 use Rattle.tidy_laws.specs.Tidy.{is_tidy}
-use Rattle.merge_plans.specs.Choices.{are_choices}
-use Rattle.merge_plans.specs.Plans.{theirs_of}
+use Rattle.merge_laws.specs.Choices.{are_choices}
+use Rattle.merge_laws.specs.Plans.{theirs_of}
 use Rattle.op_form.specs.declared.event.Event.{Event}
 use Rattle.op_form.specs.declared.event.Event.TheVariants.{Tidy, Update, Merge}
 use Rattle.plain_repository.specs.State.{State, Workspace, workspace_of, model_of, changed_by_number, is_closed}

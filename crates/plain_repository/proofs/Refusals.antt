@@ -21,8 +21,8 @@ use Rattle.history_tree.specs.History.{History, head, path}
 use Rattle.history_tree.specs.MergeBase.{is_among}
 use Rattle.history_tree.specs.Since.{path_after}
 use Rattle.history_tree.specs.States.{package_at, state_of}
-use Rattle.merge_plans.specs.Choices.{are_choices}
-use Rattle.merge_plans.specs.Pairs.{have_pair, first_interfering}
+use Rattle.merge_laws.specs.Choices.{are_choices}
+use Rattle.merge_laws.specs.Pairs.{have_pair, first_interfering}
 use Rattle.tidy_laws.specs.Tidy.{is_tidy}
 use Rattle.edits.specs.declared.edit.Edit as edits
 use Rattle.edits.specs.declared.edit.Recorded.{Recorded}

@@ -29,7 +29,7 @@ use Rattle.history_tree.proofs.Steady.{operations_append}
 use Rattle.footprint.specs.Interference.{interferes, Free, NoPair}
 use Rattle.footprint.proofs.Runs.{Leads, join}
 use Rattle.merge_laws.proofs.Merges.{revert_takes_out}
-use Rattle.merge_plans.specs.Pairs.{have_pair, first_interfering}
+use Rattle.merge_laws.specs.Pairs.{have_pair, first_interfering}
 use Rattle.commit_journal.specs.Journal.{fit_of}
 use Rattle.commit_journal.specs.declared.fit.Fit.{Fit}
 use Rattle.commit_journal.specs.declared.fit.Fit.TheVariants as fits

@@ -15,7 +15,7 @@ use Rattle.history_tree.specs.Found.{found_by_number}
 use Rattle.history_tree.specs.MergeBase.{is_among}
 use Rattle.history_tree.specs.Since.{path_after}
 use Rattle.history_tree.specs.States.{package_at}
-use Rattle.merge_plans.specs.Pairs.{have_pair, first_interfering}
+use Rattle.merge_laws.specs.Pairs.{have_pair, first_interfering}
 use Rattle.op_form.specs.declared.event.Event.TheVariants as events
 use Rattle.op_reading.specs.declared.fault.FormFault.{FormFault}
 use Rattle.op_reading.specs.declared.fault.FormFault.TheVariants as forms

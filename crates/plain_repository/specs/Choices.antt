@@ -1,7 +1,7 @@
 -- What is answered where theirs and mine conflict.
 use Rattle.std.specs.Prelude.{ℕ, List, [], ◌∷◌, length, Option, Some, None, if◌then◌else◌}
 use Rattle.footprint.specs.declared.bucket.Bucket.{Bucket}
-use Rattle.merge_plans.specs.Choices.{are_choices}
+use Rattle.merge_laws.specs.Choices.{are_choices}
 use Rattle.data_lines.specs.Buckets.{bucket_lines}
 use Rattle.script_lang.specs.declared.reply.Refusal.TheVariants as refusals
 use Rattle.plain_repository.specs.Answers.{Decision, refused, refused_with}

@@ -12,8 +12,8 @@ use Rattle.op_form.specs.declared.event.Event.{Event}
 use Rattle.op_form.specs.declared.event.Event.TheVariants.{Tidy, Update, Merge}
 use Rattle.script_lang.specs.declared.command.Command.TheVariants as commands
 use Rattle.plain_repository.specs.State.{State, Workspace, workspace_of, model_of}
-use Rattle.merge_plans.specs.Choices.{side_of}
-use Rattle.merge_plans.specs.Plans.{incoming}
+use Rattle.merge_laws.specs.Choices.{side_of}
+use Rattle.merge_laws.specs.Plans.{incoming}
 use Rattle.plain_repository.specs.Merging.{update_buckets, merge_theirs, merge_mine, merge_buckets}
 use Rattle.plain_repository.specs.Events.{play, playable}
 use Rattle.plain_repository.specs.Repository.{decide_command}

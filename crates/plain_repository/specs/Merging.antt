@@ -9,8 +9,8 @@ use Rattle.footprint.specs.declared.bucket.Bucket.{Bucket}
 use Rattle.footprint.specs.Buckets.{buckets}
 use Rattle.tidy_laws.specs.Tidy.{tidy}
 use Rattle.merge_laws.specs.Merge.{update_list, merge_list}
-use Rattle.merge_plans.specs.Choices.{are_choices, side_of}
-use Rattle.merge_plans.specs.Plans.{incoming, theirs_of, mine_of}
+use Rattle.merge_laws.specs.Choices.{are_choices, side_of}
+use Rattle.merge_laws.specs.Plans.{incoming, theirs_of, mine_of}
 use Rattle.op_form.specs.declared.event.Event.TheVariants as events
 use Rattle.script_lang.specs.declared.reply.Refusal.TheVariants as refusals
 use Rattle.plain_repository.specs.State.{State, Workspace, workspace_of, is_open, is_closed}

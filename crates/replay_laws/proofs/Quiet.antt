@@ -10,7 +10,7 @@ use Rattle.std.proofs.lemmas.List.Folds.{list_all-append}
 use Rattle.std.proofs.lemmas.Str.{IsUtf8-nil}
 use Rattle.host_port.specs.declared.lines.TheConstants.{LINE_LIMIT}
 use Rattle.model_state.specs.Names.{is_name, is_name_byte, most_name_rest}
-use Rattle.merge_plans.specs.Choices.{is_choice}
+use Rattle.merge_laws.specs.Choices.{is_choice}
 use Rattle.script_lang.specs.Words.{is_space}
 use Rattle.script_lang.specs.Spelling.{spaced, IsWord}
 use Rattle.script_lang.proofs.Numbers.{numerals}

@@ -14,7 +14,7 @@ use Rattle.model_state.specs.Names.{is_name}
 use Rattle.model_state.specs.declared.operation.Operation.{Operation}
 use Rattle.history_tree.specs.History.{History, head}
 use Rattle.history_tree.specs.Found.{branch_name, has_tag}
-use Rattle.merge_plans.specs.Choices.{are_choices, is_choice}
+use Rattle.merge_laws.specs.Choices.{are_choices, is_choice}
 use Rattle.op_form.specs.declared.event.Event.{Event}
 use Rattle.op_form.specs.declared.event.Event.TheVariants.{Init, Checkout, Edit, Begin, End, Undo, Discard, Tidy, Commit, Branch, Tag, Update, Merge, Drop, Evolve, Upgrade, Signed}
 use Rattle.op_form.specs.Formed.{IsPackage, is_event, is_package, is_u32}

@@ -7,7 +7,7 @@ use Rattle.ecore_meta.specs.Meta.{Meta}
 use Rattle.footprint.specs.declared.bucket.Bucket.{Bucket}
 use Rattle.history_tree.specs.History.{head}
 use Rattle.history_tree.proofs.Heads.{same_number}
-use Rattle.merge_plans.specs.Choices.{are_choices}
+use Rattle.merge_laws.specs.Choices.{are_choices}
 use Rattle.op_form.specs.declared.event.Event.TheVariants.{Merge, Update}
 use Rattle.plain_repository.specs.Answers as plain
 use Rattle.plain_repository.specs.Answers.{told, with_room}

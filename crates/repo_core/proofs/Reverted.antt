@@ -9,7 +9,7 @@ use Rattle.history_tree.specs.MergeBase.{is_among}
 use Rattle.history_tree.specs.Since.{path_after}
 use Rattle.history_tree.specs.States.{package_at}
 use Rattle.history_tree.proofs.Greatest.{of_among}
-use Rattle.merge_plans.specs.Pairs.{first_interfering, have_pair}
+use Rattle.merge_laws.specs.Pairs.{first_interfering, have_pair}
 use Rattle.op_form.specs.declared.event.Event.TheVariants.{Edit}
 use Rattle.plain_repository.specs.State.{State, Workspace, model_of, workspace_of, is_open}
 use Rattle.plain_repository.specs.Edits.{can_follow}

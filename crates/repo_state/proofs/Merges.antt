@@ -6,8 +6,8 @@ use Rattle.ecore_meta.specs.Meta.{Meta}
 use Rattle.footprint.specs.declared.bucket.Bucket.{Bucket}
 use Rattle.history_tree.specs.History.{History, head}
 use Rattle.merge_laws.specs.Merge.{merge_list, update_list}
-use Rattle.merge_plans.specs.Choices.{are_choices, side_of}
-use Rattle.merge_plans.specs.Plans.{incoming}
+use Rattle.merge_laws.specs.Choices.{are_choices, side_of}
+use Rattle.merge_laws.specs.Plans.{incoming}
 use Rattle.model_state.specs.declared.operation.Operation.{Operation}
 use Rattle.op_form.specs.declared.event.Event.TheVariants.{Merge}
 use Rattle.plain_repository.specs.Events.{playable_with}

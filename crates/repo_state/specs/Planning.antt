@@ -7,7 +7,7 @@ use Rattle.footprint.specs.declared.bucket.Bucket.{Bucket}
 use Rattle.history_tree.specs.History.{History}
 use Rattle.history_tree.specs.States.{state_of}
 use Rattle.merge_plans.specs.declared.plan.Plan.{Plan}
-use Rattle.merge_plans.specs.Plans.{incoming}
+use Rattle.merge_laws.specs.Plans.{incoming}
 use Rattle.plain_repository.specs.State.{State, Workspace, folded, workspace_of}
 use Rattle.plain_repository.specs.Merging.{update_buckets, merge_buckets, merge_theirs, merge_mine}
 

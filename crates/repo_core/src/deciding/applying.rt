@@ -4,7 +4,7 @@ ghost use Rattle.history_tree.specs.History.{path};
 ghost use Rattle.history_tree.specs.MergeBase.{is_among};
 ghost use Rattle.history_tree.specs.Since.{path_after};
 ghost use Rattle.history_tree.specs.States.{package_at};
-ghost use Rattle.merge_plans.specs.Pairs.{first_interfering};
+ghost use Rattle.merge_laws.specs.Pairs.{first_interfering};
 ghost use Rattle.model_state.specs.Packages.{steps_all};
 ghost use Rattle.model_state.specs.declared.operation.Operation.{Operation};
 ghost use Rattle.model_state.specs.Steps.{first_stop};

@@ -3,7 +3,7 @@ ghost use Rattle.std.specs.Prelude.{◌≡◌, [], IfOk, IfNone, IfSome, true, u
 ghost use Rattle.data_lines.specs.Buckets.{HaveNumbers};
 ghost use Rattle.plain_repository.specs.Answers as plain;
 ghost use Rattle.plain_repository.specs.Choices.{chosen};
-ghost use Rattle.merge_plans.specs.Choices.{are_choices};
+ghost use Rattle.merge_laws.specs.Choices.{are_choices};
 ghost use Rattle.plain_repository.specs.State.{State};
 ghost use Rattle.repo_core.specs.Decisions.{seen, CanMakeIt};
 

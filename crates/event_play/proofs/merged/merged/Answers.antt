@@ -2,7 +2,7 @@ use Rattle.std.proofs.Common.{◌≡◌, ◌<◌, ℕ, List, Some, length, map, 
 use Rattle.footprint.specs.declared.bucket.Bucket.{Bucket}
 use Rattle.history_tree.specs.History.{History, head}
 use Rattle.merge_laws.specs.Merge.{merge_list}
-use Rattle.merge_plans.specs.Choices.{are_choices, side_of}
+use Rattle.merge_laws.specs.Choices.{are_choices, side_of}
 use Rattle.repo_state.specs.Keeping.{plain_of}
 use Rattle.repo_state.proofs.Merges.{cannot_misfit, cannot_nothing, merge_could, merge_is, nothing_left, plan_mine, plan_rows, plan_theirs, something_left}
 use Rattle.event_play.proofs.Putting.{merge_leads}

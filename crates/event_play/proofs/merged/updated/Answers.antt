@@ -1,8 +1,8 @@
 use Rattle.std.proofs.Common.{◌≡◌, ℕ, List, Some, map, sym, ◌∙◌, ap}
 use Rattle.history_tree.specs.History.{History, head}
 use Rattle.merge_laws.specs.Merge.{update_list}
-use Rattle.merge_plans.specs.Choices.{side_of}
-use Rattle.merge_plans.specs.Plans.{incoming}
+use Rattle.merge_laws.specs.Choices.{side_of}
+use Rattle.merge_laws.specs.Plans.{incoming}
 use Rattle.repo_state.specs.Keeping.{plain_of}
 use Rattle.repo_state.proofs.Merges.{update_is}
 use Rattle.event_play.proofs.Putting.{update_leads, update_theirs}

@@ -1,4 +1,4 @@
-use Rattle.merge_plans.specs.Choices.{side_of}
+use Rattle.merge_laws.specs.Choices.{side_of}
 use Rattle.merge_plans.proofs.Gathered.{mapped_more}
 use Rattle.merge_plans.proofs.letters.sides_of.Goals as goal
 

@@ -2,7 +2,7 @@ use Rattle.std.proofs.Common.{◌≡◌, ℕ, Bool, [], Option, sym, ◌∙◌, 
 use Rattle.std.specs.Option.{option_map_or}
 use Rattle.history_tree.specs.declared.version.Version.{Version}
 use Rattle.history_tree.specs.States.{package_at}
-use Rattle.merge_plans.specs.Pairs.{have_pair}
+use Rattle.merge_laws.specs.Pairs.{have_pair}
 use Rattle.merge_plans.proofs.Paired.{found_here, found_later}
 use Rattle.merge_plans.proofs.pairs.first_interfering.Goals as goal
 

@@ -1,6 +1,6 @@
 -- none of those gone over is found
 use Rattle.std.proofs.Common.{◌≡◌, drop}
-use Rattle.merge_plans.specs.Pairs.{first_interfering}
+use Rattle.merge_laws.specs.Pairs.{first_interfering}
 use Rattle.merge_plans.proofs.pairs.first_interfering.Given as goal
 
 abbrev pub invariant-loop-u : goal.invariant-loop-u

@@ -3,7 +3,7 @@ use Rattle.history_tree.specs.History.{History}
 use Rattle.history_tree.specs.Since.{path_after}
 use Rattle.history_tree.specs.States.{package_at}
 use Rattle.history_tree.specs.declared.version.Version.{Version}
-use Rattle.merge_plans.specs.Pairs.{first_interfering, have_pair}
+use Rattle.merge_laws.specs.Pairs.{first_interfering, have_pair}
 use Rattle.model_state.specs.Packages.{rev_package}
 use Rattle.std.specs.Option.{option_map_or}
 use Rattle.std.specs.Prelude.{[]}

@@ -3,7 +3,7 @@ use Rattle.std.specs.Prelude.{IfOk, unwrap_or}
 use Rattle.std.specs.Fmt.{decimal}
 use Rattle.footprint.specs.declared.bucket.Bucket.{Bucket}
 use Rattle.history_tree.specs.History.{History, head}
-use Rattle.merge_plans.specs.Choices.{are_choices}
+use Rattle.merge_laws.specs.Choices.{are_choices}
 use Rattle.op_form.specs.declared.event.Event.TheVariants.{Merge}
 use Rattle.plain_repository.specs.Answers as plain
 use Rattle.plain_repository.specs.Answers.{told, with_room}

@@ -1,12 +1,9 @@
--- The pairs of operations of two packages that interfere; an index of a package's operations, and whether there is such a pair.
-use Rattle.std.specs.Prelude.{◌≡◌, ℕ, suc, List, [], ◌∷◌, ◌++◌, Bool, cond}
+-- The pairs of operations of two packages that interfere, and whether there is such a pair.
+use Rattle.std.specs.Prelude.{ℕ, suc, List, [], ◌∷◌, ◌++◌, Bool, cond}
 use Rattle.std.specs.List.{list_any}
 use Rattle.ecore_meta.specs.Meta.{Meta}
 use Rattle.model_state.specs.declared.operation.Operation.{Operation}
 use Rattle.footprint.specs.Interference.{interferes}
-use Rattle.footprint.specs.Prints.{shown, printed}
-use Rattle.cell_index.specs.Near.{Indexes}
-use Rattle.conflict_buckets.specs.declared.asking.PackageIndex.{PackageIndex}
 
 -- the places from k on of the operations that interfere with the one at i
 abbrev pub pairs_with : Meta → ℕ → Operation → ℕ → List Operation → List (ℕ × ℕ)
@@ -25,8 +22,3 @@ pairs meta theirs mine = pairs_from meta 0 theirs mine
 -- does an operation of the one list interfere with one of the other
 abbrev pub have_pair : Meta → List Operation → List Operation → Bool
 have_pair meta os ps = list_any (λ o. list_any (interferes meta o) ps) os
-
--- the index has the cells of each of the operations, and lists them
-pub record IsIndexOf (meta : Meta) (ops : List Operation) (index : PackageIndex) : Type 0 where
-  pub prints : shown index.prints.items ≡ printed meta ops
-  pub lists : Indexes index.index index.prints.items

@@ -5,7 +5,7 @@ use Rattle.ecore_meta.specs.Meta.{Meta}
 use Rattle.model_state.specs.declared.operation.Operation.{Operation}
 use Rattle.history_tree.specs.declared.version.Version.{Version}
 use Rattle.history_tree.specs.States.{package_at}
-use Rattle.conflict_buckets.specs.Pairs as packages
+use Rattle.bucket_laws.specs.Pairs as packages
 
 -- does an operation of the one list interfere with one of the other
 abbrev pub have_pair : Meta → List Operation → List Operation → Bool
