@@ -7,3 +7,4 @@ pub mod Taken
 pub mod Stays
 pub mod Unchanged
 pub mod Stands
+pub mod Recordings

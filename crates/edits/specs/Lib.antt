@@ -3,3 +3,5 @@ pub mod Edits
 pub mod Answers
 pub mod Standing
 pub mod Laws
+pub mod Recording
+pub mod RecordingLaws

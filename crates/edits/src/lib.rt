@@ -8,4 +8,4 @@ mod laws;
 
 pub use edit::{Destination, Edit, Recorded};
 pub use fresh_ids::numbered_id;
-pub use laws::{law_of_edits, law_of_fresh_ids};
+pub use laws::{law_of_edits, law_of_fresh_ids, law_of_recording};

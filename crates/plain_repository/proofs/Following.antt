@@ -12,8 +12,8 @@ use Rattle.edits.specs.declared.edit.Edit.{Edit}
 use Rattle.edits.specs.declared.edit.Recorded.{Recorded}
 use Rattle.edits.specs.Edits.{after}
 use Rattle.edits.specs.Answers.{steps_in}
-use Rattle.recorder.specs.Recording.{recorded}
-use Rattle.recorder.proofs.Recordings.{recording_leads}
+use Rattle.edits.specs.Recording.{recorded}
+use Rattle.edits.proofs.Recordings.{recording_leads}
 use Rattle.emfjson_model.specs.declared.doc.DocRow.{DocRow}
 use Rattle.emfjson_model.specs.Document.{doc_of}
 use Rattle.emfjson_model.proofs.Fitting.{documents_fit}

@@ -27,7 +27,7 @@ use Rattle.tidy_laws.specs.Tidy.{is_tidy}
 use Rattle.edits.specs.declared.edit.Edit as edits
 use Rattle.edits.specs.declared.edit.Recorded.{Recorded}
 use Rattle.edit_laws.specs.declared.fault.EditFault.{EditFault}
-use Rattle.recorder.specs.Recording.{recorded}
+use Rattle.edits.specs.Recording.{recorded}
 use Rattle.emfjson_model.specs.declared.doc.DocRow.{DocRow}
 use Rattle.emfjson_drafts.specs.declared.fault.ModelFault.{ModelFault}
 use Rattle.emfjson_model.specs.Document.{doc_of}

@@ -18,7 +18,7 @@ use Rattle.edits.specs.Edits.{Effect, Creates, class_at, effect_of, feature_at, 
 use Rattle.edits.specs.Answers.{Answers}
 use Rattle.recorder.specs.Answers.{unused}
 use Rattle.recorder.specs.Features.{effect_on}
-use Rattle.recorder.specs.Recording.{recorded}
+use Rattle.edits.specs.Recording.{recorded}
 
 -- ---- edits of a feature
 -- what comes of an edit of a feature by its effect on the feature that has the name

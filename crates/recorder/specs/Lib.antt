@@ -1,4 +1,2 @@
 pub mod Answers
 pub mod Features
-pub mod Recording
-pub mod Laws

@@ -6,7 +6,6 @@ mod attribute;
 mod create;
 mod feature;
 mod fresh;
-mod laws;
 mod many;
 mod operation;
 mod place;
@@ -15,5 +14,4 @@ mod reference;
 
 pub use edit_laws::EditFault;
 pub use edits::{Destination, Edit, Recorded};
-pub use laws::law_of_recording;
 pub use record::take_edit;

@@ -6,8 +6,8 @@ ghost use Rattle.model_state.specs.Steps.{class_has};
 ghost use Rattle.model_state.specs.Typing.{kind_of};
 ghost use Rattle.emfjson_io.specs.Values.{value_of};
 ghost use Rattle.recorder.specs.Features.{effect_on};
-ghost use Rattle.recorder.specs.Laws.{KeepsGood};
-ghost use Rattle.recorder.specs.Recording.{recorded};
+ghost use Rattle.edits.specs.RecordingLaws.{KeepsGood};
+ghost use Rattle.edits.specs.Recording.{recorded};
 ghost use Rattle.edits.specs.Edits.{class_at, feature_at, of_feature, recording_of};
 ghost use Rattle.edits.specs.Answers.{Answers};
 

@@ -11,7 +11,7 @@ use Rattle.edits.specs.FreshIds.{fresh_id}
 use Rattle.edits.specs.declared.edit.Destination.{Destination}
 use Rattle.edits.specs.declared.edit.Edit.TheVariants.{Create}
 use Rattle.edits.specs.Edits.{effect_of, recorded_of}
-use Rattle.recorder.specs.Recording.{recorded}
+use Rattle.edits.specs.Recording.{recorded}
 use Rattle.script_lang.specs.declared.command.Command.{Command}
 use Rattle.script_lang.specs.declared.command.Command.TheVariants as commands
 use Rattle.script_lang.specs.Spelling.{IsCommand, IsWord}

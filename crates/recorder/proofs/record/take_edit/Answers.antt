@@ -1,4 +1,4 @@
-use Rattle.recorder.proofs.Recordings.{keeps_good}
+use Rattle.edits.proofs.Recordings.{keeps_good}
 use Rattle.recorder.proofs.record.take_edit.Goals as goal
 
 pub returns-clause-keeps : goal.returns-clause-keeps

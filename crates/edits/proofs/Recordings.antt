@@ -15,8 +15,8 @@ use Rattle.edit_laws.specs.declared.fault.EditFault.{EditFault}
 use Rattle.edits.specs.Edits.{Effect, effect_of, made, after, operation_kind, operation_of, recording, recording_of, recorded_of}
 use Rattle.edits.proofs.Taken.{edits_meet, edits_keep_good}
 use Rattle.edits.proofs.Unchanged.{edits_idle}
-use Rattle.recorder.specs.Recording.{recorded}
-use Rattle.recorder.specs.Laws.{LeadsOn, RecordingLeads, KeepsGood}
+use Rattle.edits.specs.Recording.{recorded}
+use Rattle.edits.specs.RecordingLaws.{LeadsOn, RecordingLeads, KeepsGood}
 use Rattle.edits.specs.Answers.{Answers, steps_in}
 
 steps_in-operation : (kind : OpKind) (ss : List Step) → steps_in (operation_of kind ss) ≡ ss

@@ -11,7 +11,7 @@ use Rattle.emfjson_io.specs.Values.{value_of}
 use Rattle.edits.specs.declared.edit.Edit.{Edit}
 use Rattle.edits.specs.declared.edit.Recorded.{Recorded}
 use Rattle.edits.specs.Edits.{Effect, effect_of, after}
-use Rattle.recorder.specs.Recording.{recorded}
+use Rattle.edits.specs.Recording.{recorded}
 use Rattle.edits.specs.Answers.{steps_in}
 
 -- The steps lead from the model to the one after the effect of the edit. There is no operation exactly where that changes
