@@ -14,7 +14,7 @@ use Rattle.emfjson_drafts.proofs.Finding.{same_place}
 use Rattle.emfjson_model.specs.Merged.{targets_at}
 use Rattle.emfjson_model.specs.declared.doc.DocRow.{DocRow}
 use Rattle.model_import.specs.Indexes.{TellAll, Tells}
-use Rattle.model_import.specs.Links.{index_in, refs_at}
+use Rattle.import_laws.specs.Links.{index_in, refs_at}
 
 -- where a number stands first
 abbrev pub first_place : ℕ → List ℕ → Option ℕ

@@ -15,7 +15,7 @@ use Rattle.emfjson_drafts.specs.Finder.{place_cmp}
 use Rattle.emfjson_drafts.proofs.Finding.{same_place}
 use Rattle.model_import.specs.Counts.{Counts, CountsAlso, counted}
 use Rattle.emfjson_model.specs.Fits.{standing}
-use Rattle.model_import.specs.News.{element_made, place_of}
+use Rattle.import_laws.specs.News.{element_made, place_of}
 
 -- n + 1 stand in the place p
 one_more : (b : Bool) (n : ℕ) (o : Option ℕ) → (b ≡ true → n ≡ unwrap_or o 0) → unwrap_or (cond b (Some (n + 1)) o) 0 ≡ unwrap_or o 0 + cond b 1 0

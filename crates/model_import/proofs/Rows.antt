@@ -6,9 +6,9 @@ use Rattle.model_state.specs.declared.step.Step.{Step}
 use Rattle.model_state.specs.Keys.{IdBytes}
 use Rattle.edit_laws.specs.declared.fault.EditFault.TheVariants.{Bound}
 use Rattle.emfjson_model.specs.declared.doc.DocRow.{DocRow}
-use Rattle.model_import.specs.Names.{name_at}
+use Rattle.import_laws.specs.Names.{name_at}
 use Rattle.emfjson_model.specs.Fits.{standing}
-use Rattle.model_import.specs.News.{element_made, has_room, news_from, place_of, roots_after}
+use Rattle.import_laws.specs.News.{element_made, has_room, news_from, place_of, roots_after}
 
 -- what is left of a list is its item at the place, and what is left after it
 pub next : {X : Type 0} (xs : List X) (i : ℕ) (x : X) → i < length xs → x ≡ get_or xs i x → drop i xs ≡ x ∷ drop (i + 1) xs

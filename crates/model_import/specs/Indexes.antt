@@ -5,7 +5,7 @@ use Rattle.std.specs.Ordering.{nat_cmp}
 use Rattle.emfjson_drafts.specs.Finder.{place_cmp}
 use Rattle.emfjson_model.specs.Merged.{targets_at}
 use Rattle.emfjson_model.specs.declared.doc.DocRow.{DocRow}
-use Rattle.model_import.specs.Links.{index_in, refs_at}
+use Rattle.import_laws.specs.Links.{index_in, refs_at}
 
 -- what the map has for a number is where that stands first in the list
 abbrev pub Tells : BTreeMap ℕ ℕ → List ℕ → Type 0

@@ -1,11 +1,3 @@
-pub mod Names
 pub mod Given
-pub mod Roots
-pub mod News
 pub mod Counts
-pub mod Values
-pub mod Links
-pub mod Import
-pub mod After
-pub mod Laws
 pub mod Indexes

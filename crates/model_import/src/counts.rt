@@ -1,7 +1,7 @@
 //! How many rows of a document stand in each place so far, from which new elements get their ranks.
 ghost use Rattle.std.specs.Prelude.{◌≡◌, ◌<◌, OnOk};
 ghost use Rattle.model_import.specs.Counts.{CountsAlso, counted};
-ghost use Rattle.model_import.specs.Names.{greatest_number};
+ghost use Rattle.import_laws.specs.Names.{greatest_number};
 
 use emfjson_drafts::DocParent;
 use std::alloc::AllocError;

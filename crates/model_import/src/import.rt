@@ -1,7 +1,7 @@
 //! The import of a document as one composite: creations first, then values, then links.
 ghost use Rattle.std.specs.Prelude.{◌≡◌, IfOk, length};
 ghost use Rattle.emfjson_model.specs.Fits.{DocumentFits};
-ghost use Rattle.model_import.specs.Import.{Imports, composite, of_steps, recorded_import, steps_made};
+ghost use Rattle.import_laws.specs.Import.{Imports, composite, of_steps, recorded_import, steps_made};
 ghost use Rattle.edits.specs.Answers.{Answers};
 
 use crate::links::add_links;

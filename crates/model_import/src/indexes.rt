@@ -6,7 +6,7 @@ ghost use Rattle.emfjson_drafts.specs.Finder.{first_of};
 ghost use Rattle.emfjson_model.specs.Merged.{targets_at};
 ghost use Rattle.emfjson_model.specs.declared.doc.DocRow.{DocRow};
 ghost use Rattle.model_import.specs.Indexes.{TellAll, Tells};
-ghost use Rattle.model_import.specs.Links.{index_in, refs_at};
+ghost use Rattle.import_laws.specs.Links.{index_in, refs_at};
 
 use emfjson_model::{DocRefs, DocRow};
 use std::alloc::{AllocError, Global};

@@ -5,7 +5,6 @@ mod counts;
 mod given;
 mod import;
 mod indexes;
-mod laws;
 mod links;
 mod names;
 mod news;
@@ -14,4 +13,3 @@ mod values;
 
 pub use edit_laws::EditFault;
 pub use import::import_doc;
-pub use laws::{law_of_imports, law_of_names};

@@ -1,6 +1,6 @@
 //! The links of an import: each reference with its opposite is one step, with the rank on either side.
 ghost use Rattle.std.specs.Prelude.{◌≡◌, ◌++◌, OnOk, length, Some, option_copied, slice_get};
-ghost use Rattle.model_import.specs.Links.{is_made, link_to, links_from, links_made, mirror_of, refs_made, targets_made};
+ghost use Rattle.import_laws.specs.Links.{is_made, link_to, links_from, links_made, mirror_of, refs_made, targets_made};
 
 use crate::indexes::Indexes;
 use crate::names::name_at;

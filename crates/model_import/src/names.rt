@@ -2,7 +2,7 @@
 ghost use Rattle.std.specs.Prelude.{◌≡◌, ◌<◌, IfOk, None, length};
 ghost use Rattle.std.specs.List.{list_any};
 ghost use Rattle.emfjson_model.specs.Laws.{gives_id};
-ghost use Rattle.model_import.specs.Names.{AreNames, IsName, any_in_use, in_use, is_taken, name_at};
+ghost use Rattle.import_laws.specs.Names.{AreNames, IsName, any_in_use, in_use, is_taken, name_at};
 
 use crate::given::Given;
 use ecore_meta::List;

@@ -5,9 +5,9 @@ ghost use Rattle.model_state.specs.Listing.{children};
 ghost use Rattle.model_state.specs.declared.step.Place.TheVariants.{Root, Inside};
 ghost use Rattle.model_state.specs.declared.step.Step.TheVariants.{New};
 ghost use Rattle.model_import.specs.Counts.{CountsAlso, counted};
-ghost use Rattle.model_import.specs.Names.{name_at, greatest_number};
+ghost use Rattle.import_laws.specs.Names.{name_at, greatest_number};
 ghost use Rattle.edits.specs.Answers.{Answers};
-ghost use Rattle.model_import.specs.News.{element_made, has_room, news_made, place_of, rank_of, roots_after};
+ghost use Rattle.import_laws.specs.News.{element_made, has_room, news_made, place_of, rank_of, roots_after};
 
 use crate::counts::{count_up, counted};
 use crate::names::name_at;

@@ -5,7 +5,7 @@ ghost use Rattle.edit_laws.specs.Spot.{evened, rank_for, ranks_of};
 ghost use Rattle.edit_laws.specs.declared.fault.EditFault.TheVariants.{Bound, Memory};
 ghost use Rattle.model_state.specs.declared.step.Place.TheVariants.{Root};
 ghost use Rattle.model_state.specs.declared.step.Step.TheVariants.{New};
-ghost use Rattle.model_import.specs.Roots.{has_end, root_after, root_made, with_ranks};
+ghost use Rattle.import_laws.specs.Roots.{has_end, root_after, root_made, with_ranks};
 ghost use Rattle.model_state.specs.Ranks.{most_entries, rank_gap};
 
 use ecore_meta::List;

@@ -1,6 +1,6 @@
 //! The attribute values of an import, as steps.
 ghost use Rattle.std.specs.Prelude.{◌≡◌, ◌++◌, OnOk, length};
-ghost use Rattle.model_import.specs.Values.{attr_made, attrs_made, inserts_made, put_made, values_made};
+ghost use Rattle.import_laws.specs.Values.{attr_made, attrs_made, inserts_made, put_made, values_made};
 
 use crate::names::name_at;
 use ecore_meta::{List, Metamodel, Value};

@@ -30,8 +30,8 @@ use Rattle.edits.specs.Recording.{recorded}
 use Rattle.emfjson_model.specs.declared.doc.DocRow.{DocRow}
 use Rattle.emfjson_drafts.specs.declared.fault.ModelFault.{ModelFault}
 use Rattle.emfjson_model.specs.Document.{doc_of}
-use Rattle.model_import.specs.Import.{recorded_import}
-use Rattle.model_import.specs.Names.{AreNames, names_of}
+use Rattle.import_laws.specs.Import.{recorded_import}
+use Rattle.import_laws.specs.Names.{AreNames, names_of}
 use Rattle.history_tree.specs.declared.found.Found.{Found}
 use Rattle.history_tree.specs.declared.found.FindFault.{FindFault}
 use Rattle.history_tree.specs.Found.{found_by_number, branch_named, has_tag, is_branch_named}

@@ -17,9 +17,9 @@ use Rattle.edits.proofs.Recordings.{recording_leads}
 use Rattle.emfjson_model.specs.declared.doc.DocRow.{DocRow}
 use Rattle.emfjson_model.specs.Document.{doc_of}
 use Rattle.emfjson_model.proofs.Fitting.{documents_fit}
-use Rattle.model_import.specs.Import.{recorded_import}
-use Rattle.model_import.specs.Names.{AreNames, names_of}
-use Rattle.model_import.proofs.ImportLead.{imports_lead}
+use Rattle.import_laws.specs.Import.{recorded_import}
+use Rattle.import_laws.specs.Names.{AreNames, names_of}
+use Rattle.import_laws.proofs.ImportLead.{imports_lead}
 
 one_follows : (meta : Meta) (m n : State) (o : Operation) → fold meta m (steps_of o) ≡ Some n → is_some (fold_package meta m (o ∷ [])) ≡ true
 one_follows meta m n o is = ap is_some (ap (λ (l : List Step). fold meta m l) (append-nil (steps_of o)) ∙ is)

@@ -31,7 +31,7 @@ use Rattle.edits.specs.Recording.{recorded}
 use Rattle.emfjson_model.specs.declared.doc.DocRow.{DocRow}
 use Rattle.emfjson_drafts.specs.declared.fault.ModelFault.{ModelFault}
 use Rattle.emfjson_model.specs.Document.{doc_of}
-use Rattle.model_import.specs.Import.{recorded_import}
+use Rattle.import_laws.specs.Import.{recorded_import}
 use Rattle.footprint.specs.declared.bucket.Bucket.{Bucket}
 use Rattle.commit_journal.specs.Journal.{fit_of}
 use Rattle.commit_journal.specs.declared.fit.Fit.{Fit}

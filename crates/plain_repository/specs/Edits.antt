@@ -14,7 +14,7 @@ use Rattle.emfjson_model.specs.declared.doc.DocRow.{DocRow}
 use Rattle.emfjson_drafts.specs.declared.fault.ModelFault.{ModelFault}
 use Rattle.emfjson_model.specs.Document.{doc_of}
 use Rattle.emfjson_drafts.specs.Faults.{fault_number}
-use Rattle.model_import.specs.Import.{recorded_import}
+use Rattle.import_laws.specs.Import.{recorded_import}
 use Rattle.op_form.specs.declared.event.Event.TheVariants as events
 use Rattle.script_lang.specs.declared.reply.Refusal.{Refusal}
 use Rattle.script_lang.specs.declared.reply.Refusal.TheVariants as refusals

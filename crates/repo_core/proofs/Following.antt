@@ -16,9 +16,9 @@ use Rattle.edits.proofs.Recordings.{recording_leads}
 use Rattle.emfjson_model.specs.declared.doc.DocRow.{DocRow}
 use Rattle.emfjson_model.specs.Document.{doc_of}
 use Rattle.emfjson_model.proofs.Fitting.{documents_fit}
-use Rattle.model_import.specs.After.{import_after}
-use Rattle.model_import.specs.Import.{Imports}
-use Rattle.model_import.proofs.ImportLead.{imports_lead}
+use Rattle.import_laws.specs.After.{import_after}
+use Rattle.import_laws.specs.Import.{Imports}
+use Rattle.import_laws.proofs.ImportLead.{imports_lead}
 use Rattle.version_states.proofs.Folding.{package_on}
 
 -- ---- recordings

@@ -21,11 +21,11 @@ use Rattle.emfjson_model.specs.Fits.{DocumentFits}
 use Rattle.emfjson_text.specs.Laws.{Alike}
 use Rattle.emfjson_text.specs.Tree.{child_ids, entry_ids}
 use Rattle.emfjson_text.proofs.Alike.{text_is_of_lists}
-use Rattle.model_import.specs.After.{attrs_from, import_after, kinds_from, places_from, ranks_from}
-use Rattle.model_import.specs.Laws.{ids_differ}
-use Rattle.model_import.specs.Names.{name_at}
-use Rattle.model_import.specs.News.{place_of, rank_of}
-use Rattle.model_import.proofs.Indexed.{drop_none}
+use Rattle.import_laws.specs.After.{attrs_from, import_after, kinds_from, places_from, ranks_from}
+use Rattle.import_laws.specs.Laws.{ids_differ}
+use Rattle.import_laws.specs.Names.{name_at}
+use Rattle.import_laws.specs.News.{place_of, rank_of}
+use Rattle.import_laws.proofs.Indexed.{drop_none}
 use Rattle.round_trip.specs.Laws.{DescriptionsAreShown}
 use Rattle.round_trip.specs.Describes.{Describes}
 use Rattle.round_trip.proofs.BringingMaps.{from_has, kinds_are, none_within, places_are, set_from, values_are, values_have, within_from, within_is, within_values}

@@ -15,10 +15,10 @@ use Rattle.emfjson_drafts.specs.declared.doc.DocAttr.{DocAttr}
 use Rattle.emfjson_model.specs.declared.doc.DocRow.{DocRow}
 use Rattle.emfjson_model.specs.Fits.{numbers_differ}
 use Rattle.emfjson_model.specs.Merged.{attr_at}
-use Rattle.model_import.specs.After.{Attrs, Kinds, Places, attrs_from, attrs_set, kinds_from, places_from}
-use Rattle.model_import.specs.Names.{name_at}
-use Rattle.model_import.specs.News.{place_of}
-use Rattle.model_import.proofs.Indexed.{drop_at, drop_next, or_later}
+use Rattle.import_laws.specs.After.{Attrs, Kinds, Places, attrs_from, attrs_set, kinds_from, places_from}
+use Rattle.import_laws.specs.Names.{name_at}
+use Rattle.import_laws.specs.News.{place_of}
+use Rattle.import_laws.proofs.Indexed.{drop_at, drop_next, or_later}
 use Rattle.round_trip.specs.Describes.{first_values, values_given}
 
 -- what the map holds is what is given

@@ -26,10 +26,10 @@ use Rattle.emfjson_model.specs.Fits.{DocumentFits, StandsFit, standing}
 use Rattle.emfjson_model.specs.Laws.{gives_id, ids_repeat, is_given}
 use Rattle.emfjson_drafts.specs.Places.{parent_eq}
 use Rattle.emfjson_text.specs.Tree.{child_ids}
-use Rattle.model_import.specs.Laws.{ids_differ}
-use Rattle.model_import.specs.Names.{name_at}
-use Rattle.model_import.specs.News.{inside, place_of}
-use Rattle.model_import.proofs.Indexed.{at_less, drop_at, drop_next, drop_none, named, same_at, take_next}
+use Rattle.import_laws.specs.Laws.{ids_differ}
+use Rattle.import_laws.specs.Names.{name_at}
+use Rattle.import_laws.specs.News.{inside, place_of}
+use Rattle.import_laws.proofs.Indexed.{at_less, drop_at, drop_next, drop_none, named, same_at, take_next}
 use Rattle.round_trip.specs.Describes.{Describes, DescribesElement, standing_in}
 use Rattle.round_trip.proofs.ListsInOrder.{any_id, any_index}
 

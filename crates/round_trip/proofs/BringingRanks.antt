@@ -22,12 +22,12 @@ use Rattle.edit_laws.specs.declared.fault.EditFault.TheVariants.{Bound}
 use Rattle.edit_laws.proofs.Lists.{entries_held}
 use Rattle.emfjson_model.specs.declared.doc.DocRow.{DocRow}
 use Rattle.emfjson_model.specs.Fits.{DocumentFits, standing}
-use Rattle.model_import.specs.After.{ranks_after, ranks_from}
-use Rattle.model_import.specs.Laws.{ids_differ}
-use Rattle.model_import.specs.Names.{name_at}
-use Rattle.model_import.specs.News.{element_made, has_room, news_from, news_made, place_of, rank_of, roots_after}
-use Rattle.model_import.proofs.Ends.{after_kept, even_end, kept_end}
-use Rattle.model_import.proofs.Indexed.{at_less, drop_at, drop_less, drop_next, drop_none}
+use Rattle.import_laws.specs.After.{ranks_after, ranks_from}
+use Rattle.import_laws.specs.Laws.{ids_differ}
+use Rattle.import_laws.specs.Names.{name_at}
+use Rattle.import_laws.specs.News.{element_made, has_room, news_from, news_made, place_of, rank_of, roots_after}
+use Rattle.import_laws.proofs.Ends.{after_kept, even_end, kept_end}
+use Rattle.import_laws.proofs.Indexed.{at_less, drop_at, drop_less, drop_next, drop_none}
 use Rattle.round_trip.proofs.BringingMaps.{Within, none_within, set_grows, set_here, within_is, within_set}
 use Rattle.round_trip.proofs.BringingNames.{before, before_few, before_next, index_named, index_of, standing_before}
 use Rattle.model_state.specs.Ranks.{most_entries, rank_gap}

@@ -21,15 +21,15 @@ use Rattle.emfjson_model.specs.Fits as fits
 use Rattle.emfjson_model.specs.Fits.{DocumentFits}
 use Rattle.emfjson_model.specs.Merged.{targets_at}
 use Rattle.emfjson_text.specs.Tree.{entry_ids, target_ids}
-use Rattle.model_import.specs.After.{rows_from}
-use Rattle.model_import.specs.Laws.{ids_differ}
-use Rattle.model_import.specs.Links.{refs_at}
-use Rattle.model_import.specs.Names.{name_at}
-use Rattle.model_import.specs.News.{rank_of}
-use Rattle.model_import.proofs.Indexed.{at_less}
-use Rattle.model_import.proofs.Linking.{covered, turns_held}
-use Rattle.model_import.proofs.LinksLead.{Sits, all_alone, all_sit, any_at, index_is, list_apart}
-use Rattle.model_import.proofs.Turns.{Each, Turn, each_both, each_map, found_from, key_of, rows_are, turns_from, turns_set}
+use Rattle.import_laws.specs.After.{rows_from}
+use Rattle.import_laws.specs.Laws.{ids_differ}
+use Rattle.import_laws.specs.Links.{refs_at}
+use Rattle.import_laws.specs.Names.{name_at}
+use Rattle.import_laws.specs.News.{rank_of}
+use Rattle.import_laws.proofs.Indexed.{at_less}
+use Rattle.import_laws.proofs.Linking.{covered, turns_held}
+use Rattle.import_laws.proofs.LinksLead.{Sits, all_alone, all_sit, any_at, index_is, list_apart}
+use Rattle.import_laws.proofs.Turns.{Each, Turn, each_both, each_map, found_from, key_of, rows_are, turns_from, turns_set}
 use Rattle.round_trip.specs.Describes.{Describes}
 use Rattle.round_trip.proofs.BringingNames.{HasRow, live_row, row_small, told_at}
 use Rattle.round_trip.proofs.ListsInOrder.{any_id, any_index, targets_shown}

@@ -18,14 +18,14 @@ use Rattle.emfjson_model.specs.declared.doc.DocRow.{DocRow}
 use Rattle.emfjson_model.specs.Document.{doc_of}
 use Rattle.emfjson_model.proofs.Fitting.{documents_fit}
 use Rattle.emfjson_text.specs.Tree.{text}
-use Rattle.model_import.specs.After.{import_after}
-use Rattle.model_import.specs.Import.{and_then, composite, import_of, of_steps, steps_made}
-use Rattle.model_import.specs.Links.{links_made}
-use Rattle.model_import.specs.Names.{AreNames, IsName, any_in_use, in_use}
-use Rattle.model_import.specs.News.{news_made}
-use Rattle.model_import.specs.Values.{values_made}
-use Rattle.model_import.proofs.ImportLead.{imports_lead}
-use Rattle.model_import.proofs.NameLists.{names_are}
+use Rattle.import_laws.specs.After.{import_after}
+use Rattle.import_laws.specs.Import.{and_then, composite, import_of, of_steps, steps_made}
+use Rattle.import_laws.specs.Links.{links_made}
+use Rattle.import_laws.specs.Names.{AreNames, IsName, any_in_use, in_use}
+use Rattle.import_laws.specs.News.{news_made}
+use Rattle.import_laws.specs.Values.{values_made}
+use Rattle.import_laws.proofs.ImportLead.{imports_lead}
+use Rattle.import_laws.proofs.NameLists.{names_are}
 use Rattle.round_trip.specs.Laws.{ComesBack, TextsComeBack}
 use Rattle.round_trip.specs.Describes.{Describes}
 use Rattle.round_trip.proofs.Bringing.{tellings_are_shown}

@@ -15,8 +15,8 @@ use Rattle.model_state.specs.Good.{Good}
 use Rattle.model_state.specs.Ident.{is_id}
 use Rattle.model_state.specs.Keys.{IdBytes}
 use Rattle.model_state.specs.State.{State, is_live, place_eq}
-use Rattle.model_import.specs.Names.{name_at}
-use Rattle.model_import.specs.News.{place_of}
+use Rattle.import_laws.specs.Names.{name_at}
+use Rattle.import_laws.specs.News.{place_of}
 use Rattle.emfjson_model.specs.declared.doc.DocRow.{DocRow}
 use Rattle.emfjson_model.specs.Document.{doc_of, of_json, resolved}
 use Rattle.emfjson_drafts.specs.Parts.{ids_of}

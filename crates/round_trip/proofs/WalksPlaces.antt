@@ -13,7 +13,7 @@ use Rattle.model_state.specs.declared.step.Place.TheVariants.{Root, Inside}
 use Rattle.model_state.specs.Good.{Good}
 use Rattle.model_state.specs.Keys.{IdBytes}
 use Rattle.model_state.specs.State.{State}
-use Rattle.model_import.specs.News.{inside, place_of}
+use Rattle.import_laws.specs.News.{inside, place_of}
 use Rattle.emfjson_drafts.specs.declared.doc.DocParent.{DocParent}
 use Rattle.emfjson_text.specs.Keys.{key_number, keys_of}
 use Rattle.emfjson_text.specs.Tree.{child_ids}

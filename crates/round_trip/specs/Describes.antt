@@ -10,8 +10,8 @@ use Rattle.emfjson_model.specs.declared.doc.DocRow.{DocRow}
 use Rattle.emfjson_model.specs.Merged.{attr_at, targets_at}
 use Rattle.model_state.specs.Listing.{values_at}
 use Rattle.emfjson_text.specs.Tree.{child_ids, target_ids}
-use Rattle.model_import.specs.Names.{name_at}
-use Rattle.model_import.specs.News.{place_of}
+use Rattle.import_laws.specs.Names.{name_at}
+use Rattle.import_laws.specs.News.{place_of}
 
 -- the values of the first attribute, none where there is none
 abbrev pub first_values : List DocAttr → List Value

@@ -14,8 +14,8 @@ use Rattle.emfjson_model.specs.declared.doc.DocRow.{DocRow}
 use Rattle.emfjson_model.specs.Document.{doc_of}
 use Rattle.emfjson_model.specs.Fits.{DocumentFits}
 use Rattle.emfjson_text.specs.Tree.{text, tree}
-use Rattle.model_import.specs.After.{import_after}
-use Rattle.model_import.specs.Import.{recorded_import}
+use Rattle.import_laws.specs.After.{import_after}
+use Rattle.import_laws.specs.Import.{recorded_import}
 use Rattle.round_trip.specs.Named.{HasIds}
 use Rattle.round_trip.specs.Describes.{Describes}
 use Rattle.edits.specs.Answers.{steps_in}

@@ -1,4 +1,4 @@
-use Rattle.model_import.proofs.NameLists.{is_recorded}
+use Rattle.import_laws.proofs.NameLists.{is_recorded}
 use Rattle.model_import.proofs.import.import_doc.Goals as goal
 
 pub returns-clause-recorded : goal.returns-clause-recorded

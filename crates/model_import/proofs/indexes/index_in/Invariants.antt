@@ -1,5 +1,5 @@
 use Rattle.std.proofs.Common.{◌≡◌, ◌+◌, drop}
-use Rattle.model_import.specs.Links.{index_in}
+use Rattle.import_laws.specs.Links.{index_in}
 use Rattle.model_import.proofs.indexes.index_in.Given as goal
 
 abbrev pub invariant-loop-other : goal.invariant-loop-other

@@ -1,5 +1,5 @@
 use Rattle.std.proofs.Common.{◌≡◌, ◌++◌, drop}
-use Rattle.model_import.specs.Links.{links_from}
+use Rattle.import_laws.specs.Links.{links_from}
 use Rattle.model_import.proofs.links.add_all.Given as goal
 
 abbrev pub invariant-loop-n : goal.invariant-loop-n

@@ -1,5 +1,5 @@
 use Rattle.std.proofs.Common.{◌≡◌, ◌++◌, drop}
-use Rattle.model_import.specs.Links.{refs_made}
+use Rattle.import_laws.specs.Links.{refs_made}
 use Rattle.model_import.proofs.links.add_refs.Given as goal
 
 abbrev pub invariant-loop-list : goal.invariant-loop-list

@@ -1,7 +1,7 @@
 use Rattle.std.proofs.Common.{◌≡◌, ◌∙◌, ◌++◌, sym, ap, subst, append-nil}
 use Rattle.std.specs.Prelude.{Option, OnOk}
 use Rattle.model_state.specs.Keys.{IdBytes}
-use Rattle.model_import.specs.Links.{link_to}
+use Rattle.import_laws.specs.Links.{link_to}
 use Rattle.model_import.proofs.links.add_target.Goals as goal
 
 pub returns-in-None : goal.returns-in-None

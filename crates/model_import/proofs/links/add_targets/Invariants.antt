@@ -1,5 +1,5 @@
 use Rattle.std.proofs.Common.{◌≡◌, ◌++◌, drop}
-use Rattle.model_import.specs.Links.{targets_made}
+use Rattle.import_laws.specs.Links.{targets_made}
 use Rattle.model_import.proofs.links.add_targets.Given as goal
 
 abbrev pub invariant-loop-k : goal.invariant-loop-k

@@ -1,5 +1,5 @@
 use Rattle.std.proofs.Common.{◌≡◌, drop}
-use Rattle.model_import.specs.Names.{any_in_use}
+use Rattle.import_laws.specs.Names.{any_in_use}
 use Rattle.model_import.proofs.names.any_in_use.Given as goal
 
 abbrev pub invariant-loop-row : goal.invariant-loop-row

@@ -1,6 +1,6 @@
 use Rattle.std.proofs.Common.{◌≡◌, ℕ, ◌<◌, ◌≤◌, true}
 use Rattle.edits.specs.FreshIds.{numbered}
-use Rattle.model_import.specs.Names.{is_taken}
+use Rattle.import_laws.specs.Names.{is_taken}
 use Rattle.model_import.proofs.names.fresh.Given as goal
 
 abbrev pub invariant-loop-k : goal.invariant-loop-k

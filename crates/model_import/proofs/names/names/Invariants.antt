@@ -1,6 +1,6 @@
 use Rattle.std.proofs.Common.{◌≡◌, ◌++◌, List, length, drop}
 use Rattle.model_state.specs.Keys.{IdBytes}
-use Rattle.model_import.specs.Names.{AreNames}
+use Rattle.import_laws.specs.Names.{AreNames}
 use Rattle.model_import.proofs.names.names.Given as goal
 
 abbrev pub invariant-loop-row : goal.invariant-loop-row

@@ -1,6 +1,6 @@
 use Rattle.std.proofs.Common.{◌∙◌, ◌+◌, ◌++◌, ap, drop, add-one, arith, take}
-use Rattle.model_import.specs.Names.{name_at}
-use Rattle.model_import.specs.News.{news_from}
+use Rattle.import_laws.specs.Names.{name_at}
+use Rattle.import_laws.specs.News.{news_from}
 use Rattle.model_import.proofs.PlaceCounts.{counts_more, few, same_element}
 use Rattle.model_import.proofs.Rows.{next, news_on}
 use Rattle.model_import.proofs.news.news_behind.Goals as goal

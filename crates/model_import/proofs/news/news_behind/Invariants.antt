@@ -1,6 +1,6 @@
 use Rattle.std.proofs.Common.{◌≡◌, [], drop, take}
 use Rattle.model_import.specs.Counts.{Counts}
-use Rattle.model_import.specs.News.{news_from}
+use Rattle.import_laws.specs.News.{news_from}
 use Rattle.model_import.proofs.news.news_behind.Given as goal
 
 abbrev pub invariant-loop-n : goal.invariant-loop-n

@@ -1,6 +1,6 @@
 use Rattle.std.proofs.Common.{◌≡◌, ◌++◌, ◌+◌, drop}
 use Rattle.edit_laws.specs.Spot.{evened}
-use Rattle.model_import.specs.Roots.{with_ranks}
+use Rattle.import_laws.specs.Roots.{with_ranks}
 use Rattle.model_import.proofs.roots.even_entries.Given as goal
 
 abbrev pub invariant-loop-x : goal.invariant-loop-x

@@ -1,5 +1,5 @@
 use Rattle.std.proofs.Common.{◌≡◌, ◌++◌, drop}
-use Rattle.model_import.specs.Values.{attrs_made}
+use Rattle.import_laws.specs.Values.{attrs_made}
 use Rattle.model_import.proofs.values.add_attrs.Given as goal
 
 abbrev pub invariant-loop-attr : goal.invariant-loop-attr

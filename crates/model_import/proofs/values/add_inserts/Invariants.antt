@@ -1,5 +1,5 @@
 use Rattle.std.proofs.Common.{◌≡◌, ◌++◌, drop}
-use Rattle.model_import.specs.Values.{inserts_made}
+use Rattle.import_laws.specs.Values.{inserts_made}
 use Rattle.model_import.proofs.values.add_inserts.Given as goal
 
 abbrev pub invariant-loop-value : goal.invariant-loop-value

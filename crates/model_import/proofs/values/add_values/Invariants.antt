@@ -1,5 +1,5 @@
 use Rattle.std.proofs.Common.{◌≡◌, ◌++◌, drop}
-use Rattle.model_import.specs.Values.{values_from}
+use Rattle.import_laws.specs.Values.{values_from}
 use Rattle.model_import.proofs.values.add_values.Given as goal
 
 abbrev pub invariant-loop-n : goal.invariant-loop-n

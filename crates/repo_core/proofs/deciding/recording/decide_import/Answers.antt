@@ -4,7 +4,7 @@ use Rattle.model_state.specs.State as models
 use Rattle.model_state.specs.Packages.{fold_package}
 use Rattle.model_state.specs.declared.operation.Operation.{Operation}
 use Rattle.emfjson_model.proofs.Fitting.{documents_fit}
-use Rattle.model_import.specs.Import.{Imports}
+use Rattle.import_laws.specs.Import.{Imports}
 use Rattle.repo_state.specs.Keeping.{plain_of}
 use Rattle.repo_state.specs.Working.{IsWorkingModel}
 use Rattle.repo_core.proofs.Playable.{each_could, edit_could}

@@ -34,14 +34,14 @@ use Rattle.emfjson_model.specs.declared.doc.DocRow.{DocRow}
 use Rattle.emfjson_model.specs.Fits.{DocumentFits, StandsFit, standing}
 use Rattle.emfjson_model.specs.Laws.{parents_before, parent_before}
 use Rattle.emfjson_drafts.specs.Places.{parent_eq}
-use Rattle.model_import.specs.After.{Kinds, Places, kinds_from, places_from, ranks_after, ranks_from}
-use Rattle.model_import.specs.Laws.{ids_differ}
-use Rattle.model_import.specs.Names.{name_at}
-use Rattle.model_import.specs.News as news
-use Rattle.model_import.specs.News.{element_made, inside, news_from, place_of, roots_after}
-use Rattle.model_import.proofs.Indexed.{at_less, count_next, count_within, differ_at, drop_all, drop_at, drop_less, drop_next, drop_none, named, none_at, same_at, take_none}
-use Rattle.model_import.proofs.Standing.{Arrives, arrives, with_new}
-use Rattle.model_import.proofs.ValuesLead.{room}
+use Rattle.import_laws.specs.After.{Kinds, Places, kinds_from, places_from, ranks_after, ranks_from}
+use Rattle.import_laws.specs.Laws.{ids_differ}
+use Rattle.import_laws.specs.Names.{name_at}
+use Rattle.import_laws.specs.News as news
+use Rattle.import_laws.specs.News.{element_made, inside, news_from, place_of, roots_after}
+use Rattle.import_laws.proofs.Indexed.{at_less, count_next, count_within, differ_at, drop_all, drop_at, drop_less, drop_next, drop_none, named, none_at, same_at, take_none}
+use Rattle.import_laws.proofs.Standing.{Arrives, arrives, with_new}
+use Rattle.import_laws.proofs.ValuesLead.{room}
 
 abbrev pub placed : State → Kinds → Places → Ranks → State
 placed m kind place prank = record m { kind = kind; place = place; prank = prank }

@@ -25,15 +25,15 @@ use Rattle.emfjson_model.specs.declared.doc.DocRow.{DocRow}
 use Rattle.emfjson_model.specs.Fits as fits
 use Rattle.emfjson_model.specs.Fits.{DocumentFits}
 use Rattle.emfjson_model.specs.Merged.{targets_at}
-use Rattle.model_import.specs.After.{rows_from}
-use Rattle.model_import.specs.Laws.{ids_differ}
-use Rattle.model_import.specs.Links.{index_in, is_made, links_made, mirror_of, refs_at}
-use Rattle.model_import.specs.Names.{name_at}
-use Rattle.model_import.specs.News.{rank_of}
-use Rattle.model_import.proofs.Indexed.{at_less, drop_none, or_later}
-use Rattle.model_import.proofs.Linking.{Due, Linked, covered, links_lead, made_there, turns_held, turns_other}
-use Rattle.model_import.proofs.RowCounts.{count_turns, within}
-use Rattle.model_import.proofs.Turns.{Alone, Each, Turn, alone_from, each_both, each_from, each_map, found_from, is_mine, key_of, links_are, rows_are, tally_from, turns_from, turns_set}
+use Rattle.import_laws.specs.After.{rows_from}
+use Rattle.import_laws.specs.Laws.{ids_differ}
+use Rattle.import_laws.specs.Links.{index_in, is_made, links_made, mirror_of, refs_at}
+use Rattle.import_laws.specs.Names.{name_at}
+use Rattle.import_laws.specs.News.{rank_of}
+use Rattle.import_laws.proofs.Indexed.{at_less, drop_none, or_later}
+use Rattle.import_laws.proofs.Linking.{Due, Linked, covered, links_lead, made_there, turns_held, turns_other}
+use Rattle.import_laws.proofs.RowCounts.{count_turns, within}
+use Rattle.import_laws.proofs.Turns.{Alone, Each, Turn, alone_from, each_both, each_from, each_map, found_from, is_mine, key_of, links_are, rows_are, tally_from, turns_from, turns_set}
 
 -- ---- lists by index
 pub any_at : (bs : List ℕ) (j b : ℕ) → slice_get bs j ≡ Some b → list_any (nat_eq b) bs ≡ true

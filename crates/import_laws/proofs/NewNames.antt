@@ -11,8 +11,8 @@ use Rattle.edits.specs.FreshIds.{numbered}
 use Rattle.edits.proofs.Fresh.{numbered_apart}
 use Rattle.emfjson_model.specs.declared.doc.DocRow.{DocRow}
 use Rattle.emfjson_model.specs.Laws.{gives_id, ids_repeat, is_given}
-use Rattle.model_import.specs.Names.{AreNames, IsName, any_in_use, in_use, is_taken, greatest_number}
-use Rattle.model_import.specs.Laws.{NamesAreNew, ids_differ}
+use Rattle.import_laws.specs.Names.{AreNames, IsName, any_in_use, in_use, is_taken, greatest_number}
+use Rattle.import_laws.specs.Laws.{NamesAreNew, ids_differ}
 
 -- ---- tests
 neither : (a b : Bool) → a ≡ false → b ≡ false → a || b ≡ false

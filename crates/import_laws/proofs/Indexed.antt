@@ -7,8 +7,8 @@ use Rattle.finite_maps.specs.Equal.{text_eq}
 use Rattle.finite_maps.proofs.Cases.{not_so, not_true, true_false, or_first, or_second}
 use Rattle.finite_maps.proofs.EqualLaws.{and_first, and_second, apart, nat_equality, text_equality}
 use Rattle.model_state.specs.Keys.{IdBytes}
-use Rattle.model_import.specs.Names.{name_at}
-use Rattle.model_import.specs.Laws.{ids_differ}
+use Rattle.import_laws.specs.Names.{name_at}
+use Rattle.import_laws.specs.Laws.{ids_differ}
 
 pub or_later : (a b : Bool) → b ≡ true → a || b ≡ true
 or_later true b h = refl

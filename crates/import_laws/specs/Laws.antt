@@ -11,9 +11,9 @@ use Rattle.model_state.specs.Steps.{fold}
 use Rattle.emfjson_model.specs.declared.doc.DocRow.{DocRow}
 use Rattle.emfjson_model.specs.Fits.{DocumentFits}
 use Rattle.emfjson_model.specs.Laws.{ids_repeat}
-use Rattle.model_import.specs.After.{import_after}
-use Rattle.model_import.specs.Import.{import_of}
-use Rattle.model_import.specs.Names.{AreNames, any_in_use}
+use Rattle.import_laws.specs.After.{import_after}
+use Rattle.import_laws.specs.Import.{import_of}
+use Rattle.import_laws.specs.Names.{AreNames, any_in_use}
 use Rattle.edits.specs.Answers.{steps_in}
 
 -- no name comes twice

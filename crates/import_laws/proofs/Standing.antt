@@ -27,9 +27,9 @@ use Rattle.edit_laws.specs.Spot.{end_spot}
 use Rattle.edit_laws.proofs.Creates.{Stand, names_differ, rerank_leads}
 use Rattle.edit_laws.proofs.Pairs.{some_of}
 use Rattle.model_laws.proofs.Inserts.{or_none}
-use Rattle.model_import.specs.After.{ranks_after}
-use Rattle.model_import.specs.News as news
-use Rattle.model_import.specs.Roots.{with_ranks}
+use Rattle.import_laws.specs.After.{ranks_after}
+use Rattle.import_laws.specs.News as news
+use Rattle.import_laws.specs.Roots.{with_ranks}
 
 -- ---- what is live differs from what is not
 pub live_differ : (s : State) (e x : IdBytes) → is_live s e ≡ false → is_live s x ≡ true → text_eq e x ≡ false

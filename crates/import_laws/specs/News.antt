@@ -11,8 +11,8 @@ use Rattle.edit_laws.specs.declared.fault.EditFault.TheVariants.{Bound}
 use Rattle.emfjson_model.specs.Fits.{standing}
 use Rattle.emfjson_drafts.specs.declared.doc.DocParent.{DocParent}
 use Rattle.emfjson_model.specs.declared.doc.DocRow.{DocRow}
-use Rattle.model_import.specs.Names.{name_at, greatest_number}
-use Rattle.model_import.specs.Roots.{has_end, root_after, root_made}
+use Rattle.import_laws.specs.Names.{name_at, greatest_number}
+use Rattle.import_laws.specs.Roots.{has_end, root_after, root_made}
 use Rattle.model_state.specs.Ranks.{rank_gap}
 
 -- the rank of the k-th entry of a new list, from 0: evenly spread, as far as 64 bits go

@@ -14,11 +14,11 @@ use Rattle.emfjson_model.specs.declared.doc.DocRefs.{DocRefs}
 use Rattle.emfjson_model.specs.declared.doc.DocRow.{DocRow}
 use Rattle.emfjson_model.specs.Fits.{numbers_differ}
 use Rattle.emfjson_model.specs.Merged.{targets_at}
-use Rattle.model_import.specs.After.{refs_set, rows_from, targets_set}
-use Rattle.model_import.specs.Links.{link_to, links_from, refs_made, targets_made}
-use Rattle.model_import.specs.Names.{name_at}
-use Rattle.model_import.specs.News.{rank_of}
-use Rattle.model_import.proofs.Indexed.{drop_at, drop_next, drop_none, or_later}
+use Rattle.import_laws.specs.After.{refs_set, rows_from, targets_set}
+use Rattle.import_laws.specs.Links.{link_to, links_from, refs_made, targets_made}
+use Rattle.import_laws.specs.Names.{name_at}
+use Rattle.import_laws.specs.News.{rank_of}
+use Rattle.import_laws.proofs.Indexed.{drop_at, drop_next, drop_none, or_later}
 
 -- a row's feature refers to another row, which stands at the index of its list
 pub record Turn : Type 0 where

@@ -19,18 +19,18 @@ use Rattle.edit_laws.specs.declared.fault.EditFault.{EditFault}
 use Rattle.edit_laws.specs.declared.fault.EditFault.TheVariants.{IdInUse}
 use Rattle.emfjson_model.specs.declared.doc.DocRow.{DocRow}
 use Rattle.emfjson_model.specs.Fits.{DocumentFits}
-use Rattle.model_import.specs.After.{Kinds, attrs_from, import_after, kinds_from, places_from, ranks_from}
-use Rattle.model_import.specs.Import.{and_then, composite, of_steps, steps_made}
-use Rattle.model_import.specs.Laws.{ImportsLead, ids_differ}
-use Rattle.model_import.specs.Links.{links_made}
-use Rattle.model_import.specs.Names.{any_in_use, name_at}
-use Rattle.model_import.specs.News.{news_made}
-use Rattle.model_import.specs.Values.{values_made}
-use Rattle.model_import.proofs.Indexed.{drop_none, none_at}
-use Rattle.model_import.proofs.LinksLead.{links_led}
-use Rattle.model_import.proofs.NewNames.{names_new}
-use Rattle.model_import.proofs.NewsLead.{news_led, placed}
-use Rattle.model_import.proofs.ValuesLead.{values_lead}
+use Rattle.import_laws.specs.After.{Kinds, attrs_from, import_after, kinds_from, places_from, ranks_from}
+use Rattle.import_laws.specs.Import.{and_then, composite, of_steps, steps_made}
+use Rattle.import_laws.specs.Laws.{ImportsLead, ids_differ}
+use Rattle.import_laws.specs.Links.{links_made}
+use Rattle.import_laws.specs.Names.{any_in_use, name_at}
+use Rattle.import_laws.specs.News.{news_made}
+use Rattle.import_laws.specs.Values.{values_made}
+use Rattle.import_laws.proofs.Indexed.{drop_none, none_at}
+use Rattle.import_laws.proofs.LinksLead.{links_led}
+use Rattle.import_laws.proofs.NewNames.{names_new}
+use Rattle.import_laws.proofs.NewsLead.{news_led, placed}
+use Rattle.import_laws.proofs.ValuesLead.{values_lead}
 use Rattle.edits.specs.Answers.{steps_in}
 
 -- ---- from what is recorded to its steps

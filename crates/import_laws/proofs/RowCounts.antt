@@ -15,11 +15,11 @@ use Rattle.model_state.specs.Keys.{IdBytes, RowKey, row_cmp}
 use Rattle.model_state.specs.Listing.{is_of}
 use Rattle.model_state.proofs.Orders.{row_order}
 use Rattle.edit_laws.specs.Rows.{Rows}
-use Rattle.model_import.specs.Laws.{ids_differ}
-use Rattle.model_import.specs.Names.{name_at}
-use Rattle.model_import.specs.News.{rank_of}
-use Rattle.model_import.proofs.Indexed.{same_at}
-use Rattle.model_import.proofs.Turns.{Each, Turn, is_mine, key_of, turn_set, turns_set}
+use Rattle.import_laws.specs.Laws.{ids_differ}
+use Rattle.import_laws.specs.Names.{name_at}
+use Rattle.import_laws.specs.News.{rank_of}
+use Rattle.import_laws.proofs.Indexed.{same_at}
+use Rattle.import_laws.proofs.Turns.{Each, Turn, is_mine, key_of, turn_set, turns_set}
 
 abbrev pub within : Rows → Rows → Type 0
 within row whole = (q : RowKey) (r : ℕ) → get row q ≡ Some r → get whole q ≡ Some r

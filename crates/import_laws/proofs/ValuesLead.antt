@@ -29,11 +29,11 @@ use Rattle.model_laws.proofs.Runs.{fold_append, fold_more}
 use Rattle.emfjson_drafts.specs.declared.doc.DocAttr.{DocAttr}
 use Rattle.emfjson_model.specs.declared.doc.DocRow.{DocRow}
 use Rattle.emfjson_model.specs.Fits.{AttrFits, DocumentFits, numbers_differ}
-use Rattle.model_import.specs.After.{Attrs, attrs_from, attrs_set}
-use Rattle.model_import.specs.Laws as laws
-use Rattle.model_import.specs.Names.{name_at}
-use Rattle.model_import.specs.Values.{attr_made, attrs_made, inserts_made, put_made, values_from}
-use Rattle.model_import.proofs.Indexed.{differ_at, drop_at, drop_less, drop_next}
+use Rattle.import_laws.specs.After.{Attrs, attrs_from, attrs_set}
+use Rattle.import_laws.specs.Laws as laws
+use Rattle.import_laws.specs.Names.{name_at}
+use Rattle.import_laws.specs.Values.{attr_made, attrs_made, inserts_made, put_made, values_from}
+use Rattle.import_laws.proofs.Indexed.{differ_at, drop_at, drop_less, drop_next}
 use Rattle.model_state.specs.Ranks.{most_entries}
 
 -- ---- a value among those of a list

@@ -11,10 +11,10 @@ use Rattle.model_state.specs.State.{State}
 use Rattle.edit_laws.specs.declared.fault.EditFault.{EditFault}
 use Rattle.edit_laws.specs.declared.fault.EditFault.TheVariants.{IdInUse, Memory}
 use Rattle.emfjson_model.specs.declared.doc.DocRow.{DocRow}
-use Rattle.model_import.specs.Names.{AreNames, any_in_use, names_of}
-use Rattle.model_import.specs.News.{news_made}
-use Rattle.model_import.specs.Values.{values_made}
-use Rattle.model_import.specs.Links.{links_made}
+use Rattle.import_laws.specs.Names.{AreNames, any_in_use, names_of}
+use Rattle.import_laws.specs.News.{news_made}
+use Rattle.import_laws.specs.Values.{values_made}
+use Rattle.import_laws.specs.Links.{links_made}
 
 -- the steps and then more, or why there are none
 abbrev pub and_then : Result (List Step) EditFault → List Step → Result (List Step) EditFault

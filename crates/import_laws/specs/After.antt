@@ -15,9 +15,9 @@ use Rattle.edit_laws.specs.Spot.{end_spot}
 use Rattle.emfjson_drafts.specs.declared.doc.DocAttr.{DocAttr}
 use Rattle.emfjson_model.specs.declared.doc.DocRefs.{DocRefs}
 use Rattle.emfjson_model.specs.declared.doc.DocRow.{DocRow}
-use Rattle.model_import.specs.Names.{name_at}
+use Rattle.import_laws.specs.Names.{name_at}
 use Rattle.emfjson_model.specs.Fits.{standing}
-use Rattle.model_import.specs.News.{place_of, rank_of, roots_after}
+use Rattle.import_laws.specs.News.{place_of, rank_of, roots_after}
 
 -- the class of each element
 abbrev pub Kinds : Type 0

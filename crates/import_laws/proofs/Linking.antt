@@ -23,13 +23,13 @@ use Rattle.edit_laws.specs.Rows.{Rows, link_step, set_pair}
 use Rattle.edit_laws.proofs.Clears.{good_after}
 use Rattle.edit_laws.proofs.Pairs.{Takes, link_takes}
 use Rattle.emfjson_model.specs.declared.doc.DocRow.{DocRow}
-use Rattle.model_import.specs.Laws.{ids_differ}
-use Rattle.model_import.specs.Links.{is_made, link_to, mirror_of}
-use Rattle.model_import.specs.Names.{name_at}
-use Rattle.model_import.specs.News.{rank_of}
-use Rattle.model_import.proofs.Indexed.{named, one_at}
-use Rattle.model_import.proofs.RowCounts.{space, within}
-use Rattle.model_import.proofs.Turns.{Alone, Each, Other, Turn, each_both, each_map, key_of, turn_set, turn_step, turn_steps, turns_set}
+use Rattle.import_laws.specs.Laws.{ids_differ}
+use Rattle.import_laws.specs.Links.{is_made, link_to, mirror_of}
+use Rattle.import_laws.specs.Names.{name_at}
+use Rattle.import_laws.specs.News.{rank_of}
+use Rattle.import_laws.proofs.Indexed.{named, one_at}
+use Rattle.import_laws.proofs.RowCounts.{space, within}
+use Rattle.import_laws.proofs.Turns.{Alone, Each, Other, Turn, each_both, each_map, key_of, turn_set, turn_step, turn_steps, turns_set}
 
 -- ---- one entry more
 pub set_within : (row whole : Rows) (k : RowKey) (r : ℕ) → within row whole → get whole k ≡ Some r → within (set row k (Some r)) whole

@@ -9,8 +9,8 @@ use Rattle.edit_laws.specs.Rows.{link_step}
 use Rattle.emfjson_model.specs.declared.doc.DocRefs.{DocRefs}
 use Rattle.emfjson_model.specs.declared.doc.DocRow.{DocRow}
 use Rattle.emfjson_model.specs.Merged.{targets_at}
-use Rattle.model_import.specs.Names.{name_at}
-use Rattle.model_import.specs.News.{rank_of}
+use Rattle.import_laws.specs.Names.{name_at}
+use Rattle.import_laws.specs.News.{rank_of}
 
 -- the link was made from the other side, which came before: that of an earlier row, or of a lesser feature of the same
 abbrev pub is_made : Option ℕ → ℕ → ℕ → ℕ → Bool

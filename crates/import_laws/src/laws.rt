@@ -1,5 +1,5 @@
 //! The laws of imports: the ids are new and differ, and the steps lead to the model with the document's elements.
-ghost use Rattle.model_import.specs.Laws.{ImportsLead, NamesAreNew};
+ghost use Rattle.import_laws.specs.Laws.{ImportsLead, NamesAreNew};
 
 /// The ids that the elements of a document get are as many as the elements. None of them is live and no two are the
 /// same, where the document gives no id that is live and none twice.

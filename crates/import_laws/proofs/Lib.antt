@@ -1,0 +1,12 @@
+pub mod Ends
+pub mod NewNames
+pub mod Indexed
+pub mod ValuesLead
+pub mod Standing
+pub mod NewsLead
+pub mod Turns
+pub mod RowCounts
+pub mod Linking
+pub mod LinksLead
+pub mod ImportLead
+pub mod NameLists
