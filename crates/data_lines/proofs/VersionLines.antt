@@ -5,7 +5,7 @@ use Rattle.std.proofs.Math.Seq.{drop-cons}
 use Rattle.std.proofs.lemmas.Option.{slice_get_within, get_or_from_slice_get}
 use Rattle.history_tree.specs.declared.version.Version.{Version}
 use Rattle.history_tree.specs.History.{History}
-use Rattle.data_lines.specs.Versions.{version_line, version_lines}
+use Rattle.shown_lines.specs.Versions.{version_line, version_lines}
 
 -- where a version is next
 first_dropped : (vs : List Version) (n : ℕ) (v : Version) → slice_get vs n ≡ Some v → drop n vs ≡ v ∷ drop (suc n) vs

@@ -1,8 +1,8 @@
 //! The lines of buckets.
 ghost use Rattle.std.specs.Prelude.{◌≡◌, ◌++◌, ◌∷◌, [], All, IfOk, OnOk};
-ghost use Rattle.data_lines.specs.Buckets.{HasNumber, HasNumbers, HaveNumbers, bucket_line, bucket_lines, numbers};
-ghost use Rattle.data_lines.specs.Lines.{after_spaces};
-ghost use Rattle.data_lines.specs.Versions.{listed};
+ghost use Rattle.shown_lines.specs.Buckets.{HasNumber, HasNumbers, HaveNumbers, bucket_line, bucket_lines, numbers};
+ghost use Rattle.shown_lines.specs.Lines.{after_spaces};
+ghost use Rattle.shown_lines.specs.Versions.{listed};
 
 use crate::line::Line;
 use crate::versions::push_list;
@@ -12,7 +12,7 @@ use std::alloc::{AllocError, Global};
 
 /// The lines of buckets: for each `bucket N theirs LIST mine LIST`, with N from 1. A LIST is the numbers of the bucket's operations of that
 /// side, from 1, with commas between them. A place counts from 0, so each is to be less than the last number of 64 bits.
-#[tactic(auto, unfolding(crate::specs::Buckets::bucket_lines))]
+#[tactic(auto, unfolding(shown_lines::specs::Buckets::bucket_lines))]
 pub fn bucket_lines(alloc: Global, buckets: &Buckets) -> Result<List<Text>, AllocError>
     requires numbers { HaveNumbers buckets.now }
     ensures lines { IfOk result (λ lines. lines ≡ bucket_lines buckets.now) }

@@ -3,7 +3,6 @@
 #![tactic(auto)]
 
 mod buckets;
-mod laws;
 mod line;
 mod operation;
 mod step;
@@ -12,7 +11,6 @@ mod versions;
 mod words;
 
 pub use buckets::bucket_lines;
-pub use laws::law_of_taken_steps;
 pub use operation::{open_lines, operation_lines};
 pub use validation::validate_lines;
 pub use versions::{log_lines, package_lines};

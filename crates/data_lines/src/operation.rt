@@ -1,7 +1,7 @@
 //! The lines of operations, and those of an open composite.
 ghost use Rattle.std.specs.Prelude.{◌≡◌, ◌++◌, ◌∷◌, [], IfOk, OnOk, codes, map};
-ghost use Rattle.data_lines.specs.Lines.{kind_word, kind_words, open_lines, operation_line, operation_lines, after_spaces, step_line};
-ghost use Rattle.data_lines.specs.Typed.{AreTyped, IsTypedPackage};
+ghost use Rattle.shown_lines.specs.Lines.{kind_word, kind_words, open_lines, operation_line, operation_lines, after_spaces, step_line};
+ghost use Rattle.shown_lines.specs.Typed.{AreTyped, IsTypedPackage};
 
 use crate::line::Line;
 use crate::step::step_line;
@@ -11,7 +11,7 @@ use std::alloc::{AllocError, Global};
 
 /// The lines of a package: for each operation `op N KIND`, with N from 1, and then one line a step. That its steps are of
 /// the metamodel is known by `law_of_taken_steps` where they were taken.
-#[tactic(auto, unfolding(crate::specs::Lines::operation_lines))]
+#[tactic(auto, unfolding(shown_lines::specs::Lines::operation_lines))]
 pub fn operation_lines(
     alloc: Global,
     package: &[Operation],
@@ -30,7 +30,7 @@ pub fn operation_lines(
 
 /// The lines of an open composite: `open NAME`, and then one line a step, as in the lines of a package. That the steps
 /// are of the metamodel is known by `law_of_taken_steps` where they were taken.
-#[tactic(auto, unfolding(crate::specs::Lines::open_lines))]
+#[tactic(auto, unfolding(shown_lines::specs::Lines::open_lines))]
 pub fn open_lines(
     alloc: Global,
     name: &Text,

@@ -1,8 +1,8 @@
 //! The line of a step.
 ghost use Rattle.std.specs.Prelude.{◌≡◌, ◌++◌, ◌∷◌, [], IfOk, OnOk, codes};
 ghost use Rattle.std.specs.Fmt.{decimal};
-ghost use Rattle.data_lines.specs.Lines.{class_name, feature_name, optional, place_word, after_spaces, step_line, value_word};
-ghost use Rattle.data_lines.specs.Typed.{IsClass, IsFeature, IsPlace, IsTyped, IsValue, IsValueIfAny};
+ghost use Rattle.shown_lines.specs.Lines.{class_name, feature_name, optional, place_word, after_spaces, step_line, value_word};
+ghost use Rattle.shown_lines.specs.Typed.{IsClass, IsFeature, IsPlace, IsTyped, IsValue, IsValueIfAny};
 
 use crate::line::Line;
 use crate::words::{
@@ -22,7 +22,7 @@ pub(crate) fn step_line(alloc: Global, meta: &Metamodel, step: &Step) -> Result<
     line.into_text()
 }
 
-#[tactic(auto, unfolding(crate::specs::Lines::step_words))]
+#[tactic(auto, unfolding(shown_lines::specs::Lines::step_words))]
 fn push_step(line: &mut Line, meta: &Metamodel, step: &Step) -> Result<(), AllocError>
     requires { IsTyped meta.now step.now }
     ensures { OnOk result (line.new ≡ line.old ++ step_line meta.now step.now) }

@@ -5,8 +5,8 @@ ghost use Rattle.std.specs.Option.{option_copied, option_map};
 ghost use Rattle.std.specs.FinMap.{get};
 ghost use Rattle.model_state.specs.Listing.{children};
 ghost use Rattle.model_state.specs.declared.step.Place.TheVariants.{Inside};
-ghost use Rattle.data_lines.specs.Lines.{after_spaces};
-ghost use Rattle.data_lines.specs.Validation.{feature_lines, features_at, held_count, line_if_short, lower_in, stands_in, validate_lines};
+ghost use Rattle.shown_lines.specs.Lines.{after_spaces};
+ghost use Rattle.shown_lines.specs.Validation.{feature_lines, features_at, held_count, line_if_short, lower_in, stands_in, validate_lines};
 
 use crate::line::Line;
 use ecore_meta::{Feature, Kind, List, Metamodel, Text};
@@ -17,7 +17,7 @@ use std::alloc::{AllocError, Global};
 /// order of their ids, and the features of each by number. A single attribute counts 1 where it is set or has a
 /// default. The reference to the container counts 1 where the element stands in its opposite. The others count their
 /// entries. Skipped features aren't tested.
-#[tactic(auto, unfolding(crate::specs::Validation::validate_lines))]
+#[tactic(auto, unfolding(shown_lines::specs::Validation::validate_lines))]
 pub fn validate_lines<L: Look>(
     alloc: Global,
     look: &L,

@@ -7,9 +7,9 @@ ghost use Rattle.hex.specs.Hex.{encode_lower};
 ghost use Rattle.history_tree.specs.Found.{branch_name, tags_of};
 ghost use Rattle.op_form.specs.Packages.{package_encoding};
 ghost use Rattle.op_form.specs.Formed.{IsPackage};
-ghost use Rattle.data_lines.specs.Lines.{optional, operation_lines, after_spaces};
-ghost use Rattle.data_lines.specs.Typed.{IsTypedPackage};
-ghost use Rattle.data_lines.specs.Versions.{after_commas, listed, log_lines, package_lines, version_line};
+ghost use Rattle.shown_lines.specs.Lines.{optional, operation_lines, after_spaces};
+ghost use Rattle.shown_lines.specs.Typed.{IsTypedPackage};
+ghost use Rattle.shown_lines.specs.Versions.{after_commas, listed, log_lines, package_lines, version_line};
 
 use crate::line::Line;
 use crate::operation::operation_lines;
@@ -23,7 +23,7 @@ use std::alloc::{AllocError, Global};
 /// The lines of a history, a line for each version in the order of numbers: `N BRANCH PARENT MERGED OPS TAGS AUTHOR MOMENT
 /// MESSAGE`. PARENT, MERGED, TAGS, AUTHOR and MOMENT are `-` where there is none, and lists have commas between their items. OPS is the
 /// number of operations of the version, and MESSAGE its message as a JSON text. It goes over the tags once.
-#[tactic(auto, unfolding(crate::specs::Versions::log_lines))]
+#[tactic(auto, unfolding(shown_lines::specs::Versions::log_lines))]
 pub fn log_lines(alloc: Global, history: &History) -> Result<List<Text>, AllocError>
     ensures lines { IfOk result (λ lines. lines ≡ log_lines history.now.history) }
 {
@@ -38,7 +38,7 @@ pub fn log_lines(alloc: Global, history: &History) -> Result<List<Text>, AllocEr
 
 /// The lines of a version's package, as `operation_lines` gives them, and then `hex ` and the bytes of the package in hexadecimal digits. That
 /// the package has bytes is tested by `is_package` of `op_form`.
-#[tactic(auto, unfolding(crate::specs::Versions::package_lines))]
+#[tactic(auto, unfolding(shown_lines::specs::Versions::package_lines))]
 pub fn package_lines(
     alloc: Global,
     package: &Package,

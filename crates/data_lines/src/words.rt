@@ -1,8 +1,8 @@
 //! Words of a step's line.
 ghost use Rattle.std.specs.Prelude.{◌≡◌, ◌++◌, ◌∷◌, OnOk};
 ghost use Rattle.std.specs.Fmt.{decimal};
-ghost use Rattle.data_lines.specs.Lines.{class_name, feature_name, optional, place_word, value_word};
-ghost use Rattle.data_lines.specs.Typed.{IsClass, IsFeature, IsPlace, IsValue, IsValueIfAny};
+ghost use Rattle.shown_lines.specs.Lines.{class_name, feature_name, optional, place_word, value_word};
+ghost use Rattle.shown_lines.specs.Typed.{IsClass, IsFeature, IsPlace, IsValue, IsValueIfAny};
 
 use crate::line::Line;
 use ecore_meta::{Kind, Metamodel, Value};

@@ -21,9 +21,9 @@ use Rattle.history_tree.specs.History.{History}
 use Rattle.footprint.specs.declared.bucket.Bucket.{Bucket}
 use Rattle.emfjson_text.specs.Keys.{key_name, keys_of}
 use Rattle.emfjson_text.specs.Tree.{child_ids, element, members, object_of, one_or_list, part, text, whole}
-use Rattle.data_lines.specs.Lines.{step_words, step_line, operation_line, lines_from, operation_lines, open_lines}
-use Rattle.data_lines.specs.Versions.{version_line, version_lines, log_lines, package_lines}
-use Rattle.data_lines.specs.Buckets.{bucket_line, bucket_lines_from, bucket_lines}
+use Rattle.shown_lines.specs.Lines.{step_words, step_line, operation_line, lines_from, operation_lines, open_lines}
+use Rattle.shown_lines.specs.Versions.{version_line, version_lines, log_lines, package_lines}
+use Rattle.shown_lines.specs.Buckets.{bucket_line, bucket_lines_from, bucket_lines}
 use Rattle.script_lang.specs.declared.reply.Last.TheVariants as last
 use Rattle.plain_repository.specs.State.{Composite}
 use Rattle.plain_repository.specs.Views.{lines_of_open}

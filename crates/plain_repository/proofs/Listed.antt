@@ -7,9 +7,9 @@ use Rattle.hex.specs.Hex.{encode_lower}
 use Rattle.ecore_meta.specs.Meta.{Meta}
 use Rattle.growth_laws.specs.Growth.{Evolves}
 use Rattle.model_state.specs.Packages.{steps_of}
-use Rattle.data_lines.specs.Lines.{after_spaces, open_lines}
-use Rattle.data_lines.specs.Typed.{AreTyped, IsTypedPackage}
-use Rattle.data_lines.specs.Versions.{package_lines}
+use Rattle.shown_lines.specs.Lines.{after_spaces, open_lines}
+use Rattle.shown_lines.specs.Typed.{AreTyped, IsTypedPackage}
+use Rattle.shown_lines.specs.Versions.{package_lines}
 use Rattle.history_tree.specs.declared.found.Found.{Found}
 use Rattle.history_tree.specs.declared.found.FindFault.{FindFault}
 use Rattle.history_tree.specs.declared.version.Version.{Version}

@@ -3,8 +3,8 @@ use Rattle.std.proofs.Common.{◌≡◌, ℕ, List, [], ◌∷◌, ◌++◌, Opt
 use Rattle.std.specs.Prelude.{IsTrue, unwrap_or}
 use Rattle.ecore_meta.specs.Meta.{Meta}
 use Rattle.emfjson_text.specs.Tree.{text}
-use Rattle.data_lines.specs.Lines.{operation_lines}
-use Rattle.data_lines.specs.Validation.{validate_lines}
+use Rattle.shown_lines.specs.Lines.{operation_lines}
+use Rattle.shown_lines.specs.Validation.{validate_lines}
 use Rattle.model_state.specs.State as models
 use Rattle.model_state.specs.State.{nothing}
 use Rattle.model_state.specs.Steps.{fold}

@@ -19,8 +19,8 @@ use Rattle.history_tree.specs.Whole.{ComesBefore}
 use Rattle.history_tree.specs.declared.version.Version.{Version}
 use Rattle.history_tree.proofs.Paths.{path_by_parent}
 use Rattle.history_tree.proofs.Steady.{operations_append}
-use Rattle.data_lines.specs.Typed.{AreTyped, IsTypedPackage}
-use Rattle.data_lines.proofs.Taken.{packages_typed, steps_typed}
+use Rattle.shown_lines.specs.Typed.{AreTyped, IsTypedPackage}
+use Rattle.shown_lines.proofs.Taken.{packages_typed, steps_typed}
 use Rattle.plain_repository.specs.State.{State, Workspace, open_steps, recorded_steps}
 use Rattle.plain_repository.specs.Orderly.{IsOrderly, steps_to}
 use Rattle.plain_repository.specs.Laws.{IsThere}

@@ -2,7 +2,7 @@
 use Rattle.std.specs.Prelude.{ℕ, List, [], ◌∷◌, length, Option, Some, None, if◌then◌else◌}
 use Rattle.footprint.specs.declared.bucket.Bucket.{Bucket}
 use Rattle.merge_laws.specs.Choices.{are_choices}
-use Rattle.data_lines.specs.Buckets.{bucket_lines}
+use Rattle.shown_lines.specs.Buckets.{bucket_lines}
 use Rattle.script_lang.specs.declared.reply.Refusal.TheVariants as refusals
 use Rattle.plain_repository.specs.Answers.{Decision, refused, refused_with}
 

@@ -8,9 +8,9 @@ use Rattle.history_tree.specs.History.{History}
 use Rattle.history_tree.specs.States.{state_of, package_at}
 use Rattle.op_form.specs.Formed.{is_package}
 use Rattle.emfjson_text.specs.Tree.{text}
-use Rattle.data_lines.specs.Lines.{operation_lines, open_lines}
-use Rattle.data_lines.specs.Validation.{validate_lines}
-use Rattle.data_lines.specs.Versions.{log_lines, package_lines}
+use Rattle.shown_lines.specs.Lines.{operation_lines, open_lines}
+use Rattle.shown_lines.specs.Validation.{validate_lines}
+use Rattle.shown_lines.specs.Versions.{log_lines, package_lines}
 use Rattle.script_lang.specs.declared.command.Spec.{Spec}
 use Rattle.script_lang.specs.declared.reply.Refusal.TheVariants as refusals
 use Rattle.plain_repository.specs.State.{State, Workspace, Composite, workspace_of, model_of}

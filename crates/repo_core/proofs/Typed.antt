@@ -3,7 +3,7 @@ use Rattle.std.proofs.Common.{◌≡◌, Bor, Option, Some, None, sym, subst}
 use Rattle.std.specs.Prelude.{IfSome}
 use Rattle.std.specs.Option.{option_copied, option_map}
 use Rattle.ecore_meta.specs.Meta.{Meta}
-use Rattle.data_lines.specs.Typed.{AreTyped}
+use Rattle.shown_lines.specs.Typed.{AreTyped}
 use Rattle.plain_repository.specs.State.{open_steps}
 use Rattle.repo_state.specs.declared.workspace.Composite.{Composite as Open}
 use Rattle.repo_state.specs.declared.workspace.Workspace.{Workspace as Kept}

@@ -1,6 +1,6 @@
 //! What is answered where theirs and mine conflict.
 ghost use Rattle.std.specs.Prelude.{◌≡◌, [], IfOk, IfNone, IfSome, true, unwrap_or};
-ghost use Rattle.data_lines.specs.Buckets.{HaveNumbers};
+ghost use Rattle.shown_lines.specs.Buckets.{HaveNumbers};
 ghost use Rattle.plain_repository.specs.Answers as plain;
 ghost use Rattle.plain_repository.specs.Choices.{chosen};
 ghost use Rattle.merge_laws.specs.Choices.{are_choices};
@@ -26,7 +26,7 @@ pub(crate) fn text_or_empty(alloc: Global, text: &Option<Text>) -> Result<Text, 
 }
 
 /// The refusal where the choices don't fit the buckets, or where there are buckets and no choices.
-#[tactic(auto, unfolding(data_lines::specs::Buckets::bucket_lines))]
+#[tactic(auto, unfolding(shown_lines::specs::Buckets::bucket_lines))]
 pub(crate) fn refused_choices(
     alloc: Global,
     buckets: &Buckets,

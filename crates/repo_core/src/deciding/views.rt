@@ -3,7 +3,7 @@ ghost use Rattle.std.specs.Prelude.{◌≡◌, IfOk, IfNone, IfSome, OnOk, ◌++
 ghost use Rattle.std.specs.Option.{option_copied, option_map};
 ghost use Rattle.plain_repository.specs.State.{workspace_of};
 ghost use Rattle.plain_repository.specs.Views.{lines_of_open, decide_changes, decide_show, decide_cat, decide_validate, decide_log, decide_package};
-ghost use Rattle.data_lines.specs.Typed.{AreTyped};
+ghost use Rattle.shown_lines.specs.Typed.{AreTyped};
 ghost use Rattle.plain_repository.specs.Specs.{named};
 ghost use Rattle.version_states.specs.Cached.{MayUse, Uses};
 ghost use Rattle.repo_core.specs.Shown.{FoundFirst};

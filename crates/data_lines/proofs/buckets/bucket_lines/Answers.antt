@@ -1,6 +1,6 @@
 use Rattle.std.proofs.Common.{List, All, subst, sym}
 use Rattle.footprint.specs.declared.bucket.Bucket.{Bucket}
-use Rattle.data_lines.specs.Buckets.{HasNumbers}
+use Rattle.shown_lines.specs.Buckets.{HasNumbers}
 use Rattle.data_lines.proofs.buckets.bucket_lines.Goals as goal
 
 pub bucket_line-requires : goal.bucket_line-requires

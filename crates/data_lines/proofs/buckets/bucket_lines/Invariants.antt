@@ -1,5 +1,5 @@
 use Rattle.std.proofs.Common.{◌≡◌, ◌++◌, ◌+◌, drop}
-use Rattle.data_lines.specs.Buckets.{bucket_lines_from}
+use Rattle.shown_lines.specs.Buckets.{bucket_lines_from}
 use Rattle.data_lines.proofs.buckets.bucket_lines.Given as goal
 
 abbrev pub invariant-loop-n : goal.invariant-loop-n

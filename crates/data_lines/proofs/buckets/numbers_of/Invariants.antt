@@ -1,5 +1,5 @@
 use Rattle.std.proofs.Common.{◌≡◌, ◌++◌, drop}
-use Rattle.data_lines.specs.Buckets.{numbers}
+use Rattle.shown_lines.specs.Buckets.{numbers}
 use Rattle.data_lines.proofs.buckets.numbers_of.Given as goal
 
 abbrev pub invariant-loop-place : goal.invariant-loop-place

@@ -1,5 +1,5 @@
 use Rattle.std.proofs.Common.{◌≡◌, ◌++◌, ◌+◌, drop}
-use Rattle.data_lines.specs.Lines.{lines_from}
+use Rattle.shown_lines.specs.Lines.{lines_from}
 use Rattle.data_lines.proofs.operation.operation_lines.Given as goal
 
 abbrev pub invariant-loop-n : goal.invariant-loop-n

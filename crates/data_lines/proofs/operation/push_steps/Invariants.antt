@@ -1,5 +1,5 @@
 use Rattle.std.proofs.Common.{◌≡◌, ◌++◌, drop, map}
-use Rattle.data_lines.specs.Lines.{step_line}
+use Rattle.shown_lines.specs.Lines.{step_line}
 use Rattle.data_lines.proofs.operation.push_steps.Given as goal
 
 abbrev pub invariant-loop-step : goal.invariant-loop-step

@@ -1,5 +1,5 @@
 use Rattle.std.proofs.Common.{◌≡◌, ◌++◌, drop}
-use Rattle.data_lines.specs.Validation.{feature_lines}
+use Rattle.shown_lines.specs.Validation.{feature_lines}
 use Rattle.data_lines.proofs.validation.push_shortages.Given as goal
 
 abbrev pub invariant-loop-f : goal.invariant-loop-f

@@ -1,6 +1,6 @@
 use Rattle.std.proofs.Common.{◌≡◌, ◌++◌, drop}
 use Rattle.model_state.specs.Listing.{ids}
-use Rattle.data_lines.specs.Validation.{element_lines}
+use Rattle.shown_lines.specs.Validation.{element_lines}
 use Rattle.data_lines.proofs.validation.validate_lines.Given as goal
 
 abbrev pub invariant-loop-e : goal.invariant-loop-e

@@ -1,7 +1,7 @@
 use Rattle.std.proofs.Common.{◌≡◌, ◌<◌, ◌+◌, ◌∷◌, [], ◌++◌, ap, drop, sym, subst, ◌∙◌}
 use Rattle.std.proofs.lemmas.Option.{get_or_from_slice_get}
 use Rattle.history_tree.specs.Found.{tags_of}
-use Rattle.data_lines.specs.Versions.{version_lines, version_line}
+use Rattle.shown_lines.specs.Versions.{version_lines, version_line}
 use Rattle.data_lines.proofs.VersionLines.{next_line}
 use Rattle.data_lines.proofs.versions.log_lines.Goals as goal
 

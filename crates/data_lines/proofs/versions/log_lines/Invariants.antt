@@ -1,5 +1,5 @@
 use Rattle.std.proofs.Common.{◌≡◌, ◌++◌, drop}
-use Rattle.data_lines.specs.Versions.{version_lines}
+use Rattle.shown_lines.specs.Versions.{version_lines}
 use Rattle.data_lines.proofs.versions.log_lines.Given as goal
 
 abbrev pub invariant-loop-n : goal.invariant-loop-n

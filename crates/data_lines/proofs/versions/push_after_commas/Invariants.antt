@@ -1,5 +1,5 @@
 use Rattle.std.proofs.Common.{◌≡◌, ◌++◌, drop}
-use Rattle.data_lines.specs.Versions.{after_commas}
+use Rattle.shown_lines.specs.Versions.{after_commas}
 use Rattle.data_lines.proofs.versions.push_after_commas.Given as goal
 
 abbrev pub invariant-loop-word : goal.invariant-loop-word

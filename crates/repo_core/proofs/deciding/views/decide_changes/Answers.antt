@@ -1,5 +1,5 @@
 use Rattle.std.proofs.Common.{subst, sym}
-use Rattle.data_lines.specs.Typed.{IsTypedPackage}
+use Rattle.shown_lines.specs.Typed.{IsTypedPackage}
 use Rattle.repo_state.specs.Keeping.{plain_of}
 use Rattle.repo_state.proofs.Ordered.{is_there}
 use Rattle.plain_repository.proofs.Typed.{open_typed, operations_typed}

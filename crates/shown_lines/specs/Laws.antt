@@ -7,7 +7,7 @@ use Rattle.model_state.specs.State.{State}
 use Rattle.model_state.specs.Steps.{fold}
 use Rattle.model_state.specs.declared.operation.Operation.{Operation}
 use Rattle.model_state.specs.declared.step.Step.{Step}
-use Rattle.data_lines.specs.Typed.{AreTyped, IsTypedPackage}
+use Rattle.shown_lines.specs.Typed.{AreTyped, IsTypedPackage}
 
 -- steps that can be taken one by one from a good state
 abbrev pub TakenStepsAreTyped : Type 0

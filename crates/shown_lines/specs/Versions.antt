@@ -10,7 +10,7 @@ use Rattle.op_form.specs.Packages.{package_encoding}
 use Rattle.history_tree.specs.declared.version.Version.{Version}
 use Rattle.history_tree.specs.History.{History}
 use Rattle.history_tree.specs.Found.{branch_name, tags_of}
-use Rattle.data_lines.specs.Lines.{optional, operation_lines, after_spaces}
+use Rattle.shown_lines.specs.Lines.{optional, operation_lines, after_spaces}
 
 -- words, each after a comma
 abbrev pub after_commas : List (List ℕ) → List ℕ

@@ -25,8 +25,8 @@ use Rattle.model_state.specs.declared.step.Step.{Step}
 use Rattle.model_state.specs.declared.step.Step.TheVariants.{Put, Ins, Del, Shift, Link, Unlink, RerankRow, New, Gone, Move, RerankPlace}
 use Rattle.model_state.proofs.StepTests.{number_equality, passed, place_equality}
 use Rattle.model_laws.proofs.Runs.{fold_first, undoes}
-use Rattle.data_lines.specs.Laws.{TakenPackagesAreTyped, TakenStepsAreTyped}
-use Rattle.data_lines.specs.Typed.{AreTyped, IsClass, IsFeature, IsPlace, IsTyped, IsTypedPackage, IsValueIfAny, is_value}
+use Rattle.shown_lines.specs.Laws.{TakenPackagesAreTyped, TakenStepsAreTyped}
+use Rattle.shown_lines.specs.Typed.{AreTyped, IsClass, IsFeature, IsPlace, IsTyped, IsTypedPackage, IsValueIfAny, is_value}
 
 entry_below : {X : Type 0} (xs : List X) (n : ℕ) (x : X) → slice_get xs n ≡ Some x → n < length xs
 entry_below [] n x is = cc

@@ -3,8 +3,8 @@ use Rattle.std.specs.Prelude.{ℕ, suc, ◌+◌, ◌-◌, ◌^◌, ◌<◌, List
 use Rattle.std.specs.Fmt.{decimal}
 use Rattle.footprint.specs.declared.bucket.Bucket.{Bucket}
 use Rattle.footprint.specs.declared.bucket.Buckets.{Buckets}
-use Rattle.data_lines.specs.Lines.{after_spaces}
-use Rattle.data_lines.specs.Versions.{listed}
+use Rattle.shown_lines.specs.Lines.{after_spaces}
+use Rattle.shown_lines.specs.Versions.{listed}
 
 -- a place of an operation whose number, one more, has 64 bits
 abbrev pub HasNumber : ℕ → Type 0

@@ -12,7 +12,7 @@ use Rattle.model_state.specs.declared.step.Place.TheVariants.{Root, Inside}
 use Rattle.model_state.specs.Keys.{IdBytes}
 use Rattle.model_state.specs.Listing.{children, ids, targets, values_at}
 use Rattle.model_state.specs.State.{State}
-use Rattle.data_lines.specs.Lines.{feature_name, after_spaces}
+use Rattle.shown_lines.specs.Lines.{feature_name, after_spaces}
 
 -- the element stands in that feature of its container
 abbrev pub stands_in : ℕ → Option Place → Bool

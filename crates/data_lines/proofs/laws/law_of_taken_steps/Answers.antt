@@ -1,5 +1,0 @@
-use Rattle.data_lines.proofs.Taken.{packages_typed, steps_typed}
-use Rattle.data_lines.proofs.laws.law_of_taken_steps.Goals as goal
-
-pub returns : goal.returns
-returns c = record { steps = steps_typed; packages = packages_typed }
