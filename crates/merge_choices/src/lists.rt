@@ -6,7 +6,7 @@ ghost use Rattle.merge_choices.specs.Flags.{is_flagged};
 
 use crate::picking::{keep, pick};
 use model_state::{Operation, Package};
-use op_form::reverse;
+use reversals::reverse;
 use std::alloc::{AllocError, Global};
 
 /// The reversal of what the flags drop of the list that is applied already, and then what they keep of the other.

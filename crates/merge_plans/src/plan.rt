@@ -16,7 +16,7 @@ use footprint::Buckets;
 use history_tree::History;
 use merge_choices::{ChoiceFault, merge_package, update_package};
 use model_state::{Operation, Package};
-use op_form::reverse;
+use reversals::reverse;
 use std::alloc::{AllocError, Global};
 
 /// Two packages that begin at one model, and their buckets.

@@ -14,3 +14,4 @@ pub mod StepTouches
 pub mod Apart
 pub mod Packages
 pub mod Stops
+pub mod Reversals

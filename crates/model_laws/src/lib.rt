@@ -5,5 +5,5 @@
 mod laws;
 mod player;
 
-pub use laws::{law_of_exchange, law_of_reversal, law_of_stops};
+pub use laws::{law_of_exchange, law_of_reversal, law_of_reversals, law_of_stops};
 pub use player::replay;

@@ -4,4 +4,3 @@ pub mod Steps
 pub mod Packages
 pub mod Events
 pub mod Formed
-pub mod Reversals

@@ -13,7 +13,7 @@ use Rattle.model_state.specs.declared.operation.Operation.{Operation}
 use Rattle.model_state.specs.declared.step.Step.{Step}
 use Rattle.model_laws.proofs.Packages.{steps_append}
 use Rattle.model_laws.proofs.Runs.{reversal_undoes, steps_keep_good}
-use Rattle.op_form.proofs.Reversals.{packages_undone}
+use Rattle.model_laws.proofs.Reversals.{packages_undone}
 use Rattle.version_states.specs.Taking.{LedTo, StepsLedTo}
 use Rattle.version_states.proofs.Stopping.{first_append}
 

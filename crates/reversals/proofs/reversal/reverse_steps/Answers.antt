@@ -1,8 +1,8 @@
 -- one step more, from the end
 use Rattle.std.proofs.Common.{◌++◌, ap, ◌∙◌}
 use Rattle.model_state.specs.Steps.{rev, rev_all}
-use Rattle.op_form.proofs.Ends.{step_more}
-use Rattle.op_form.proofs.reversal.reverse_steps.Goals as goal
+use Rattle.reversals.proofs.Ends.{step_more}
+use Rattle.reversals.proofs.reversal.reverse_steps.Goals as goal
 
 pub loop-step-preserved : goal.loop-step-preserved
 loop-step-preserved c =

@@ -1,8 +1,8 @@
 -- one operation more, from the end
 use Rattle.std.proofs.Common.{◌++◌, ap, ◌∙◌}
 use Rattle.model_state.specs.Packages.{rev_package}
-use Rattle.op_form.proofs.Ends.{op_more}
-use Rattle.op_form.proofs.reversal.reverse.Goals as goal
+use Rattle.reversals.proofs.Ends.{op_more}
+use Rattle.reversals.proofs.reversal.reverse.Goals as goal
 
 pub loop-op-preserved : goal.loop-op-preserved
 loop-op-preserved c =

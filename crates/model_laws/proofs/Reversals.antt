@@ -10,7 +10,7 @@ use Rattle.model_state.specs.Steps.{rev, rev_all, fold}
 use Rattle.model_state.specs.Packages.{steps_all, rev_kind, rev_op, rev_package}
 use Rattle.model_laws.proofs.Packages.{rev_append, rev_steps}
 use Rattle.model_laws.proofs.Runs.{reversal_undoes, steps_keep_good}
-use Rattle.op_form.specs.Reversals.{PackageReversalUndoes, PackagesKeepGood, TwiceReversedIsSame, OperationTwiceReversedIsSame}
+use Rattle.model_laws.specs.Reversals.{PackageReversalUndoes, PackagesKeepGood, TwiceReversedIsSame, OperationTwiceReversedIsSame}
 
 pub packages_undone : PackageReversalUndoes
 packages_undone meta sound m n good p runs = ap (fold meta n) (rev_steps p) ∙ reversal_undoes meta sound m n good (steps_all p) runs

@@ -1,5 +1,5 @@
-use Rattle.op_form.proofs.Reversals.{packages_undone, packages_keep, package_twice, operation_twice}
-use Rattle.op_form.proofs.laws.law_of_reversals.Goals as goal
+use Rattle.model_laws.proofs.Reversals.{packages_undone, packages_keep, package_twice, operation_twice}
+use Rattle.model_laws.proofs.laws.law_of_reversals.Goals as goal
 
 pub returns-clause-undoes : goal.returns-clause-undoes
 returns-clause-undoes c = packages_undone
