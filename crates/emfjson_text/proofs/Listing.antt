@@ -12,14 +12,14 @@ use Rattle.model_state.specs.declared.entry.Entry.{Entry}
 use Rattle.model_state.specs.Keys.{IdBytes}
 use Rattle.model_state.specs.State.{State}
 use Rattle.emfjson_text.specs.declared.frame.Frame.TheVariants.{Array as ArrayFrame}
-use Rattle.emfjson_text.specs.declared.key.Key.{Key}
+use Rattle.model_texts.specs.declared.key.Key.{Key}
 use Rattle.emfjson_text.specs.declared.part.Found.{Found}
 use Rattle.emfjson_text.specs.declared.part.Part.{Part}
 use Rattle.emfjson_text.specs.declared.part.Part.TheVariants.{Absent, Leaf, Elements}
 use Rattle.emfjson_text.specs.Frames.{Finds, frame_text, is_absent, key_text, members_from, only, part_text, shown, text_if}
-use Rattle.emfjson_text.specs.Keys.{key_name, keys_of}
-use Rattle.emfjson_text.specs.Laws.{IsNested}
-use Rattle.emfjson_text.specs.Tree.{entry_ids, members, object_of, one_or_list, part, whole, with_member}
+use Rattle.model_texts.specs.Keys.{key_name, keys_of}
+use Rattle.model_texts.specs.Laws.{IsNested}
+use Rattle.model_texts.specs.Tree.{entry_ids, members, object_of, one_or_list, part, whole, with_member}
 
 cc_some : {A : Type 0} (x y : A) → Some x ≡ Some y → x ≡ y
 cc_some x y h = cc

@@ -14,12 +14,12 @@ use Rattle.model_state.specs.State.{State}
 use Rattle.emfjson_io.specs.Values.{data_of}
 use Rattle.emfjson_text.specs.declared.frame.Frame.{Frame}
 use Rattle.emfjson_text.specs.declared.frame.Frame.TheVariants.{Object as ObjectFrame, Array as ArrayFrame}
-use Rattle.emfjson_text.specs.declared.key.Key.{Key}
+use Rattle.model_texts.specs.declared.key.Key.{Key}
 use Rattle.emfjson_text.specs.declared.part.Found.{Found}
 use Rattle.emfjson_text.specs.declared.part.Part.{Part}
 use Rattle.emfjson_text.specs.declared.part.Part.TheVariants.{Absent, Leaf, Elements}
-use Rattle.emfjson_text.specs.Keys.{key_name}
-use Rattle.emfjson_text.specs.Tree.{entry_ids, listed, members, part, reference, whole, with_member}
+use Rattle.model_texts.specs.Keys.{key_name}
+use Rattle.model_texts.specs.Tree.{entry_ids, listed, members, part, reference, whole, with_member}
 
 -- ---- one key
 

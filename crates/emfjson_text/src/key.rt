@@ -1,22 +1,12 @@
 //! The keys of an element's object, in the order of their names.
 ghost use Rattle.std.specs.Prelude.{◌≡◌, ◌++◌, IfOk, OnOk, map};
-ghost use Rattle.emfjson_text.specs.Keys.{key_cmp, key_name, key_number, keys_of};
-ghost use Rattle.emfjson_text.specs.declared.key.Key.TheVariants.{Feature as OfFeature};
+ghost use Rattle.model_texts.specs.Keys.{key_cmp, key_name, key_number, keys_of};
+ghost use Rattle.model_texts.specs.declared.key.Key.TheVariants.{Feature as OfFeature};
 
 use ecore_meta::{List, Metamodel};
+use model_texts::Key;
 use std::alloc::{AllocError, Global};
 use std::cmp::Ordering;
-
-/// A key of an element's object.
-#[derive(Clone, Copy)]
-pub enum Key {
-    /// `_id`, the element's id.
-    Ident,
-    /// `eClass`, the element's class.
-    Class,
-    /// The feature of that number.
-    Feature(u32),
-}
 
 /// The name that a key has in an element's object; that of a feature is the metamodel's.
 pub(crate) fn key_name(meta: &Metamodel, key: Key) -> &str

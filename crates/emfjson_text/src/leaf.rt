@@ -8,7 +8,7 @@ ghost use Rattle.serde_json.specs.Written.{compact_text};
 ghost use Rattle.ecore_meta.specs.Typing.{fits};
 ghost use Rattle.emfjson_io.specs.Values.{data_of};
 ghost use Rattle.emfjson_text.specs.Frames.{only, references_text, text_if};
-ghost use Rattle.emfjson_text.specs.Tree.{class_text, entry_ids, first_value, listed, reference};
+ghost use Rattle.model_texts.specs.Tree.{class_text, entry_ids, first_value, listed, reference};
 
 use ecore_meta::{Metamodel, Scalar, Text, Value};
 use emfjson_io::write_value;

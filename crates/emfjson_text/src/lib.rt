@@ -3,11 +3,8 @@
 
 mod frame;
 mod key;
-mod laws;
 mod leaf;
 mod part;
 mod write;
 
-pub use key::Key;
-pub use laws::law_of_texts;
 pub use write::write_model;

@@ -4,14 +4,14 @@ ghost use Rattle.serde_json.specs.Data.{string};
 ghost use Rattle.ecore_meta.specs.Typing.{is_one, kind_of};
 ghost use Rattle.model_state.specs.Good.{Good};
 ghost use Rattle.emfjson_text.specs.Frames.{Finds, is_absent, shown, text_if};
-ghost use Rattle.emfjson_text.specs.Tree.{child_ids, content, listed, part, reference, target_ids};
+ghost use Rattle.model_texts.specs.Tree.{child_ids, content, listed, part, reference, target_ids};
 ghost use Rattle.model_state.specs.declared.step.Place.TheVariants.{Inside};
 
 use crate::frame::Object;
-use crate::key::Key;
 use crate::leaf::{class_text, many_values, one_value, quoted, references};
 use ecore_meta::{Kind, List, Metamodel, Text};
 use model_state::{Entry, Id, Look, Place, is_one};
+use model_texts::Key;
 use std::alloc::{AllocError, Global};
 
 /// What stands under a key.

@@ -4,8 +4,8 @@ ghost use Rattle.std.specs.String.{string_bytes};
 ghost use Rattle.serde_json.specs.Written.{compact_text};
 ghost use Rattle.model_state.specs.Good.{Good};
 ghost use Rattle.emfjson_text.specs.Frames.{Writes, frame_text, is_absent, key_text, part_text};
-ghost use Rattle.emfjson_text.specs.Laws.{IsNested};
-ghost use Rattle.emfjson_text.specs.Tree.{entry_ids, one_or_list, text, whole};
+ghost use Rattle.model_texts.specs.Laws.{IsNested};
+ghost use Rattle.model_texts.specs.Tree.{entry_ids, one_or_list, text, whole};
 ghost use Rattle.emfjson_text.specs.declared.frame.Frame.TheVariants.{Array as ArrayFrame, Object as ObjectFrame};
 
 use crate::frame::{Frame, Object};

@@ -35,11 +35,11 @@ use Rattle.model_state.specs.Typing.{is_concrete}
 use Rattle.model_state.specs.Steps.{class_has}
 use Rattle.model_state.specs.Good.{AttrOk, Good, PlaceOk, ValuesOk}
 use Rattle.emfjson_io.specs.Values.{data_of}
-use Rattle.emfjson_text.specs.declared.key.Key.{Key}
-use Rattle.emfjson_text.specs.declared.key.Key.TheVariants.{Ident, Class, Feature}
-use Rattle.emfjson_text.specs.Keys.{key_cmp, key_name, key_number, keys_of}
-use Rattle.emfjson_text.specs.Tree.{child_ids, class_text, content, element, entry_ids, first_value, is_single, listed, members, object_of, one_or_list, part, reference, target_ids, text, whole, with_member}
-use Rattle.emfjson_text.proofs.Order.{key_order}
+use Rattle.model_texts.specs.declared.key.Key.{Key}
+use Rattle.model_texts.specs.declared.key.Key.TheVariants.{Ident, Class, Feature}
+use Rattle.model_texts.specs.Keys.{key_cmp, key_name, key_number, keys_of}
+use Rattle.model_texts.specs.Tree.{child_ids, class_text, content, element, entry_ids, first_value, is_single, listed, members, object_of, one_or_list, part, reference, target_ids, text, whole, with_member}
+use Rattle.model_texts.proofs.Order.{key_order}
 use Rattle.growth_laws.specs.Growth.{Evolves}
 use Rattle.growth_laws.proofs.Keeps.{Keeps}
 use Rattle.growth_laws.proofs.Kept.{Same, same_kind, same_upper}

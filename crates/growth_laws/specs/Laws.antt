@@ -7,7 +7,7 @@ use Rattle.model_state.specs.State.{State}
 use Rattle.model_state.specs.Steps.{Can, apply, fold}
 use Rattle.model_state.specs.Good.{Good}
 use Rattle.model_laws.specs.Cells.{step_writes, writes_all}
-use Rattle.emfjson_text.specs.Tree.{text}
+use Rattle.model_texts.specs.Tree.{text}
 use Rattle.metamodel_growth.specs.Evolved.{evolved}
 use Rattle.metamodel_growth.specs.Extension.{missing}
 use Rattle.growth_laws.specs.Growth.{Evolves}

@@ -19,8 +19,8 @@ use Rattle.model_state.specs.declared.operation.Operation.{Operation}
 use Rattle.history_tree.specs.declared.version.Version.{Version}
 use Rattle.history_tree.specs.History.{History}
 use Rattle.footprint.specs.declared.bucket.Bucket.{Bucket}
-use Rattle.emfjson_text.specs.Keys.{key_name, keys_of}
-use Rattle.emfjson_text.specs.Tree.{child_ids, element, members, object_of, one_or_list, part, text, whole}
+use Rattle.model_texts.specs.Keys.{key_name, keys_of}
+use Rattle.model_texts.specs.Tree.{child_ids, element, members, object_of, one_or_list, part, text, whole}
 use Rattle.shown_lines.specs.Lines.{step_words, step_line, operation_line, lines_from, operation_lines, open_lines}
 use Rattle.shown_lines.specs.Versions.{version_line, version_lines, log_lines, package_lines}
 use Rattle.shown_lines.specs.Buckets.{bucket_line, bucket_lines_from, bucket_lines}

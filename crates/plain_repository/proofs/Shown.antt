@@ -2,7 +2,7 @@
 use Rattle.std.proofs.Common.{◌≡◌, ℕ, List, [], ◌∷◌, ◌++◌, Option, Some, refl, sym, ◌∙◌, ap, subst}
 use Rattle.std.specs.Prelude.{IsTrue, unwrap_or}
 use Rattle.ecore_meta.specs.Meta.{Meta}
-use Rattle.emfjson_text.specs.Tree.{text}
+use Rattle.model_texts.specs.Tree.{text}
 use Rattle.shown_lines.specs.Lines.{operation_lines}
 use Rattle.shown_lines.specs.Validation.{validate_lines}
 use Rattle.model_state.specs.State as models

@@ -5,7 +5,7 @@ use Rattle.std.proofs.lemmas.Bool.{ltb-true, ltb-false}
 use Rattle.std.proofs.lemmas.Option.{slice_get_past}
 use Rattle.ecore_meta.specs.Meta.{Meta}
 use Rattle.metamodel_growth.specs.Preserves.{Preserves}
-use Rattle.emfjson_text.specs.Tree.{text}
+use Rattle.model_texts.specs.Tree.{text}
 use Rattle.growth_laws.specs.Growth.{Evolves}
 use Rattle.growth_laws.proofs.Texts.{growth_keeps_text}
 use Rattle.model_state.specs.Packages.{fold_package}

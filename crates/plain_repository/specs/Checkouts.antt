@@ -9,7 +9,7 @@ use Rattle.history_tree.specs.declared.found.FindFault.{FindFault}
 use Rattle.history_tree.specs.History.{History, head}
 use Rattle.history_tree.specs.Found.{branch_name}
 use Rattle.history_tree.specs.States.{state_of}
-use Rattle.emfjson_text.specs.Tree.{text}
+use Rattle.model_texts.specs.Tree.{text}
 use Rattle.op_form.specs.declared.event.Event.TheVariants as events
 use Rattle.script_lang.specs.declared.command.Spec.{Spec}
 use Rattle.script_lang.specs.declared.reply.Refusal.TheVariants as refusals

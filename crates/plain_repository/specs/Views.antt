@@ -7,7 +7,7 @@ use Rattle.history_tree.specs.declared.found.FindFault.{FindFault}
 use Rattle.history_tree.specs.History.{History}
 use Rattle.history_tree.specs.States.{state_of, package_at}
 use Rattle.op_form.specs.Formed.{is_package}
-use Rattle.emfjson_text.specs.Tree.{text}
+use Rattle.model_texts.specs.Tree.{text}
 use Rattle.shown_lines.specs.Lines.{operation_lines, open_lines}
 use Rattle.shown_lines.specs.Validation.{validate_lines}
 use Rattle.shown_lines.specs.Versions.{log_lines, package_lines}

@@ -18,9 +18,9 @@ use Rattle.model_state.proofs.Orders.{id_order}
 use Rattle.emfjson_drafts.specs.declared.doc.DocAttr.{DocAttr}
 use Rattle.emfjson_model.specs.declared.doc.DocRow.{DocRow}
 use Rattle.emfjson_model.specs.Fits.{DocumentFits}
-use Rattle.emfjson_text.specs.Laws.{Alike}
-use Rattle.emfjson_text.specs.Tree.{child_ids, entry_ids}
-use Rattle.emfjson_text.proofs.Alike.{text_is_of_lists}
+use Rattle.model_texts.specs.Laws.{Alike}
+use Rattle.model_texts.specs.Tree.{child_ids, entry_ids}
+use Rattle.model_texts.proofs.Alike.{text_is_of_lists}
 use Rattle.import_laws.specs.After.{attrs_from, import_after, kinds_from, places_from, ranks_from}
 use Rattle.import_laws.specs.Laws.{ids_differ}
 use Rattle.import_laws.specs.Names.{name_at}

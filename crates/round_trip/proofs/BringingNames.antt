@@ -25,7 +25,7 @@ use Rattle.emfjson_model.specs.declared.doc.DocRow.{DocRow}
 use Rattle.emfjson_model.specs.Fits.{DocumentFits, StandsFit, standing}
 use Rattle.emfjson_model.specs.Laws.{gives_id, ids_repeat, is_given}
 use Rattle.emfjson_drafts.specs.Places.{parent_eq}
-use Rattle.emfjson_text.specs.Tree.{child_ids}
+use Rattle.model_texts.specs.Tree.{child_ids}
 use Rattle.import_laws.specs.Laws.{ids_differ}
 use Rattle.import_laws.specs.Names.{name_at}
 use Rattle.import_laws.specs.News.{inside, place_of}

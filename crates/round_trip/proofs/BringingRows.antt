@@ -20,7 +20,7 @@ use Rattle.emfjson_model.specs.declared.doc.DocRow.{DocRow}
 use Rattle.emfjson_model.specs.Fits as fits
 use Rattle.emfjson_model.specs.Fits.{DocumentFits}
 use Rattle.emfjson_model.specs.Merged.{targets_at}
-use Rattle.emfjson_text.specs.Tree.{entry_ids, target_ids}
+use Rattle.model_texts.specs.Tree.{entry_ids, target_ids}
 use Rattle.import_laws.specs.After.{rows_from}
 use Rattle.import_laws.specs.Laws.{ids_differ}
 use Rattle.import_laws.specs.Links.{refs_at}

@@ -17,7 +17,7 @@ use Rattle.edit_laws.specs.declared.fault.EditFault.TheVariants.{IdInUse}
 use Rattle.emfjson_model.specs.declared.doc.DocRow.{DocRow}
 use Rattle.emfjson_model.specs.Document.{doc_of}
 use Rattle.emfjson_model.proofs.Fitting.{documents_fit}
-use Rattle.emfjson_text.specs.Tree.{text}
+use Rattle.model_texts.specs.Tree.{text}
 use Rattle.import_laws.specs.After.{import_after}
 use Rattle.import_laws.specs.Import.{and_then, composite, import_of, of_steps, steps_made}
 use Rattle.import_laws.specs.Links.{links_made}

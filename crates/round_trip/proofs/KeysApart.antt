@@ -5,7 +5,7 @@ use Rattle.std.specs.Str.{bytes_eq}
 use Rattle.std.proofs.lemmas.Bool.{or_parts}
 use Rattle.ecore_meta.specs.Meta.{Meta, features_of, name_at}
 use Rattle.ecore_meta.specs.Names.{has_repeat}
-use Rattle.emfjson_text.specs.Keys.{key_cmp, key_number, keys_of}
+use Rattle.model_texts.specs.Keys.{key_cmp, key_number, keys_of}
 use Rattle.ecore_meta.specs.Named.{IsNamed}
 use Rattle.round_trip.proofs.KeysPairs.{Pairs, bytes_differ, pairs_in_order}
 use Rattle.round_trip.proofs.KeysTypes.{Key, Ident, Class, Feature, feature_number, keys_are}

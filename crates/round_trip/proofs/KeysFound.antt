@@ -19,8 +19,8 @@ use Rattle.ecore_meta.specs.Meta.{Meta, class_named, feature_named, features_of,
 use Rattle.ecore_meta.specs.Names.{Name, has_repeat, number_of}
 use Rattle.ecore_meta.specs.declared.meta.Class.{Class as ClassOf}
 use Rattle.emfjson_drafts.specs.Classes.{class_after, class_spelt}
-use Rattle.emfjson_text.specs.Keys.{key_cmp, key_name, keys_of}
-use Rattle.emfjson_text.specs.Tree.{class_text, members, with_member}
+use Rattle.model_texts.specs.Keys.{key_cmp, key_name, keys_of}
+use Rattle.model_texts.specs.Tree.{class_text, members, with_member}
 use Rattle.ecore_meta.specs.Named.{IsNamed}
 use Rattle.round_trip.proofs.KeysPairs.{bytes_own, bytes_same}
 use Rattle.round_trip.proofs.KeysRise.{InOrder, IsAfter}

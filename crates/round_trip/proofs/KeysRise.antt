@@ -12,8 +12,8 @@ use Rattle.finite_maps.specs.Sorts.{in_order}
 use Rattle.finite_maps.proofs.SortLaws.{Rises, rises-in_order}
 use Rattle.ecore_meta.specs.Meta.{Meta, features_of, name_at}
 use Rattle.ecore_meta.specs.Names.{has_repeat}
-use Rattle.emfjson_text.specs.Keys.{key_cmp, key_name, key_number, keys_of}
-use Rattle.emfjson_text.proofs.Order.{key_order}
+use Rattle.model_texts.specs.Keys.{key_cmp, key_name, key_number, keys_of}
+use Rattle.model_texts.proofs.Order.{key_order}
 use Rattle.ecore_meta.specs.Named.{IsNamed}
 use Rattle.round_trip.proofs.KeysPairs.{Pairs, pairs_in_order, bytes_differ}
 use Rattle.round_trip.proofs.KeysTypes.{Key, Ident, Class, Feature, keys_are}

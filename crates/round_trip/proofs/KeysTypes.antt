@@ -3,7 +3,7 @@ use Rattle.std.proofs.Common.{◌≡◌, ℕ, suc, false, List, [], ◌∷◌, m
 use Rattle.finite_maps.specs.Sorts.{in_order}
 use Rattle.ecore_meta.specs.Meta.{Meta, features_of}
 use Rattle.emfjson_drafts.specs.Parts.{no_part}
-use Rattle.emfjson_text.specs.Keys.{key_cmp, key_number, keys_of}
+use Rattle.model_texts.specs.Keys.{key_cmp, key_number, keys_of}
 
 -- the type of the items of a list
 abbrev pub item_of : {A : Type 0} → List A → Type 0

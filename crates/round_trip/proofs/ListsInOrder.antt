@@ -21,7 +21,7 @@ use Rattle.model_state.proofs.Orders.{entry_order, row_order}
 use Rattle.edit_laws.specs.Places.{Ranks}
 use Rattle.edit_laws.specs.Rows.{Rows}
 use Rattle.edit_laws.proofs.Lists.{all-in_order, tally-filter, targets_held}
-use Rattle.emfjson_text.specs.Tree.{entry_ids}
+use Rattle.model_texts.specs.Tree.{entry_ids}
 use Rattle.import_laws.specs.After.{Places}
 use Rattle.import_laws.specs.News.{rank_of}
 use Rattle.model_state.specs.Ranks.{most_entries}

@@ -27,7 +27,7 @@ use Rattle.emfjson_drafts.specs.Reads.{«then», unless, found}
 use Rattle.emfjson_drafts.specs.Walk.{element_rows, feature_part, held_rows, items_rows, rows_part}
 use Rattle.emfjson_drafts.proofs.Features.{single_set, many_read}
 use Rattle.model_state.specs.Listing.{values_at}
-use Rattle.emfjson_text.specs.Tree.{child_ids, content, first_value, is_single, listed, one_or_all, reference, target_ids}
+use Rattle.model_texts.specs.Tree.{child_ids, content, first_value, is_single, listed, one_or_all, reference, target_ids}
 use Rattle.ecore_meta.specs.Named.{IsNamed}
 use Rattle.round_trip.proofs.KeysTypes.{Draft}
 use Rattle.round_trip.proofs.ReadingTrees.{AreOk, all_from}

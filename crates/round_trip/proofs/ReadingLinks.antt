@@ -19,8 +19,8 @@ use Rattle.edit_laws.proofs.Lists.{targets_held}
 use Rattle.emfjson_model.specs.Merged.{targets_at}
 use Rattle.emfjson_drafts.specs.Reads.{Read, «then», collected}
 use Rattle.emfjson_model.specs.References.{entries_at, plain_features}
-use Rattle.emfjson_text.specs.Keys.{key_number, keys_of}
-use Rattle.emfjson_text.specs.Tree.{target_ids}
+use Rattle.model_texts.specs.Keys.{key_number, keys_of}
+use Rattle.model_texts.specs.Tree.{target_ids}
 use Rattle.round_trip.proofs.KeysFound.{Stands, feature_stands}
 use Rattle.round_trip.proofs.KeysTypes.{Key, Feature, Links}
 use Rattle.round_trip.proofs.ReadingValues.{in_class}

@@ -27,7 +27,7 @@ use Rattle.emfjson_model.specs.Merged.{given_at, merged, merged_all, merged_at, 
 use Rattle.emfjson_drafts.specs.Parts.{ids_of}
 use Rattle.emfjson_drafts.specs.Reads.{Read, «then», unless, collected}
 use Rattle.emfjson_model.specs.References.{given_by, plain_features, refs_at, refs_of, targets_of}
-use Rattle.emfjson_text.specs.Tree.{target_ids}
+use Rattle.model_texts.specs.Tree.{target_ids}
 use Rattle.round_trip.proofs.KeysFound.{Stands, all_stand}
 use Rattle.round_trip.proofs.KeysPairs.{Pairs}
 use Rattle.round_trip.proofs.KeysTypes.{Draft}

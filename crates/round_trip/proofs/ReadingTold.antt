@@ -21,9 +21,9 @@ use Rattle.emfjson_model.specs.declared.doc.DocRow.{DocRow}
 use Rattle.emfjson_model.specs.Document.{doc_of, of_json, resolved}
 use Rattle.emfjson_drafts.specs.Parts.{ids_of}
 use Rattle.emfjson_drafts.specs.Reads.{«then»}
-use Rattle.emfjson_text.specs.Laws.{IsNested}
-use Rattle.emfjson_text.specs.Tree.{child_ids, target_ids, text, tree, whole}
-use Rattle.emfjson_text.proofs.Nested.{text_is_whole}
+use Rattle.model_texts.specs.Laws.{IsNested}
+use Rattle.model_texts.specs.Tree.{child_ids, target_ids, text, tree, whole}
+use Rattle.model_texts.proofs.Nested.{text_is_whole}
 use Rattle.ecore_meta.specs.Promised.{IsMetamodel}
 use Rattle.round_trip.specs.Describes.{Describes, DescribesElement, standing_in}
 use Rattle.round_trip.proofs.KeysFound.{Stands}

@@ -26,9 +26,9 @@ use Rattle.model_state.specs.Keys.{IdBytes}
 use Rattle.model_state.specs.State.{State}
 use Rattle.emfjson_io.specs.Values.{data_of}
 use Rattle.edit_laws.proofs.Lists.{all-in_order}
-use Rattle.emfjson_text.specs.Keys.{key_name, keys_of}
+use Rattle.model_texts.specs.Keys.{key_name, keys_of}
 use Rattle.model_state.specs.Listing.{values_at}
-use Rattle.emfjson_text.specs.Tree.{child_ids, content, element, first_value, is_single, listed, members, object_of, one_or_list, part, reference, target_ids, text, tree, whole, with_member}
+use Rattle.model_texts.specs.Tree.{child_ids, content, element, first_value, is_single, listed, members, object_of, one_or_list, part, reference, target_ids, text, tree, whole, with_member}
 use Rattle.ecore_meta.specs.Named.{IsNamed}
 use Rattle.round_trip.proofs.KeysRise.{InOrder, IsAfter, keys_rise}
 use Rattle.round_trip.proofs.KeysTypes.{Key, Ident, Class, Feature}

@@ -17,7 +17,7 @@ use Rattle.model_state.specs.State.{State}
 use Rattle.emfjson_drafts.specs.declared.doc.DocAttr.{DocAttr}
 use Rattle.emfjson_model.specs.Merged.{attr_at, attrs_by}
 use Rattle.emfjson_model.proofs.SetAttrs.{by_keeps}
-use Rattle.emfjson_text.specs.Keys.{key_number, keys_of}
+use Rattle.model_texts.specs.Keys.{key_number, keys_of}
 use Rattle.model_state.specs.Listing.{values_at}
 use Rattle.round_trip.specs.Describes.{first_values, values_given}
 use Rattle.round_trip.proofs.KeysFound.{Stands, feature_stands}

@@ -21,9 +21,9 @@ use Rattle.model_state.specs.Listing.{children}
 use Rattle.model_state.specs.State.{State}
 use Rattle.edit_laws.proofs.Creates.{Stand, children_stand}
 use Rattle.emfjson_drafts.specs.Parts.{Ids, ids_of}
-use Rattle.emfjson_text.specs.Keys.{key_number, keys_of}
-use Rattle.emfjson_text.specs.Tree.{child_ids}
-use Rattle.emfjson_text.proofs.Children.{each_child}
+use Rattle.model_texts.specs.Keys.{key_number, keys_of}
+use Rattle.model_texts.specs.Tree.{child_ids}
+use Rattle.model_texts.proofs.Children.{each_child}
 use Rattle.ecore_meta.specs.Named.{IsNamed}
 use Rattle.round_trip.proofs.KeysApart.{NumbersApart, keys_apart}
 use Rattle.round_trip.proofs.KeysPairs.{Pairs}

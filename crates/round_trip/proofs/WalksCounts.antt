@@ -25,7 +25,7 @@ use Rattle.model_state.specs.Keys.{IdBytes}
 use Rattle.model_state.specs.Listing.{children, targets, entry_cmp, rank_at, row_entry, is_of}
 use Rattle.model_state.specs.State.{State, place_eq}
 use Rattle.model_state.specs.Typing.{bounded_kind, is_containment, child_upper, row_upper}
-use Rattle.emfjson_text.specs.Tree.{child_ids, is_single, target_ids}
+use Rattle.model_texts.specs.Tree.{child_ids, is_single, target_ids}
 
 module _ {A : Type 0} where
   length-put_in : (cmp : A → A → Ordering) (x : A) (ys : List A) → length (put_in cmp x ys) ≡ suc (length ys)

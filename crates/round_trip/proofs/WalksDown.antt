@@ -24,9 +24,9 @@ use Rattle.model_state.specs.Typing.{contains_to}
 use Rattle.model_state.proofs.Orders.{id_order}
 use Rattle.model_state.proofs.StepTests.{place_equality}
 use Rattle.edit_laws.proofs.Lists.{any-in_order, any-map, picked_has}
-use Rattle.emfjson_text.specs.Keys.{key_name, keys_of}
-use Rattle.emfjson_text.specs.Laws.{IsNested}
-use Rattle.emfjson_text.specs.Tree.{child_ids, content, is_single, listed, members, object_of, part, whole}
+use Rattle.model_texts.specs.Keys.{key_name, keys_of}
+use Rattle.model_texts.specs.Laws.{IsNested}
+use Rattle.model_texts.specs.Tree.{child_ids, content, is_single, listed, members, object_of, part, whole}
 use Rattle.round_trip.proofs.KeysFound.{Stands, all_stand, feature_stands}
 use Rattle.round_trip.proofs.KeysTypes.{Feature}
 use Rattle.round_trip.proofs.ReadingValues.{in_class}

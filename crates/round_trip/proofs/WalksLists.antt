@@ -13,10 +13,10 @@ use Rattle.model_state.specs.Good.{Good, PlaceOk}
 use Rattle.model_state.specs.Keys.{IdBytes, id_cmp}
 use Rattle.model_state.specs.State.{State, place_eq}
 use Rattle.model_state.proofs.StepTests.{place_equality}
-use Rattle.emfjson_text.specs.Keys.{key_number, keys_of}
-use Rattle.emfjson_text.specs.Laws.{IsNested}
-use Rattle.emfjson_text.specs.Tree.{child_ids, whole}
-use Rattle.emfjson_text.proofs.Children.{each_child}
+use Rattle.model_texts.specs.Keys.{key_number, keys_of}
+use Rattle.model_texts.specs.Laws.{IsNested}
+use Rattle.model_texts.specs.Tree.{child_ids, whole}
+use Rattle.model_texts.proofs.Children.{each_child}
 use Rattle.ecore_meta.specs.Named.{IsNamed}
 use Rattle.round_trip.proofs.KeysApart.{NumbersApart, keys_apart}
 use Rattle.round_trip.proofs.KeysFound.{Stands, all_stand, feature_stands}

@@ -13,8 +13,8 @@ use Rattle.model_state.specs.State.{State}
 use Rattle.emfjson_drafts.specs.declared.doc.DocParent.{DocParent}
 use Rattle.emfjson_drafts.specs.Parts.{ids_of}
 use Rattle.emfjson_drafts.proofs.Walking.{ids_append}
-use Rattle.emfjson_text.specs.Keys.{key_number, keys_of}
-use Rattle.emfjson_text.specs.Tree.{child_ids}
+use Rattle.model_texts.specs.Keys.{key_number, keys_of}
+use Rattle.model_texts.specs.Tree.{child_ids}
 use Rattle.round_trip.proofs.KeysPairs.{Pairs}
 use Rattle.round_trip.proofs.KeysTypes.{Draft, Key}
 use Rattle.round_trip.proofs.WalksRows.{by_number, class_at, forest, kind_rows, key_rows, keys_rows, tree_rows}

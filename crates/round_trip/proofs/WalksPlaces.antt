@@ -15,9 +15,9 @@ use Rattle.model_state.specs.Keys.{IdBytes}
 use Rattle.model_state.specs.State.{State}
 use Rattle.import_laws.specs.News.{inside, place_of}
 use Rattle.emfjson_drafts.specs.declared.doc.DocParent.{DocParent}
-use Rattle.emfjson_text.specs.Keys.{key_number, keys_of}
-use Rattle.emfjson_text.specs.Tree.{child_ids}
-use Rattle.emfjson_text.proofs.Children.{each_child}
+use Rattle.model_texts.specs.Keys.{key_number, keys_of}
+use Rattle.model_texts.specs.Tree.{child_ids}
+use Rattle.model_texts.proofs.Children.{each_child}
 use Rattle.round_trip.proofs.KeysTypes.{Draft, Key}
 use Rattle.round_trip.proofs.ReadingTrees.{all_so}
 use Rattle.round_trip.proofs.WalksNames.{all_append, flat, key_names, kind_names, tree_named, tree_names}

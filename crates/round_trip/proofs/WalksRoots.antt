@@ -13,10 +13,10 @@ use Rattle.model_state.specs.State.{State, is_live}
 use Rattle.emfjson_drafts.specs.declared.doc.DocParent.{DocParent}
 use Rattle.emfjson_drafts.specs.Parts.{ids_of}
 use Rattle.emfjson_drafts.specs.Walk.{element_rows, items_rows, walked}
-use Rattle.emfjson_text.specs.Laws.{IsNested}
-use Rattle.emfjson_text.specs.Tree.{child_ids, listed, one_or_list, tree, whole}
-use Rattle.emfjson_text.proofs.Children.{each_child}
-use Rattle.emfjson_text.proofs.Nested.{text_is_whole}
+use Rattle.model_texts.specs.Laws.{IsNested}
+use Rattle.model_texts.specs.Tree.{child_ids, listed, one_or_list, tree, whole}
+use Rattle.model_texts.proofs.Children.{each_child}
+use Rattle.model_texts.proofs.Nested.{text_is_whole}
 use Rattle.ecore_meta.specs.Promised.{IsMetamodel}
 use Rattle.round_trip.proofs.KeysTypes.{Draft}
 use Rattle.round_trip.proofs.ReadingKinds.{IsObject}

@@ -15,9 +15,9 @@ use Rattle.model_state.specs.State.{State}
 use Rattle.emfjson_drafts.specs.declared.doc.DocAttr.{DocAttr}
 use Rattle.emfjson_drafts.specs.declared.doc.DocParent.{DocParent}
 use Rattle.emfjson_drafts.specs.Parts.{Part, Ids}
-use Rattle.emfjson_text.specs.Keys.{key_number, keys_of}
+use Rattle.model_texts.specs.Keys.{key_number, keys_of}
 use Rattle.model_state.specs.Listing.{values_at}
-use Rattle.emfjson_text.specs.Tree.{child_ids, target_ids}
+use Rattle.model_texts.specs.Tree.{child_ids, target_ids}
 use Rattle.round_trip.proofs.KeysTypes.{Draft, Links, Key}
 
 -- ---- what stands under a feature

@@ -13,8 +13,8 @@ use Rattle.emfjson_drafts.specs.Parts.{Part, no_part, joined, Ids, ids_of}
 use Rattle.emfjson_drafts.specs.Reads.{Read, «then»}
 use Rattle.emfjson_drafts.specs.Walk.{element_rows, held_rows, items_rows, key_named, key_part, members_rows}
 use Rattle.emfjson_drafts.proofs.Walking.{ids_append}
-use Rattle.emfjson_text.specs.Keys.{key_name}
-use Rattle.emfjson_text.specs.Tree.{members, with_member}
+use Rattle.model_texts.specs.Keys.{key_name}
+use Rattle.model_texts.specs.Tree.{members, with_member}
 use Rattle.round_trip.proofs.KeysTypes.{Draft, Key}
 use Rattle.round_trip.proofs.WalksRows.{Come, forest, key_attrs, key_links, key_part_told, key_rows, keys_attrs, keys_links, keys_rows, told}
 

@@ -26,11 +26,11 @@ use Rattle.emfjson_drafts.specs.Parts.{no_part, Ids, ids_of}
 use Rattle.emfjson_drafts.specs.Reads.{«then», unless, found}
 use Rattle.emfjson_drafts.specs.Walk.{element_rows, feature_key, held_rows, key_named, key_part, members_rows, own_rows}
 use Rattle.edit_laws.proofs.Lists.{all-in_order}
-use Rattle.emfjson_text.specs.Keys.{key_name, key_cmp, keys_of}
-use Rattle.emfjson_text.specs.Laws.{IsNested}
+use Rattle.model_texts.specs.Keys.{key_name, key_cmp, keys_of}
+use Rattle.model_texts.specs.Laws.{IsNested}
 use Rattle.model_state.specs.Listing.{values_at}
-use Rattle.emfjson_text.specs.Tree.{child_ids, class_text, content, is_single, listed, members, object_of, part, whole, with_member}
-use Rattle.emfjson_text.proofs.Children.{each_child}
+use Rattle.model_texts.specs.Tree.{child_ids, class_text, content, is_single, listed, members, object_of, part, whole, with_member}
+use Rattle.model_texts.proofs.Children.{each_child}
 use Rattle.ecore_meta.specs.Named.{IsNamed}
 use Rattle.ecore_meta.specs.Promised.{IsMetamodel}
 use Rattle.round_trip.proofs.KeysFound.{Stands, all_stand, class_again, class_stands, feature_found, feature_stands, ident_stands, member_at}

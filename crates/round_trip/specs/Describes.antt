@@ -9,7 +9,7 @@ use Rattle.emfjson_drafts.specs.declared.doc.DocAttr.{DocAttr}
 use Rattle.emfjson_model.specs.declared.doc.DocRow.{DocRow}
 use Rattle.emfjson_model.specs.Merged.{attr_at, targets_at}
 use Rattle.model_state.specs.Listing.{values_at}
-use Rattle.emfjson_text.specs.Tree.{child_ids, target_ids}
+use Rattle.model_texts.specs.Tree.{child_ids, target_ids}
 use Rattle.import_laws.specs.Names.{name_at}
 use Rattle.import_laws.specs.News.{place_of}
 

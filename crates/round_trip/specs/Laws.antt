@@ -13,7 +13,7 @@ use Rattle.model_state.specs.declared.operation.Operation.{Operation}
 use Rattle.emfjson_model.specs.declared.doc.DocRow.{DocRow}
 use Rattle.emfjson_model.specs.Document.{doc_of}
 use Rattle.emfjson_model.specs.Fits.{DocumentFits}
-use Rattle.emfjson_text.specs.Tree.{text, tree}
+use Rattle.model_texts.specs.Tree.{text, tree}
 use Rattle.import_laws.specs.After.{import_after}
 use Rattle.import_laws.specs.Import.{recorded_import}
 use Rattle.round_trip.specs.Named.{HasIds}

@@ -1,6 +1,6 @@
 //! The version that a word of a line names, and its text.
 ghost use Rattle.std.specs.Prelude.{◌≡◌, ◌<◌, [], ◌∷◌, IfOk, OnOk, Some, length};
-ghost use Rattle.emfjson_text.specs.Tree.{text};
+ghost use Rattle.model_texts.specs.Tree.{text};
 ghost use Rattle.history_tree.specs.States.{state_of};
 ghost use Rattle.model_state.specs.Good.{Good};
 ghost use Rattle.plain_repository.specs.Specs.{named, unknown};

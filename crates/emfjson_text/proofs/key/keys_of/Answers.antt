@@ -4,9 +4,9 @@ use Rattle.std.proofs.lemmas.Fn.{always_returns_same}
 use Rattle.std.proofs.lemmas.List.Sorted.{ranks_by}
 use Rattle.finite_maps.specs.Sorts.{in_order}
 use Rattle.finite_maps.proofs.SortLaws.{sorted_is}
-use Rattle.emfjson_text.specs.declared.key.Key.TheVariants.{Ident, Class, Feature}
-use Rattle.emfjson_text.specs.Keys.{key_cmp, keys_of}
-use Rattle.emfjson_text.proofs.Order.{key_order}
+use Rattle.model_texts.specs.declared.key.Key.TheVariants.{Ident, Class, Feature}
+use Rattle.model_texts.specs.Keys.{key_cmp, keys_of}
+use Rattle.model_texts.proofs.Order.{key_order}
 use Rattle.emfjson_text.proofs.key.keys_of.Goals as goal
 
 pub returns : goal.returns

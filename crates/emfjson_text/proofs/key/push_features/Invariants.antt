@@ -1,5 +1,5 @@
 use Rattle.std.proofs.Common.{◌≡◌, ◌++◌, drop, map}
-use Rattle.emfjson_text.specs.declared.key.Key.TheVariants.{Feature}
+use Rattle.model_texts.specs.declared.key.Key.TheVariants.{Feature}
 use Rattle.emfjson_text.proofs.key.push_features.Given as goal
 
 abbrev pub invariant-loop-f : goal.invariant-loop-f

@@ -3,7 +3,7 @@ use Rattle.std.specs.Option.{option_map_or}
 use Rattle.ecore_meta.specs.declared.meta.Kind.TheVariants.{Skip}
 use Rattle.emfjson_io.specs.Values.{data_of}
 use Rattle.emfjson_text.specs.Frames.{text_if}
-use Rattle.emfjson_text.specs.Tree.{content, listed}
+use Rattle.model_texts.specs.Tree.{content, listed}
 use Rattle.emfjson_text.proofs.part.content_at.Goals as goal
 
 pub returns-in_ok-many_values-in-AttrMany : goal.returns-in_ok-many_values-in-AttrMany

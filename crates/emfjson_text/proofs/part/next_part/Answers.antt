@@ -1,7 +1,7 @@
 use Rattle.std.proofs.Common.{◌≤◌, sym, ap, subst, ◌∙◌, arith, length}
 use Rattle.std.specs.Prelude.{slice_get}
-use Rattle.emfjson_text.specs.Tree.{whole}
-use Rattle.emfjson_text.specs.declared.key.Key.TheVariants.{Ident}
+use Rattle.model_texts.specs.Tree.{whole}
+use Rattle.model_texts.specs.declared.key.Key.TheVariants.{Ident}
 use Rattle.emfjson_text.proofs.Listing.{entry_at, key_absent, key_found, no_more}
 use Rattle.emfjson_text.proofs.part.next_part.Goals as goal
 

@@ -2,8 +2,8 @@ use Rattle.std.proofs.Common.{◌≡◌, ◌++◌, sym, ap, ap₂, subst, ◌∙
 use Rattle.std.specs.String.{string_bytes}
 use Rattle.serde_json.specs.Written.{compact_text}
 use Rattle.emfjson_text.specs.Frames.{stack_text}
-use Rattle.emfjson_text.specs.Tree.{entry_ids, one_or_list, text, whole}
-use Rattle.emfjson_text.proofs.Nested.{text_is_whole}
+use Rattle.model_texts.specs.Tree.{entry_ids, one_or_list, text, whole}
+use Rattle.model_texts.proofs.Nested.{text_is_whole}
 use Rattle.emfjson_text.proofs.Stacks.{all_written, step_all, step_less}
 use Rattle.emfjson_text.proofs.write.write_model.Goals as goal
 

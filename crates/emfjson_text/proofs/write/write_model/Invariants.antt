@@ -1,8 +1,8 @@
 use Rattle.std.proofs.Common.{◌≡◌, length, ◌++◌}
 use Rattle.std.specs.String.{string_bytes}
 use Rattle.emfjson_text.specs.Frames.{stack_text}
-use Rattle.emfjson_text.specs.Laws.{IsNested}
-use Rattle.emfjson_text.specs.Tree.{text}
+use Rattle.model_texts.specs.Laws.{IsNested}
+use Rattle.model_texts.specs.Tree.{text}
 use Rattle.emfjson_text.proofs.write.write_model.Given as goal
 
 abbrev pub invariant-loop-frame : goal.invariant-loop-frame

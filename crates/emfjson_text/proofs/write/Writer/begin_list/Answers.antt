@@ -1,7 +1,7 @@
 use Rattle.std.proofs.Common.{◌∷◌, [], ap, ◌∙◌, arith}
 use Rattle.serde_json.specs.Written.{compact_text}
 use Rattle.emfjson_text.specs.Frames.{only}
-use Rattle.emfjson_text.specs.Tree.{whole}
+use Rattle.model_texts.specs.Tree.{whole}
 use Rattle.emfjson_text.specs.declared.frame.Frame.TheVariants.{Array as ArrayFrame}
 use Rattle.emfjson_text.proofs.Stacks.{writes_push}
 use Rattle.emfjson_text.proofs.Listing.{not_one}

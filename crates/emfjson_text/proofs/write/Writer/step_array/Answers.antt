@@ -2,7 +2,7 @@ use Rattle.std.proofs.Common.{ℕ, ◌+◌, ◌≤◌, ◌∷◌, [], ◌++◌, 
 use Rattle.std.specs.String.{string_bytes}
 use Rattle.serde_json.specs.Written.{comma_if, compact_text}
 use Rattle.emfjson_text.specs.Frames.{frame_text}
-use Rattle.emfjson_text.specs.Tree.{whole}
+use Rattle.model_texts.specs.Tree.{whole}
 use Rattle.emfjson_text.specs.declared.frame.Frame.{Frame}
 use Rattle.emfjson_text.specs.declared.frame.Frame.TheVariants.{Array as ArrayFrame}
 use Rattle.emfjson_text.proofs.Stacks.{writes_all, writes_over}

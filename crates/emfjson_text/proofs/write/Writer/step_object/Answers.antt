@@ -2,7 +2,7 @@ use Rattle.std.proofs.Common.{List, ◌∷◌, [], ◌++◌, ap, subst, ◌∙�
 use Rattle.std.specs.Prelude.{Some}
 use Rattle.std.specs.String.{string_bytes}
 use Rattle.emfjson_text.specs.Frames.{Finds, key_text}
-use Rattle.emfjson_text.specs.Keys.{key_name}
+use Rattle.model_texts.specs.Keys.{key_name}
 use Rattle.emfjson_text.specs.declared.frame.Frame.{Frame}
 use Rattle.emfjson_text.specs.declared.frame.Frame.TheVariants.{Object as ObjectFrame}
 use Rattle.emfjson_text.proofs.Stacks.{writes_over}

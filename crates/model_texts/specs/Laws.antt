@@ -7,7 +7,7 @@ use Rattle.model_state.specs.Good.{Good}
 use Rattle.model_state.specs.Keys.{IdBytes}
 use Rattle.model_state.specs.State.{State}
 use Rattle.model_state.specs.Listing.{values_at}
-use Rattle.emfjson_text.specs.Tree.{child_ids, object_of, target_ids, text, whole}
+use Rattle.model_texts.specs.Tree.{child_ids, object_of, target_ids, text, whole}
 
 -- two states have the same classes and values, and the same lists in the same order
 pub record Alike (m n : State) : Type 0 where

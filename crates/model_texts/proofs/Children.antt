@@ -18,7 +18,7 @@ use Rattle.model_state.specs.Keys.{IdBytes}
 use Rattle.model_state.specs.Listing.{children, entry_cmp, rank_at}
 use Rattle.model_state.specs.State.{State, place_eq}
 use Rattle.model_state.proofs.Orders.{id_order}
-use Rattle.emfjson_text.specs.Tree.{child_ids}
+use Rattle.model_texts.specs.Tree.{child_ids}
 
 first : (a b : Bool) → T (a && b) → T a
 first true b p = tt

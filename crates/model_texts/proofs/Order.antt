@@ -7,9 +7,9 @@ use Rattle.std.proofs.lemmas.Cmp.{on_total, then_total}
 use Rattle.std.proofs.lemmas.Map.Lookups.{exact_pairs, exact_unsigned, exact_bytes, CmpEqualImpliesEq}
 use Rattle.finite_maps.proofs.MapLaws.{IsKeyOrder}
 use Rattle.ecore_meta.specs.Meta.{Meta}
-use Rattle.emfjson_text.specs.declared.key.Key.{Key}
-use Rattle.emfjson_text.specs.declared.key.Key.TheVariants.{Ident, Class, Feature}
-use Rattle.emfjson_text.specs.Keys.{key_cmp, key_name, key_number}
+use Rattle.model_texts.specs.declared.key.Key.{Key}
+use Rattle.model_texts.specs.declared.key.Key.TheVariants.{Ident, Class, Feature}
+use Rattle.model_texts.specs.Keys.{key_cmp, key_name, key_number}
 
 same_key : (x y : Key) → key_number x ≡ key_number y → x ≡ y
 same_key Ident Ident h = refl

@@ -12,12 +12,12 @@ use Rattle.model_state.specs.declared.step.Place.TheVariants.{Root, Inside}
 use Rattle.model_state.specs.Keys.{IdBytes}
 use Rattle.model_state.specs.State.{State}
 use Rattle.emfjson_io.specs.Values.{data_of}
-use Rattle.emfjson_text.specs.declared.key.Key.{Key}
-use Rattle.emfjson_text.specs.declared.key.Key.TheVariants.{Ident, Class, Feature}
-use Rattle.emfjson_text.specs.Keys.{key_name, keys_of}
-use Rattle.emfjson_text.specs.Laws.{Alike, TextIsOfLists}
-use Rattle.emfjson_text.specs.Tree.{content, element, first_value, is_single, listed, object_of, one_or_list, part, reference, text, whole}
-use Rattle.emfjson_text.proofs.Objects.{same_members}
+use Rattle.model_texts.specs.declared.key.Key.{Key}
+use Rattle.model_texts.specs.declared.key.Key.TheVariants.{Ident, Class, Feature}
+use Rattle.model_texts.specs.Keys.{key_name, keys_of}
+use Rattle.model_texts.specs.Laws.{Alike, TextIsOfLists}
+use Rattle.model_texts.specs.Tree.{content, element, first_value, is_single, listed, object_of, one_or_list, part, reference, text, whole}
+use Rattle.model_texts.proofs.Objects.{same_members}
 
 mapped : (f g : IdBytes → Data) → ((x : IdBytes) → f x ≡ g x) → (xs ys : List IdBytes) → xs ≡ ys → map f xs ≡ map g ys
 mapped f g h xs ys e = go xs ∙ ap (map g) e

@@ -11,10 +11,10 @@ use Rattle.model_state.specs.declared.step.Place.TheVariants.{Inside}
 use Rattle.ecore_meta.specs.Names.{Name}
 use Rattle.model_state.specs.Keys.{IdBytes}
 use Rattle.model_state.specs.State.{State}
-use Rattle.emfjson_text.specs.declared.key.Key.{Key}
-use Rattle.emfjson_text.specs.declared.key.Key.TheVariants.{Ident, Class, Feature}
-use Rattle.emfjson_text.specs.Keys.{key_name, keys_of}
-use Rattle.emfjson_text.specs.Tree.{child_ids, content, is_single, listed, members, object_of, part, with_member}
+use Rattle.model_texts.specs.declared.key.Key.{Key}
+use Rattle.model_texts.specs.declared.key.Key.TheVariants.{Ident, Class, Feature}
+use Rattle.model_texts.specs.Keys.{key_name, keys_of}
+use Rattle.model_texts.specs.Tree.{child_ids, content, is_single, listed, members, object_of, part, with_member}
 
 pub same_members : (name : Key → Name) (f g : Key → Option Data) → ((k : Key) → f k ≡ g k) → (ks : List Key) → members name f ks ≡ members name g ks
 same_members name f g h [] = refl

@@ -5,8 +5,8 @@ use Rattle.std.specs.Ordering.{nat_cmp, ordering_then}
 use Rattle.std.specs.Cmp.Lexicographic.{slice_cmp}
 use Rattle.finite_maps.specs.Sorts.{in_order}
 use Rattle.ecore_meta.specs.Meta.{Meta, features_of, name_at}
-use Rattle.emfjson_text.specs.declared.key.Key.{Key}
-use Rattle.emfjson_text.specs.declared.key.Key.TheVariants.{Ident, Class, Feature}
+use Rattle.model_texts.specs.declared.key.Key.{Key}
+use Rattle.model_texts.specs.declared.key.Key.TheVariants.{Ident, Class, Feature}
 
 -- the name of a key
 abbrev pub key_name : Meta → Key → List ℕ

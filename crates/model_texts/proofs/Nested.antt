@@ -13,10 +13,10 @@ use Rattle.model_state.specs.Good.{GoodPlaces, IsChain, PlaceOk}
 use Rattle.model_state.specs.Keys.{IdBytes, id_cmp}
 use Rattle.model_state.specs.State.{State}
 use Rattle.model_state.proofs.Orders.{id_order}
-use Rattle.emfjson_text.specs.Laws.{IsNested, TextIsWhole}
-use Rattle.emfjson_text.specs.Tree.{child_ids, element, object_of, whole}
-use Rattle.emfjson_text.proofs.Children.{all_weaker, each_child}
-use Rattle.emfjson_text.proofs.Objects.{same_object}
+use Rattle.model_texts.specs.Laws.{IsNested, TextIsWhole}
+use Rattle.model_texts.specs.Tree.{child_ids, element, object_of, whole}
+use Rattle.model_texts.proofs.Children.{all_weaker, each_child}
+use Rattle.model_texts.proofs.Objects.{same_object}
 
 -- each differs from those after it
 abbrev Apart : List IdBytes → Type 0

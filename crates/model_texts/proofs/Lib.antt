@@ -1,0 +1,5 @@
+pub mod Children
+pub mod Objects
+pub mod Alike
+pub mod Nested
+pub mod Order
