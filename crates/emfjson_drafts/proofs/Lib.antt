@@ -1,5 +1,3 @@
 pub mod Lists
 pub mod Reading
-pub mod Features
 pub mod Walking
-pub mod Finding

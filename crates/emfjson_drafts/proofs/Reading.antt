@@ -1,9 +1,9 @@
 -- The fault of a part is the fault of the whole.
 use Rattle.std.proofs.Common.{◌≡◌, ap, subst}
-use Rattle.emfjson_drafts.specs.declared.fault.ModelFault.{ModelFault}
-use Rattle.emfjson_drafts.specs.declared.fault.ModelFault.TheVariants.{NotJson, NoClass, Abstract, NoFeature, BadValue, BadRef, DupId, BadId, Bound, WrongType, Memory}
+use Rattle.model_documents.specs.declared.fault.ModelFault.{ModelFault}
+use Rattle.model_documents.specs.declared.fault.ModelFault.TheVariants.{NotJson, NoClass, Abstract, NoFeature, BadValue, BadRef, DupId, BadId, Bound, WrongType, Memory}
 use Rattle.emfjson_drafts.specs.Answers.{IsFault}
-use Rattle.emfjson_drafts.specs.Reads.{Read, «then»}
+use Rattle.model_documents.specs.Reads.{Read, «then»}
 
 -- the fault of the first part is the fault of the whole
 pub fault_then : {A B : Type 0} (e : ModelFault) (r : Read A) (f : A → Read B) → IsFault e r → IsFault e («then» r f)

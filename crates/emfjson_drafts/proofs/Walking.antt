@@ -10,19 +10,20 @@ use Rattle.ecore_meta.specs.Meta.{Meta}
 use Rattle.ecore_meta.specs.Names.{Name}
 use Rattle.model_state.specs.Keys.{IdBytes}
 use Rattle.model_state.specs.Typing.{upper_of}
-use Rattle.emfjson_drafts.specs.declared.doc.DocAttr.{DocAttr}
-use Rattle.emfjson_drafts.specs.declared.doc.DocParent.{DocParent}
-use Rattle.emfjson_drafts.specs.declared.draft.Draft.{Draft}
-use Rattle.emfjson_drafts.specs.declared.draft.Links.{Links}
-use Rattle.emfjson_drafts.specs.declared.fault.ModelFault.{ModelFault}
-use Rattle.emfjson_drafts.specs.declared.fault.ModelFault.TheVariants.{Bound, WrongType}
+use Rattle.model_documents.specs.declared.doc.DocAttr.{DocAttr}
+use Rattle.model_documents.specs.declared.doc.DocParent.{DocParent}
+use Rattle.model_documents.specs.declared.draft.Draft.{Draft}
+use Rattle.model_documents.specs.declared.draft.Links.{Links}
+use Rattle.model_documents.specs.declared.fault.ModelFault.{ModelFault}
+use Rattle.model_documents.specs.declared.fault.ModelFault.TheVariants.{Bound, WrongType}
 use Rattle.emfjson_drafts.specs.Answers.{IsFault, Walks, AppendsPart}
 use Rattle.finite_maps.specs.Maps.{is_within}
-use Rattle.emfjson_drafts.specs.Classes.{class_of, id_of}
+use Rattle.model_documents.specs.Classes.{class_of, id_of}
 use Rattle.ecore_meta.specs.Typing.{is_one}
-use Rattle.emfjson_drafts.specs.Parts.{Part, no_part, joined, Ids, ids_of}
-use Rattle.emfjson_drafts.specs.Reads.{Read, «then», unless}
-use Rattle.emfjson_drafts.specs.Walk.{element_rows, items_rows, members_rows, held_rows, key_named, key_part, own_rows, not_object}
+use Rattle.model_documents.specs.Parts.{Part, no_part, joined, Ids, ids_of}
+use Rattle.model_documents.specs.Reads.{Read, «then», unless}
+use Rattle.model_documents.specs.Walk.{element_rows, items_rows, members_rows, held_rows, key_named, key_part, own_rows, not_object}
+use Rattle.model_documents.proofs.IdLists.{ids_append}
 use Rattle.emfjson_drafts.proofs.Reading.{fault_then, fault_is}
 
 pub holds_is : {T : Type 0} (attrs attrs' : List DocAttr) (links links' : List Links) (rows rows' : List Draft) (result : Result T ModelFault) (r s : Read Part)
@@ -35,10 +36,6 @@ fault_here (Some c) r h = h
 
 pub walks_is : {T : Type 0} (old new : List Draft) (result : Result T ModelFault) (r s : Read (List Draft)) → Walks old new result r → r ≡ s → Walks old new result s
 walks_is old new result r s h p = subst (Walks old new result) p h
-
-pub ids_append : (xs ys : List Draft) → ids_of (xs ++ ys) ≡ ids_of xs ++ ids_of ys
-ids_append [] ys = refl
-ids_append (x ∷ xs) ys = ap (λ l. x.id ∷ l) (ids_append xs ys)
 
 -- ---- one element
 module _ (meta : Meta) (ids : Ids) (parent : Option DocParent) (default : Option ℕ) where

@@ -1,14 +1,14 @@
 -- What calls that read answer: what is due, or out of memory.
 use Rattle.std.specs.Prelude.{◌≡◌, List, ◌++◌, Result, Ok, Err}
 use Rattle.std.specs.Global.{Vec}
-use Rattle.emfjson_drafts.specs.declared.doc.DocAttr.{DocAttr}
-use Rattle.emfjson_drafts.specs.declared.draft.Draft.{Draft}
-use Rattle.emfjson_drafts.specs.declared.draft.Held.{Held}
-use Rattle.emfjson_drafts.specs.declared.draft.Links.{Links}
-use Rattle.emfjson_drafts.specs.declared.fault.ModelFault.{ModelFault}
-use Rattle.emfjson_drafts.specs.declared.fault.ModelFault.TheVariants.{NotJson, NoClass, Abstract, NoFeature, BadValue, BadRef, DupId, BadId, Bound, WrongType, Memory}
-use Rattle.emfjson_drafts.specs.Parts.{Part}
-use Rattle.emfjson_drafts.specs.Reads.{Read}
+use Rattle.model_documents.specs.declared.doc.DocAttr.{DocAttr}
+use Rattle.model_documents.specs.declared.draft.Draft.{Draft}
+use Rattle.emfjson_drafts.specs.declared.held.Held.{Held}
+use Rattle.model_documents.specs.declared.draft.Links.{Links}
+use Rattle.model_documents.specs.declared.fault.ModelFault.{ModelFault}
+use Rattle.model_documents.specs.declared.fault.ModelFault.TheVariants.{NotJson, NoClass, Abstract, NoFeature, BadValue, BadRef, DupId, BadId, Bound, WrongType, Memory}
+use Rattle.model_documents.specs.Parts.{Part}
+use Rattle.model_documents.specs.Reads.{Read}
 
 -- the fault that reading names; out of memory says nothing of what is read
 abbrev pub IsFault : {A : Type 0} → ModelFault → Read A → Type 0

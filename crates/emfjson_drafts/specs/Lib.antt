@@ -1,10 +1,1 @@
 pub mod Answers
-pub mod Attributes
-pub mod Classes
-pub mod Faults
-pub mod Finder
-pub mod Links
-pub mod Parts
-pub mod Places
-pub mod Reads
-pub mod Walk

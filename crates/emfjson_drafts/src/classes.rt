@@ -3,25 +3,14 @@ ghost use Rattle.std.specs.Prelude.{◌≡◌, option_copied, option_map};
 ghost use Rattle.serde_json.specs.View.{view};
 ghost use Rattle.ecore_meta.specs.Meta.{feature_named};
 ghost use Rattle.ecore_json.specs.References.{after_prefix};
-ghost use Rattle.emfjson_drafts.specs.Classes.{class_after, class_of, class_said, class_spelt, may_stand};
-ghost use Rattle.emfjson_drafts.specs.Walk.{key_named};
+ghost use Rattle.model_documents.specs.Classes.{class_after, class_of, class_said, class_spelt, may_stand};
+ghost use Rattle.model_documents.specs.Walk.{key_named};
 ghost use Rattle.emfjson_drafts.specs.Answers.{Gives};
 
-use crate::fault::ModelFault;
 use ecore_meta::Metamodel;
+use model_documents::{Key, ModelFault};
 use model_state::is_concrete;
 use serde_json::Value;
-
-/// What a key of an object is.
-#[derive(Clone, Copy)]
-pub enum Key {
-    /// One that is read before the others: `eClass` or `_id`.
-    Own,
-    /// The feature of that number.
-    Of(u32),
-    /// No feature of the class.
-    Unknown,
-}
 
 /// What stands after the prefix of a text.
 pub fn after_prefix<'a>(prefix: &str, text: &'a str) -> Option<&'a str>

@@ -2,11 +2,12 @@
 ghost use Rattle.std.specs.Prelude.{◌≡◌, ◌∷◌, [], ◌++◌, ◌<◌, List, OnOk, Some, length};
 ghost use Rattle.std.specs.List.{list_any};
 ghost use Rattle.finite_maps.specs.Equal.{option_eq, text_eq};
-ghost use Rattle.emfjson_drafts.specs.declared.draft.Draft.{Draft};
-ghost use Rattle.emfjson_drafts.specs.Parts.{ids_of};
+ghost use Rattle.model_documents.specs.declared.draft.Draft.{Draft};
+ghost use Rattle.model_documents.specs.Parts.{ids_of};
 
-use crate::draft::{Draft, Held};
 use crate::finder::add_name;
+use crate::held::Held;
+use model_documents::Draft;
 use std::alloc::{AllocError, Global};
 use std::collections::BTreeMap;
 use std::marker::Model;
@@ -20,8 +21,8 @@ pub(crate) struct Drafts {
 
 impl Model for Drafts {
     ghost use Rattle.std.specs.Prelude.{List};
-    ghost use Rattle.emfjson_drafts.specs.declared.draft.Draft.{Draft};
-    ghost use Rattle.emfjson_drafts.specs.Finder.{NamesOf};
+    ghost use Rattle.model_documents.specs.declared.draft.Draft.{Draft};
+    ghost use Rattle.model_documents.specs.Finder.{NamesOf};
 
     ghost Value = { List Draft };
 

@@ -3,13 +3,12 @@ ghost use Rattle.std.specs.Prelude.{◌≡◌, ◌++◌, ◌∷◌, [], IfOk, On
 ghost use Rattle.std.specs.BTreeMap.{get_by_text};
 ghost use Rattle.finite_maps.specs.Equal.{option_eq, text_eq};
 ghost use Rattle.model_state.specs.Keys.{IdBytes};
-ghost use Rattle.emfjson_drafts.specs.declared.doc.DocParent.{DocParent};
-ghost use Rattle.emfjson_drafts.specs.Finder.{ChildrenOf, NamesOf, first_of, numbers_at};
-ghost use Rattle.emfjson_drafts.specs.Places.{child_at, class_at, named, numbers_where, parent_eq, stands_in};
+ghost use Rattle.model_documents.specs.declared.doc.DocParent.{DocParent};
+ghost use Rattle.model_documents.specs.Finder.{ChildrenOf, NamesOf, first_of, numbers_at};
+ghost use Rattle.model_documents.specs.Places.{child_at, class_at, named, numbers_where, parent_eq, stands_in};
 
-use crate::doc::DocParent;
-use crate::draft::Draft;
 use ecore_meta::List;
+use model_documents::{DocParent, Draft};
 use model_state::Id;
 use std::alloc::{AllocError, Global};
 use std::collections::BTreeMap;
@@ -26,8 +25,8 @@ pub struct Finder<'a> {
 
 impl<'a> Model for Finder<'a> {
     ghost use Rattle.std.specs.Prelude.{List};
-    ghost use Rattle.emfjson_drafts.specs.declared.draft.Draft.{Draft};
-    ghost use Rattle.emfjson_drafts.specs.Finder.{Finds};
+    ghost use Rattle.model_documents.specs.declared.draft.Draft.{Draft};
+    ghost use Rattle.model_documents.specs.Finder.{Finds};
 
     ghost Value = { List Draft };
 

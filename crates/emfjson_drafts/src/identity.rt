@@ -2,11 +2,11 @@
 ghost use Rattle.std.specs.Prelude.{option_map};
 ghost use Rattle.serde_json.specs.View.{view};
 ghost use Rattle.emfjson_drafts.specs.Answers.{Gives};
-ghost use Rattle.emfjson_drafts.specs.Classes.{id_of};
-ghost use Rattle.emfjson_drafts.specs.Parts.{ids_of};
+ghost use Rattle.model_documents.specs.Classes.{id_of};
+ghost use Rattle.model_documents.specs.Parts.{ids_of};
 
 use crate::drafts::Drafts;
-use crate::fault::ModelFault;
+use model_documents::ModelFault;
 use model_state::{Id, IdFault};
 use serde_json::Value;
 use std::alloc::Global;

@@ -3,19 +3,14 @@
 
 mod attributes;
 mod classes;
-mod doc;
-mod draft;
 mod drafts;
-mod fault;
 mod finder;
+mod held;
 mod identity;
 mod links;
 mod walker;
 
 pub use attributes::is_within;
-pub use classes::{Key, after_prefix};
-pub use doc::{DocAttr, DocParent};
-pub use draft::{Draft, Links};
-pub use fault::ModelFault;
+pub use classes::after_prefix;
 pub use finder::{Finder, child_at, take_numbers};
 pub use walker::walk;

@@ -2,12 +2,12 @@
 ghost use Rattle.std.specs.Prelude.{◌≡◌, IfOk, [], map, Ok};
 ghost use Rattle.serde_json.specs.View.{view};
 ghost use Rattle.emfjson_drafts.specs.Answers.{AppendsPart};
-ghost use Rattle.emfjson_drafts.specs.Links.{entries_of, entry_of, links_part};
+ghost use Rattle.model_documents.specs.Links.{entries_of, entry_of, links_part};
 
 use crate::attributes::elements;
-use crate::draft::{Held, Links};
-use crate::fault::ModelFault;
+use crate::held::Held;
 use ecore_meta::{List, Text};
+use model_documents::{Links, ModelFault};
 use serde_json::Value;
 use std::alloc::{AllocError, Global};
 

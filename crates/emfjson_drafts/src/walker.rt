@@ -2,19 +2,18 @@
 ghost use Rattle.std.specs.Prelude.{◌≡◌, ◌∷◌, [], ◌++◌, ◌<◌, List, None, length};
 ghost use Rattle.serde_json.specs.View.{view, items_view, members_view};
 ghost use Rattle.emfjson_drafts.specs.Answers.{GivesDrafts, GivesPart, AppendsPart, Walks};
-ghost use Rattle.emfjson_drafts.specs.Parts.{ids_of, no_part};
-ghost use Rattle.emfjson_drafts.specs.Walk.{element_rows, feature_part, held_rows, items_rows, key_named, key_part, members_rows, not_object, own_rows, walked};
-ghost use Rattle.emfjson_drafts.specs.declared.draft.Draft.{Draft};
+ghost use Rattle.model_documents.specs.Parts.{ids_of, no_part};
+ghost use Rattle.model_documents.specs.Walk.{element_rows, feature_part, held_rows, items_rows, key_named, key_part, members_rows, not_object, own_rows, walked};
+ghost use Rattle.model_documents.specs.declared.draft.Draft.{Draft};
 
 use crate::attributes::{is_within, many_part, single_part};
-use crate::classes::{Key, class_of, key_named};
-use crate::doc::DocParent;
-use crate::draft::{Draft, Held};
+use crate::classes::{class_of, key_named};
 use crate::drafts::Drafts;
-use crate::fault::ModelFault;
+use crate::held::Held;
 use crate::identity::id_of;
 use crate::links::links_part;
 use ecore_meta::{Kind, List, Metamodel};
+use model_documents::{DocParent, Draft, Key, ModelFault};
 use model_state::{Id, is_one, upper_of};
 use serde_json::{Map, Value};
 use std::alloc::Global;

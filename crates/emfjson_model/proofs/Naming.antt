@@ -11,16 +11,16 @@ use Rattle.std.proofs.lemmas.Option.{slice_get_within}
 use Rattle.std.proofs.lemmas.Bool.{or_left, or_right}
 use Rattle.finite_maps.proofs.Cases.{not_so}
 use Rattle.finite_maps.proofs.EqualLaws.{and_both, and_first, and_second, nat_equality}
-use Rattle.emfjson_drafts.specs.declared.doc.DocParent.{DocParent}
-use Rattle.emfjson_model.specs.declared.doc.DocRefs.{DocRefs}
-use Rattle.emfjson_drafts.specs.Finder.{numbers_at, place_cmp}
-use Rattle.emfjson_model.specs.Merged.{naming, targets_at}
-use Rattle.emfjson_drafts.specs.Places.{parent_eq}
+use Rattle.model_documents.specs.declared.doc.DocParent.{DocParent}
+use Rattle.model_documents.specs.declared.doc.DocRefs.{DocRefs}
+use Rattle.model_documents.specs.Finder.{numbers_at, place_cmp}
+use Rattle.model_documents.specs.Merged.{naming, targets_at}
+use Rattle.model_documents.specs.Places.{parent_eq}
 use Rattle.emfjson_model.specs.Sources.{also, ends_with, push_once}
-use Rattle.emfjson_drafts.proofs.Finding.{parent_exact}
-use Rattle.emfjson_drafts.proofs.Finding.{same_place}
-use Rattle.emfjson_model.proofs.Merging.{features, listed, named_in}
-use Rattle.emfjson_model.proofs.Numbers.{has, has_at, or_split, same_bool}
+use Rattle.model_documents.proofs.Finding.{parent_exact}
+use Rattle.model_documents.proofs.Finding.{same_place}
+use Rattle.model_documents.proofs.Merging.{features, listed, named_in}
+use Rattle.model_documents.proofs.Numbers.{has, has_at, or_split, same_bool}
 
 -- ---- a number that comes once
 last_there : (xs : List ℕ) (n : ℕ) → slice_get (xs ++ n ∷ []) (length xs) ≡ Some n

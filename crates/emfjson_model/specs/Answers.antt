@@ -1,9 +1,9 @@
 -- What the reading of a text answers: the elements that are due, or the fault.
 use Rattle.std.specs.Prelude.{◌≡◌, List, Result, Ok, Err}
-use Rattle.emfjson_model.specs.declared.doc.Doc.{Doc}
-use Rattle.emfjson_model.specs.declared.doc.DocRow.{DocRow}
-use Rattle.emfjson_drafts.specs.declared.fault.ModelFault.{ModelFault}
-use Rattle.emfjson_drafts.specs.Reads.{Read}
+use Rattle.model_documents.specs.declared.doc.Doc.{Doc}
+use Rattle.model_documents.specs.declared.doc.DocRow.{DocRow}
+use Rattle.model_documents.specs.declared.fault.ModelFault.{ModelFault}
+use Rattle.model_documents.specs.Reads.{Read}
 use Rattle.emfjson_drafts.specs.Answers.{IsFault}
 
 -- the elements of the document that reading gives, or its fault

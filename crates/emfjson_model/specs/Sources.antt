@@ -2,10 +2,10 @@
 use Rattle.std.specs.Prelude.{◌≡◌, ◌-◌, ℕ, Bool, false, cond, List, [], ◌∷◌, ◌++◌, length, nat_eq, slice_get}
 use Rattle.std.specs.Option.{option_map_or}
 use Rattle.std.specs.BTreeMap.{BTreeMap}
-use Rattle.emfjson_drafts.specs.declared.doc.DocParent.{DocParent}
-use Rattle.emfjson_model.specs.declared.doc.DocRefs.{DocRefs}
-use Rattle.emfjson_drafts.specs.Finder.{numbers_at}
-use Rattle.emfjson_model.specs.Merged.{naming}
+use Rattle.model_documents.specs.declared.doc.DocParent.{DocParent}
+use Rattle.model_documents.specs.declared.doc.DocRefs.{DocRefs}
+use Rattle.model_documents.specs.Finder.{numbers_at}
+use Rattle.model_documents.specs.Merged.{naming}
 
 -- the number is the last
 abbrev pub ends_with : ℕ → List ℕ → Bool

@@ -1,8 +1,6 @@
 //! Models in emfjson: a text is read as the elements that it describes, or refused with its first fault.
 #![tactic(auto)]
 
-mod doc;
-mod laws;
 mod merged;
 mod paths;
 mod read;
@@ -10,6 +8,4 @@ mod references;
 mod sources;
 mod targets;
 
-pub use doc::{Doc, DocRefs, DocRow};
-pub use laws::law_of_documents;
 pub use read::read_model;

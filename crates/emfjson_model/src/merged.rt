@@ -2,13 +2,13 @@
 ghost use Rattle.std.specs.Prelude.{◌≡◌, IfOk, [], ◌++◌, nat_eq, not, option_to_list};
 ghost use Rattle.std.specs.List.{filter, list_any};
 ghost use Rattle.emfjson_drafts.specs.Answers.{Gives};
-ghost use Rattle.emfjson_model.specs.Merged.{attr_at, attrs_by, merged, merged_all, merged_at, merged_within, naming, next_row, others, row_of, rows_by};
+ghost use Rattle.model_documents.specs.Merged.{attr_at, attrs_by, merged, merged_all, merged_at, merged_within, naming, next_row, others, row_of, rows_by};
 
-use crate::doc::{DocRefs, DocRow};
 use crate::sources::Sources;
 use crate::targets::Targets;
 use ecore_meta::{List, Metamodel, Value};
-use emfjson_drafts::{DocAttr, Draft, ModelFault, is_within};
+use emfjson_drafts::is_within;
+use model_documents::{DocAttr, DocRefs, DocRow, Draft, ModelFault};
 use model_state::{Id, opposite_of, row_upper};
 use std::alloc::{AllocError, Global};
 

@@ -3,10 +3,11 @@ ghost use Rattle.std.specs.Prelude.{◌≡◌, ◌==◌, IfOk, map, option_and_t
 ghost use Rattle.std.specs.List.{list_all, slice_split};
 ghost use Rattle.std.specs.Char.{is_ascii_digit};
 ghost use Rattle.model_state.specs.Typing.{is_containment, kind_of};
-ghost use Rattle.emfjson_model.specs.References.{along, along_parts, child_by, child_named, index_of, located, located_bare, number_of, root_at, step_from};
+ghost use Rattle.model_documents.specs.References.{along, along_parts, child_by, child_named, index_of, located, located_bare, number_of, root_at, step_from};
 
 use ecore_meta::{Kind, Metamodel};
-use emfjson_drafts::{DocParent, Finder, after_prefix, child_at};
+use emfjson_drafts::{Finder, after_prefix, child_at};
+use model_documents::DocParent;
 use model_state::{is_one, upper_of};
 use std::alloc::{AllocError, Global};
 

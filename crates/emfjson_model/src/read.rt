@@ -1,13 +1,13 @@
 //! The reading of a model text: JSON, then the walk that gives drafts, then references looked up and merged.
 ghost use Rattle.emfjson_drafts.specs.Answers.{Gives};
 ghost use Rattle.emfjson_model.specs.Answers.{GivesDoc};
-ghost use Rattle.emfjson_model.specs.Document.{doc_of, resolved};
+ghost use Rattle.model_documents.specs.Document.{doc_of, resolved};
 
-use crate::doc::{Doc, DocRow};
 use crate::merged::rows_by;
 use crate::references::given_by;
 use ecore_meta::{List, Metamodel};
-use emfjson_drafts::{Draft, ModelFault, walk};
+use emfjson_drafts::walk;
+use model_documents::{Doc, DocRow, Draft, ModelFault};
 use serde_json::Value;
 use std::alloc::Global;
 
@@ -24,7 +24,7 @@ fn resolved(alloc: Global, meta: &Metamodel, drafts: &[Draft]) -> Result<List<Do
 /// # Errors
 ///
 /// The first fault, in the order of [`ModelFault`]; `Memory`.
-#[tactic(auto, unfolding(crate::specs::Document::doc_of))]
+#[tactic(auto, unfolding(model_documents::specs::Document::doc_of))]
 pub fn read_model(alloc: Global, text: &str, meta: &Metamodel) -> Result<Doc, ModelFault>
     ensures read { GivesDoc result (doc_of meta.now text.now) }
 {

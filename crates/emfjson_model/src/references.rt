@@ -3,14 +3,14 @@
 ghost use Rattle.std.specs.Prelude.{◌≡◌, IfOk, [], option_and_then};
 ghost use Rattle.model_state.specs.Typing.{kind_of, plain_to};
 ghost use Rattle.emfjson_drafts.specs.Answers.{Gives};
-ghost use Rattle.emfjson_drafts.specs.Reads.{collected};
-ghost use Rattle.emfjson_model.specs.References.{entries_at, given_by, located, new_target, plain_features, refs_at, refs_of, target_of, targets_of};
+ghost use Rattle.model_documents.specs.Reads.{collected};
+ghost use Rattle.model_documents.specs.References.{entries_at, given_by, located, new_target, plain_features, refs_at, refs_of, target_of, targets_of};
 
-use crate::doc::DocRefs;
 use crate::paths::located;
 use crate::targets::Targets;
 use ecore_meta::{Kind, List, Metamodel, Text};
-use emfjson_drafts::{Draft, Finder, Links, ModelFault};
+use emfjson_drafts::Finder;
+use model_documents::{DocRefs, Draft, Links, ModelFault};
 use model_state::is_plain;
 use std::alloc::{AllocError, Global};
 

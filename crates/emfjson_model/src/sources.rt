@@ -1,15 +1,15 @@
 //! The index from a target back to the elements that name it, from which opposites are merged.
 ghost use Rattle.std.specs.Prelude.{◌≡◌, ◌&&◌, [], IfOk, OnOk, nat_eq};
 ghost use Rattle.std.specs.List.{list_any};
-ghost use Rattle.emfjson_drafts.specs.declared.doc.DocParent.{DocParent};
-ghost use Rattle.emfjson_drafts.specs.Finder.{numbers_at};
-ghost use Rattle.emfjson_model.specs.Merged.{given_at, naming, targets_at};
-ghost use Rattle.emfjson_drafts.specs.Places.{parent_eq};
+ghost use Rattle.model_documents.specs.declared.doc.DocParent.{DocParent};
+ghost use Rattle.model_documents.specs.Finder.{numbers_at};
+ghost use Rattle.model_documents.specs.Merged.{given_at, naming, targets_at};
+ghost use Rattle.model_documents.specs.Places.{parent_eq};
 ghost use Rattle.emfjson_model.specs.Sources.{SourcesOf, also, ends_with, push_once};
 
-use crate::doc::DocRefs;
 use ecore_meta::List;
-use emfjson_drafts::{DocParent, take_numbers};
+use emfjson_drafts::take_numbers;
+use model_documents::{DocParent, DocRefs};
 use std::alloc::{AllocError, Global};
 use std::collections::BTreeMap;
 use std::marker::Model;
@@ -23,7 +23,7 @@ pub(crate) struct Sources<'a> {
 
 impl<'a> Model for Sources<'a> {
     ghost use Rattle.std.specs.Prelude.{List};
-    ghost use Rattle.emfjson_model.specs.declared.doc.DocRefs.{DocRefs};
+    ghost use Rattle.model_documents.specs.declared.doc.DocRefs.{DocRefs};
     ghost use Rattle.emfjson_model.specs.Sources.{SourcesOf};
 
     ghost Value = { List (List DocRefs) };

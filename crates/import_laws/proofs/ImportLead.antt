@@ -17,8 +17,8 @@ use Rattle.model_laws.proofs.Births.{dead_attr, dead_from}
 use Rattle.model_laws.proofs.Runs.{fold_append, steps_keep_good}
 use Rattle.edit_laws.specs.declared.fault.EditFault.{EditFault}
 use Rattle.edit_laws.specs.declared.fault.EditFault.TheVariants.{IdInUse}
-use Rattle.emfjson_model.specs.declared.doc.DocRow.{DocRow}
-use Rattle.emfjson_model.specs.Fits.{DocumentFits}
+use Rattle.model_documents.specs.declared.doc.DocRow.{DocRow}
+use Rattle.model_documents.specs.Fits.{DocumentFits}
 use Rattle.import_laws.specs.After.{Kinds, attrs_from, import_after, kinds_from, places_from, ranks_from}
 use Rattle.import_laws.specs.Import.{and_then, composite, of_steps, steps_made}
 use Rattle.import_laws.specs.Laws.{ImportsLead, ids_differ}

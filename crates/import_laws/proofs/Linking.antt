@@ -22,7 +22,7 @@ use Rattle.model_laws.proofs.Runs.{fold_more}
 use Rattle.edit_laws.specs.Rows.{Rows, link_step, set_pair}
 use Rattle.edit_laws.proofs.Clears.{good_after}
 use Rattle.edit_laws.proofs.Pairs.{Takes, link_takes}
-use Rattle.emfjson_model.specs.declared.doc.DocRow.{DocRow}
+use Rattle.model_documents.specs.declared.doc.DocRow.{DocRow}
 use Rattle.import_laws.specs.Laws.{ids_differ}
 use Rattle.import_laws.specs.Links.{is_made, link_to, mirror_of}
 use Rattle.import_laws.specs.Names.{name_at}

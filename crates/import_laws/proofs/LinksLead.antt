@@ -20,11 +20,11 @@ use Rattle.model_state.specs.Typing.{links, opposite_of, row_upper}
 use Rattle.model_state.proofs.Orders.{row_order}
 use Rattle.edit_laws.specs.Rows.{Rows}
 use Rattle.edit_laws.proofs.Joins.{none_counted_at}
-use Rattle.emfjson_model.specs.declared.doc.DocRefs.{DocRefs}
-use Rattle.emfjson_model.specs.declared.doc.DocRow.{DocRow}
-use Rattle.emfjson_model.specs.Fits as fits
-use Rattle.emfjson_model.specs.Fits.{DocumentFits}
-use Rattle.emfjson_model.specs.Merged.{targets_at}
+use Rattle.model_documents.specs.declared.doc.DocRefs.{DocRefs}
+use Rattle.model_documents.specs.declared.doc.DocRow.{DocRow}
+use Rattle.model_documents.specs.Fits as fits
+use Rattle.model_documents.specs.Fits.{DocumentFits}
+use Rattle.model_documents.specs.Merged.{targets_at}
 use Rattle.import_laws.specs.After.{rows_from}
 use Rattle.import_laws.specs.Laws.{ids_differ}
 use Rattle.import_laws.specs.Links.{index_in, is_made, links_made, mirror_of, refs_at}

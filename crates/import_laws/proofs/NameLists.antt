@@ -8,7 +8,7 @@ use Rattle.model_state.specs.Keys.{IdBytes}
 use Rattle.model_state.specs.State.{State}
 use Rattle.edit_laws.specs.declared.fault.EditFault.{EditFault}
 use Rattle.edits.specs.FreshIds.{numbered}
-use Rattle.emfjson_model.specs.declared.doc.DocRow.{DocRow}
+use Rattle.model_documents.specs.declared.doc.DocRow.{DocRow}
 use Rattle.import_laws.specs.Import.{Imports, import_of, of_steps, recorded_import, steps_made}
 use Rattle.import_laws.specs.Names.{AreNames, IsName, IsNext, any_in_use, first_untaken, is_taken, name_and_rest, names_from, names_of, next_number, greatest_number}
 use Rattle.edits.specs.Answers.{Answers}

@@ -9,8 +9,8 @@ use Rattle.model_state.specs.Keys.{IdBytes}
 use Rattle.model_state.specs.State.{State, is_live}
 use Rattle.edits.specs.FreshIds.{numbered}
 use Rattle.edits.proofs.Fresh.{numbered_apart}
-use Rattle.emfjson_model.specs.declared.doc.DocRow.{DocRow}
-use Rattle.emfjson_model.specs.Laws.{gives_id, ids_repeat, is_given}
+use Rattle.model_documents.specs.declared.doc.DocRow.{DocRow}
+use Rattle.model_documents.specs.Laws.{gives_id, ids_repeat, is_given}
 use Rattle.import_laws.specs.Names.{AreNames, IsName, any_in_use, in_use, is_taken, greatest_number}
 use Rattle.import_laws.specs.Laws.{NamesAreNew, ids_differ}
 

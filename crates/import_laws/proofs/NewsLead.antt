@@ -29,11 +29,11 @@ use Rattle.edit_laws.specs.declared.fault.EditFault.{EditFault}
 use Rattle.edit_laws.specs.declared.fault.EditFault.TheVariants.{Bound}
 use Rattle.edit_laws.specs.Places.{Ranks}
 use Rattle.edit_laws.proofs.Creates.{Stand, children_stand, names_differ}
-use Rattle.emfjson_drafts.specs.declared.doc.DocParent.{DocParent}
-use Rattle.emfjson_model.specs.declared.doc.DocRow.{DocRow}
-use Rattle.emfjson_model.specs.Fits.{DocumentFits, StandsFit, standing}
-use Rattle.emfjson_model.specs.Laws.{parents_before, parent_before}
-use Rattle.emfjson_drafts.specs.Places.{parent_eq}
+use Rattle.model_documents.specs.declared.doc.DocParent.{DocParent}
+use Rattle.model_documents.specs.declared.doc.DocRow.{DocRow}
+use Rattle.model_documents.specs.Fits.{DocumentFits, StandsFit, standing}
+use Rattle.model_documents.specs.Laws.{parents_before, parent_before}
+use Rattle.model_documents.specs.Places.{parent_eq}
 use Rattle.import_laws.specs.After.{Kinds, Places, kinds_from, places_from, ranks_after, ranks_from}
 use Rattle.import_laws.specs.Laws.{ids_differ}
 use Rattle.import_laws.specs.Names.{name_at}

@@ -10,10 +10,10 @@ use Rattle.ecore_meta.specs.Meta.{Meta}
 use Rattle.model_state.specs.declared.step.Step.{Step}
 use Rattle.model_state.specs.Keys.{IdBytes, RowKey}
 use Rattle.edit_laws.specs.Rows.{Rows}
-use Rattle.emfjson_model.specs.declared.doc.DocRefs.{DocRefs}
-use Rattle.emfjson_model.specs.declared.doc.DocRow.{DocRow}
-use Rattle.emfjson_model.specs.Fits.{numbers_differ}
-use Rattle.emfjson_model.specs.Merged.{targets_at}
+use Rattle.model_documents.specs.declared.doc.DocRefs.{DocRefs}
+use Rattle.model_documents.specs.declared.doc.DocRow.{DocRow}
+use Rattle.model_documents.specs.Fits.{numbers_differ}
+use Rattle.model_documents.specs.Merged.{targets_at}
 use Rattle.import_laws.specs.After.{refs_set, rows_from, targets_set}
 use Rattle.import_laws.specs.Links.{link_to, links_from, refs_made, targets_made}
 use Rattle.import_laws.specs.Names.{name_at}

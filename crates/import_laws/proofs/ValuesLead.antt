@@ -26,9 +26,9 @@ use Rattle.model_state.proofs.Orders.{attr_order}
 use Rattle.model_state.proofs.StepTests.{pass, value_equality}
 use Rattle.model_laws.proofs.Many.{part}
 use Rattle.model_laws.proofs.Runs.{fold_append, fold_more}
-use Rattle.emfjson_drafts.specs.declared.doc.DocAttr.{DocAttr}
-use Rattle.emfjson_model.specs.declared.doc.DocRow.{DocRow}
-use Rattle.emfjson_model.specs.Fits.{AttrFits, DocumentFits, numbers_differ}
+use Rattle.model_documents.specs.declared.doc.DocAttr.{DocAttr}
+use Rattle.model_documents.specs.declared.doc.DocRow.{DocRow}
+use Rattle.model_documents.specs.Fits.{AttrFits, DocumentFits, numbers_differ}
 use Rattle.import_laws.specs.After.{Attrs, attrs_from, attrs_set}
 use Rattle.import_laws.specs.Laws as laws
 use Rattle.import_laws.specs.Names.{name_at}

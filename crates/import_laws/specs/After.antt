@@ -12,11 +12,11 @@ use Rattle.model_state.specs.State.{State}
 use Rattle.edit_laws.specs.Places.{Ranks, ranked_places}
 use Rattle.edit_laws.specs.Rows.{Rows}
 use Rattle.edit_laws.specs.Spot.{end_spot}
-use Rattle.emfjson_drafts.specs.declared.doc.DocAttr.{DocAttr}
-use Rattle.emfjson_model.specs.declared.doc.DocRefs.{DocRefs}
-use Rattle.emfjson_model.specs.declared.doc.DocRow.{DocRow}
+use Rattle.model_documents.specs.declared.doc.DocAttr.{DocAttr}
+use Rattle.model_documents.specs.declared.doc.DocRefs.{DocRefs}
+use Rattle.model_documents.specs.declared.doc.DocRow.{DocRow}
 use Rattle.import_laws.specs.Names.{name_at}
-use Rattle.emfjson_model.specs.Fits.{standing}
+use Rattle.model_documents.specs.Fits.{standing}
 use Rattle.import_laws.specs.News.{place_of, rank_of, roots_after}
 
 -- the class of each element

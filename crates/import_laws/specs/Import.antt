@@ -10,7 +10,7 @@ use Rattle.model_state.specs.Listing.{children}
 use Rattle.model_state.specs.State.{State}
 use Rattle.edit_laws.specs.declared.fault.EditFault.{EditFault}
 use Rattle.edit_laws.specs.declared.fault.EditFault.TheVariants.{IdInUse, Memory}
-use Rattle.emfjson_model.specs.declared.doc.DocRow.{DocRow}
+use Rattle.model_documents.specs.declared.doc.DocRow.{DocRow}
 use Rattle.import_laws.specs.Names.{AreNames, any_in_use, names_of}
 use Rattle.import_laws.specs.News.{news_made}
 use Rattle.import_laws.specs.Values.{values_made}

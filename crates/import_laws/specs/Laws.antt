@@ -8,9 +8,9 @@ use Rattle.model_state.specs.Good.{Good, Sound}
 use Rattle.model_state.specs.Keys.{IdBytes}
 use Rattle.model_state.specs.State.{State, is_live}
 use Rattle.model_state.specs.Steps.{fold}
-use Rattle.emfjson_model.specs.declared.doc.DocRow.{DocRow}
-use Rattle.emfjson_model.specs.Fits.{DocumentFits}
-use Rattle.emfjson_model.specs.Laws.{ids_repeat}
+use Rattle.model_documents.specs.declared.doc.DocRow.{DocRow}
+use Rattle.model_documents.specs.Fits.{DocumentFits}
+use Rattle.model_documents.specs.Laws.{ids_repeat}
 use Rattle.import_laws.specs.After.{import_after}
 use Rattle.import_laws.specs.Import.{import_of}
 use Rattle.import_laws.specs.Names.{AreNames, any_in_use}

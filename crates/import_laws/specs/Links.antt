@@ -6,9 +6,9 @@ use Rattle.model_state.specs.declared.step.Step.{Step}
 use Rattle.model_state.specs.Keys.{IdBytes}
 use Rattle.model_state.specs.Typing.{opposite_of}
 use Rattle.edit_laws.specs.Rows.{link_step}
-use Rattle.emfjson_model.specs.declared.doc.DocRefs.{DocRefs}
-use Rattle.emfjson_model.specs.declared.doc.DocRow.{DocRow}
-use Rattle.emfjson_model.specs.Merged.{targets_at}
+use Rattle.model_documents.specs.declared.doc.DocRefs.{DocRefs}
+use Rattle.model_documents.specs.declared.doc.DocRow.{DocRow}
+use Rattle.model_documents.specs.Merged.{targets_at}
 use Rattle.import_laws.specs.Names.{name_at}
 use Rattle.import_laws.specs.News.{rank_of}
 

@@ -4,8 +4,8 @@ use Rattle.std.specs.List.{list_any}
 use Rattle.model_state.specs.Keys.{IdBytes}
 use Rattle.model_state.specs.State.{State, is_live}
 use Rattle.edits.specs.FreshIds.{numbered}
-use Rattle.emfjson_model.specs.declared.doc.DocRow.{DocRow}
-use Rattle.emfjson_model.specs.Laws.{gives_id}
+use Rattle.model_documents.specs.declared.doc.DocRow.{DocRow}
+use Rattle.model_documents.specs.Laws.{gives_id}
 
 -- the greatest number of 64 bits, which no id has
 abbrev pub greatest_number : ℕ

@@ -8,9 +8,9 @@ use Rattle.model_state.specs.declared.step.Step.TheVariants.{New}
 use Rattle.model_state.specs.Keys.{IdBytes}
 use Rattle.edit_laws.specs.declared.fault.EditFault.{EditFault}
 use Rattle.edit_laws.specs.declared.fault.EditFault.TheVariants.{Bound}
-use Rattle.emfjson_model.specs.Fits.{standing}
-use Rattle.emfjson_drafts.specs.declared.doc.DocParent.{DocParent}
-use Rattle.emfjson_model.specs.declared.doc.DocRow.{DocRow}
+use Rattle.model_documents.specs.Fits.{standing}
+use Rattle.model_documents.specs.declared.doc.DocParent.{DocParent}
+use Rattle.model_documents.specs.declared.doc.DocRow.{DocRow}
 use Rattle.import_laws.specs.Names.{name_at, greatest_number}
 use Rattle.import_laws.specs.Roots.{has_end, root_after, root_made}
 use Rattle.model_state.specs.Ranks.{rank_gap}

@@ -8,11 +8,11 @@ use Rattle.std.proofs.lemmas.List.{length-take, take_more}
 use Rattle.finite_maps.proofs.EqualLaws.{and_first, and_second, nat_equality}
 use Rattle.finite_maps.proofs.MapLaws.{own_key, same_key}
 use Rattle.model_state.proofs.Orders.{nat_order}
-use Rattle.emfjson_drafts.specs.Finder.{first_of, place_cmp}
-use Rattle.emfjson_drafts.specs.declared.doc.DocParent.{DocParent}
-use Rattle.emfjson_drafts.proofs.Finding.{same_place}
-use Rattle.emfjson_model.specs.Merged.{targets_at}
-use Rattle.emfjson_model.specs.declared.doc.DocRow.{DocRow}
+use Rattle.model_documents.specs.Finder.{first_of, place_cmp}
+use Rattle.model_documents.specs.declared.doc.DocParent.{DocParent}
+use Rattle.model_documents.proofs.Finding.{same_place}
+use Rattle.model_documents.specs.Merged.{targets_at}
+use Rattle.model_documents.specs.declared.doc.DocRow.{DocRow}
 use Rattle.model_import.specs.Indexes.{TellAll, Tells}
 use Rattle.import_laws.specs.Links.{index_in, refs_at}
 

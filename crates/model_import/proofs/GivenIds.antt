@@ -8,8 +8,8 @@ use Rattle.std.proofs.lemmas.List.{take_more}
 use Rattle.std.proofs.lemmas.List.Folds.{list_any-append}
 use Rattle.finite_maps.specs.Equal.{option_eq, text_eq}
 use Rattle.model_state.specs.Keys.{IdBytes, id_cmp}
-use Rattle.emfjson_model.specs.declared.doc.DocRow.{DocRow}
-use Rattle.emfjson_model.specs.Laws.{gives_id}
+use Rattle.model_documents.specs.declared.doc.DocRow.{DocRow}
+use Rattle.model_documents.specs.Laws.{gives_id}
 
 or_also : (b a : Bool) → cond b true a ≡ (a || b)
 or_also true true = refl

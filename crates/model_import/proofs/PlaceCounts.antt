@@ -8,13 +8,13 @@ use Rattle.finite_maps.specs.Equal.{option_eq}
 use Rattle.finite_maps.proofs.EqualLaws.{and_first, and_second, nat_equality}
 use Rattle.model_state.specs.declared.entry.Entry.{Entry}
 use Rattle.model_state.specs.Keys.{IdBytes}
-use Rattle.emfjson_drafts.specs.declared.doc.DocParent.{DocParent}
-use Rattle.emfjson_model.specs.declared.doc.DocRow.{DocRow}
-use Rattle.emfjson_drafts.specs.Places.{parent_eq}
-use Rattle.emfjson_drafts.specs.Finder.{place_cmp}
-use Rattle.emfjson_drafts.proofs.Finding.{same_place}
+use Rattle.model_documents.specs.declared.doc.DocParent.{DocParent}
+use Rattle.model_documents.specs.declared.doc.DocRow.{DocRow}
+use Rattle.model_documents.specs.Places.{parent_eq}
+use Rattle.model_documents.specs.Finder.{place_cmp}
+use Rattle.model_documents.proofs.Finding.{same_place}
 use Rattle.model_import.specs.Counts.{Counts, CountsAlso, counted}
-use Rattle.emfjson_model.specs.Fits.{standing}
+use Rattle.model_documents.specs.Fits.{standing}
 use Rattle.import_laws.specs.News.{element_made, place_of}
 
 -- n + 1 stand in the place p

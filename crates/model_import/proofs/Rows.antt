@@ -5,9 +5,9 @@ use Rattle.model_state.specs.declared.entry.Entry.{Entry}
 use Rattle.model_state.specs.declared.step.Step.{Step}
 use Rattle.model_state.specs.Keys.{IdBytes}
 use Rattle.edit_laws.specs.declared.fault.EditFault.TheVariants.{Bound}
-use Rattle.emfjson_model.specs.declared.doc.DocRow.{DocRow}
+use Rattle.model_documents.specs.declared.doc.DocRow.{DocRow}
 use Rattle.import_laws.specs.Names.{name_at}
-use Rattle.emfjson_model.specs.Fits.{standing}
+use Rattle.model_documents.specs.Fits.{standing}
 use Rattle.import_laws.specs.News.{element_made, has_room, news_from, place_of, roots_after}
 
 -- what is left of a list is its item at the place, and what is left after it

@@ -3,11 +3,11 @@ use Rattle.std.specs.Prelude.{◌≡◌, ℕ, ◌+◌, cond, List, Option, None,
 use Rattle.std.specs.Map.{count_at}
 use Rattle.std.specs.BTreeMap.{BTreeMap, get}
 use Rattle.finite_maps.specs.Equal.{option_eq}
-use Rattle.emfjson_drafts.specs.declared.doc.DocParent.{DocParent}
-use Rattle.emfjson_model.specs.declared.doc.DocRow.{DocRow}
-use Rattle.emfjson_drafts.specs.Finder.{place_cmp}
-use Rattle.emfjson_drafts.specs.Places.{parent_eq}
-use Rattle.emfjson_model.specs.Fits.{standing}
+use Rattle.model_documents.specs.declared.doc.DocParent.{DocParent}
+use Rattle.model_documents.specs.declared.doc.DocRow.{DocRow}
+use Rattle.model_documents.specs.Finder.{place_cmp}
+use Rattle.model_documents.specs.Places.{parent_eq}
+use Rattle.model_documents.specs.Fits.{standing}
 
 -- how many rows the map counts in a place, none at the root
 abbrev pub counted : BTreeMap (ℕ × ℕ) ℕ → Option DocParent → ℕ

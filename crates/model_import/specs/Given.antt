@@ -3,8 +3,8 @@ use Rattle.std.specs.Prelude.{◌≡◌, ◌||◌, List}
 use Rattle.std.specs.List.{list_any}
 use Rattle.std.specs.BTreeSet.{BTreeSet, contains}
 use Rattle.model_state.specs.Keys.{IdBytes, id_cmp}
-use Rattle.emfjson_model.specs.declared.doc.DocRow.{DocRow}
-use Rattle.emfjson_model.specs.Laws.{gives_id}
+use Rattle.model_documents.specs.declared.doc.DocRow.{DocRow}
+use Rattle.model_documents.specs.Laws.{gives_id}
 
 -- the set has the ids that the rows give, and no others
 abbrev pub Gives : BTreeSet IdBytes → List DocRow → Type 0

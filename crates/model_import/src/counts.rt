@@ -3,7 +3,7 @@ ghost use Rattle.std.specs.Prelude.{◌≡◌, ◌<◌, OnOk};
 ghost use Rattle.model_import.specs.Counts.{CountsAlso, counted};
 ghost use Rattle.import_laws.specs.Names.{greatest_number};
 
-use emfjson_drafts::DocParent;
+use model_documents::DocParent;
 use std::alloc::AllocError;
 use std::collections::BTreeMap;
 

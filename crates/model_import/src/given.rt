@@ -1,10 +1,10 @@
 //! The ids that a document gives, as a set in which fresh ids are tested.
 ghost use Rattle.std.specs.Prelude.{◌≡◌, IfOk, OnOk};
 ghost use Rattle.std.specs.List.{list_any};
-ghost use Rattle.emfjson_model.specs.Laws.{gives_id};
+ghost use Rattle.model_documents.specs.Laws.{gives_id};
 ghost use Rattle.model_import.specs.Given.{Gives, GivesAlso};
 
-use emfjson_model::DocRow;
+use model_documents::DocRow;
 use model_state::Id;
 use std::alloc::{AllocError, Global};
 use std::collections::BTreeSet;
@@ -19,7 +19,7 @@ pub(crate) struct Given<'a> {
 
 impl<'a> Model for Given<'a> {
     ghost use Rattle.std.specs.Prelude.{List};
-    ghost use Rattle.emfjson_model.specs.declared.doc.DocRow.{DocRow};
+    ghost use Rattle.model_documents.specs.declared.doc.DocRow.{DocRow};
     ghost use Rattle.model_import.specs.Given.{Gives};
 
     ghost Value = { List DocRow };

@@ -1,6 +1,6 @@
 //! The import of a document as one composite: creations first, then values, then links.
 ghost use Rattle.std.specs.Prelude.{◌≡◌, IfOk, length};
-ghost use Rattle.emfjson_model.specs.Fits.{DocumentFits};
+ghost use Rattle.model_documents.specs.Fits.{DocumentFits};
 ghost use Rattle.import_laws.specs.Import.{Imports, composite, of_steps, recorded_import, steps_made};
 ghost use Rattle.edits.specs.Answers.{Answers};
 
@@ -10,7 +10,7 @@ use crate::news::news;
 use crate::values::add_values;
 use ecore_meta::{List, Metamodel, Text};
 use edit_laws::EditFault;
-use emfjson_model::{Doc, DocRow};
+use model_documents::{Doc, DocRow};
 use model_state::{Id, Look, Operation, Step};
 use std::alloc::{AllocError, Global};
 

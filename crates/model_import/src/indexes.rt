@@ -2,13 +2,13 @@
 ghost use Rattle.std.specs.Prelude.{◌≡◌, ℕ, List, IfOk, None, OnOk, Some, cond, nat_eq};
 ghost use Rattle.std.specs.BTreeMap.{get};
 ghost use Rattle.std.specs.Ordering.{nat_cmp};
-ghost use Rattle.emfjson_drafts.specs.Finder.{first_of};
-ghost use Rattle.emfjson_model.specs.Merged.{targets_at};
-ghost use Rattle.emfjson_model.specs.declared.doc.DocRow.{DocRow};
+ghost use Rattle.model_documents.specs.Finder.{first_of};
+ghost use Rattle.model_documents.specs.Merged.{targets_at};
+ghost use Rattle.model_documents.specs.declared.doc.DocRow.{DocRow};
 ghost use Rattle.model_import.specs.Indexes.{TellAll, Tells};
 ghost use Rattle.import_laws.specs.Links.{index_in, refs_at};
 
-use emfjson_model::{DocRefs, DocRow};
+use model_documents::{DocRefs, DocRow};
 use std::alloc::{AllocError, Global};
 use std::collections::BTreeMap;
 use std::marker::Model;
@@ -25,7 +25,7 @@ pub(crate) struct Indexes<'a> {
 
 impl<'a> Model for Indexes<'a> {
     ghost use Rattle.std.specs.Prelude.{List};
-    ghost use Rattle.emfjson_model.specs.declared.doc.DocRow.{DocRow};
+    ghost use Rattle.model_documents.specs.declared.doc.DocRow.{DocRow};
     ghost use Rattle.model_import.specs.Indexes.{TellAll};
 
     ghost Value = { List DocRow };

@@ -6,7 +6,7 @@ use crate::indexes::Indexes;
 use crate::names::name_at;
 use crate::news::rank_of;
 use ecore_meta::{List, Metamodel};
-use emfjson_model::{DocRefs, DocRow};
+use model_documents::{DocRefs, DocRow};
 use model_state::{Id, Step, opposite_of};
 use opposites::link_step;
 use std::alloc::{AllocError, Global};

@@ -1,13 +1,13 @@
 //! The ids of a document's elements: the given ones, and fresh ones that are neither live nor given.
 ghost use Rattle.std.specs.Prelude.{◌≡◌, ◌<◌, IfOk, None, length};
 ghost use Rattle.std.specs.List.{list_any};
-ghost use Rattle.emfjson_model.specs.Laws.{gives_id};
+ghost use Rattle.model_documents.specs.Laws.{gives_id};
 ghost use Rattle.import_laws.specs.Names.{AreNames, IsName, any_in_use, in_use, is_taken, name_at};
 
 use crate::given::Given;
 use ecore_meta::List;
 use edits::numbered_id;
-use emfjson_model::DocRow;
+use model_documents::DocRow;
 use model_state::{Id, Look};
 use std::alloc::{AllocError, Global};
 

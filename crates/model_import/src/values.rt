@@ -4,8 +4,7 @@ ghost use Rattle.import_laws.specs.Values.{attr_made, attrs_made, inserts_made, 
 
 use crate::names::name_at;
 use ecore_meta::{List, Metamodel, Value};
-use emfjson_drafts::DocAttr;
-use emfjson_model::DocRow;
+use model_documents::{DocAttr, DocRow};
 use model_state::{Id, Step, is_attr};
 use std::alloc::{AllocError, Global};
 

@@ -28,9 +28,9 @@ use Rattle.edits.specs.declared.edit.Edit as edits
 use Rattle.edits.specs.declared.edit.Recorded.{Recorded}
 use Rattle.edit_laws.specs.declared.fault.EditFault.{EditFault}
 use Rattle.edits.specs.Recording.{recorded}
-use Rattle.emfjson_model.specs.declared.doc.DocRow.{DocRow}
-use Rattle.emfjson_drafts.specs.declared.fault.ModelFault.{ModelFault}
-use Rattle.emfjson_model.specs.Document.{doc_of}
+use Rattle.model_documents.specs.declared.doc.DocRow.{DocRow}
+use Rattle.model_documents.specs.declared.fault.ModelFault.{ModelFault}
+use Rattle.model_documents.specs.Document.{doc_of}
 use Rattle.import_laws.specs.Import.{recorded_import}
 use Rattle.footprint.specs.declared.bucket.Bucket.{Bucket}
 use Rattle.commit_journal.specs.Journal.{fit_of}

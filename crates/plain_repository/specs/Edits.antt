@@ -10,10 +10,10 @@ use Rattle.edits.specs.declared.edit.Recorded.{Recorded}
 use Rattle.edit_laws.specs.declared.fault.EditFault.{EditFault}
 use Rattle.edit_laws.specs.declared.fault.EditFault.TheVariants as faults
 use Rattle.edits.specs.Recording.{recorded}
-use Rattle.emfjson_model.specs.declared.doc.DocRow.{DocRow}
-use Rattle.emfjson_drafts.specs.declared.fault.ModelFault.{ModelFault}
-use Rattle.emfjson_model.specs.Document.{doc_of}
-use Rattle.emfjson_drafts.specs.Faults.{fault_number}
+use Rattle.model_documents.specs.declared.doc.DocRow.{DocRow}
+use Rattle.model_documents.specs.declared.fault.ModelFault.{ModelFault}
+use Rattle.model_documents.specs.Document.{doc_of}
+use Rattle.model_documents.specs.Faults.{fault_number}
 use Rattle.import_laws.specs.Import.{recorded_import}
 use Rattle.op_form.specs.declared.event.Event.TheVariants as events
 use Rattle.script_lang.specs.declared.reply.Refusal.{Refusal}

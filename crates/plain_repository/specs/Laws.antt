@@ -11,8 +11,8 @@ use Rattle.model_state.specs.Names.{is_name}
 use Rattle.model_state.specs.State as models
 use Rattle.model_state.specs.State.{is_live}
 use Rattle.model_state.specs.declared.operation.Operation.{Operation}
-use Rattle.emfjson_model.specs.declared.doc.DocRow.{DocRow}
-use Rattle.emfjson_model.specs.Document.{doc_of}
+use Rattle.model_documents.specs.declared.doc.DocRow.{DocRow}
+use Rattle.model_documents.specs.Document.{doc_of}
 use Rattle.import_laws.specs.Names.{AreNames, names_of}
 use Rattle.history_tree.specs.declared.version.Branch.{Branch}
 use Rattle.history_tree.specs.declared.version.Tag.{Tag}

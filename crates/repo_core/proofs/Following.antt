@@ -13,9 +13,9 @@ use Rattle.edits.specs.Edits.{after}
 use Rattle.edits.specs.Answers.{steps_in}
 use Rattle.edits.specs.Recording.{recorded}
 use Rattle.edits.proofs.Recordings.{recording_leads}
-use Rattle.emfjson_model.specs.declared.doc.DocRow.{DocRow}
-use Rattle.emfjson_model.specs.Document.{doc_of}
-use Rattle.emfjson_model.proofs.Fitting.{documents_fit}
+use Rattle.model_documents.specs.declared.doc.DocRow.{DocRow}
+use Rattle.model_documents.specs.Document.{doc_of}
+use Rattle.model_documents.proofs.Fitting.{documents_fit}
 use Rattle.import_laws.specs.After.{import_after}
 use Rattle.import_laws.specs.Import.{Imports}
 use Rattle.import_laws.proofs.ImportLead.{imports_lead}

@@ -15,9 +15,9 @@ use Rattle.model_state.specs.Listing.{children, rank_at, values_at}
 use Rattle.model_state.specs.State.{State, is_live, nothing}
 use Rattle.model_state.specs.Typing.{kind_of, upper_of}
 use Rattle.model_state.proofs.Orders.{id_order}
-use Rattle.emfjson_drafts.specs.declared.doc.DocAttr.{DocAttr}
-use Rattle.emfjson_model.specs.declared.doc.DocRow.{DocRow}
-use Rattle.emfjson_model.specs.Fits.{DocumentFits}
+use Rattle.model_documents.specs.declared.doc.DocAttr.{DocAttr}
+use Rattle.model_documents.specs.declared.doc.DocRow.{DocRow}
+use Rattle.model_documents.specs.Fits.{DocumentFits}
 use Rattle.model_texts.specs.Laws.{Alike}
 use Rattle.model_texts.specs.Tree.{child_ids, entry_ids}
 use Rattle.model_texts.proofs.Alike.{text_is_of_lists}

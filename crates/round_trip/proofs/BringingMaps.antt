@@ -11,10 +11,10 @@ use Rattle.finite_maps.proofs.MapLaws.{IsKeyOrder, by_key, get-set_other, get-se
 use Rattle.ecore_meta.specs.declared.meta.Value.{Value}
 use Rattle.model_state.specs.Keys.{AttrKey, IdBytes, id_cmp}
 use Rattle.model_state.proofs.Orders.{attr_order, id_order}
-use Rattle.emfjson_drafts.specs.declared.doc.DocAttr.{DocAttr}
-use Rattle.emfjson_model.specs.declared.doc.DocRow.{DocRow}
-use Rattle.emfjson_model.specs.Fits.{numbers_differ}
-use Rattle.emfjson_model.specs.Merged.{attr_at}
+use Rattle.model_documents.specs.declared.doc.DocAttr.{DocAttr}
+use Rattle.model_documents.specs.declared.doc.DocRow.{DocRow}
+use Rattle.model_documents.specs.Fits.{numbers_differ}
+use Rattle.model_documents.specs.Merged.{attr_at}
 use Rattle.import_laws.specs.After.{Attrs, Kinds, Places, attrs_from, attrs_set, kinds_from, places_from}
 use Rattle.import_laws.specs.Names.{name_at}
 use Rattle.import_laws.specs.News.{place_of}

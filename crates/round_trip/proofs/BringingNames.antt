@@ -20,11 +20,11 @@ use Rattle.model_state.proofs.Orders.{id_order}
 use Rattle.model_state.proofs.StepTests.{place_equality}
 use Rattle.model_laws.proofs.Inserts.{or_none}
 use Rattle.edit_laws.proofs.Lists.{any-in_order, any-map, picked_has}
-use Rattle.emfjson_drafts.specs.declared.doc.DocParent.{DocParent}
-use Rattle.emfjson_model.specs.declared.doc.DocRow.{DocRow}
-use Rattle.emfjson_model.specs.Fits.{DocumentFits, StandsFit, standing}
-use Rattle.emfjson_model.specs.Laws.{gives_id, ids_repeat, is_given}
-use Rattle.emfjson_drafts.specs.Places.{parent_eq}
+use Rattle.model_documents.specs.declared.doc.DocParent.{DocParent}
+use Rattle.model_documents.specs.declared.doc.DocRow.{DocRow}
+use Rattle.model_documents.specs.Fits.{DocumentFits, StandsFit, standing}
+use Rattle.model_documents.specs.Laws.{gives_id, ids_repeat, is_given}
+use Rattle.model_documents.specs.Places.{parent_eq}
 use Rattle.model_texts.specs.Tree.{child_ids}
 use Rattle.import_laws.specs.Laws.{ids_differ}
 use Rattle.import_laws.specs.Names.{name_at}

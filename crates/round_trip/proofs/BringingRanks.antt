@@ -20,8 +20,8 @@ use Rattle.edit_laws.specs.Places.{Ranks, ranked_places}
 use Rattle.edit_laws.specs.Spot.{Spot, end_spot, evened, rank_for, ranks_of}
 use Rattle.edit_laws.specs.declared.fault.EditFault.TheVariants.{Bound}
 use Rattle.edit_laws.proofs.Lists.{entries_held}
-use Rattle.emfjson_model.specs.declared.doc.DocRow.{DocRow}
-use Rattle.emfjson_model.specs.Fits.{DocumentFits, standing}
+use Rattle.model_documents.specs.declared.doc.DocRow.{DocRow}
+use Rattle.model_documents.specs.Fits.{DocumentFits, standing}
 use Rattle.import_laws.specs.After.{ranks_after, ranks_from}
 use Rattle.import_laws.specs.Laws.{ids_differ}
 use Rattle.import_laws.specs.Names.{name_at}

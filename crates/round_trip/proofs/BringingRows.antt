@@ -15,11 +15,11 @@ use Rattle.model_state.specs.Listing.{targets}
 use Rattle.model_state.specs.State.{State}
 use Rattle.edit_laws.specs.Rows.{Rows}
 use Rattle.edit_laws.proofs.Lists.{targets_has, targets_held}
-use Rattle.emfjson_model.specs.declared.doc.DocRefs.{DocRefs}
-use Rattle.emfjson_model.specs.declared.doc.DocRow.{DocRow}
-use Rattle.emfjson_model.specs.Fits as fits
-use Rattle.emfjson_model.specs.Fits.{DocumentFits}
-use Rattle.emfjson_model.specs.Merged.{targets_at}
+use Rattle.model_documents.specs.declared.doc.DocRefs.{DocRefs}
+use Rattle.model_documents.specs.declared.doc.DocRow.{DocRow}
+use Rattle.model_documents.specs.Fits as fits
+use Rattle.model_documents.specs.Fits.{DocumentFits}
+use Rattle.model_documents.specs.Merged.{targets_at}
 use Rattle.model_texts.specs.Tree.{entry_ids, target_ids}
 use Rattle.import_laws.specs.After.{rows_from}
 use Rattle.import_laws.specs.Laws.{ids_differ}

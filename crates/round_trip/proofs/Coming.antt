@@ -14,9 +14,9 @@ use Rattle.model_state.specs.declared.step.Step.{Step}
 use Rattle.model_laws.proofs.Start.{starts_good}
 use Rattle.edit_laws.specs.declared.fault.EditFault.{EditFault}
 use Rattle.edit_laws.specs.declared.fault.EditFault.TheVariants.{IdInUse}
-use Rattle.emfjson_model.specs.declared.doc.DocRow.{DocRow}
-use Rattle.emfjson_model.specs.Document.{doc_of}
-use Rattle.emfjson_model.proofs.Fitting.{documents_fit}
+use Rattle.model_documents.specs.declared.doc.DocRow.{DocRow}
+use Rattle.model_documents.specs.Document.{doc_of}
+use Rattle.model_documents.proofs.Fitting.{documents_fit}
 use Rattle.model_texts.specs.Tree.{text}
 use Rattle.import_laws.specs.After.{import_after}
 use Rattle.import_laws.specs.Import.{and_then, composite, import_of, of_steps, steps_made}

@@ -18,7 +18,7 @@ use Rattle.ecore_json.specs.References.{after_prefix, or_else}
 use Rattle.ecore_meta.specs.Meta.{Meta, class_named, feature_named, features_of, first_named, name_at}
 use Rattle.ecore_meta.specs.Names.{Name, has_repeat, number_of}
 use Rattle.ecore_meta.specs.declared.meta.Class.{Class as ClassOf}
-use Rattle.emfjson_drafts.specs.Classes.{class_after, class_spelt}
+use Rattle.model_documents.specs.Classes.{class_after, class_spelt}
 use Rattle.model_texts.specs.Keys.{key_cmp, key_name, keys_of}
 use Rattle.model_texts.specs.Tree.{class_text, members, with_member}
 use Rattle.ecore_meta.specs.Named.{IsNamed}

@@ -2,7 +2,7 @@
 use Rattle.std.proofs.Common.{◌≡◌, ℕ, suc, false, List, [], ◌∷◌, map, refl}
 use Rattle.finite_maps.specs.Sorts.{in_order}
 use Rattle.ecore_meta.specs.Meta.{Meta, features_of}
-use Rattle.emfjson_drafts.specs.Parts.{no_part}
+use Rattle.model_documents.specs.Parts.{no_part}
 use Rattle.model_texts.specs.Keys.{key_cmp, key_number, keys_of}
 
 -- the type of the items of a list

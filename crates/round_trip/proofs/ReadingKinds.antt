@@ -18,14 +18,14 @@ use Rattle.model_state.specs.Keys.{IdBytes}
 use Rattle.model_state.specs.State.{State}
 use Rattle.model_state.specs.Typing.{is_default}
 use Rattle.emfjson_io.specs.Values.{data_of}
-use Rattle.emfjson_drafts.specs.declared.doc.DocParent.{DocParent}
-use Rattle.emfjson_drafts.specs.declared.fault.ModelFault.TheVariants.{BadValue, Bound, WrongType}
+use Rattle.model_documents.specs.declared.doc.DocParent.{DocParent}
+use Rattle.model_documents.specs.declared.fault.ModelFault.TheVariants.{BadValue, Bound, WrongType}
 use Rattle.finite_maps.specs.Maps.{is_within}
-use Rattle.emfjson_drafts.specs.Links.{entry_of, links_part}
-use Rattle.emfjson_drafts.specs.Parts.{Part, no_part, Ids, ids_of}
-use Rattle.emfjson_drafts.specs.Reads.{«then», unless, found}
-use Rattle.emfjson_drafts.specs.Walk.{element_rows, feature_part, held_rows, items_rows, rows_part}
-use Rattle.emfjson_drafts.proofs.Features.{single_set, many_read}
+use Rattle.model_documents.specs.Links.{entry_of, links_part}
+use Rattle.model_documents.specs.Parts.{Part, no_part, Ids, ids_of}
+use Rattle.model_documents.specs.Reads.{«then», unless, found}
+use Rattle.model_documents.specs.Walk.{element_rows, feature_part, held_rows, items_rows, rows_part}
+use Rattle.model_documents.proofs.Features.{single_set, many_read}
 use Rattle.model_state.specs.Listing.{values_at}
 use Rattle.model_texts.specs.Tree.{child_ids, content, first_value, is_single, listed, one_or_all, reference, target_ids}
 use Rattle.ecore_meta.specs.Named.{IsNamed}

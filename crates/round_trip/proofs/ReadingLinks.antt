@@ -16,9 +16,9 @@ use Rattle.model_state.specs.State.{State}
 use Rattle.model_state.specs.Steps.{may_link}
 use Rattle.model_state.specs.Typing.{is_plain}
 use Rattle.edit_laws.proofs.Lists.{targets_held}
-use Rattle.emfjson_model.specs.Merged.{targets_at}
-use Rattle.emfjson_drafts.specs.Reads.{Read, «then», collected}
-use Rattle.emfjson_model.specs.References.{entries_at, plain_features}
+use Rattle.model_documents.specs.Merged.{targets_at}
+use Rattle.model_documents.specs.Reads.{Read, «then», collected}
+use Rattle.model_documents.specs.References.{entries_at, plain_features}
 use Rattle.model_texts.specs.Keys.{key_number, keys_of}
 use Rattle.model_texts.specs.Tree.{target_ids}
 use Rattle.round_trip.proofs.KeysFound.{Stands, feature_stands}

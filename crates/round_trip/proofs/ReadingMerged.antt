@@ -19,14 +19,14 @@ use Rattle.model_state.specs.Listing.{targets}
 use Rattle.model_state.specs.State.{State, is_live}
 use Rattle.model_state.specs.Typing.{is_plain, row_upper}
 use Rattle.edit_laws.proofs.Lists.{Apart, targets_apart, targets_has}
-use Rattle.emfjson_model.specs.declared.doc.DocRefs.{DocRefs}
-use Rattle.emfjson_model.specs.declared.doc.DocRow.{DocRow}
-use Rattle.emfjson_drafts.specs.declared.fault.ModelFault.TheVariants.{Bound}
-use Rattle.emfjson_model.specs.Document.{resolved}
-use Rattle.emfjson_model.specs.Merged.{given_at, merged, merged_all, merged_at, naming, next_row, others, row_of, rows_by, targets_at}
-use Rattle.emfjson_drafts.specs.Parts.{ids_of}
-use Rattle.emfjson_drafts.specs.Reads.{Read, «then», unless, collected}
-use Rattle.emfjson_model.specs.References.{given_by, plain_features, refs_at, refs_of, targets_of}
+use Rattle.model_documents.specs.declared.doc.DocRefs.{DocRefs}
+use Rattle.model_documents.specs.declared.doc.DocRow.{DocRow}
+use Rattle.model_documents.specs.declared.fault.ModelFault.TheVariants.{Bound}
+use Rattle.model_documents.specs.Document.{resolved}
+use Rattle.model_documents.specs.Merged.{given_at, merged, merged_all, merged_at, naming, next_row, others, row_of, rows_by, targets_at}
+use Rattle.model_documents.specs.Parts.{ids_of}
+use Rattle.model_documents.specs.Reads.{Read, «then», unless, collected}
+use Rattle.model_documents.specs.References.{given_by, plain_features, refs_at, refs_of, targets_of}
 use Rattle.model_texts.specs.Tree.{target_ids}
 use Rattle.round_trip.proofs.KeysFound.{Stands, all_stand}
 use Rattle.round_trip.proofs.KeysPairs.{Pairs}

@@ -21,10 +21,10 @@ use Rattle.model_state.specs.Typing.{value_eq}
 use Rattle.model_state.proofs.StepTests.{value_equality}
 use Rattle.emfjson_io.specs.Values.{data_of, value_in}
 use Rattle.emfjson_io.proofs.Again.{written_read}
-use Rattle.emfjson_drafts.specs.declared.fault.ModelFault.TheVariants.{BadValue}
+use Rattle.model_documents.specs.declared.fault.ModelFault.TheVariants.{BadValue}
 use Rattle.finite_maps.specs.Maps.{is_within}
-use Rattle.emfjson_drafts.specs.Attributes.{is_null, new_value, next_value}
-use Rattle.emfjson_drafts.specs.Reads.{«then», unless, collected}
+use Rattle.model_documents.specs.Attributes.{is_null, new_value, next_value}
+use Rattle.model_documents.specs.Reads.{«then», unless, collected}
 use Rattle.ecore_meta.specs.Named.{IsNamed}
 use Rattle.round_trip.proofs.ReadingPlain.{read_compact}
 use Rattle.round_trip.proofs.ReadingTrees.{plain_value}

@@ -13,11 +13,11 @@ use Rattle.ecore_meta.specs.Typing.{kind_of, plain_to}
 use Rattle.model_state.specs.Ident.{begins_as_id, is_id, is_id_byte}
 use Rattle.model_state.specs.Keys.{IdBytes}
 use Rattle.model_state.specs.State.{State}
-use Rattle.emfjson_drafts.specs.declared.fault.ModelFault.TheVariants.{BadRef, WrongType}
-use Rattle.emfjson_drafts.specs.Parts.{ids_of}
-use Rattle.emfjson_drafts.specs.Reads.{«then», unless, collected}
-use Rattle.emfjson_model.specs.References.{bare, located, located_bare, located_by, new_target, target_of}
-use Rattle.emfjson_drafts.specs.Places.{class_at, has_id, named, numbers_where}
+use Rattle.model_documents.specs.declared.fault.ModelFault.TheVariants.{BadRef, WrongType}
+use Rattle.model_documents.specs.Parts.{ids_of}
+use Rattle.model_documents.specs.Reads.{«then», unless, collected}
+use Rattle.model_documents.specs.References.{bare, located, located_bare, located_by, new_target, target_of}
+use Rattle.model_documents.specs.Places.{class_at, has_id, named, numbers_where}
 use Rattle.round_trip.proofs.KeysFound.{Stands, all_stand}
 use Rattle.round_trip.proofs.KeysPairs.{Pairs}
 use Rattle.round_trip.proofs.KeysTypes.{Draft}

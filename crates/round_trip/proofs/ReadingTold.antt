@@ -17,10 +17,10 @@ use Rattle.model_state.specs.Keys.{IdBytes}
 use Rattle.model_state.specs.State.{State, is_live, place_eq}
 use Rattle.import_laws.specs.Names.{name_at}
 use Rattle.import_laws.specs.News.{place_of}
-use Rattle.emfjson_model.specs.declared.doc.DocRow.{DocRow}
-use Rattle.emfjson_model.specs.Document.{doc_of, of_json, resolved}
-use Rattle.emfjson_drafts.specs.Parts.{ids_of}
-use Rattle.emfjson_drafts.specs.Reads.{«then»}
+use Rattle.model_documents.specs.declared.doc.DocRow.{DocRow}
+use Rattle.model_documents.specs.Document.{doc_of, of_json, resolved}
+use Rattle.model_documents.specs.Parts.{ids_of}
+use Rattle.model_documents.specs.Reads.{«then»}
 use Rattle.model_texts.specs.Laws.{IsNested}
 use Rattle.model_texts.specs.Tree.{child_ids, target_ids, text, tree, whole}
 use Rattle.model_texts.proofs.Nested.{text_is_whole}

@@ -14,9 +14,9 @@ use Rattle.ecore_meta.specs.declared.meta.Value.{Value}
 use Rattle.model_state.specs.Good.{AttrOk, Good, ValuesOk}
 use Rattle.model_state.specs.Keys.{IdBytes}
 use Rattle.model_state.specs.State.{State}
-use Rattle.emfjson_drafts.specs.declared.doc.DocAttr.{DocAttr}
-use Rattle.emfjson_model.specs.Merged.{attr_at, attrs_by}
-use Rattle.emfjson_model.proofs.SetAttrs.{by_keeps}
+use Rattle.model_documents.specs.declared.doc.DocAttr.{DocAttr}
+use Rattle.model_documents.specs.Merged.{attr_at, attrs_by}
+use Rattle.model_documents.proofs.SetAttrs.{by_keeps}
 use Rattle.model_texts.specs.Keys.{key_number, keys_of}
 use Rattle.model_state.specs.Listing.{values_at}
 use Rattle.round_trip.specs.Describes.{first_values, values_given}

@@ -10,9 +10,9 @@ use Rattle.ecore_meta.specs.declared.meta.Kind.TheVariants.{Attr, AttrMany, Boun
 use Rattle.model_state.specs.declared.step.Place.TheVariants.{Inside}
 use Rattle.model_state.specs.Keys.{IdBytes}
 use Rattle.model_state.specs.State.{State}
-use Rattle.emfjson_drafts.specs.declared.doc.DocParent.{DocParent}
-use Rattle.emfjson_drafts.specs.Parts.{ids_of}
-use Rattle.emfjson_drafts.proofs.Walking.{ids_append}
+use Rattle.model_documents.specs.declared.doc.DocParent.{DocParent}
+use Rattle.model_documents.specs.Parts.{ids_of}
+use Rattle.model_documents.proofs.IdLists.{ids_append}
 use Rattle.model_texts.specs.Keys.{key_number, keys_of}
 use Rattle.model_texts.specs.Tree.{child_ids}
 use Rattle.round_trip.proofs.KeysPairs.{Pairs}

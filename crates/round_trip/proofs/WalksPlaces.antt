@@ -14,7 +14,7 @@ use Rattle.model_state.specs.Good.{Good}
 use Rattle.model_state.specs.Keys.{IdBytes}
 use Rattle.model_state.specs.State.{State}
 use Rattle.import_laws.specs.News.{inside, place_of}
-use Rattle.emfjson_drafts.specs.declared.doc.DocParent.{DocParent}
+use Rattle.model_documents.specs.declared.doc.DocParent.{DocParent}
 use Rattle.model_texts.specs.Keys.{key_number, keys_of}
 use Rattle.model_texts.specs.Tree.{child_ids}
 use Rattle.model_texts.proofs.Children.{each_child}

@@ -10,9 +10,9 @@ use Rattle.model_state.specs.Good.{Good}
 use Rattle.model_state.specs.Ident.{is_id}
 use Rattle.model_state.specs.Keys.{IdBytes}
 use Rattle.model_state.specs.State.{State, is_live}
-use Rattle.emfjson_drafts.specs.declared.doc.DocParent.{DocParent}
-use Rattle.emfjson_drafts.specs.Parts.{ids_of}
-use Rattle.emfjson_drafts.specs.Walk.{element_rows, items_rows, walked}
+use Rattle.model_documents.specs.declared.doc.DocParent.{DocParent}
+use Rattle.model_documents.specs.Parts.{ids_of}
+use Rattle.model_documents.specs.Walk.{element_rows, items_rows, walked}
 use Rattle.model_texts.specs.Laws.{IsNested}
 use Rattle.model_texts.specs.Tree.{child_ids, listed, one_or_list, tree, whole}
 use Rattle.model_texts.proofs.Children.{each_child}

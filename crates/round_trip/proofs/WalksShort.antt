@@ -8,15 +8,15 @@ use Rattle.serde_json.specs.Written.{compact_text, items_text, members_text, com
 use Rattle.ecore_json.specs.Rows.{list_of}
 use Rattle.ecore_meta.specs.Meta.{Meta}
 use Rattle.model_state.specs.Typing.{upper_of}
-use Rattle.emfjson_drafts.specs.declared.doc.DocParent.{DocParent}
-use Rattle.emfjson_drafts.specs.declared.fault.ModelFault.TheVariants.{Bound, WrongType}
+use Rattle.model_documents.specs.declared.doc.DocParent.{DocParent}
+use Rattle.model_documents.specs.declared.fault.ModelFault.TheVariants.{Bound, WrongType}
 use Rattle.finite_maps.specs.Maps.{is_within}
-use Rattle.emfjson_drafts.specs.Classes.{class_of, id_of}
+use Rattle.model_documents.specs.Classes.{class_of, id_of}
 use Rattle.ecore_meta.specs.Typing.{is_one}
-use Rattle.emfjson_drafts.specs.Parts.{Part, no_part, joined, Ids, ids_of}
-use Rattle.emfjson_drafts.specs.Reads.{Read, «then», unless}
-use Rattle.emfjson_drafts.specs.Walk.{element_rows, held_rows, items_rows, key_named, key_part, members_rows, object_rows, own_rows, walked}
-use Rattle.emfjson_model.proofs.Apart.{key_gives, of_ok, then_ok, unless_ok}
+use Rattle.model_documents.specs.Parts.{Part, no_part, joined, Ids, ids_of}
+use Rattle.model_documents.specs.Reads.{Read, «then», unless}
+use Rattle.model_documents.specs.Walk.{element_rows, held_rows, items_rows, key_named, key_part, members_rows, object_rows, own_rows, walked}
+use Rattle.model_documents.proofs.Apart.{key_gives, of_ok, then_ok, unless_ok}
 use Rattle.round_trip.proofs.KeysTypes.{Draft}
 
 rows_ok : (xs ys : List Draft) → ◌≡◌ {A = Read (List Draft)} (Ok xs) (Ok ys) → xs ≡ ys

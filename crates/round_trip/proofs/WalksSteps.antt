@@ -8,11 +8,11 @@ use Rattle.serde_json.specs.View.{items_of}
 use Rattle.ecore_meta.specs.Meta.{Meta}
 use Rattle.model_state.specs.Keys.{IdBytes}
 use Rattle.model_state.specs.State.{State}
-use Rattle.emfjson_drafts.specs.declared.doc.DocParent.{DocParent}
-use Rattle.emfjson_drafts.specs.Parts.{Part, no_part, joined, Ids, ids_of}
-use Rattle.emfjson_drafts.specs.Reads.{Read, «then»}
-use Rattle.emfjson_drafts.specs.Walk.{element_rows, held_rows, items_rows, key_named, key_part, members_rows}
-use Rattle.emfjson_drafts.proofs.Walking.{ids_append}
+use Rattle.model_documents.specs.declared.doc.DocParent.{DocParent}
+use Rattle.model_documents.specs.Parts.{Part, no_part, joined, Ids, ids_of}
+use Rattle.model_documents.specs.Reads.{Read, «then»}
+use Rattle.model_documents.specs.Walk.{element_rows, held_rows, items_rows, key_named, key_part, members_rows}
+use Rattle.model_documents.proofs.IdLists.{ids_append}
 use Rattle.model_texts.specs.Keys.{key_name}
 use Rattle.model_texts.specs.Tree.{members, with_member}
 use Rattle.round_trip.proofs.KeysTypes.{Draft, Key}

@@ -19,12 +19,12 @@ use Rattle.model_state.specs.Ident.{is_id}
 use Rattle.model_state.specs.Keys.{IdBytes, id_cmp}
 use Rattle.model_state.specs.State.{State, is_live}
 use Rattle.model_state.specs.Typing.{is_concrete, contains_to}
-use Rattle.emfjson_drafts.specs.declared.doc.DocParent.{DocParent}
-use Rattle.emfjson_drafts.specs.declared.fault.ModelFault.TheVariants.{NoClass, Abstract, WrongType, DupId, BadId}
-use Rattle.emfjson_drafts.specs.Classes.{class_of, id_of, may_stand}
-use Rattle.emfjson_drafts.specs.Parts.{no_part, Ids, ids_of}
-use Rattle.emfjson_drafts.specs.Reads.{«then», unless, found}
-use Rattle.emfjson_drafts.specs.Walk.{element_rows, feature_key, held_rows, key_named, key_part, members_rows, own_rows}
+use Rattle.model_documents.specs.declared.doc.DocParent.{DocParent}
+use Rattle.model_documents.specs.declared.fault.ModelFault.TheVariants.{NoClass, Abstract, WrongType, DupId, BadId}
+use Rattle.model_documents.specs.Classes.{class_of, id_of, may_stand}
+use Rattle.model_documents.specs.Parts.{no_part, Ids, ids_of}
+use Rattle.model_documents.specs.Reads.{«then», unless, found}
+use Rattle.model_documents.specs.Walk.{element_rows, feature_key, held_rows, key_named, key_part, members_rows, own_rows}
 use Rattle.edit_laws.proofs.Lists.{all-in_order}
 use Rattle.model_texts.specs.Keys.{key_name, key_cmp, keys_of}
 use Rattle.model_texts.specs.Laws.{IsNested}

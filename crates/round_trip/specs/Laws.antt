@@ -10,9 +10,9 @@ use Rattle.model_state.specs.Keys.{IdBytes}
 use Rattle.model_state.specs.State.{State, nothing}
 use Rattle.model_state.specs.Steps.{fold}
 use Rattle.model_state.specs.declared.operation.Operation.{Operation}
-use Rattle.emfjson_model.specs.declared.doc.DocRow.{DocRow}
-use Rattle.emfjson_model.specs.Document.{doc_of}
-use Rattle.emfjson_model.specs.Fits.{DocumentFits}
+use Rattle.model_documents.specs.declared.doc.DocRow.{DocRow}
+use Rattle.model_documents.specs.Document.{doc_of}
+use Rattle.model_documents.specs.Fits.{DocumentFits}
 use Rattle.model_texts.specs.Tree.{text, tree}
 use Rattle.import_laws.specs.After.{import_after}
 use Rattle.import_laws.specs.Import.{recorded_import}

@@ -1,9 +1,9 @@
 use Rattle.std.proofs.Common.{◌∙◌, refl, sym, ap, append-nil, true, map}
 use Rattle.std.specs.Prelude.{Ok}
 use Rattle.serde_json.specs.View.{view}
-use Rattle.emfjson_drafts.specs.Attributes.{attr_part, may_hold}
-use Rattle.emfjson_drafts.specs.Parts.{Part, no_part}
-use Rattle.emfjson_drafts.proofs.Features.{many_null, many_read, no_values, some_values}
+use Rattle.model_documents.specs.Attributes.{attr_part, may_hold}
+use Rattle.model_documents.specs.Parts.{Part, no_part}
+use Rattle.model_documents.proofs.Features.{many_null, many_read, no_values, some_values}
 use Rattle.emfjson_drafts.proofs.attributes.many_part.Goals as goal
 
 pub returns-then-is_null : goal.returns-then-is_null

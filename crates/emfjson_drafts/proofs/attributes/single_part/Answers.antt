@@ -1,9 +1,9 @@
 use Rattle.std.proofs.Common.{◌∙◌, ◌++◌, ◌∷◌, [], List, refl, sym, ap, append-nil, true, false}
 use Rattle.serde_json.specs.View.{view}
 use Rattle.ecore_meta.specs.declared.meta.Value.{Value}
-use Rattle.emfjson_drafts.specs.Attributes.{attr_part}
-use Rattle.emfjson_drafts.specs.Parts.{no_part}
-use Rattle.emfjson_drafts.proofs.Features.{single_null, single_set}
+use Rattle.model_documents.specs.Attributes.{attr_part}
+use Rattle.model_documents.specs.Parts.{no_part}
+use Rattle.model_documents.proofs.Features.{single_null, single_set}
 use Rattle.emfjson_drafts.proofs.attributes.single_part.Goals as goal
 
 pub returns-then-is_null : goal.returns-then-is_null

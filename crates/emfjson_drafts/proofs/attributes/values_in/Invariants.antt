@@ -1,7 +1,7 @@
 use Rattle.std.proofs.Common.{◌≡◌, [], drop, map}
 use Rattle.serde_json.specs.View.{view}
-use Rattle.emfjson_drafts.specs.Attributes.{next_value}
-use Rattle.emfjson_drafts.specs.Reads.{collected}
+use Rattle.model_documents.specs.Attributes.{next_value}
+use Rattle.model_documents.specs.Reads.{collected}
 use Rattle.emfjson_drafts.proofs.attributes.values_in.Given as goal
 
 abbrev pub invariant-loop-item : goal.invariant-loop-item

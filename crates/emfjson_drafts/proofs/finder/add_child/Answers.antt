@@ -1,5 +1,5 @@
 use Rattle.std.proofs.Common.{◌∙◌, ◌++◌, ◌∷◌, [], ap}
-use Rattle.emfjson_drafts.proofs.Finding.{child_added}
+use Rattle.model_documents.proofs.Finding.{child_added}
 use Rattle.emfjson_drafts.proofs.finder.add_child.Goals as goal
 
 pub returns-in_ok-insert-in-Some : goal.returns-in_ok-insert-in-Some

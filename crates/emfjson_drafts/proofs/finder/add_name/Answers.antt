@@ -3,7 +3,7 @@ use Rattle.std.specs.Prelude.{is_some}
 use Rattle.std.specs.BTreeMap.{get_by_text}
 use Rattle.std.proofs.lemmas.Map.Text.{btree_map_updates_text}
 use Rattle.finite_maps.proofs.Cases.{no_some}
-use Rattle.emfjson_drafts.proofs.Finding.{name_added}
+use Rattle.model_documents.proofs.Finding.{name_added}
 use Rattle.emfjson_drafts.proofs.finder.add_name.Goals as goal
 
 pub returns-in_ok-insert-in-Some-clause-found : goal.returns-in_ok-insert-in-Some-clause-found

@@ -1,5 +1,5 @@
 use Rattle.std.proofs.Common.{take}
-use Rattle.emfjson_drafts.specs.Finder.{ChildrenOf}
+use Rattle.model_documents.specs.Finder.{ChildrenOf}
 use Rattle.emfjson_drafts.proofs.finder.children_of.Given as goal
 
 abbrev pub invariant-loop-n : goal.invariant-loop-n

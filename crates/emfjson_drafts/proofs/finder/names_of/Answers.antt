@@ -1,8 +1,8 @@
 use Rattle.std.proofs.Common.{◌∙◌, ap, sym, cond}
 use Rattle.std.specs.Prelude.{None, Some}
-use Rattle.emfjson_drafts.specs.Finder.{first_of}
-use Rattle.emfjson_drafts.specs.Places.{has_id}
-use Rattle.emfjson_drafts.proofs.Finding.{named_more}
+use Rattle.model_documents.specs.Finder.{first_of}
+use Rattle.model_documents.specs.Places.{has_id}
+use Rattle.model_documents.proofs.Finding.{named_more}
 use Rattle.emfjson_drafts.proofs.finder.names_of.Goals as goal
 
 pub loop-n-preserved : goal.loop-n-preserved

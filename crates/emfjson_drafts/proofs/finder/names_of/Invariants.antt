@@ -1,5 +1,5 @@
 use Rattle.std.proofs.Common.{take}
-use Rattle.emfjson_drafts.specs.Finder.{NamesOf}
+use Rattle.model_documents.specs.Finder.{NamesOf}
 use Rattle.emfjson_drafts.proofs.finder.names_of.Given as goal
 
 abbrev pub invariant-loop-n : goal.invariant-loop-n

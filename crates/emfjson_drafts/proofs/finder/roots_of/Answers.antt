@@ -1,7 +1,7 @@
 use Rattle.std.proofs.Common.{◌∙◌, ◌++◌, ◌∷◌, [], List, ℕ, ap, sym, cond}
 use Rattle.std.specs.Prelude.{None}
-use Rattle.emfjson_drafts.specs.Places.{stands_in}
-use Rattle.emfjson_drafts.proofs.Finding.{numbers_more}
+use Rattle.model_documents.specs.Places.{stands_in}
+use Rattle.model_documents.proofs.Finding.{numbers_more}
 use Rattle.emfjson_drafts.proofs.finder.roots_of.Goals as goal
 
 pub loop-n-preserved : goal.loop-n-preserved

@@ -1,6 +1,6 @@
 use Rattle.std.proofs.Common.{◌∙◌, ap, []}
 use Rattle.std.specs.Prelude.{unwrap_or}
-use Rattle.emfjson_drafts.proofs.Finding.{same_place}
+use Rattle.model_documents.proofs.Finding.{same_place}
 use Rattle.emfjson_drafts.proofs.finder.take_numbers.Goals as goal
 
 pub returns-in-Some-clause-others : goal.returns-in-Some-clause-others

@@ -1,6 +1,6 @@
 use Rattle.std.proofs.Common.{◌≡◌, map, take}
 use Rattle.serde_json.specs.View.{view}
-use Rattle.emfjson_drafts.specs.Links.{entry_of}
+use Rattle.model_documents.specs.Links.{entry_of}
 use Rattle.emfjson_drafts.proofs.links.entries_in.Given as goal
 
 abbrev pub invariant-loop-value : goal.invariant-loop-value

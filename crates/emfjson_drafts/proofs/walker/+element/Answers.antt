@@ -8,14 +8,14 @@ use Rattle.ecore_json.proofs.Values.{view_null, view_boolean, view_number, view_
 use Rattle.ecore_meta.specs.declared.meta.Feature.{Feature}
 use Rattle.ecore_meta.specs.declared.meta.Kind.{Kind}
 use Rattle.ecore_meta.specs.declared.meta.Kind.TheVariants.{Skip}
-use Rattle.emfjson_drafts.specs.declared.classes.Key.{Key}
-use Rattle.emfjson_drafts.specs.declared.draft.Draft.{Draft}
+use Rattle.model_documents.specs.declared.key.Key.{Key}
+use Rattle.model_documents.specs.declared.draft.Draft.{Draft}
 use Rattle.emfjson_drafts.specs.Answers.{IsFault, AppendsPart}
 use Rattle.finite_maps.specs.Maps.{is_within}
 use Rattle.ecore_meta.specs.Typing.{is_one}
-use Rattle.emfjson_drafts.specs.Parts.{ids_of, no_part}
-use Rattle.emfjson_drafts.specs.Reads.{Read}
-use Rattle.emfjson_drafts.specs.Walk.{element_rows, feature_part, items_rows, members_rows, held_rows, key_part, key_named}
+use Rattle.model_documents.specs.Parts.{ids_of, no_part}
+use Rattle.model_documents.specs.Reads.{Read}
+use Rattle.model_documents.specs.Walk.{element_rows, feature_part, items_rows, members_rows, held_rows, key_part, key_named}
 use Rattle.emfjson_drafts.proofs.Lists.{next_of, none_left_of}
 use Rattle.emfjson_drafts.proofs.Walking.{class_fault, id_fault, object_is, other_rows, null_rows, boolean_rows, number_rows, string_rows, array_rows, walks_is, held_null, held_array, held_object, held_boolean, held_number, held_string, count_items, items_step, items_fault, items_end, members_step, members_fault, members_end}
 use Rattle.emfjson_drafts.proofs.walker.+element.Goals as goal

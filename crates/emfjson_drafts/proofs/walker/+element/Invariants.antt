@@ -1,8 +1,8 @@
 use Rattle.std.proofs.Common.{◌≡◌, drop, ◌++◌, List, []}
 use Rattle.serde_json.specs.View.{items_view, members_view}
-use Rattle.emfjson_drafts.specs.declared.draft.Draft.{Draft}
-use Rattle.emfjson_drafts.specs.Parts.{Part, ids_of, no_part}
-use Rattle.emfjson_drafts.specs.Walk.{items_rows, members_rows}
+use Rattle.model_documents.specs.declared.draft.Draft.{Draft}
+use Rattle.model_documents.specs.Parts.{Part, ids_of, no_part}
+use Rattle.model_documents.specs.Walk.{items_rows, members_rows}
 use Rattle.emfjson_drafts.proofs.walker.+element.Given as goal
 
 abbrev pub invariant-items_of-loop-item : goal.invariant-items_of-loop-item

@@ -1,5 +1,5 @@
 use Rattle.std.proofs.Common.{◌≡◌, drop}
-use Rattle.emfjson_model.specs.Merged.{attr_at}
+use Rattle.model_documents.specs.Merged.{attr_at}
 use Rattle.emfjson_model.proofs.merged.attr_at.Given as goal
 
 abbrev pub invariant-loop-attr : goal.invariant-loop-attr

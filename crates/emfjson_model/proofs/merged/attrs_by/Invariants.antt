@@ -1,5 +1,5 @@
 use Rattle.std.proofs.Common.{◌≡◌, ◌++◌, drop}
-use Rattle.emfjson_model.specs.Merged.{attrs_by}
+use Rattle.model_documents.specs.Merged.{attrs_by}
 use Rattle.emfjson_model.proofs.merged.attrs_by.Given as goal
 
 abbrev pub invariant-loop-f : goal.invariant-loop-f

@@ -1,6 +1,6 @@
 use Rattle.std.proofs.Common.{◌≡◌, [], drop}
-use Rattle.emfjson_model.specs.Merged.{merged_at}
-use Rattle.emfjson_drafts.specs.Reads.{collected}
+use Rattle.model_documents.specs.Merged.{merged_at}
+use Rattle.model_documents.specs.Reads.{collected}
 use Rattle.emfjson_model.proofs.merged.merged_all.Given as goal
 
 abbrev pub invariant-loop-list : goal.invariant-loop-list

@@ -1,6 +1,6 @@
 use Rattle.std.proofs.Common.{◌≡◌, [], drop}
-use Rattle.emfjson_model.specs.Merged.{next_row}
-use Rattle.emfjson_drafts.specs.Reads.{collected}
+use Rattle.model_documents.specs.Merged.{next_row}
+use Rattle.model_documents.specs.Reads.{collected}
 use Rattle.emfjson_model.proofs.merged.rows_with.Given as goal
 
 abbrev pub invariant-loop-draft : goal.invariant-loop-draft

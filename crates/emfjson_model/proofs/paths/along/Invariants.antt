@@ -1,5 +1,5 @@
 use Rattle.std.proofs.Common.{◌≡◌, drop, map}
-use Rattle.emfjson_model.specs.References.{along}
+use Rattle.model_documents.specs.References.{along}
 use Rattle.emfjson_model.proofs.paths.along.Given as goal
 
 abbrev pub invariant-loop-step : goal.invariant-loop-step

@@ -1,5 +1,5 @@
 use Rattle.std.proofs.Common.{◌≡◌, drop}
-use Rattle.emfjson_model.specs.References.{entries_at}
+use Rattle.model_documents.specs.References.{entries_at}
 use Rattle.emfjson_model.proofs.references.entries_at.Given as goal
 
 abbrev pub invariant-loop-link : goal.invariant-loop-link

@@ -1,6 +1,6 @@
 use Rattle.std.proofs.Common.{◌≡◌, [], drop}
-use Rattle.emfjson_model.specs.References.{refs_of}
-use Rattle.emfjson_drafts.specs.Reads.{collected}
+use Rattle.model_documents.specs.References.{refs_of}
+use Rattle.model_documents.specs.Reads.{collected}
 use Rattle.emfjson_model.proofs.references.given_with.Given as goal
 
 abbrev pub invariant-loop-row : goal.invariant-loop-row

@@ -1,5 +1,5 @@
 use Rattle.std.proofs.Common.{◌≡◌, ◌++◌, drop}
-use Rattle.emfjson_model.specs.References.{plain_features}
+use Rattle.model_documents.specs.References.{plain_features}
 use Rattle.emfjson_model.proofs.references.plain_features.Given as goal
 
 abbrev pub invariant-loop-f : goal.invariant-loop-f

@@ -1,6 +1,6 @@
 use Rattle.std.proofs.Common.{◌≡◌, [], drop}
-use Rattle.emfjson_model.specs.References.{refs_at}
-use Rattle.emfjson_drafts.specs.Reads.{collected}
+use Rattle.model_documents.specs.References.{refs_at}
+use Rattle.model_documents.specs.Reads.{collected}
 use Rattle.emfjson_model.proofs.references.refs_by.Given as goal
 
 abbrev pub invariant-loop-f : goal.invariant-loop-f

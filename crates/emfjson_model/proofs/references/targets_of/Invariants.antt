@@ -1,6 +1,6 @@
 use Rattle.std.proofs.Common.{◌≡◌, [], drop}
-use Rattle.emfjson_model.specs.References.{target_of}
-use Rattle.emfjson_drafts.specs.Reads.{collected}
+use Rattle.model_documents.specs.References.{target_of}
+use Rattle.model_documents.specs.Reads.{collected}
 use Rattle.emfjson_model.proofs.references.targets_of.Given as goal
 
 abbrev pub invariant-loop-entry : goal.invariant-loop-entry

@@ -1,7 +1,7 @@
 use Rattle.std.proofs.Common.{◌∙◌, ◌&&◌, ap, nat_eq, take}
 use Rattle.std.specs.List.{list_any}
 use Rattle.std.proofs.lemmas.List.{take_all}
-use Rattle.emfjson_drafts.specs.Finder.{numbers_at}
+use Rattle.model_documents.specs.Finder.{numbers_at}
 use Rattle.emfjson_model.specs.Sources.{also}
 use Rattle.emfjson_model.proofs.Naming.{all_refs, also_also, gives, refs_more}
 use Rattle.emfjson_model.proofs.sources.add_given.Goals as goal

@@ -1,7 +1,7 @@
 use Rattle.std.proofs.Common.{◌≡◌, take}
 use Rattle.std.specs.List.{list_any}
-use Rattle.emfjson_drafts.specs.declared.doc.DocParent.{DocParent}
-use Rattle.emfjson_drafts.specs.Finder.{numbers_at}
+use Rattle.model_documents.specs.declared.doc.DocParent.{DocParent}
+use Rattle.model_documents.specs.Finder.{numbers_at}
 use Rattle.emfjson_model.specs.Sources.{also}
 use Rattle.emfjson_model.proofs.Naming.{gives}
 use Rattle.emfjson_model.proofs.sources.add_given.Given as goal

@@ -1,7 +1,7 @@
 use Rattle.std.proofs.Common.{◌∙◌, ◌&&◌, ap, get_or, nat_eq, take}
 use Rattle.std.specs.List.{list_any}
-use Rattle.emfjson_drafts.specs.Finder.{numbers_at}
-use Rattle.emfjson_drafts.specs.Places.{parent_eq}
+use Rattle.model_documents.specs.Finder.{numbers_at}
+use Rattle.model_documents.specs.Places.{parent_eq}
 use Rattle.emfjson_model.specs.Sources.{also}
 use Rattle.emfjson_model.proofs.Naming.{also_also, target_more}
 use Rattle.emfjson_model.proofs.sources.add_sources.Goals as goal

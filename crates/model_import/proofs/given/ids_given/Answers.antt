@@ -1,5 +1,5 @@
 use Rattle.std.proofs.Common.{◌∙◌, ◌||◌, ap, sym}
-use Rattle.emfjson_model.specs.Laws.{gives_id}
+use Rattle.model_documents.specs.Laws.{gives_id}
 use Rattle.model_import.proofs.GivenIds.{given_more}
 use Rattle.model_import.proofs.given.ids_given.Goals as goal
 

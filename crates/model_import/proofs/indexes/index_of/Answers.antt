@@ -1,7 +1,7 @@
 use Rattle.std.proofs.Common.{◌∙◌, get_or, sym, ap, cond, nat_eq}
 use Rattle.std.specs.Prelude.{None, Some}
 use Rattle.std.proofs.lemmas.List.{take_all}
-use Rattle.emfjson_drafts.specs.Finder.{first_of}
+use Rattle.model_documents.specs.Finder.{first_of}
 use Rattle.model_import.proofs.FirstPlaces.{first_is, first_more, first_place}
 use Rattle.model_import.proofs.indexes.index_of.Goals as goal
 

@@ -1,6 +1,6 @@
 use Rattle.std.proofs.Common.{◌≡◌, ◌++◌, List, subst}
 use Rattle.std.specs.Prelude.{OnOk}
-use Rattle.emfjson_model.specs.declared.doc.DocRow.{DocRow}
+use Rattle.model_documents.specs.declared.doc.DocRow.{DocRow}
 use Rattle.import_laws.specs.Links.{links_from}
 use Rattle.model_import.proofs.links.add_links.Goals as goal
 

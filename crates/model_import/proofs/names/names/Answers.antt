@@ -1,6 +1,6 @@
 use Rattle.std.proofs.Common.{◌≡◌, ◌∙◌, ◌++◌, ◌∷◌, [], List, sym, ap, subst, append_assoc, append-nil, length-append, arith, length}
 use Rattle.model_state.specs.Keys.{IdBytes}
-use Rattle.emfjson_model.specs.declared.doc.DocRow.{DocRow}
+use Rattle.model_documents.specs.declared.doc.DocRow.{DocRow}
 use Rattle.import_laws.specs.Names.{AreNames, IsName}
 use Rattle.model_import.proofs.Rows.{next, none_left}
 use Rattle.model_import.proofs.names.names.Goals as goal

@@ -1,6 +1,6 @@
 use Rattle.std.proofs.Common.{◌∙◌, ◌++◌, ◌∷◌, ap, sym, refl}
-use Rattle.emfjson_drafts.specs.declared.draft.Draft.{Draft}
-use Rattle.emfjson_drafts.proofs.Finding.{named_set}
+use Rattle.model_documents.specs.declared.draft.Draft.{Draft}
+use Rattle.model_documents.proofs.Finding.{named_set}
 use Rattle.emfjson_drafts.proofs.Lists.{set_between, get_between}
 use Rattle.emfjson_drafts.proofs.drafts.Drafts.fill.Goals as goal
 

@@ -2,8 +2,8 @@ use Rattle.std.proofs.Common.{◌∙◌, ap}
 use Rattle.std.specs.Prelude.{Some, is_some}
 use Rattle.std.specs.List.{list_any}
 use Rattle.finite_maps.specs.Equal.{option_eq, text_eq}
-use Rattle.emfjson_drafts.specs.Parts.{ids_of}
-use Rattle.emfjson_drafts.proofs.Finding.{named_had}
+use Rattle.model_documents.specs.Parts.{ids_of}
+use Rattle.model_documents.proofs.Finding.{named_had}
 use Rattle.emfjson_drafts.proofs.drafts.Drafts.has_id.Goals as goal
 
 pub returns : goal.returns

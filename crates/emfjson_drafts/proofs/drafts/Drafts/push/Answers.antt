@@ -1,9 +1,9 @@
 use Rattle.std.proofs.Common.{◌∙◌, [], ap, sym, cond, length}
 use Rattle.std.specs.Prelude.{None, Some}
-use Rattle.emfjson_drafts.specs.declared.draft.Draft.{Draft}
-use Rattle.emfjson_drafts.specs.Finder.{first_of}
-use Rattle.emfjson_drafts.specs.Places.{has_id, named}
-use Rattle.emfjson_drafts.proofs.Finding.{named_last}
+use Rattle.model_documents.specs.declared.draft.Draft.{Draft}
+use Rattle.model_documents.specs.Finder.{first_of}
+use Rattle.model_documents.specs.Places.{has_id, named}
+use Rattle.model_documents.proofs.Finding.{named_last}
 use Rattle.emfjson_drafts.proofs.Lists.{get_between}
 use Rattle.emfjson_drafts.proofs.drafts.Drafts.push.Goals as goal
 

@@ -3,7 +3,7 @@ use Rattle.std.specs.Prelude.{IfSome}
 use Rattle.model_state.specs.State as models
 use Rattle.model_state.specs.Packages.{fold_package}
 use Rattle.model_state.specs.declared.operation.Operation.{Operation}
-use Rattle.emfjson_model.proofs.Fitting.{documents_fit}
+use Rattle.model_documents.proofs.Fitting.{documents_fit}
 use Rattle.import_laws.specs.Import.{Imports}
 use Rattle.repo_state.specs.Keeping.{plain_of}
 use Rattle.repo_state.specs.Working.{IsWorkingModel}

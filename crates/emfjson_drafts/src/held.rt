@@ -1,0 +1,10 @@
+//! What is read of an object's keys so far.
+use ecore_meta::List;
+use model_documents::{DocAttr, Links};
+
+/// What the keys of an object gave so far.
+#[derive(Drop)]
+pub(crate) struct Held {
+    pub(crate) attrs: List<DocAttr>,
+    pub(crate) links: List<Links>,
+}

@@ -1,0 +1,14 @@
+pub mod Attributes
+pub mod Classes
+pub mod Faults
+pub mod Finder
+pub mod Links
+pub mod Parts
+pub mod Places
+pub mod Reads
+pub mod Walk
+pub mod Document
+pub mod Fits
+pub mod Laws
+pub mod Merged
+pub mod References
