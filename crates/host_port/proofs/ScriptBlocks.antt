@@ -8,7 +8,7 @@ use Rattle.host_port.specs.declared.lines.LineFault.{LineFault}
 use Rattle.host_port.specs.declared.lines.LineFault.TheVariants as faults
 use Rattle.host_port.specs.declared.lines.unread.Stop.{Stop}
 use Rattle.host_port.specs.declared.lines.unread.Stop.TheVariants.{Feed, Close, Far}
-use Rattle.host_port.specs.declared.lines.TheConstants.{BLOCK_LIMIT, INPUT_LIMIT}
+use Rattle.host_port.specs.Limits.{block_limit, input_limit}
 use Rattle.host_port.specs.Cut.{is_lf, raw_line, is_ended, Script, cut_block, script_from, ends_by, after_block, ends_block, block_line, past_line, line_bytes, is_dot, without_cr}
 use Rattle.host_port.specs.Reads.{BlockLine, BlockFault, FarFault, EndsScript, GotBlockLine, is_feed}
 use Rattle.host_port.proofs.ScriptCuts.{first_at, raw_is, ended_is, after_is, position_long, length-raw_line}
@@ -61,39 +61,39 @@ long_is_no_dot ended raw long = false_from_ne_true (is_dot (line_bytes ended raw
 
 far_no_end : (place len : ℕ) (ended : Bool) (raw : List ℕ) → len ≤ length raw → (2 < len) ⊎ (place + len ≡ 2 ^ 40) → ends_block place ended raw ≡ false
 far_no_end place len ended raw long (inl h) = rw (long_is_no_dot ended raw (omega arith)) refl
-far_no_end place len ended raw long (inr h) = let far : nat_lt (place + length raw) INPUT_LIMIT ≡ false = grind arith in rw far (and_false (is_dot (line_bytes ended raw)))
+far_no_end place len ended raw long (inr h) = let far : nat_lt (place + length raw) input_limit ≡ false = grind arith in rw far (and_false (is_dot (line_bytes ended raw)))
 
 behind_raw : (place : ℕ) (ended : Bool) (raw : List ℕ) → place + length raw ≤ past_line place ended raw
 behind_raw place true raw = omega arith
 behind_raw place false raw = omega arith
 
 far_line : (start place len : ℕ) (ended : Bool) (text : Result (List ℕ) LineFault) (raw : List ℕ) (e : LineFault) → start ≤ place → len ≤ length raw → place + len ≤ 2 ^ 40
-    → (BLOCK_LIMIT < place + len - start) ⊎ (place + len ≡ 2 ^ 40) → FarFault start e → block_line start place ended text raw ≡ Err e
+    → (block_limit < place + len - start) ⊎ (place + len ≡ 2 ^ 40) → FarFault start e → block_line start place ended text raw ≡ Err e
 far_line start place len ended text raw e h long within d (inl f) =
-    let l : nat_lt BLOCK_LIMIT (past_line place ended raw - start) ≡ true = lt-ltb _ _ (over d) in
-    let n : nat_lt (start + BLOCK_LIMIT) INPUT_LIMIT ≡ true = lt-ltb _ _ f.1 in
+    let l : nat_lt block_limit (past_line place ended raw - start) ≡ true = lt-ltb _ _ (over d) in
+    let n : nat_lt (start + block_limit) input_limit ≡ true = lt-ltb _ _ f.1 in
     rw (l, n) (ap (λ (x : LineFault). Err x) (sym f.0))
   where
-    over : (BLOCK_LIMIT < place + len - start) ⊎ (place + len ≡ 2 ^ 40) → BLOCK_LIMIT < past_line place ended raw - start
+    over : (block_limit < place + len - start) ⊎ (place + len ≡ 2 ^ 40) → block_limit < past_line place ended raw - start
     over (inl x) = omega (arith, behind_raw place ended raw)
     over (inr x) = omega (arith, f.1, behind_raw place ended raw)
 far_line start place len ended text raw e h long within d (inr f) =
-    let n : nat_lt (start + BLOCK_LIMIT) INPUT_LIMIT ≡ false = le-ltb _ _ f.1 in
-    let i : nat_le INPUT_LIMIT (place + length raw) ≡ true = le-leb _ _ (over d) in
-    rw (n, and_false (nat_lt BLOCK_LIMIT (past_line place ended raw - start)), i) (ap (λ (x : LineFault). Err x) (sym f.0))
+    let n : nat_lt (start + block_limit) input_limit ≡ false = le-ltb _ _ f.1 in
+    let i : nat_le input_limit (place + length raw) ≡ true = le-leb _ _ (over d) in
+    rw (n, and_false (nat_lt block_limit (past_line place ended raw - start)), i) (ap (λ (x : LineFault). Err x) (sym f.0))
   where
-    over : (BLOCK_LIMIT < place + len - start) ⊎ (place + len ≡ 2 ^ 40) → INPUT_LIMIT ≤ place + length raw
+    over : (block_limit < place + len - start) ⊎ (place + len ≡ 2 ^ 40) → input_limit ≤ place + length raw
     over (inl x) = omega (arith, f.1)
     over (inr x) = omega arith
 
-or_far : (place len start : ℕ) → ((2 < len) × (BLOCK_LIMIT < place + len - start)) ⊎ (place + len ≡ 2 ^ 40) → ((2 < len) ⊎ (place + len ≡ 2 ^ 40)) × ((BLOCK_LIMIT < place + len - start) ⊎ (place + len ≡ 2 ^ 40))
+or_far : (place len start : ℕ) → ((2 < len) × (block_limit < place + len - start)) ⊎ (place + len ≡ 2 ^ 40) → ((2 < len) ⊎ (place + len ≡ 2 ^ 40)) × ((block_limit < place + len - start) ⊎ (place + len ≡ 2 ^ 40))
 or_far place len start (inl x) = (inl x.0, inl x.1)
 or_far place len start (inr x) = (inr x, inr x)
 
 -- a line that was not read to its end ends the script
 pub block_far : (takes : List ℕ → Bool) (line : List ℕ) (start place len : ℕ) (text : Result (List ℕ) LineFault) (unread : List ℕ) (e : LineFault)
     → start ≤ place → len ≤ length (raw_line unread) → place + len ≤ 2 ^ 40
-    → ((2 < len) × (BLOCK_LIMIT < place + len - start)) ⊎ (place + len ≡ 2 ^ 40) → FarFault start e
+    → ((2 < len) × (block_limit < place + len - start)) ⊎ (place + len ≡ 2 ^ 40) → FarFault start e
     → cut_block takes line start place text (slice_split is_lf unread) ≡ ends_by (Some e)
 block_far takes line start place len text unread e h long within d fault =
     let b = or_far place len start d in
@@ -150,7 +150,7 @@ pub record Found (start place len : ℕ) (pending left : List ℕ) (stop : Stop)
   pub near : (stop ≡ Far → ⊥) → place + len < 2 ^ 40
   pub started : start ≤ place
   pub limit : place + len ≤ 2 ^ 40
-  pub far : stop ≡ Far → ((2 < len) × (BLOCK_LIMIT < place + len - start)) ⊎ (place + len ≡ 2 ^ 40)
+  pub far : stop ≡ Far → ((2 < len) × (block_limit < place + len - start)) ⊎ (place + len ≡ 2 ^ 40)
 
 no_close : Close ≡ Feed → ⊥
 no_close h = cc
@@ -223,8 +223,8 @@ near_of Feed place len n f c w no_ = omega (arith, f refl)
 near_of Close place len n f c w no_ = c refl
 near_of Far place len n f c w no_ = absurd (no_ refl)
 
-pub far_of : (start place len longest : ℕ) → ((longest ≡ 2) × (BLOCK_LIMIT ≤ (place - start) + 2)) ⊎ ((longest ≡ BLOCK_LIMIT - (place - start)) × ((place - start) + 2 < BLOCK_LIMIT))
-    → (longest < len) ⊎ (place + len ≡ 2 ^ 40) → start ≤ place → ((2 < len) × (BLOCK_LIMIT < place + len - start)) ⊎ (place + len ≡ 2 ^ 40)
+pub far_of : (start place len longest : ℕ) → ((longest ≡ 2) × (block_limit ≤ (place - start) + 2)) ⊎ ((longest ≡ block_limit - (place - start)) × ((place - start) + 2 < block_limit))
+    → (longest < len) ⊎ (place + len ≡ 2 ^ 40) → start ≤ place → ((2 < len) × (block_limit < place + len - start)) ⊎ (place + len ≡ 2 ^ 40)
 far_of start place len longest d (inr x) s = inr x
 far_of start place len longest (inl a) (inl x) s = inl (omega (arith, a.0, a.1), omega (arith, a.0, a.1))
 far_of start place len longest (inr a) (inl x) s = inl (omega (arith, a.0, a.1), omega (arith, a.0, a.1))

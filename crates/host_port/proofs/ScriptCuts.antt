@@ -7,7 +7,7 @@ use Rattle.std.proofs.lemmas.List.Sums.{passes_at_first, position_or_len_is}
 use Rattle.std.specs.List.{position_or_len, after_first}
 use Rattle.host_port.specs.declared.lines.LineFault.{LineFault}
 use Rattle.host_port.specs.declared.lines.LineFault.TheVariants.{LineTooLong, InputTooLong}
-use Rattle.host_port.specs.declared.lines.TheConstants.{LINE_LIMIT, INPUT_LIMIT}
+use Rattle.host_port.specs.Limits.{line_limit, input_limit}
 use Rattle.host_port.specs.Cut.{is_lf, raw_line, is_ended, line_of, line_or_end, next_line_of}
 use Rattle.host_port.specs.Reads.{IsLineFault, PastLine}
 use Rattle.host_port.specs.declared.lines.Got.{Got}
@@ -18,18 +18,18 @@ position_long xs n h none = grind (arith, passes_at_first is_lf xs 0, none (posi
 pub length-raw_line : (xs : List ℕ) → length (raw_line xs) ≡ position_or_len is_lf xs
 length-raw_line xs = grind (arith, common_steps)
 
-pub line_too_long : (place : ℕ) (raw : List ℕ) (ended : Bool) → LINE_LIMIT < length raw → place + LINE_LIMIT < INPUT_LIMIT → line_of place raw ended ≡ Err (LineTooLong (place + LINE_LIMIT))
+pub line_too_long : (place : ℕ) (raw : List ℕ) (ended : Bool) → line_limit < length raw → place + line_limit < input_limit → line_of place raw ended ≡ Err (LineTooLong (place + line_limit))
 unfolding line_of
 line_too_long place raw ended long within = grind (arith, common_steps)
 
-pub input_too_long : (place : ℕ) (raw : List ℕ) (ended : Bool) → INPUT_LIMIT ≤ place + LINE_LIMIT → INPUT_LIMIT ≤ place + length raw → line_of place raw ended ≡ Err (InputTooLong INPUT_LIMIT)
+pub input_too_long : (place : ℕ) (raw : List ℕ) (ended : Bool) → input_limit ≤ place + line_limit → input_limit ≤ place + length raw → line_of place raw ended ≡ Err (InputTooLong input_limit)
 unfolding line_of
 input_too_long place raw ended long within = grind (arith, common_steps)
 
 -- from clear bytes at the beginning to the fault of the line
 pub line_fault : (place len : ℕ) (pending left : List ℕ) (e : LineFault) → len ≤ length pending → ((k : ℕ) → k < len → get_or pending k 0 ≡ 10 → ⊥)
     → place + length pending ≤ 2 ^ 40
-    → ((LINE_LIMIT < len) × (e ≡ LineTooLong (place + LINE_LIMIT))) ⊎ ((len ≤ LINE_LIMIT) × (2 ^ 40 ≤ place + len) × (e ≡ InputTooLong INPUT_LIMIT))
+    → ((line_limit < len) × (e ≡ LineTooLong (place + line_limit))) ⊎ ((len ≤ line_limit) × (2 ^ 40 ≤ place + len) × (e ≡ InputTooLong input_limit))
     → IsLineFault e (next_line_of place (pending ++ left))
 line_fault place len pending left e h none within d =
     let none' : (k : ℕ) → k < len → get_or (pending ++ left) k 0 ≡ 10 → ⊥ = λ k lt is. none k lt (sym (get_or_append_left pending left 0 k (omega arith)) ∙ is) in
@@ -42,14 +42,14 @@ line_fault place len pending left e h none within d =
 
 pub line_faults : (r : Result (ℕ × Bool) LineFault) (place len : ℕ) (pending left : List ℕ) → len ≤ length pending → ((k : ℕ) → k < len → get_or pending k 0 ≡ 10 → ⊥)
     → place + length pending ≤ 2 ^ 40
-    → IfErr r (λ e. ((LINE_LIMIT < len) × (e ≡ LineTooLong (place + LINE_LIMIT))) ⊎ ((len ≤ LINE_LIMIT) × (2 ^ 40 ≤ place + len) × (e ≡ InputTooLong INPUT_LIMIT)))
+    → IfErr r (λ e. ((line_limit < len) × (e ≡ LineTooLong (place + line_limit))) ⊎ ((len ≤ line_limit) × (2 ^ 40 ≤ place + len) × (e ≡ InputTooLong input_limit)))
     → IfErr r (λ e. IsLineFault e (next_line_of place (pending ++ left)))
 line_faults (Ok x) place len pending left h none within d = tt
 line_faults (Err e) place len pending left h none within d = line_fault place len pending left e h none within d
 
 pub ruleset text_lemmas = (utf8_valid_len-IsUtf8, utf8_valid_len_le)
 
-pub line_within : (place : ℕ) (raw : List ℕ) (ended : Bool) → length raw ≤ LINE_LIMIT → place + length raw < INPUT_LIMIT → line_of place raw ended ≡ line_or_end place raw ended
+pub line_within : (place : ℕ) (raw : List ℕ) (ended : Bool) → length raw ≤ line_limit → place + length raw < input_limit → line_of place raw ended ≡ line_or_end place raw ended
 unfolding line_of
 line_within place raw ended short within = grind (arith, common_steps)
 
@@ -87,7 +87,7 @@ after_is len false pending left some none end at = rw (at, end refl, append-nil,
 pub line_is : (place len : ℕ) (ended : Bool) (pending left : List ℕ)
     → (ended ≡ true → (len < length pending) × (get_or pending len 0 ≡ 10) × ((k : ℕ) → k < len → get_or pending k 0 ≡ 10 → ⊥))
     → (ended ≡ false → (len ≡ length pending) × ((k : ℕ) → k < len → get_or pending k 0 ≡ 10 → ⊥))
-    → (ended ≡ false → left ≡ []) → len ≤ length pending → len ≤ LINE_LIMIT → place + len < 2 ^ 40
+    → (ended ≡ false → left ≡ []) → len ≤ length pending → len ≤ line_limit → place + len < 2 ^ 40
     → (next_line_of place (pending ++ left) ≡ line_or_end place (take len pending) ended)
     × (after_first is_lf (pending ++ left) ≡ drop (if ended then len + 1 else len) pending ++ left)
 line_is place len ended pending left found none end h short within =

@@ -3,14 +3,14 @@ use Rattle.std.proofs.Common.{◌≡◌, ℕ, ◌+◌, ◌-◌, ◌<◌, List, [
 use Rattle.std.specs.List.{after_first, slice_split}
 use Rattle.host_port.specs.declared.lines.LineFault.TheVariants.{UnendedBlock}
 use Rattle.host_port.specs.Cut.{is_lf, raw_line, is_ended, line_of, next_line_of, cut_block, script_from, ends_by}
-use Rattle.host_port.specs.declared.lines.TheConstants.{INPUT_LIMIT, BLOCK_LIMIT}
+use Rattle.host_port.specs.Limits.{input_limit, block_limit}
 use Rattle.host_port.proofs.ScriptItems.{cut_ended, cut_last, cut_block_last, split_cons, line_some_within, ended_splits, unended_splits}
 
 -- a block of no line at the input's end is not ended
-cut_block_nothing : (takes : List ℕ → Bool) (line : List ℕ) (place : ℕ) → place < INPUT_LIMIT → cut_block takes line place place (Ok []) ([] ∷ []) ≡ ends_by (Some (UnendedBlock place))
+cut_block_nothing : (takes : List ℕ → Bool) (line : List ℕ) (place : ℕ) → place < input_limit → cut_block takes line place place (Ok []) ([] ∷ []) ≡ ends_by (Some (UnendedBlock place))
 cut_block_nothing takes line place low =
-    let far : nat_lt BLOCK_LIMIT (place + 0 - place) ≡ false = grind arith in
-    let near : nat_le INPUT_LIMIT (place + 0) ≡ false = grind arith in
+    let far : nat_lt block_limit (place + 0 - place) ≡ false = grind arith in
+    let near : nat_le input_limit (place + 0) ≡ false = grind arith in
     let none : place + 0 ≡ place = grind arith in
     cut_block_last takes line place place (Ok []) [] ∙ rw (far, near) (ap (λ (n : ℕ). ends_by (Some (UnendedBlock n))) none)
 

@@ -6,7 +6,7 @@ use Rattle.std.specs.List.{position_or_len, after_first, slice_split, onto_first
 use Rattle.host_port.specs.declared.lines.LineFault.{LineFault}
 use Rattle.host_port.specs.declared.lines.LineFault.TheVariants.{UnendedBlock}
 use Rattle.host_port.specs.Cut.{is_lf, raw_line, is_ended, line_of, next_line_of, Script, cut, cut_block, script_from, with_item, ends_by, after_line, after_block, ends_block, block_line, in_block_by}
-use Rattle.host_port.specs.declared.lines.TheConstants.{INPUT_LIMIT}
+use Rattle.host_port.specs.Limits.{input_limit}
 use Rattle.std.proofs.lemmas.List.Sums.{fails_before_first}
 use Rattle.std.proofs.lemmas.List.Elements.{All-from_get_or}
 use Rattle.host_port.proofs.ScriptCuts.{length-raw_line}
@@ -46,11 +46,11 @@ pub cut_block_last : (takes : List ℕ → Bool) (line : List ℕ) (start place 
 unfolding cut_block
 cut_block_last takes line start place text raw = refl
 
-pub cut_nothing : (takes : List ℕ → Bool) (place : ℕ) → place < INPUT_LIMIT → script_from takes place [] ≡ ends_by None
+pub cut_nothing : (takes : List ℕ → Bool) (place : ℕ) → place < input_limit → script_from takes place [] ≡ ends_by None
 unfolding cut line_of
-cut_nothing takes place h = let far : nat_le INPUT_LIMIT (place + 0) ≡ false = grind arith in rw far refl
+cut_nothing takes place h = let far : nat_le input_limit (place + 0) ≡ false = grind arith in rw far refl
 
-pub line_some_within : (place : ℕ) (raw : List ℕ) (e : Bool) (o : Option (List ℕ)) → line_of place raw e ≡ Ok o → place + length raw < INPUT_LIMIT
+pub line_some_within : (place : ℕ) (raw : List ℕ) (e : Bool) (o : Option (List ℕ)) → line_of place raw e ≡ Ok o → place + length raw < input_limit
 unfolding line_of
 line_some_within place raw e o is = grind (arith, common_steps)
 
@@ -144,7 +144,7 @@ block_goes takes line start place place' text more unread e dot is at =
 
 -- a block ends at its dot
 pub block_ends : (takes : List ℕ → Bool) (line : List ℕ) (start place place' : ℕ) (text : Result (List ℕ) LineFault) (unread : List ℕ)
-    → ends_block place (is_ended unread) (raw_line unread) ≡ true → place + length (raw_line unread) < INPUT_LIMIT
+    → ends_block place (is_ended unread) (raw_line unread) ≡ true → place + length (raw_line unread) < input_limit
     → place' + length (after_first is_lf unread) ≡ place + length unread
     → cut_block takes line start place text (slice_split is_lf unread) ≡ after_block line text (script_from takes place' (after_first is_lf unread))
 block_ends takes line start place place' text unread dot within at = go (is_ended unread) refl

@@ -11,7 +11,7 @@ use Rattle.std.proofs.Math.Seq.{take-append_seam, drop-append-add, get_or-append
 use Rattle.std.specs.List.{All, slice_split}
 use Rattle.std.specs.Str.{IsUtf8}
 use Rattle.host_port.specs.declared.lines.LineFault.{LineFault}
-use Rattle.host_port.specs.declared.lines.TheConstants.{BLOCK_LIMIT, INPUT_LIMIT}
+use Rattle.host_port.specs.Limits.{block_limit, input_limit}
 use Rattle.host_port.specs.Cut.{is_lf, cut_block, ends_block, block_line, text_with, text_at, without_cr, is_dot, past_line}
 use Rattle.host_port.specs.Reads.{with_feeds, IsPlain, ArePlain, AddsRun}
 use Rattle.host_port.proofs.ScriptItems.{cut_block_ended, split_cons}
@@ -86,11 +86,11 @@ adds_rest place (Err e) new raw rest h = h
 adds_rest place (Ok text) new raw rest h =
     rw (text_is place raw (utf8_front raw rest h.0)) (utf8_back raw rest h.0, h.1 ∙ ap (λ (xs : List ℕ). Ok xs) (sym (append_assoc (text ++ raw) (10 ∷ []) rest ∙ append_assoc text raw (10 ∷ rest))))
 
-plain_line : (start place : ℕ) (text : Result (List ℕ) LineFault) (raw : List ℕ) → IsPlain raw → place + length raw + 1 ≤ start + BLOCK_LIMIT → place + length raw + 1 ≤ 2 ^ 40
+plain_line : (start place : ℕ) (text : Result (List ℕ) LineFault) (raw : List ℕ) → IsPlain raw → place + length raw + 1 ≤ start + block_limit → place + length raw + 1 ≤ 2 ^ 40
     → block_line start place true text raw ≡ Ok (text_with place text raw)
 plain_line start place text raw is near within =
-    let l : nat_lt BLOCK_LIMIT (past_line place true raw - start) ≡ false = le-ltb _ _ (omega arith) in
-    let i : nat_le INPUT_LIMIT (place + length raw) ≡ false = false_from_ne_true (nat_le INPUT_LIMIT (place + length raw)) (λ e. grind arith) in
+    let l : nat_lt block_limit (past_line place true raw - start) ≡ false = le-ltb _ _ (omega arith) in
+    let i : nat_le input_limit (place + length raw) ≡ false = false_from_ne_true (nat_le input_limit (place + length raw)) (λ e. grind arith) in
     rw (l, i, is.whole) refl
 
 adds_none : (text new : Result (List ℕ) LineFault) → AddsRun text [] new → new ≡ text
@@ -98,7 +98,7 @@ adds_none (Err e) new h = h
 adds_none (Ok text) new h = h.1 ∙ ap (λ (xs : List ℕ). Ok xs) (append-nil text)
 
 cut_run : (takes : List ℕ → Bool) (line : List ℕ) (start place : ℕ) (text new : Result (List ℕ) LineFault) (raws : List (List ℕ)) (rest : List ℕ) → All IsPlain raws
-    → place + length (with_feeds raws) ≤ start + BLOCK_LIMIT → place + length (with_feeds raws) ≤ 2 ^ 40 → AddsRun text (with_feeds raws) new
+    → place + length (with_feeds raws) ≤ start + block_limit → place + length (with_feeds raws) ≤ 2 ^ 40 → AddsRun text (with_feeds raws) new
     → cut_block takes line start place text (slice_split is_lf (with_feeds raws ++ rest)) ≡ cut_block takes line start (place + length (with_feeds raws)) new (slice_split is_lf rest)
 cut_run takes line start place text new [] rest plain near within adds =
     let none : place + 0 ≡ place = omega arith in
@@ -119,7 +119,7 @@ cut_run takes line start place text new (raw ∷ raws) rest plain near within ad
 
 pub run_goes : (takes : List ℕ → Bool) (line : List ℕ) (start place place' n : ℕ) (old new : Result (List ℕ) LineFault) (pending pending' left : List ℕ)
     → n ≤ length pending → ArePlain (take n pending) → AddsRun old (take n pending) new
-    → place + n ≤ start + BLOCK_LIMIT → place + length pending ≤ 2 ^ 40 → pending' ≡ drop n pending → place' ≡ place + n
+    → place + n ≤ start + block_limit → place + length pending ≤ 2 ^ 40 → pending' ≡ drop n pending → place' ≡ place + n
     → cut_block takes line start place old (slice_split is_lf (pending ++ left)) ≡ cut_block takes line start place' new (slice_split is_lf (pending' ++ left))
 run_goes takes line start place place' n old new pending pending' left h plain adds near within moved there =
     let parts : pending ++ left ≡ with_feeds plain.raws ++ (pending' ++ left) = rw moved

@@ -4,7 +4,7 @@ use Rattle.std.specs.List.{slice_split, before_first}
 use Rattle.std.specs.Str.Lossy.{utf8_valid_len}
 use Rattle.host_port.specs.declared.lines.LineFault.{LineFault}
 use Rattle.host_port.specs.declared.lines.LineFault.TheVariants.{LineTooLong, BlockTooLong, NotText, UnendedBlock, InputTooLong}
-use Rattle.host_port.specs.declared.lines.TheConstants.{LINE_LIMIT, BLOCK_LIMIT, INPUT_LIMIT}
+use Rattle.host_port.specs.Limits.{line_limit, block_limit, input_limit}
 
 -- a line feed
 abbrev pub is_lf : ℕ → Bool
@@ -35,8 +35,8 @@ line_or_end place raw ended = if not ended && (length raw == 0) then Ok None els
 -- nothing at the end of the input, or a fault. The length is judged first.
 unfoldable pub line_of : ℕ → List ℕ → Bool → Result (Option (List ℕ)) LineFault
 line_of place raw ended =
-    if nat_lt LINE_LIMIT (length raw) && nat_lt (place + LINE_LIMIT) INPUT_LIMIT then Err (LineTooLong (place + LINE_LIMIT))
-    else if nat_le INPUT_LIMIT (place + length raw) then Err (InputTooLong INPUT_LIMIT)
+    if nat_lt line_limit (length raw) && nat_lt (place + line_limit) input_limit then Err (LineTooLong (place + line_limit))
+    else if nat_le input_limit (place + length raw) then Err (InputTooLong input_limit)
     else line_or_end place raw ended
 
 -- the bytes up to the next line feed
@@ -93,13 +93,13 @@ past_line place ended raw = place + (if ended then length raw + 1 else length ra
 -- before it is the text, or the fault of it. The block's line feeds count.
 abbrev pub block_line : ℕ → ℕ → Bool → Result (List ℕ) LineFault → List ℕ → Result (Result (List ℕ) LineFault) LineFault
 block_line start place ended text raw =
-    if nat_lt BLOCK_LIMIT (past_line place ended raw - start) && nat_lt (start + BLOCK_LIMIT) INPUT_LIMIT then Err (BlockTooLong (start + BLOCK_LIMIT))
-    else if nat_le INPUT_LIMIT (place + length raw) then Err (InputTooLong INPUT_LIMIT)
+    if nat_lt block_limit (past_line place ended raw - start) && nat_lt (start + block_limit) input_limit then Err (BlockTooLong (start + block_limit))
+    else if nat_le input_limit (place + length raw) then Err (InputTooLong input_limit)
     else Ok (text_with place text (line_bytes ended raw))
 
 -- does a line end its block
 abbrev pub ends_block : ℕ → Bool → List ℕ → Bool
-ends_block place ended raw = is_dot (line_bytes ended raw) && nat_lt (place + length raw) INPUT_LIMIT
+ends_block place ended raw = is_dot (line_bytes ended raw) && nat_lt (place + length raw) input_limit
 
 -- the script that begins with a line, by what the line is: with a block, or without
 abbrev pub after_line : (List ℕ → Bool) → Result (Option (List ℕ)) LineFault → (List ℕ → Script) → Script → Script

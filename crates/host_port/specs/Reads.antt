@@ -10,7 +10,7 @@ use Rattle.host_port.specs.declared.lines.Got.TheVariants.{Line, End}
 use Rattle.host_port.specs.Cut.{is_lf, Script, ends_by, with_item, ends_block, block_line, without_cr, is_dot}
 use Rattle.host_port.specs.declared.lines.unread.Stop.{Stop}
 use Rattle.host_port.specs.declared.lines.unread.Stop.TheVariants.{Feed, Close, Far}
-use Rattle.host_port.specs.declared.lines.TheConstants.{BLOCK_LIMIT, INPUT_LIMIT}
+use Rattle.host_port.specs.Limits.{block_limit, input_limit}
 
 -- an error that says nothing of the input, or just this fault
 abbrev pub IsFault : {X : Type 0} → LineFault → Result X LineFault → Type 0
@@ -62,7 +62,7 @@ is_feed Far = false
 
 -- a line of a block that is too long to be one, or stands across the input's limit
 abbrev pub FarFault : ℕ → LineFault → Type 0
-FarFault start e = ((e ≡ BlockTooLong (start + BLOCK_LIMIT)) × (start + BLOCK_LIMIT < INPUT_LIMIT)) ⊎ ((e ≡ InputTooLong INPUT_LIMIT) × (INPUT_LIMIT ≤ start + BLOCK_LIMIT))
+FarFault start e = ((e ≡ BlockTooLong (start + block_limit)) × (start + block_limit < input_limit)) ⊎ ((e ≡ InputTooLong input_limit) × (input_limit ≤ start + block_limit))
 
 -- the fault of a line of a block, by what its bytes stopped at
 abbrev pub BlockFault : Stop → ℕ → ℕ → Result (List ℕ) LineFault → List ℕ → LineFault → Type 0

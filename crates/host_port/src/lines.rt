@@ -1,6 +1,7 @@
 //! Lines, and blocks of lines, read from a host in pieces.
 ghost use Rattle.std.specs.Prelude.{◌≡◌, ◌^◌, ◌<◌, ◌≤◌, ◌++◌, ◌↔◌, false, ◌+◌, ℕ, [], List, Bool, length, IsTrue, IsErr, IfOk, OnOk, IsErrOf, Ok};
 ghost use Rattle.std.specs.List.{slice_split};
+ghost use Rattle.host_port.specs.Limits.{line_limit, block_limit};
 ghost use Rattle.host_port.specs.Host.{GoesOn, KeepsDisk, KeepsSaid, RaisesTakesAlone, Rose};
 ghost use Rattle.host_port.specs.Cut.{cut_block, script_from, is_lf, next_line_of};
 ghost use Rattle.host_port.specs.Reads.{GotBlock, GotLine, PastLine};
@@ -110,7 +111,7 @@ impl Lines {
         ensures past { IsTrue (H.told host.old).tells → OnOk result (PastLine
             (self.old.pending ++ (H.told host.old).left) (self.new.pending ++ (H.told host.new).left) self.old.place self.new.place) }
         ensures end { IsTrue (H.told host.old).tells → IfOk result (λ got. got ≡ Got.End → (H.told host.new).left ≡ []) }
-        ensures short { IfOk result (λ got. got ≡ Got.Line → length self.new.text ≤ LINE_LIMIT) }
+        ensures short { IfOk result (λ got. got ≡ Got.Line → length self.new.text ≤ line_limit) }
         ensures advances { IfOk result (λ got. got ≡ Got.Line → self.old.place < self.new.place) }
         ensures low { self.new.place ≤ 2 ^ 40 }
         ensures failed { IsTrue self.new.failed ↔ IsErr result }
@@ -132,7 +133,7 @@ impl Lines {
         ensures block { IsTrue (H.told host.old).tells → (takes : List ℕ → Bool) (line : List ℕ) → GotBlock result self.new.text line
             (cut_block takes line self.old.place self.old.place (Ok []) (slice_split is_lf (self.old.pending ++ (H.told host.old).left)))
             (script_from takes self.new.place (self.new.pending ++ (H.told host.new).left)) }
-        ensures short { OnOk result (length self.new.text ≤ BLOCK_LIMIT) }
+        ensures short { OnOk result (length self.new.text ≤ block_limit) }
         ensures failed { IsTrue self.new.failed ↔ IsErr result }
         ensures later { self.old.place ≤ self.new.place }
         ensures low { self.new.place ≤ 2 ^ 40 }

@@ -7,7 +7,7 @@ use Rattle.std.proofs.lemmas.List.Splits.{slice_split_at}
 use Rattle.std.proofs.lemmas.Str.{utf8_valid_len-IsUtf8}
 use Rattle.std.specs.List.{AllByRecursion, slice_split}
 use Rattle.std.specs.Str.{IsUtf8}
-use Rattle.host_port.specs.declared.lines.TheConstants.{INPUT_LIMIT}
+use Rattle.host_port.specs.Limits.{input_limit}
 use Rattle.host_port.specs.Cut.{is_lf, line_of, text_at, Item, Script, cut_block, script_from, with_item, ends_block}
 use Rattle.host_port.specs.Reads.{ArePlain, AddsRun}
 use Rattle.host_port.proofs.ScriptCuts.{line_within}
@@ -18,7 +18,7 @@ use Rattle.printed_items.specs.Printed.{printed_block, printed_item, printed_ite
 text_is : (place : ℕ) (raw : List ℕ) → IsUtf8 raw → text_at place raw ≡ Ok raw
 text_is place raw u = grind (arith, common_steps, utf8_valid_len-IsUtf8 raw u)
 
-line_is : (place : ℕ) (line : List ℕ) → IsWholeLine line → place + length line < INPUT_LIMIT → line_of place line true ≡ Ok (Some line)
+line_is : (place : ℕ) (line : List ℕ) → IsWholeLine line → place + length line < input_limit → line_of place line true ≡ Ok (Some line)
 line_is place line is within = line_within place line true is.short within ∙ rw (is.whole, text_is place line is.utf8) refl
 
 -- the line feed after a line cuts it off
@@ -27,7 +27,7 @@ cut_off line more rest is =
     ap (λ (xs : List ℕ). slice_split is_lf xs) (append_assoc line (10 ∷ more) rest) ∙ slice_split_at is_lf line 10 (more ++ rest) is.no_feed refl
 
 -- the text of a block is taken whole
-block_run : (takes : List ℕ → Bool) (line text rest : List ℕ) (start : ℕ) → IsWholeBlock text → start + length text ≤ INPUT_LIMIT
+block_run : (takes : List ℕ → Bool) (line text rest : List ℕ) (start : ℕ) → IsWholeBlock text → start + length text ≤ input_limit
     → cut_block takes line start start (Ok []) (slice_split is_lf (text ++ rest))
     ≡ cut_block takes line start (start + length text) (Ok text) (slice_split is_lf rest)
 block_run takes line text rest start is within =
@@ -41,17 +41,17 @@ block_run takes line text rest start is within =
     drop_all xs = grind (arith, common_steps)
 
 -- and the line `.` ends it
-block_end : (takes : List ℕ → Bool) (line text rest : List ℕ) (start place : ℕ) → place + 2 ≤ INPUT_LIMIT
+block_end : (takes : List ℕ → Bool) (line text rest : List ℕ) (start place : ℕ) → place + 2 ≤ input_limit
     → cut_block takes line start place (Ok text) (slice_split is_lf (46 ∷ 10 ∷ rest)) ≡ with_item line (Some text) (script_from takes (place + 2) rest)
 block_end takes line text rest start place within =
-    let n : nat_lt (place + 1) INPUT_LIMIT ≡ true = lt-ltb _ _ (omega arith) in
+    let n : nat_lt (place + 1) input_limit ≡ true = lt-ltb _ _ (omega arith) in
     let ends : ends_block place true (46 ∷ []) ≡ true = rw n refl in
     let next : place + 1 + 1 ≡ place + 2 = omega arith in
     cut_block_ended takes line start place (Ok text) (46 ∷ []) (slice_split is_lf rest) (split_cons rest) ∙ rw (ends, next) refl
 
 -- an item is cut off
 item_goes : (takes : List ℕ → Bool) (place : ℕ) (line : List ℕ) (block : Option (List ℕ)) (rest : List ℕ) → IsWholeLine line → HasItsBlock takes line block
-    → place + length (line ++ (10 ∷ printed_block block)) ≤ INPUT_LIMIT
+    → place + length (line ++ (10 ∷ printed_block block)) ≤ input_limit
     → script_from takes place ((line ++ (10 ∷ printed_block block)) ++ rest)
     ≡ with_item line block (script_from takes (place + length (line ++ (10 ∷ printed_block block))) rest)
 item_goes takes place line None rest is none within =
@@ -73,7 +73,7 @@ item_goes takes place line (Some text) rest is block within =
     (block_end takes line text rest start (start + length text) (omega arith)
     ∙ ap (λ (k : ℕ). with_item line (Some text) (script_from takes k rest)) at)))
 
-items_go : (takes : List ℕ → Bool) (place : ℕ) (items : List Item) → AllByRecursion (MayStand takes) items → place + length (printed_items items) < INPUT_LIMIT
+items_go : (takes : List ℕ → Bool) (place : ℕ) (items : List Item) → AllByRecursion (MayStand takes) items → place + length (printed_items items) < input_limit
     → script_from takes place (printed_items items) ≡ record { items = items; fault = None }
 items_go takes place [] all within = cut_nothing takes place (omega arith)
 items_go takes place (item ∷ items) all within =

@@ -2,7 +2,7 @@
 use Rattle.std.specs.Prelude.{◌≡◌, ℕ, ◌<◌, ◌≤◌, List, [], ◌∷◌, ◌++◌, All, length, Bool, true, false, Option, Some, None}
 use Rattle.std.specs.List.{AllByRecursion}
 use Rattle.std.specs.Str.{IsUtf8}
-use Rattle.host_port.specs.declared.lines.TheConstants.{LINE_LIMIT, BLOCK_LIMIT, INPUT_LIMIT}
+use Rattle.host_port.specs.Limits.{line_limit, block_limit, input_limit}
 use Rattle.host_port.specs.Cut.{is_lf, without_cr, Item, script_of}
 use Rattle.host_port.specs.Reads.{ArePlain}
 
@@ -26,13 +26,13 @@ pub record IsWholeLine (line : List ℕ) : Type 0 where
   pub utf8 : IsUtf8 line
   pub no_feed : All (λ b. is_lf b ≡ false) line
   pub whole : without_cr line ≡ line
-  pub short : length line ≤ LINE_LIMIT
+  pub short : length line ≤ line_limit
 
 -- A text that is cut out of its block as it is: UTF-8, no longer than a block may be, and lines that are plain, each with its line feed.
 pub record IsWholeBlock (text : List ℕ) : Type 0 where
   pub utf8 : IsUtf8 text
   pub plain : ArePlain text
-  pub short : length text ≤ BLOCK_LIMIT
+  pub short : length text ≤ block_limit
 
 -- there is such a block where the line takes one, and none where it takes none
 abbrev pub HasItsBlock : (List ℕ → Bool) → List ℕ → Option (List ℕ) → Type 0
@@ -46,5 +46,5 @@ pub record MayStand (takes : List ℕ → Bool) (item : Item) : Type 0 where
 
 -- the bytes of such items, of which there are fewer than 2^40, are cut into these items, and no fault ends them
 abbrev pub PrintedItemsAreCut : Type 0
-PrintedItemsAreCut = (takes : List ℕ → Bool) (items : List Item) → AllByRecursion (MayStand takes) items → length (printed_items items) < INPUT_LIMIT
+PrintedItemsAreCut = (takes : List ℕ → Bool) (items : List Item) → AllByRecursion (MayStand takes) items → length (printed_items items) < input_limit
     → script_of takes (printed_items items) ≡ record { items = items; fault = None }

@@ -2,8 +2,7 @@
 ghost use Rattle.std.specs.Prelude.{◌≡◌, ◌⊎◌, ◌↔◌, ◌<◌, ◌≤◌, ◌+◌, ◌++◌, [], ℕ, Some, IfOk, OnErr, IsSome, IsTrue, length, not, nat_eq, option_to_list};
 ghost use Rattle.std.specs.List.{Contains, filter};
 ghost use Rattle.std.specs.Vec.{vec_capacity, vec_len};
-ghost use Rattle.recently_used.specs.Recent.{used};
-ghost use Rattle.recently_used.specs.declared.recent.TheConstants.{MOST_RECENT};
+ghost use Rattle.recently_used.specs.Recent.{most_recent, used};
 
 use std::alloc::{AllocError, Global};
 use std::marker::Model;
@@ -19,13 +18,13 @@ pub struct Recent {
 
 impl Model for Recent {
     ghost use Rattle.std.specs.Prelude.{◌≤◌, List, ℕ, length};
-    ghost use Rattle.recently_used.specs.declared.recent.TheConstants.{MOST_RECENT};
+    ghost use Rattle.recently_used.specs.Recent.{most_recent};
 
     ghost Value = { List ℕ };
 
     ghost view = { λ r. r.numbers.items };
 
-    ghost invariant = { λ r. length r.numbers.items ≤ MOST_RECENT };
+    ghost invariant = { λ r. length r.numbers.items ≤ most_recent };
 }
 
 /// Takes a number out, where it is there. This takes no memory.
@@ -39,10 +38,10 @@ fn without(numbers: &mut Vec<usize>, number: usize)
 
 /// Takes the first number out, where there is one too many.
 fn shorten(numbers: &mut Vec<usize>) -> Option<usize>
-    requires most { length numbers.old.items ≤ MOST_RECENT + 1 }
+    requires most { length numbers.old.items ≤ most_recent + 1 }
     ensures rest { option_to_list result ++ numbers.new.items ≡ numbers.old.items }
-    ensures few { length numbers.new.items ≤ MOST_RECENT }
-    ensures full { IsSome result → MOST_RECENT < length numbers.old.items }
+    ensures few { length numbers.new.items ≤ most_recent }
+    ensures full { IsSome result → most_recent < length numbers.old.items }
 {
     if numbers.len() <= MOST_RECENT {
         return None;
@@ -70,7 +69,7 @@ impl Recent {
     /// The number is used now. Gives the one that was used least recently, where it doesn't stay.
     pub fn note(&mut self, number: usize) -> Result<Option<usize>, AllocError>
         ensures used { IfOk result (λ out. option_to_list out ++ self.new ≡ used number self.old) }
-        ensures full { IfOk result (λ out. IsSome out → MOST_RECENT ≤ length self.old) }
+        ensures full { IfOk result (λ out. IsSome out → most_recent ≤ length self.old) }
         // So each number that was there is there, but for that one.
         ensures stays { IfOk result (λ out. (n : ℕ) → Contains self.old n → Contains self.new n ⊎ (out ≡ Some n)) }
         ensures same { OnErr result (self.new ≡ self.old) }

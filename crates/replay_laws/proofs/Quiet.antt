@@ -8,7 +8,7 @@ use Rattle.std.proofs.lemmas.Bool.{and_parts}
 use Rattle.std.proofs.lemmas.Fmt.{digits_decimal}
 use Rattle.std.proofs.lemmas.List.Folds.{list_all-append}
 use Rattle.std.proofs.lemmas.Str.{IsUtf8-nil}
-use Rattle.host_port.specs.declared.lines.TheConstants.{LINE_LIMIT}
+use Rattle.host_port.specs.Limits.{line_limit}
 use Rattle.model_state.specs.Names.{is_name, is_name_byte, most_name_rest}
 use Rattle.merge_laws.specs.Choices.{is_choice}
 use Rattle.script_lang.specs.Words.{is_space}
@@ -76,10 +76,10 @@ spaced_quiet (word ∷ []) all = all.0.all
 spaced_quiet (word ∷ next ∷ words) all = list_all-append is_quiet word (32 ∷ spaced (next ∷ words)) ∙ rw all.0.all (spaced_quiet (next ∷ words) all.1)
 
 -- a line of quiet words
-pub quiet_line : (words : List (List ℕ)) → AllByRecursion IsQuiet words → length (spaced words) ≤ LINE_LIMIT → IsWholeLine (spaced words)
+pub quiet_line : (words : List (List ℕ)) → AllByRecursion IsQuiet words → length (spaced words) ≤ line_limit → IsWholeLine (spaced words)
 quiet_line words all short =
     subst IsWholeLine (append-nil (spaced words)) (messages_stand (spaced words) [] (spaced_quiet words all) IsUtf8-nil refl
-    (subst (λ (xs : List ℕ). length xs ≤ LINE_LIMIT) (sym (append-nil (spaced words))) short))
+    (subst (λ (xs : List ℕ). length xs ≤ line_limit) (sym (append-nil (spaced words))) short))
 
 pub quiet_moment : (n : ℕ) → n < 2 ^ 64 → IsQuiet (decimal n)
 quiet_moment n small = record { all = weaker is_ascii_digit is_quiet digit (decimal n) (digits_decimal numerals n small) }
@@ -101,7 +101,7 @@ front_quiet (word ∷ words) all = list_all-append is_quiet word (32 ∷ before_
 
 -- so is a line of quiet words with a message after them
 pub message_line : (words : List (List ℕ)) (message : List ℕ) → AllByRecursion IsQuiet words → IsUtf8 message → breaks_line message ≡ false
-    → length (spaced (words ++ message ∷ [])) ≤ LINE_LIMIT → IsWholeLine (spaced (words ++ message ∷ []))
+    → length (spaced (words ++ message ∷ [])) ≤ line_limit → IsWholeLine (spaced (words ++ message ∷ []))
 message_line words message all utf8 whole short =
     subst IsWholeLine (front_is words message) (messages_stand (before_message words) message (front_quiet words all) utf8 whole
-    (subst (λ (xs : List ℕ). length xs ≤ LINE_LIMIT) (sym (front_is words message)) short))
+    (subst (λ (xs : List ℕ). length xs ≤ line_limit) (sym (front_is words message)) short))

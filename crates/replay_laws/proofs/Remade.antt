@@ -6,7 +6,7 @@ use Rattle.std.specs.Prelude.{IsTrue}
 use Rattle.std.proofs.lemmas.Bool.{ltb-true, leb-true}
 use Rattle.commit_journal.specs.Journal.{most_bytes}
 use Rattle.hex.proofs.HexLemmas.{decode_of-encode_lower}
-use Rattle.host_port.specs.declared.lines.TheConstants.{LINE_LIMIT}
+use Rattle.host_port.specs.Limits.{line_limit}
 use Rattle.std.specs.Str.{IsUtf8}
 use Rattle.ecore_meta.specs.Meta.{Meta}
 use Rattle.ecore_json.specs.Metamodel.{metamodel_of}
@@ -67,14 +67,14 @@ workspace : (s : State) (ws : ℕ) (test : Option Workspace → Bool) → test N
 workspace s ws test none is small = (numbered s ws (there test none (workspace_of s ws) is), small)
 
 -- ---- lines that are short enough
-within_line : (n : ℕ) → nat_lt LINE_LIMIT n ≡ false → n ≤ LINE_LIMIT
+within_line : (n : ℕ) → nat_lt line_limit n ≡ false → n ≤ line_limit
 within_line n is = grind (arith, is)
 
 neither : (a b : Bool) → (a || b) ≡ false → (a ≡ false) × (b ≡ false)
 neither true b e = cc
 neither false b e = (refl, e)
 
-short_line : (h : History) (event : Event) → is_not_printable h event ≡ false → length (spaced (words_again h event)) ≤ LINE_LIMIT
+short_line : (h : History) (event : Event) → is_not_printable h event ≡ false → length (spaced (words_again h event)) ≤ line_limit
 short_line h event is = within_line _ (neither _ _ is).1
 
 abbrev pair : {a b : List ℕ} → IsQuiet a → IsQuiet b → AllByRecursion IsQuiet (a ∷ b ∷ [])
@@ -219,7 +219,7 @@ module _ (s : State) (meta : Meta) (begun : s.meta ≡ Some meta) (named : HasNa
       subst (λ (w : List ℕ). Remakes s (record { line = spaced (codes "checkout" ∷ w ∷ []); block = None }) (Checkout version branch)) (sym word)
       (remade s (spaced (codes "checkout" ∷ spec_word spec ∷ [])) (commands.Checkout spec) (Checkout version branch)
       (quiet_line (codes "checkout" ∷ spec_word spec ∷ []) (pair (record { all = refl }) quiet)
-      (subst (λ (w : List ℕ). length (spaced (codes "checkout" ∷ w ∷ [])) ≤ LINE_LIMIT) word (short_line s.history (Checkout version branch) print)))
+      (subst (λ (w : List ℕ). length (spaced (codes "checkout" ∷ w ∷ [])) ≤ line_limit) word (short_line s.history (Checkout version branch) print)))
       (record { kept = refl; block = refl })
       form refl
       (by_meta (commands.Checkout spec) (Checkout version branch) makes))

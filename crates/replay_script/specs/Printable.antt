@@ -1,6 +1,6 @@
 -- Which events a script can't hold: a package that is longer than a block, and a text that would be cut otherwise than it stands.
 use Rattle.std.specs.Prelude.{◌&&◌, ◌||◌, nat_lt, Bool, true, false, length}
-use Rattle.host_port.specs.declared.lines.TheConstants.{LINE_LIMIT}
+use Rattle.host_port.specs.Limits.{line_limit}
 use Rattle.op_form.specs.declared.event.Event.{Event}
 use Rattle.op_form.specs.declared.event.Event.TheVariants.{Init, Checkout, Edit, Commit, Tag, Merge, Evolve, Signed}
 use Rattle.op_form.specs.Packages.{package_encoding}
@@ -31,4 +31,4 @@ breaks event = false
 
 -- or its line is too long
 abbrev pub is_not_printable : History → Event → Bool
-is_not_printable h event = breaks event || nat_lt LINE_LIMIT (length (spaced (words_again h event)))
+is_not_printable h event = breaks event || nat_lt line_limit (length (spaced (words_again h event)))

@@ -8,7 +8,7 @@ use Rattle.std.proofs.lemmas.List.Splits.{slice_split_at}
 use Rattle.std.proofs.lemmas.Str.{IsUtf8-from_ascii}
 use Rattle.hex.specs.Hex.{IsBytes, encode_lower, is_hex_digit}
 use Rattle.hex.proofs.HexLemmas.{decode_of-encode_lower, decode_of-ok}
-use Rattle.host_port.specs.declared.lines.TheConstants.{BLOCK_LIMIT}
+use Rattle.host_port.specs.Limits.{block_limit}
 use Rattle.host_port.specs.Cut.{is_lf, is_dot}
 use Rattle.host_port.specs.Reads.{with_feeds, IsPlain}
 use Rattle.op_form.specs.Packages.{package_encoding}
@@ -83,9 +83,9 @@ ends_from n false e some = let other : nat_eq n 0 ≡ false = grind (arith, some
 
 pub texts_stand : TextsStand
 texts_stand text utf8 whole =
-    let k = neither (nat_lt BLOCK_LIMIT (length text) || (not (nat_eq (length text) 0) && not (ends_with_feed text)))
+    let k = neither (nat_lt block_limit (length text) || (not (nat_eq (length text) 0) && not (ends_with_feed text)))
     (list_any is_lost (slice_split is_lf text)) whole in
-    let m = neither (nat_lt BLOCK_LIMIT (length text)) (not (nat_eq (length text) 0) && not (ends_with_feed text)) k.0 in
+    let m = neither (nat_lt block_limit (length text)) (not (nat_eq (length text) 0) && not (ends_with_feed text)) k.0 in
     let lines = lines_of text (λ some. ends_from (length text) (ends_with_feed text) m.1 some) in
     record {
       utf8 = utf8;
@@ -96,7 +96,7 @@ texts_stand text utf8 whole =
             plain = plain lines.raws ([] ∷ []) lines.clear
                 (subst (λ (l : List (List ℕ)). list_any is_lost l ≡ false) lines.parts k.1);
           };
-      short = at_most (length text) BLOCK_LIMIT m.0;
+      short = at_most (length text) block_limit m.0;
     }
 
 -- ---- digits

@@ -5,7 +5,7 @@ use Rattle.std.specs.Str.{IsAscii}
 use Rattle.std.proofs.lemmas.Bool.{ltb-true, and_parts}
 use Rattle.std.proofs.lemmas.List.Elements.{All-nil, All-cons, All-append}
 use Rattle.std.proofs.lemmas.Str.{IsUtf8-append, IsUtf8-from_ascii}
-use Rattle.host_port.specs.declared.lines.TheConstants.{LINE_LIMIT}
+use Rattle.host_port.specs.Limits.{line_limit}
 use Rattle.host_port.specs.Cut.{is_lf, without_cr}
 use Rattle.replay_texts.specs.Texts.{ends_with_return, is_quiet, MessagesStand}
 
@@ -71,7 +71,7 @@ messages_stand front [] quiet utf8 whole short =
       utf8 = IsUtf8-from_ascii front (ascii front quiet);
       no_feed = no_feeds front quiet;
       whole = whole_from front (no_return_at_end front quiet);
-      short = subst (λ (xs : List ℕ). length xs ≤ LINE_LIMIT) (append-nil front) short;
+      short = subst (λ (xs : List ℕ). length xs ≤ line_limit) (append-nil front) short;
     })
 messages_stand front (b ∷ message) quiet utf8 whole short =
     let k = neither (list_any is_lf (b ∷ message)) (ends_with_return (b ∷ message)) whole in

@@ -3,7 +3,7 @@ use Rattle.std.specs.Prelude.{◌≡◌, ℕ, ◌-◌, ◌≤◌, ◌==◌, ◌&
 use Rattle.std.specs.List.{list_any, list_all, slice_split}
 use Rattle.std.specs.Str.{IsUtf8}
 use Rattle.hex.specs.Hex.{IsBytes, encode_lower}
-use Rattle.host_port.specs.declared.lines.TheConstants.{LINE_LIMIT, BLOCK_LIMIT}
+use Rattle.host_port.specs.Limits.{line_limit, block_limit}
 use Rattle.host_port.specs.Cut.{is_lf, is_dot}
 use Rattle.model_state.specs.declared.operation.Operation.{Operation}
 use Rattle.op_form.specs.Formed.{is_package}
@@ -27,7 +27,7 @@ is_quiet b = nat_lt b 128 && not (b == 10) && not (b == 13)
 abbrev pub MessagesStand : Type 0
 MessagesStand =
     (front message : List ℕ) → list_all is_quiet front ≡ true → IsUtf8 message → breaks_line message ≡ false → length
-    (front ++ message) ≤ LINE_LIMIT → IsWholeLine (front ++ message)
+    (front ++ message) ≤ line_limit → IsWholeLine (front ++ message)
 
 -- ---- blocks
 -- the bytes end with a line feed
@@ -40,7 +40,7 @@ is_lost line = is_dot line || ends_with_return line
 
 -- a text that a block can't hold: it is too long, its last line has no line feed, or a line of it is lost
 abbrev pub breaks_block : List ℕ → Bool
-breaks_block text = nat_lt BLOCK_LIMIT (length text) || (not (length text == 0) && not (ends_with_feed text)) || list_any is_lost (slice_split is_lf text)
+breaks_block text = nat_lt block_limit (length text) || (not (length text == 0) && not (ends_with_feed text)) || list_any is_lost (slice_split is_lf text)
 
 -- each other text of UTF-8 is cut out of its block as it is
 abbrev pub TextsStand : Type 0

@@ -11,7 +11,7 @@ use Rattle.std.proofs.Math.Seq.{get_or-append_seam}
 use Rattle.std.proofs.lemmas.Str.{utf8_valid_len-IsUtf8, IsUtf8-from_ascii}
 use Rattle.std.proofs.lemmas.List.{append-nil, drop_all, take_at, get_or_append_left}
 use Rattle.host_port.specs.Cut.{Script, is_lf, raw_line, is_ended, next_line_of, line_of, line_bytes, line_text, text_at, script_from, with_item, cut_block, after_block, ends_block, block_line, is_dot}
-use Rattle.host_port.specs.declared.lines.TheConstants.{LINE_LIMIT, BLOCK_LIMIT, INPUT_LIMIT}
+use Rattle.host_port.specs.Limits.{line_limit, block_limit, input_limit}
 use Rattle.host_port.proofs.ScriptCuts.{first_at, raw_is, ended_is, after_is, line_within}
 use Rattle.host_port.proofs.ScriptItems.{script_line, cut_nothing, block_goes, block_ends}
 use Rattle.host_port.proofs.ScriptHeads.{script_block}
@@ -58,14 +58,14 @@ whole_text place l all =
     let test : (utf8_valid_len l == length l) ≡ true = eq-eqb (utf8_valid_len l) (length l) valid in
     rw test refl
 
-line_read : (place : ℕ) (l r : List ℕ) → list_all is_graphic l ≡ true → length l ≤ LINE_LIMIT → place + length l < INPUT_LIMIT → next_line_of place ((l ++ 10 ∷ []) ++ r) ≡ Ok (Some l)
+line_read : (place : ℕ) (l r : List ℕ) → list_all is_graphic l ≡ true → length l ≤ line_limit → place + length l < input_limit → next_line_of place ((l ++ 10 ∷ []) ++ r) ≡ Ok (Some l)
 line_read place l r all short within =
     let cut = cut_line l r all in
     ap (λ (x : List ℕ). line_of place x (is_ended ((l ++ 10 ∷ []) ++ r))) cut.raw ∙ ap (λ (b : Bool). line_of place l b) cut.ended ∙ line_within place l true short within
     ∙ ap (λ (x : List ℕ). line_text (text_at place x)) (same_if (slice_index l (length l - 1) == 13) (take (length l - 1) l) l (no_return l all)) ∙ ap line_text (whole_text place l all)
 
 -- a line that takes no block
-plain_item : (takes : List ℕ → Bool) (place : ℕ) (l r : List ℕ) → list_all is_graphic l ≡ true → length l ≤ LINE_LIMIT → place + length l < INPUT_LIMIT → takes l ≡ false
+plain_item : (takes : List ℕ → Bool) (place : ℕ) (l r : List ℕ) → list_all is_graphic l ≡ true → length l ≤ line_limit → place + length l < input_limit → takes l ≡ false
     → script_from takes place ((l ++ 10 ∷ []) ++ r) ≡ with_item l None (script_from takes (place + length l + 1) r)
 plain_item takes place l r all short within without_block =
     let cut = cut_line l r all in
@@ -95,21 +95,21 @@ and_false : (a b : Bool) → a ≡ false → (a && b) ≡ false
 and_false a b is = rw is refl
 
 goes_on : (place : ℕ) (l : List ℕ) → list_all is_graphic l ≡ true → is_dot l ≡ false → ends_block place true l ≡ false
-goes_on place l all other = and_false (is_dot (line_bytes true l)) (nat_lt (place + length l) INPUT_LIMIT) (ap is_dot (bytes_same l all) ∙ other)
+goes_on place l all other = and_false (is_dot (line_bytes true l)) (nat_lt (place + length l) input_limit) (ap is_dot (bytes_same l all) ∙ other)
 
-one_more : (start place : ℕ) (text l : List ℕ) → list_all is_graphic l ≡ true → start ≤ place → place + length l + 1 ≤ start + BLOCK_LIMIT → place + length l < INPUT_LIMIT
+one_more : (start place : ℕ) (text l : List ℕ) → list_all is_graphic l ≡ true → start ≤ place → place + length l + 1 ≤ start + block_limit → place + length l < input_limit
     → block_line start place true (Ok text) l ≡ Ok (Ok ((text ++ l) ++ 10 ∷ []))
 one_more start place text l all low short within =
-    let few : nat_lt BLOCK_LIMIT (place + (length l + 1) - start) ≡ false = grind (arith, nat_tests) in
-    let near : nat_le INPUT_LIMIT (place + length l) ≡ false = grind (arith, nat_tests) in
+    let few : nat_lt block_limit (place + (length l + 1) - start) ≡ false = grind (arith, nat_tests) in
+    let near : nat_le input_limit (place + length l) ≡ false = grind (arith, nat_tests) in
     rw (few, near, bytes_same l all, whole_text place l all) refl
 
 block_lines : (takes : List ℕ → Bool) (line : List ℕ) (ls : List (List ℕ)) (start place : ℕ) (text r : List ℕ) → list_all is_block_line ls ≡ true → start ≤ place
-    → place + length (joined ls) + 2 ≤ start + BLOCK_LIMIT → place + length (joined ls) + 2 < INPUT_LIMIT
+    → place + length (joined ls) + 2 ≤ start + block_limit → place + length (joined ls) + 2 < input_limit
     → cut_block takes line start place (Ok text) (slice_split is_lf (joined ls ++ ((46 ∷ 10 ∷ []) ++ r))) ≡ after_block line (Ok (text ++ joined ls)) (script_from takes (place + length (joined ls) + 2) r)
 block_lines takes line [] start place text r all low short within =
     let cut = cut_line (46 ∷ []) r refl in
-    let near : nat_lt (place + 1) INPUT_LIMIT ≡ true = grind (arith, nat_tests) in
+    let near : nat_lt (place + 1) input_limit ≡ true = grind (arith, nat_tests) in
     let dot : ends_block place true (46 ∷ []) ≡ true = near in
     let total = length-append (46 ∷ 10 ∷ []) r in
     let behind = ap length cut.after in
@@ -137,8 +137,8 @@ block_lines takes line (l ∷ ls) start place text r all low short within =
     ∙ ap (λ (t : List ℕ). after_block line (Ok t) (script_from takes (place + length ((l ++ 10 ∷ []) ++ joined ls) + 2) r)) (simp append_assoc)
 
 -- a line that takes a block, and its block
-block_item : (takes : List ℕ → Bool) (place : ℕ) (l : List ℕ) (ls : List (List ℕ)) (r : List ℕ) → list_all is_graphic l ≡ true → length l ≤ LINE_LIMIT → takes l ≡ true → list_all is_block_line ls ≡ true
-    → length (joined ls) + 2 ≤ BLOCK_LIMIT → place + length l + 1 + length (joined ls) + 2 < INPUT_LIMIT
+block_item : (takes : List ℕ → Bool) (place : ℕ) (l : List ℕ) (ls : List (List ℕ)) (r : List ℕ) → list_all is_graphic l ≡ true → length l ≤ line_limit → takes l ≡ true → list_all is_block_line ls ≡ true
+    → length (joined ls) + 2 ≤ block_limit → place + length l + 1 + length (joined ls) + 2 < input_limit
     → script_from takes place ((l ++ 10 ∷ []) ++ ((joined ls ++ 46 ∷ 10 ∷ []) ++ r)) ≡ with_item l (Some (joined ls)) (script_from takes (place + length l + 1 + length (joined ls) + 2) r)
 block_item takes place l ls r all short blocked lines few within =
     let cut = cut_line l ((joined ls ++ 46 ∷ 10 ∷ []) ++ r) all in
@@ -156,7 +156,7 @@ whole_line l p = subst (λ (x : List ℕ). list_all is_graphic x ≡ true) (sym 
     first_graphic first rest high low all = let here : is_graphic first ≡ true = grind (arith, nat_tests, high, low) in rw here all
 
 -- lines that take no block
-plain_lines : (takes : List ℕ → Bool) → ((l : List ℕ) → IsPlain l → takes l ≡ false) → (lines : List (List ℕ)) (place : ℕ) → All IsPlain lines → place + 202 * length lines < INPUT_LIMIT
+plain_lines : (takes : List ℕ → Bool) → ((l : List ℕ) → IsPlain l → takes l ≡ false) → (lines : List (List ℕ)) (place : ℕ) → All IsPlain lines → place + 202 * length lines < input_limit
     → script_from takes place (script_bytes (map without_block lines)) ≡ record { items = map without_block lines; fault = None }
 plain_lines takes none [] place all near = cut_nothing takes place (omega arith)
 plain_lines takes none (l ∷ ls) place all near =

@@ -1,6 +1,7 @@
 //! A block of lines, up to the line that ends it.
 ghost use Rattle.std.specs.Prelude.{◌≡◌, ◌≢◌, false, ◌+◌, ◌<◌, ◌≤◌, ◌^◌, ℕ, [], ◌++◌, List, Bool, length, drop, take, IsTrue, IfOk, OnOk, IfErr, IsErrOf, if◌then◌else◌, string_bytes, Ok};
 ghost use Rattle.std.specs.List.{slice_split};
+ghost use Rattle.host_port.specs.Limits.{block_limit};
 ghost use Rattle.host_port.specs.Host.{GoesOn, KeepsDisk, KeepsSaid, RaisesTakesAlone, Rose};
 ghost use Rattle.host_port.specs.Cut.{cut_block, script_from, after_block, is_dot, is_lf, text_with, without_cr};
 ghost use Rattle.host_port.specs.Reads.{AddsRun, ArePlain, GotBlock, GotBlockLine, BlockLine, FarFault, is_feed, read_so_far};
@@ -148,11 +149,11 @@ impl Block {
         wait: &mut u32,
     ) -> Result<(), AllocError>
         requires started { start ≤ unread.old.place }
-        requires near { unread.old.place ≤ start + BLOCK_LIMIT }
+        requires near { unread.old.place ≤ start + block_limit }
         ensures step { OnOk result ((takes : List ℕ → Bool) (line left : List ℕ) →
             cut_block takes line start unread.old.place (read_so_far self.old) (slice_split is_lf (unread.old.pending ++ left))
             ≡ cut_block takes line start unread.new.place (read_so_far self.new) (slice_split is_lf (unread.new.pending ++ left))) }
-        ensures near { OnOk result (unread.new.place ≤ start + BLOCK_LIMIT) }
+        ensures near { OnOk result (unread.new.place ≤ start + block_limit) }
         ensures short { OnOk result (length (string_bytes self.old.text) + start ≤ unread.old.place → length (string_bytes self.new.text) + start ≤ unread.new.place) }
         ensures later { unread.old.place ≤ unread.new.place }
     {
@@ -188,7 +189,7 @@ impl Block {
         ensures pending { OnOk result (unread.new.pending ≡ drop (if is_feed stop then len + 1 else len) unread.old.pending) }
         ensures place { OnOk result (unread.new.place ≡ unread.old.place + (if is_feed stop then len + 1 else len)) }
         ensures short { OnOk result (length (string_bytes self.old.text) + start ≤ unread.old.place → length (string_bytes self.new.text) + start ≤ unread.new.place) }
-        ensures near { IfOk result (λ end. end ≡ false → unread.new.place ≤ start + BLOCK_LIMIT) }
+        ensures near { IfOk result (λ end. end ≡ false → unread.new.place ≤ start + block_limit) }
         ensures same { IfOk result (λ end. IsTrue end → string_bytes self.new.text ≡ string_bytes self.old.text) }
         ensures not_failed { IfErr result (λ e. e ≢ LineFault.Failed) }
         ensures later { unread.old.place ≤ unread.new.place }
@@ -230,7 +231,7 @@ impl Block {
             (cut_block takes line start unread.new.place (read_so_far self.new) (slice_split is_lf (unread.new.pending ++ (H.told host.new).left)))
             (after_block line (read_so_far self.new) (script_from takes unread.new.place (unread.new.pending ++ (H.told host.new).left))) }
         ensures short { OnOk result (length (string_bytes self.old.text) + start ≤ unread.old.place → length (string_bytes self.new.text) + start ≤ unread.new.place) }
-        ensures near { IfOk result (λ end. end ≡ false → unread.new.place ≤ start + BLOCK_LIMIT) }
+        ensures near { IfOk result (λ end. end ≡ false → unread.new.place ≤ start + block_limit) }
         ensures same { IfOk result (λ end. IsTrue end → string_bytes self.new.text ≡ string_bytes self.old.text) }
         ensures later { unread.old.place ≤ unread.new.place }
         ensures advances { IfOk result (λ end. end ≡ false → unread.old.place < unread.new.place) }
@@ -255,7 +256,7 @@ impl Block {
         ensures block { IsTrue (H.told host.old).tells → (takes : List ℕ → Bool) (line : List ℕ) → GotBlock result (string_bytes self.new.text) line
             (cut_block takes line unread.old.place unread.old.place (Ok []) (slice_split is_lf (unread.old.pending ++ (H.told host.old).left)))
             (script_from takes unread.new.place (unread.new.pending ++ (H.told host.new).left)) }
-        ensures short { OnOk result (length (string_bytes self.new.text) ≤ BLOCK_LIMIT) }
+        ensures short { OnOk result (length (string_bytes self.new.text) ≤ block_limit) }
         ensures later { unread.old.place ≤ unread.new.place }
         ensures course { GoesOn (H.told host.old) (H.told host.new) }
         ensures disk { KeepsDisk (H.told host.old) (H.told host.new) }

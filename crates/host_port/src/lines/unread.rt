@@ -1,5 +1,6 @@
 //! The bytes that a host handed over and that are not read yet.
 ghost use Rattle.std.specs.Prelude.{◌≡◌, ◌⊎◌, ◌≢◌, false, ◌+◌, ◌<◌, ◌≤◌, ◌^◌, ℕ, [], ◌++◌, length, drop, take, slice_index, IsTrue, IfOk, OnOk, IfErr, IfSome, IfNone, IsErrOf, if◌then◌else◌, string_bytes, Ok};
+ghost use Rattle.host_port.specs.Limits.{line_limit, input_limit};
 ghost use Rattle.host_port.specs.Host.{GoesOn, KeepsDisk, KeepsSaid, RaisesTakesAlone, Rose};
 ghost use Rattle.host_port.specs.Cut.{next_line_of, line_bytes, line_or_end, text_at, without_cr};
 ghost use Rattle.host_port.specs.Reads.{IsLineFault, IsTextFault, GotLine, PastLine};
@@ -128,7 +129,7 @@ impl Unread {
         ensures past { IsTrue (H.told host.old).tells → OnOk result (PastLine
             (self.old.pending ++ (H.told host.old).left) (self.new.pending ++ (H.told host.new).left) self.old.place self.new.place) }
         ensures end { IsTrue (H.told host.old).tells → IfOk result (λ got. got ≡ Got.End → (H.told host.new).left ≡ []) }
-        ensures short { IfOk result (λ got. got ≡ Got.Line → length (string_bytes text.new) ≤ LINE_LIMIT) }
+        ensures short { IfOk result (λ got. got ≡ Got.Line → length (string_bytes text.new) ≤ line_limit) }
         ensures advances { IfOk result (λ got. got ≡ Got.Line → self.old.place < self.new.place) }
         ensures course { GoesOn (H.told host.old) (H.told host.new) }
         ensures disk { KeepsDisk (H.told host.old) (H.told host.new) }
@@ -149,7 +150,7 @@ impl Unread {
         ensures none { IfOk result (λ r. r.1 ≡ false → (r.0 ≡ length self.new.pending)
             × ((k : ℕ) → k < r.0 → slice_index self.new.pending k ≢ 10)) }
         ensures end { IsTrue (H.told host.old).tells → IfOk result (λ r. r.1 ≡ false → (H.told host.new).left ≡ []) }
-        ensures limit { IfOk result (λ r. r.0 ≤ LINE_LIMIT) }
+        ensures limit { IfOk result (λ r. r.0 ≤ line_limit) }
         ensures within { IfOk result (λ r. self.new.place + r.0 < 2 ^ 40) }
         ensures fault { IsTrue (H.told host.old).tells → IfErr result (λ e. IsLineFault e (next_line_of self.old.place (self.old.pending ++ (H.told host.old).left))) }
         ensures place { self.new.place ≡ self.old.place }
@@ -168,9 +169,9 @@ impl Unread {
     }
 
     fn within_limit(&self, len: usize, ended: bool) -> Result<(usize, bool), LineFault>
-        ensures ok { IfOk result (λ r. (r.0 ≡ len) × (r.1 ≡ ended) × (len ≤ LINE_LIMIT) × (self.now.place + len < 2 ^ 40)) }
-        ensures err { IfErr result (λ e. ((LINE_LIMIT < len) × (e ≡ LineFault.LineTooLong (self.now.place + LINE_LIMIT)))
-            ⊎ ((len ≤ LINE_LIMIT) × (2 ^ 40 ≤ self.now.place + len) × (e ≡ LineFault.InputTooLong INPUT_LIMIT))) }
+        ensures ok { IfOk result (λ r. (r.0 ≡ len) × (r.1 ≡ ended) × (len ≤ line_limit) × (self.now.place + len < 2 ^ 40)) }
+        ensures err { IfErr result (λ e. ((line_limit < len) × (e ≡ LineFault.LineTooLong (self.now.place + line_limit)))
+            ⊎ ((len ≤ line_limit) × (2 ^ 40 ≤ self.now.place + len) × (e ≡ LineFault.InputTooLong input_limit))) }
     {
         let len_64 = len as u64;
         if len_64 > LINE_LIMIT {
