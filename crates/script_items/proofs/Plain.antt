@@ -11,7 +11,7 @@ use Rattle.host_port.specs.Cut.{Item}
 use Rattle.script_items.proofs.Graphic.{is_graphic, joins, graphic_number}
 use Rattle.plain_repository.specs.Lines.{is_skipped}
 use Rattle.script_items.specs.Items.{IsAnswered}
-use Rattle.script_items.specs.declared.generator.TheConstants.{LIBRARY}
+use Rattle.script_items.specs.Library.{library}
 use Rattle.script_items.specs.Generator.{without_block, opening, workspace_in, pages_in, create_text, title_text, pages_text, edits, exchange, round, rounds, generated}
 
 -- the letters that the words of commands with a block begin with: of `evolve`, `init` and `import`, and `load`
@@ -126,8 +126,8 @@ rounds_plain seed zero fits = All-nil IsPlain
 rounds_plain seed (suc n) fits = All-append IsPlain (rounds seed n) (round seed (suc n)) (rounds_plain seed n (omega arith)) (round_plain seed (suc n) fits)
 
 -- the metamodel is short enough to be read
-library_short : length LIBRARY.now < 2 ^ 32 - 1
-library_short = ltb-true (length LIBRARY.now) (2 ^ 32 - 1) refl
+library_short : length library < 2 ^ 32 - 1
+library_short = ltb-true (length library) (2 ^ 32 - 1) refl
 
 answered_line : (line : List ℕ) → IsPlain line → IsAnswered (without_block line)
 unfolding is_skipped
@@ -140,7 +140,7 @@ answered_line line p =
 more : (line : List ℕ) (items : List Item) → IsPlain line → All IsAnswered items → All IsAnswered (without_block line ∷ items)
 more line items p all = All-cons IsAnswered (without_block line) items (answered_line line p) all
 
-start_answered : IsAnswered (record { line = codes "init"; block = Some LIBRARY.now })
+start_answered : IsAnswered (record { line = codes "init"; block = Some library })
 unfolding is_skipped
 start_answered = ((omega arith, library_short), refl)
 
@@ -150,7 +150,7 @@ opening_answered =
     let two = letters_plain 99 (codes "reate 1 Library / lib") (omega arith) (omega arith) refl (omega arith) refl in
     let three = letters_plain 99 (codes "ommit 1 start") (omega arith) (omega arith) refl (omega arith) refl in
     let four = letters_plain 117 (codes "pdate 2") (omega arith) (omega arith) refl (omega arith) refl in
-    All-cons IsAnswered (record { line = codes "init"; block = Some LIBRARY.now })
+    All-cons IsAnswered (record { line = codes "init"; block = Some library })
     (without_block (codes "checkout trunk") ∷ without_block (codes "checkout trunk") ∷ without_block (codes "create 1 Library / lib") ∷ without_block (codes "commit 1 start") ∷ without_block (codes "update 2") ∷ []) start_answered
     (more (codes "checkout trunk") (without_block (codes "checkout trunk") ∷ without_block (codes "create 1 Library / lib") ∷ without_block (codes "commit 1 start") ∷ without_block (codes "update 2") ∷ []) one
     (more (codes "checkout trunk") (without_block (codes "create 1 Library / lib") ∷ without_block (codes "commit 1 start") ∷ without_block (codes "update 2") ∷ []) one

@@ -18,7 +18,7 @@ use Rattle.host_port.proofs.ScriptHeads.{script_block}
 use Rattle.script_lang.specs.Words.{is_space, is_word}
 use Rattle.plain_repository.specs.Lines.{takes_block}
 use Rattle.script_items.specs.Items.{script}
-use Rattle.script_items.specs.declared.generator.TheConstants.{LIBRARY}
+use Rattle.script_items.specs.Library.{library}
 use Rattle.script_items.specs.Generator.{without_block, edits, exchange, round, rounds, generated, script_bytes}
 use Rattle.script_items.proofs.Digits.{both}
 use Rattle.script_items.proofs.Graphic.{is_graphic, graphic_at, ascii}
@@ -165,13 +165,13 @@ plain_lines takes none (l ∷ ls) place all near =
     plain_item takes place l (script_bytes (map without_block ls)) (whole_line l p) (omega arith) (omega arith) (none l p)
     ∙ ap (λ (s : Script). with_item l None s) (plain_lines takes none ls (place + length l + 1) (λ k d low. all (suc k) d (omega arith)) (omega arith))
 
-library_is : joined (take 19 (slice_split is_lf LIBRARY.now)) ≡ LIBRARY.now
+library_is : joined (take 19 (slice_split is_lf library)) ≡ library
 library_is = refl
 
-library_few : length LIBRARY.now ≤ most_rounds
-library_few = leb-true (length LIBRARY.now) most_rounds refl
+library_few : length library ≤ most_rounds
+library_few = leb-true (length library) most_rounds refl
 
-library_shown : list_all is_block_line (take 19 (slice_split is_lf LIBRARY.now)) ≡ true
+library_shown : list_all is_block_line (take 19 (slice_split is_lf library)) ≡ true
 library_shown = refl
 
 size_of_round : (seed k : ℕ) → length (round seed k) ≤ 7
@@ -205,12 +205,12 @@ all_behind seed count fits =
 script_is : (takes : List ℕ → Bool) → takes (codes "init") ≡ true → ((l : List ℕ) → IsPlain l → takes l ≡ false) → (seed count : ℕ) → count ≤ most_rounds
     → script_from takes 0 (script_bytes (generated seed count)) ≡ record { items = generated seed count; fault = None }
 script_is takes blocked none seed count most =
-    let size : length (joined (take 19 (slice_split is_lf LIBRARY.now))) ≤ most_rounds = omega (arith, ap length library_is, library_few) in
+    let size : length (joined (take 19 (slice_split is_lf library))) ≤ most_rounds = omega (arith, ap length library_is, library_few) in
     let many = size_of_rounds seed count in
     ap (λ (t : List ℕ). script_from takes 0 ((codes "init" ++ 10 ∷ []) ++ ((t ++ 46 ∷ 10 ∷ []) ++ script_bytes (map without_block (behind_it seed count))))) (sym library_is)
-    ∙ block_item takes 0 (codes "init") (take 19 (slice_split is_lf LIBRARY.now)) (script_bytes (map without_block (behind_it seed count))) refl (omega arith) blocked library_shown (omega arith) (omega arith)
-    ∙ ap (λ (s : Script). with_item (codes "init") (Some (joined (take 19 (slice_split is_lf LIBRARY.now)))) s)
-    (plain_lines takes none (behind_it seed count) (0 + length (codes "init") + 1 + length (joined (take 19 (slice_split is_lf LIBRARY.now))) + 2) (all_behind seed count (omega arith)) (omega arith))
+    ∙ block_item takes 0 (codes "init") (take 19 (slice_split is_lf library)) (script_bytes (map without_block (behind_it seed count))) refl (omega arith) blocked library_shown (omega arith) (omega arith)
+    ∙ ap (λ (s : Script). with_item (codes "init") (Some (joined (take 19 (slice_split is_lf library)))) s)
+    (plain_lines takes none (behind_it seed count) (0 + length (codes "init") + 1 + length (joined (take 19 (slice_split is_lf library))) + 2) (all_behind seed count (omega arith)) (omega arith))
     ∙ ap (λ (t : List ℕ). with_item (codes "init") (Some t) (record { items = map without_block (behind_it seed count); fault = None })) library_is
 
 head_none : (n letter first : ℕ) (rest word : List ℕ) → nat_eq first letter ≡ false → pointwise nat_eq (take n (first ∷ rest)) (letter ∷ word) ≡ false

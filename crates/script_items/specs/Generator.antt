@@ -2,7 +2,7 @@
 use Rattle.std.specs.Prelude.{ℕ, zero, suc, ◌+◌, ◌*◌, ◌%◌, ◌==◌, List, [], ◌∷◌, ◌++◌, map, codes, Option, None, Some, if◌then◌else◌}
 use Rattle.std.specs.Fmt.{decimal}
 use Rattle.host_port.specs.Cut.{Item}
-use Rattle.script_items.specs.declared.generator.TheConstants.{LIBRARY}
+use Rattle.script_items.specs.Library.{library}
 
 -- a line that takes no block
 abbrev pub without_block : List ℕ → Item
@@ -10,7 +10,7 @@ without_block line = record { line = line; block = None }
 
 -- the lines before the first round: a metamodel, two workspaces, and an element that the second has from the first
 abbrev pub opening : List Item
-opening = record { line = codes "init"; block = Some LIBRARY.now }
+opening = record { line = codes "init"; block = Some library }
     ∷ without_block (codes "checkout trunk") ∷ without_block (codes "checkout trunk") ∷ without_block (codes "create 1 Library / lib")
     ∷ without_block (codes "commit 1 start") ∷ without_block (codes "update 2") ∷ []
 

@@ -1,3 +1,4 @@
+pub mod Library
 pub mod Generator
 pub mod Items
 pub mod Words
