@@ -1,5 +1,5 @@
 //! Policies: who may do what.
-use ecore_meta::{List, Text};
+use texts::{List, Text};
 
 /// What a user may do.
 #[derive(Drop)]

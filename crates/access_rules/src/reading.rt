@@ -6,10 +6,10 @@ ghost use Rattle.access_rules.specs.declared.policy.Grant.{Grant};
 ghost use Rattle.access_rules.specs.Reading.{role_of, writer_of, grant_of, if_new, grants_of, GivesPolicy, HasUsers};
 
 use crate::{Grant, Policy, PolicyFault, Role};
-use ecore_meta::{List, Text};
 use model_state::is_name;
 use std::alloc::{AllocError, Global};
 use std::collections::BTreeSet;
+use texts::{List, Text};
 
 /// A writer of one branch, by what stands before `@` and after it.
 fn writer_of(alloc: Global, first: &str, branch: &str) -> Result<Option<Role>, AllocError>

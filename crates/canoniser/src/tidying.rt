@@ -6,10 +6,11 @@ ghost use Rattle.tidy_laws.specs.Tidy.{tidy, is_tidy, Normal};
 
 use crate::splitting::{are_single, split};
 use crate::turns::{keep, settle};
-use ecore_meta::{List, Metamodel};
+use ecore_meta::Metamodel;
 use footprint::prints_of;
 use model_state::Package;
 use std::alloc::{AllocError, Global};
+use texts::List;
 
 /// The package with its simple operations cut into their steps, with what was taken back dropped and what was changed
 /// twice changed once. It does what the package does. Each operation is compared with those before it whose cells share

@@ -6,8 +6,9 @@ ghost use Rattle.model_state.specs.Steps.{rev, rev_all};
 ghost use Rattle.step_pairs.specs.Joins.{step_eq, steps_eq};
 ghost use Rattle.tidy_laws.specs.Rules.{takes_back};
 
-use ecore_meta::{List, Value};
+use ecore_meta::Value;
 use model_state::{Id, Operation, Place, Step, is_same_option, is_same_value};
+use texts::List;
 
 fn are_same_ids(xs: &List<Id>, ys: &List<Id>) -> bool
     ensures { result ≡ list_eq text_eq xs.now ys.now }

@@ -11,13 +11,14 @@ ghost use Rattle.change_index.specs.Index.{wrote_in, index_of, AreFeatures};
 
 use crate::common::last_common;
 use crate::table::{cut_prints, listed, put_prints, row_of};
-use ecore_meta::{List, Metamodel};
+use ecore_meta::Metamodel;
 use footprint::prints_of;
 use history_tree::{History, Version};
 use model_state::{Id, Operation};
 use std::alloc::{AllocError, Global};
 use std::collections::BTreeMap;
 use std::marker::Model;
+use texts::List;
 
 /// Which features of which elements each of some versions wrote. Contracts see a set of pairs a version, in the order in which
 /// the versions were added. It is kept as the versions that wrote each feature, so its memory grows with what was written.

@@ -8,10 +8,11 @@ ghost use Rattle.conflict_buckets.specs.Tables.{IsPut};
 
 use crate::labelling::labels_of;
 use cell_index::lists_of;
-use ecore_meta::{List, Metamodel};
+use ecore_meta::Metamodel;
 use footprint::{Bucket, Buckets, prints_of, put_prints};
 use model_state::Package;
 use std::alloc::{AllocError, Global};
+use texts::List;
 
 /// Puts the place into the list of the label.
 fn put_place(table: &mut Vec<Vec<u64>>, label: usize, place: u64) -> Result<(), AllocError>

@@ -6,10 +6,11 @@ ghost use Rattle.footprint.specs.Prints.{shown, printed};
 ghost use Rattle.bucket_laws.specs.Pairs.{pairs, pairs_with};
 ghost use Rattle.footprint.specs.declared.cell.Print as prints;
 
-use ecore_meta::{List, Metamodel};
+use ecore_meta::Metamodel;
 use footprint::{Print, interferes, prints_of};
 use model_state::Package;
 use std::alloc::{AllocError, Global};
+use texts::List;
 
 /// The pairs of the operation at i with each of mine that it interferes with come after others.
 fn put_pairs(

@@ -7,9 +7,10 @@ ghost use Rattle.containment.specs.Refusals.{IsRefusal, create_refusal};
 
 use crate::MoveFault;
 use crate::spots::{Spot, last_spot};
-use ecore_meta::{List, Metamodel};
+use ecore_meta::Metamodel;
 use model_state::{Id, Look, Place, Step, has_room, may_stand};
 use std::alloc::{AllocError, Global};
+use texts::List;
 
 /// The spot of a new element of a class, last in a place. Refused with WrongType before Bound.
 pub fn creation_spot<L: Look>(

@@ -7,9 +7,10 @@ use crate::features::{Sort, slots_of};
 use crate::rows::{incoming, outgoing};
 use crate::values::empty_all;
 use crate::walk::subtree;
-use ecore_meta::{List, Metamodel};
+use ecore_meta::Metamodel;
 use model_state::{Id, Look, Place, Step};
 use std::alloc::{AllocError, Global};
+use texts::List;
 
 /// The step by which an element is deleted where it stands.
 fn gone_step<L: Look>(alloc: Global, look: &L, e: &Id) -> Result<Step, AllocError>

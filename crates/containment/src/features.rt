@@ -7,9 +7,10 @@ ghost use Rattle.containment.specs.Subtree.{features_of};
 ghost use Rattle.containment.specs.Deletes.{slots_of};
 ghost use Rattle.containment.specs.Sorts.{passes};
 
-use ecore_meta::{List, Metamodel};
+use ecore_meta::Metamodel;
 use model_state::{Id, Look, is_attr, is_many, is_plain};
 use std::alloc::{AllocError, Global};
+use texts::List;
 
 /// A feature of an element.
 pub type Slot = (Id, u32);

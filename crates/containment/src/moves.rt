@@ -11,10 +11,11 @@ ghost use Rattle.containment.specs.Moves.{HasRefusal, IsMove, IsMoveRefusal};
 
 use crate::MoveFault;
 use crate::spots::{arrival_spot, find_spot};
-use ecore_meta::{Boxed, List, Metamodel};
+use ecore_meta::{Boxed, Metamodel};
 use model_state::{Id, Look, Place, Placed, Step, chain, has_room, may_move};
 use opposites::{index_or_end, stands_at, without_entry};
 use std::alloc::Global;
+use texts::List;
 
 /// Whether the element is one of these.
 fn is_among(list: &[Id], e: &Id) -> bool

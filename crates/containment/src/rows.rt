@@ -8,11 +8,12 @@ ghost use Rattle.containment.specs.Deletes.{incoming_left, incoming_made, incomi
 ghost use Rattle.containment.specs.Reached.{HasSlots, is_reached};
 
 use crate::features::Slot;
-use ecore_meta::{List, Metamodel};
+use ecore_meta::Metamodel;
 use model_state::{Entry, Id, Incoming, Look, Step, opposite_of};
 use opposites::{rank_of_mirror, unlink_step, unlinks};
 use std::alloc::{AllocError, Global};
 use std::collections::BTreeSet;
+use texts::List;
 
 /// Features of elements.
 pub type Slots = BTreeSet<Slot>;

@@ -7,10 +7,10 @@ ghost use Rattle.containment.specs.Refusals.{IsRefusal, spot_refusal};
 ghost use Rattle.model_state.specs.Ranks.{most_entries};
 
 use crate::MoveFault;
-use ecore_meta::List;
 use model_state::{Entry, Look, Place, RANK_GAP, Step, rank_between};
 use opposites::{Opening, index_or_end};
 use std::alloc::{AllocError, Global};
+use texts::List;
 
 /// The spot of an element among others.
 #[derive(Drop)]

@@ -7,9 +7,10 @@ ghost use Rattle.containment.specs.Deletes.{emptied_made, values_made};
 ghost use Rattle.model_state.specs.Ranks.{most_entries};
 
 use crate::features::Slot;
-use ecore_meta::{List, Metamodel, Value};
+use ecore_meta::{Metamodel, Value};
 use model_state::{Id, Look, Step, is_attr};
 use std::alloc::{AllocError, Global};
+use texts::List;
 
 /// The step that unsets a single attribute; none where it isn't set.
 fn unset<L: Look>(

@@ -8,9 +8,10 @@ ghost use Rattle.edit_laws.specs.Standing.{ids_of};
 
 use crate::features::features_of;
 use crate::place::is_containment;
-use ecore_meta::{List, Metamodel};
+use ecore_meta::Metamodel;
 use model_state::{Entry, Id, Look, Place};
 use std::alloc::{AllocError, Global};
+use texts::List;
 
 /// The ids of entries.
 fn push_ids(alloc: Global, list: &[Entry], found: &mut Vec<Id>) -> Result<(), AllocError>

@@ -6,9 +6,9 @@ ghost use Rattle.shown_lines.specs.Versions.{listed};
 
 use crate::line::Line;
 use crate::versions::push_list;
-use ecore_meta::{List, Text};
 use footprint::{Bucket, Buckets};
 use std::alloc::{AllocError, Global};
+use texts::{List, Text};
 
 /// The lines of buckets: for each `bucket N theirs LIST mine LIST`, with N from 1. A LIST is the numbers of the bucket's operations of that
 /// side, from 1, with commas between them. A place counts from 0, so each is to be less than the last number of 64 bits.

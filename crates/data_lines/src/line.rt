@@ -4,10 +4,11 @@ ghost use Rattle.std.specs.Fmt.{decimal};
 ghost use Rattle.ecore_meta.specs.Typing.{fits};
 ghost use Rattle.emfjson_io.specs.Values.{value_text};
 
-use ecore_meta::{Metamodel, Scalar, Text, Value};
+use ecore_meta::{Metamodel, Scalar, Value};
 use emfjson_io::write_value;
 use std::alloc::{AllocError, Global};
 use std::marker::Model;
+use texts::Text;
 
 /// A line in the making, which contracts see as its bytes so far.
 #[derive(Drop)]

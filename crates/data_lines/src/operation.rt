@@ -5,9 +5,10 @@ ghost use Rattle.shown_lines.specs.Typed.{AreTyped, IsTypedPackage};
 
 use crate::line::Line;
 use crate::step::step_line;
-use ecore_meta::{List, Metamodel, Text};
+use ecore_meta::Metamodel;
 use model_state::{OpKind, Operation, Step};
 use std::alloc::{AllocError, Global};
+use texts::{List, Text};
 
 /// The lines of a package: for each operation `op N KIND`, with N from 1, and then one line a step. That its steps are of
 /// the metamodel is known by `law_of_taken_steps` where they were taken.

@@ -8,9 +8,10 @@ use crate::line::Line;
 use crate::words::{
     class_name, feature_name, push_place, push_rank_if_any, push_value, push_value_if_any,
 };
-use ecore_meta::{Metamodel, Text, Value};
+use ecore_meta::{Metamodel, Value};
 use model_state::{Id, Place, Step};
 use std::alloc::{AllocError, Global};
+use texts::Text;
 
 /// The line of a step.
 pub(crate) fn step_line(alloc: Global, meta: &Metamodel, step: &Step) -> Result<Text, AllocError>

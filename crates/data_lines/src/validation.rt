@@ -9,9 +9,10 @@ ghost use Rattle.shown_lines.specs.Lines.{after_spaces};
 ghost use Rattle.shown_lines.specs.Validation.{feature_lines, features_at, held_count, line_if_short, lower_in, stands_in, validate_lines};
 
 use crate::line::Line;
-use ecore_meta::{Feature, Kind, List, Metamodel, Text};
+use ecore_meta::{Feature, Kind, Metamodel};
 use model_state::{Id, Look, Place, Placed};
 use std::alloc::{AllocError, Global};
+use texts::{List, Text};
 
 /// The lines of the features that are below their lower bounds, `ID FEATURE COUNT LOWER`. The elements come in the
 /// order of their ids, and the features of each by number. A single attribute counts 1 where it is set or has a

@@ -13,12 +13,13 @@ ghost use Rattle.shown_lines.specs.Versions.{after_commas, listed, log_lines, pa
 
 use crate::line::Line;
 use crate::operation::operation_lines;
-use ecore_meta::{List, Metamodel, Text};
+use ecore_meta::Metamodel;
 use history_tree::{History, Version};
 use model_state::Package;
 use op_form::encode;
 use serde_json::Value as Json;
 use std::alloc::{AllocError, Global};
+use texts::{List, Text};
 
 /// The lines of a history, a line for each version in the order of numbers: `N BRANCH PARENT MERGED OPS TAGS AUTHOR MOMENT
 /// MESSAGE`. PARENT, MERGED, TAGS, AUTHOR and MOMENT are `-` where there is none, and lists have commas between their items. OPS is the

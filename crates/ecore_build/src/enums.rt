@@ -4,8 +4,9 @@ ghost use Rattle.ecore_build.specs.Faults.{enums_in, literal};
 ghost use Rattle.ecore_drafts.specs.Counts.{Numbered};
 
 use ecore_drafts::{ClassifierRow, LiteralRow};
-use ecore_meta::{Enum, EnumLiteral, Enums, List};
+use ecore_meta::{Enum, EnumLiteral, Enums};
 use std::alloc::{AllocError, Global};
+use texts::List;
 
 /// A literal by its name and its text.
 fn literal(alloc: Global, row: &LiteralRow) -> Result<EnumLiteral, AllocError>

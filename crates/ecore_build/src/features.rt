@@ -8,9 +8,10 @@ ghost use Rattle.ecore_build.specs.Faults.{all_inherited, bad_default, clash, dr
 
 use crate::faults::{at, contains_back, is_skipped, repeats};
 use ecore_drafts::{ClassifierRow, Draft, End, Target};
-use ecore_meta::{Class, Enums, Feature, Kind, List, Scalar, Text, default_of, value_of};
+use ecore_meta::{Class, Enums, Feature, Kind, Scalar, default_of, value_of};
 use std::alloc::{AllocError, Global};
 use std::collections::BTreeSet;
+use texts::{List, Text};
 
 /// The features of the class of that number; none for a number that is none.
 fn own_at(own: &[Vec<u32>], class: usize) -> &[u32]

@@ -6,8 +6,9 @@ ghost use Rattle.ecore_drafts.specs.Counts.{too_many};
 
 use crate::classifiers::{Classifier, Classifiers};
 use crate::rows::{ClassifierRow, FeatureRow, TypeName};
-use ecore_meta::{Scalar, Text};
+use ecore_meta::Scalar;
 use std::alloc::{AllocError, Global};
+use texts::Text;
 
 /// The type of a feature.
 #[derive(Drop)]

@@ -2,7 +2,7 @@
 ghost use Rattle.std.specs.Prelude.{◌≡◌};
 ghost use Rattle.ecore_drafts.specs.Document.{classifier_name};
 
-use ecore_meta::{List, Text};
+use texts::{List, Text};
 
 /// What a document says of a package, in its order: the classifiers by name, and names still to be resolved.
 #[derive(Drop)]

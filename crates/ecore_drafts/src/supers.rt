@@ -9,9 +9,9 @@ ghost use Rattle.ecore_drafts.specs.Supers.{is_above, Inside, Reached, Grown};
 
 use crate::classifiers::Classifiers;
 use crate::rows::ClassifierRow;
-use ecore_meta::Text;
 use std::alloc::{AllocError, Global};
 use std::collections::BTreeSet;
+use texts::Text;
 
 impl<'a> Classifiers<'a> {
     /// The numbers of the classes of those names; what is no class is left out.

@@ -12,9 +12,9 @@ use crate::walk::{flag_at, is_a, is_skipped};
 use ecore_build::{
     ClassRow, ClassifierRow, EnumRow, FeatureRow, LiteralRow, MetaRows, OppositeRow, TypeName,
 };
-use ecore_meta::{List, Text};
 use serde_json::Value;
 use std::alloc::{AllocError, Global};
+use texts::{List, Text};
 
 fn text_in<'a>(key: &str, value: &'a Value) -> Option<&'a str>
     ensures { option_copied result ≡ text_in key.now (view value.now) }

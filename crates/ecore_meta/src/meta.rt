@@ -1,8 +1,8 @@
 //! The terms of a metamodel: values, types of attributes, kinds of features, features, classes and literals.
 ghost use Rattle.std.specs.Prelude.{◌≡◌, IfOk};
 
-use crate::{List, Text};
 use std::alloc::{AllocError, Global};
+use texts::{List, Text};
 
 /// A value of an attribute.
 #[derive(Debug, PartialEq, Drop)]

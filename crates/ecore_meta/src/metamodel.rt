@@ -9,7 +9,6 @@ ghost use Rattle.ecore_meta.specs.Holds.{Holds};
 ghost use Rattle.ecore_meta.specs.Parts.{meta_in};
 ghost use Rattle.ecore_meta.specs.Values.{literal_in};
 
-use crate::Text;
 use crate::above::{is_in, set_at};
 use crate::enums::Enums;
 use crate::feature_index::{feature_indexes, feature_of, name_index};
@@ -18,6 +17,7 @@ use crate::meta::{Class, Enum, Feature};
 use std::alloc::{AllocError, Global};
 use std::collections::{BTreeMap, BTreeSet};
 use std::marker::Model;
+use texts::Text;
 
 /// A metamodel, which contracts see as its classes, the classes above each, its features and its enums.
 #[derive(Drop)]

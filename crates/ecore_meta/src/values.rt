@@ -7,10 +7,10 @@ ghost use Rattle.ecore_meta.specs.declared.meta.Scalar.TheVariants.{Byte, Short,
 ghost use Rattle.ecore_meta.specs.declared.meta.Value.TheVariants.{Whole};
 ghost use Rattle.ecore_meta.specs.Values.{default_of, flag_of, named_of, value_of, whole_in, whole_of, wide};
 
-use crate::Text;
 use crate::enums::Enums;
 use crate::meta::{Scalar, Value};
 use std::alloc::{AllocError, Global};
+use texts::Text;
 
 fn begins_with_plus(text: &[u8]) -> bool
     ensures { result ≡ nat_eq (slice_index text.now 0) 43 }

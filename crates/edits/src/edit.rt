@@ -1,6 +1,6 @@
 //! Edits as a user gives them, by ids, names and texts, and what is recorded of one.
-use ecore_meta::Text;
 use model_state::{Id, Operation};
+use texts::Text;
 
 /// Where an element is to stand, as it is given. It comes last there, or at an index.
 #[derive(Drop)]

@@ -12,12 +12,13 @@ ghost use Rattle.model_documents.specs.Attributes.{elements, many_part, may_hold
 ghost use Rattle.model_documents.specs.Reads.{found};
 
 use crate::held::Held;
-use ecore_meta::{List, Metamodel, Scalar, Value};
+use ecore_meta::{Metamodel, Scalar, Value};
 use emfjson_io::value_in;
 use model_documents::{DocAttr, ModelFault};
 use model_state::{MOST_ENTRIES, is_default, is_same_value, upper_of};
 use serde_json::Value as Json;
 use std::alloc::{AllocError, Global};
+use texts::List;
 
 /// The values of a list, where a single value stands for the list of it alone.
 pub(crate) fn elements(json: &Json) -> &[Json]

@@ -7,12 +7,12 @@ ghost use Rattle.model_documents.specs.declared.doc.DocParent.{DocParent};
 ghost use Rattle.model_documents.specs.Finder.{ChildrenOf, NamesOf, first_of, numbers_at};
 ghost use Rattle.model_documents.specs.Places.{child_at, class_at, named, numbers_where, parent_eq, stands_in};
 
-use ecore_meta::List;
 use model_documents::{DocParent, Draft};
 use model_state::Id;
 use std::alloc::{AllocError, Global};
 use std::collections::BTreeMap;
 use std::marker::Model;
+use texts::List;
 
 /// The elements of a document, which are soon found by an id and by a place.
 #[derive(Drop)]

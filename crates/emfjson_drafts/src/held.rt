@@ -1,6 +1,6 @@
 //! What is read of an object's keys so far.
-use ecore_meta::List;
 use model_documents::{DocAttr, Links};
+use texts::List;
 
 /// What the keys of an object gave so far.
 #[derive(Drop)]

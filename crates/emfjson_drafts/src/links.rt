@@ -6,10 +6,10 @@ ghost use Rattle.model_documents.specs.Links.{entries_of, entry_of, links_part};
 
 use crate::attributes::elements;
 use crate::held::Held;
-use ecore_meta::{List, Text};
 use model_documents::{Links, ModelFault};
 use serde_json::Value;
 use std::alloc::{AllocError, Global};
+use texts::{List, Text};
 
 fn entry_of(alloc: Global, value: &Value) -> Result<Option<Text>, AllocError>
     ensures { IfOk result (λ entry. entry ≡ entry_of (view value.now)) }

@@ -12,11 +12,12 @@ use crate::drafts::Drafts;
 use crate::held::Held;
 use crate::identity::id_of;
 use crate::links::links_part;
-use ecore_meta::{Kind, List, Metamodel};
+use ecore_meta::{Kind, Metamodel};
 use model_documents::{DocParent, Draft, Key, ModelFault};
 use model_state::{Id, is_one, upper_of};
 use serde_json::{Map, Value};
 use std::alloc::Global;
+use texts::List;
 
 fn not_object(default: Option<u32>) -> ModelFault
     ensures { result ≡ not_object default }

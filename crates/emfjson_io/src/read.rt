@@ -6,9 +6,10 @@ ghost use Rattle.ecore_meta.specs.Typing.{fits, half_of};
 ghost use Rattle.ecore_meta.specs.declared.meta.Value.TheVariants.{Text as TextValue, Whole};
 ghost use Rattle.emfjson_io.specs.Values.{GivesValue, value_in, value_of, whole_in};
 
-use ecore_meta::{Metamodel, Scalar, Text, Value, ValueFault};
+use ecore_meta::{Metamodel, Scalar, Value, ValueFault};
 use serde_json::Value as Json;
 use std::alloc::{AllocError, Global};
+use texts::Text;
 
 /// The value of the type that a text is. A text type takes a JSON string, and EBoolean `true` or `false`. A type of
 /// whole numbers takes a number that is written as a whole one and that its bits hold, so neither `1.0` nor `-0`. An

@@ -5,9 +5,10 @@ ghost use Rattle.ecore_meta.specs.Typing.{fits};
 ghost use Rattle.ecore_meta.specs.declared.meta.Value.TheVariants.{Literal};
 ghost use Rattle.emfjson_io.specs.Values.{data_of, literal_word, value_text};
 
-use ecore_meta::{Metamodel, Scalar, Text, Value};
+use ecore_meta::{Metamodel, Scalar, Value};
 use serde_json::Value as Json;
 use std::alloc::{AllocError, Global};
+use texts::Text;
 
 /// The text of a value of the type: JSON without spaces, with `serde_json`'s escapes. A literal is its text in quotes.
 pub fn write_value(

@@ -6,11 +6,12 @@ ghost use Rattle.model_documents.specs.Merged.{attr_at, attrs_by, merged, merged
 
 use crate::sources::Sources;
 use crate::targets::Targets;
-use ecore_meta::{List, Metamodel, Value};
+use ecore_meta::{Metamodel, Value};
 use emfjson_drafts::is_within;
 use model_documents::{DocAttr, DocRefs, DocRow, Draft, ModelFault};
 use model_state::{Id, opposite_of, row_upper};
 use std::alloc::{AllocError, Global};
+use texts::List;
 
 /// Those of the numbers that are not among the targets.
 fn without(alloc: Global, numbers: &[usize], targets: &Targets) -> Result<List<usize>, AllocError>

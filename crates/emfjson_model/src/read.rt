@@ -5,11 +5,12 @@ ghost use Rattle.model_documents.specs.Document.{doc_of, resolved};
 
 use crate::merged::rows_by;
 use crate::references::given_by;
-use ecore_meta::{List, Metamodel};
+use ecore_meta::Metamodel;
 use emfjson_drafts::walk;
 use model_documents::{Doc, DocRow, Draft, ModelFault};
 use serde_json::Value;
 use std::alloc::Global;
+use texts::List;
 
 /// The references of the elements are looked up, and then merged.
 fn resolved(alloc: Global, meta: &Metamodel, drafts: &[Draft]) -> Result<List<DocRow>, ModelFault>

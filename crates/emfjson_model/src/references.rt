@@ -8,11 +8,12 @@ ghost use Rattle.model_documents.specs.References.{entries_at, given_by, located
 
 use crate::paths::located;
 use crate::targets::Targets;
-use ecore_meta::{Kind, List, Metamodel, Text};
+use ecore_meta::{Kind, Metamodel};
 use emfjson_drafts::Finder;
 use model_documents::{DocRefs, Draft, Links, ModelFault};
 use model_state::is_plain;
 use std::alloc::{AllocError, Global};
+use texts::{List, Text};
 
 /// Whether a plain reference may have a target of the class.
 fn is_plain_to(meta: &Metamodel, f: u32, class: u32) -> bool

@@ -7,12 +7,12 @@ ghost use Rattle.model_documents.specs.Merged.{given_at, naming, targets_at};
 ghost use Rattle.model_documents.specs.Places.{parent_eq};
 ghost use Rattle.emfjson_model.specs.Sources.{SourcesOf, also, ends_with, push_once};
 
-use ecore_meta::List;
 use emfjson_drafts::take_numbers;
 use model_documents::{DocParent, DocRefs};
 use std::alloc::{AllocError, Global};
 use std::collections::BTreeMap;
 use std::marker::Model;
+use texts::List;
 
 /// What each element gives of its plain references; it is soon found which elements name one by a feature.
 #[derive(Drop)]

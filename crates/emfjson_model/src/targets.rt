@@ -2,10 +2,10 @@
 ghost use Rattle.std.specs.Prelude.{◌≡◌, ◌∷◌, ◌++◌, [], IfOk, nat_eq};
 ghost use Rattle.std.specs.List.{list_any};
 
-use ecore_meta::List;
 use std::alloc::{AllocError, Global};
 use std::collections::BTreeSet;
 use std::marker::Model;
+use texts::List;
 
 /// Targets in order; it is soon found whether a number is among them.
 #[derive(Drop)]

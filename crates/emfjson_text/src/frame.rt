@@ -1,7 +1,7 @@
 //! The frames of the writer's stack: objects and arrays that are begun and not ended.
-use ecore_meta::List;
 use model_state::{Entry, Id};
 use model_texts::Key;
+use texts::List;
 
 /// The object of an element, from one of its keys on.
 #[derive(Drop)]

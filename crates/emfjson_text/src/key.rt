@@ -3,10 +3,11 @@ ghost use Rattle.std.specs.Prelude.{◌≡◌, ◌++◌, IfOk, OnOk, map};
 ghost use Rattle.model_texts.specs.Keys.{key_cmp, key_name, key_number, keys_of};
 ghost use Rattle.model_texts.specs.declared.key.Key.TheVariants.{Feature as OfFeature};
 
-use ecore_meta::{List, Metamodel};
+use ecore_meta::Metamodel;
 use model_texts::Key;
 use std::alloc::{AllocError, Global};
 use std::cmp::Ordering;
+use texts::List;
 
 /// The name that a key has in an element's object; that of a feature is the metamodel's.
 pub(crate) fn key_name(meta: &Metamodel, key: Key) -> &str

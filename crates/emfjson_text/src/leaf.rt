@@ -10,11 +10,12 @@ ghost use Rattle.emfjson_io.specs.Values.{data_of};
 ghost use Rattle.emfjson_text.specs.Frames.{only, references_text, text_if};
 ghost use Rattle.model_texts.specs.Tree.{class_text, entry_ids, first_value, listed, reference};
 
-use ecore_meta::{Metamodel, Scalar, Text, Value};
+use ecore_meta::{Metamodel, Scalar, Value};
 use emfjson_io::write_value;
 use model_state::Entry;
 use serde_json::Value as Json;
 use std::alloc::{AllocError, Global};
+use texts::Text;
 
 /// A text as a JSON string.
 pub(crate) fn quoted(alloc: Global, text: &str) -> Result<String, AllocError>

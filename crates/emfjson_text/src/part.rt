@@ -9,10 +9,11 @@ ghost use Rattle.model_state.specs.declared.step.Place.TheVariants.{Inside};
 
 use crate::frame::Object;
 use crate::leaf::{class_text, many_values, one_value, quoted, references};
-use ecore_meta::{Kind, List, Metamodel, Text};
+use ecore_meta::{Kind, Metamodel};
 use model_state::{Entry, Id, Look, Place, is_one};
 use model_texts::Key;
 use std::alloc::{AllocError, Global};
+use texts::{List, Text};
 
 /// What stands under a key.
 #[derive(Drop)]

@@ -12,9 +12,10 @@ use crate::frame::{Frame, Object};
 use crate::key::{key_name, keys_of};
 use crate::leaf::{only, quoted};
 use crate::part::{Part, next_part};
-use ecore_meta::{List, Metamodel, Text};
+use ecore_meta::Metamodel;
 use model_state::{Entry, Id, Look, Place};
 use std::alloc::{AllocError, Global};
+use texts::{List, Text};
 
 /// A text in the making: what is written so far, and what is begun, the outermost first. The depth of a model is that
 /// of this stack, and no call's.

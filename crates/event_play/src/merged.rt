@@ -7,11 +7,11 @@ ghost use Rattle.plain_repository.specs.State.{with_changed};
 ghost use Rattle.repo_state.specs.Planning.{AreTheirs, KeepModel, replaced, restarted, taken_up};
 
 use canoniser::{is_tidy, tidy as tidy_package};
-use ecore_meta::Text;
 use merge_plans::{are_choices, copy_operations};
 use model_state::Package;
 use repo_state::{Merged, ReplayFault, Repo, Updated};
 use std::alloc::Global;
+use texts::Text;
 
 /// The operations of a workspace once it is tidied.
 fn tidied(alloc: Global, repo: &Repo, ws: u32) -> Result<Package, ReplayFault>

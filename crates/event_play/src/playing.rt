@@ -13,7 +13,6 @@ ghost use Rattle.event_play.specs.Playing.{is_at_head, is_tested_late};
 
 use crate::merged::{merge, tidy, update};
 use commit_journal::{MOST_BYTES, next_gate};
-use ecore_meta::Text;
 use history_tree::Signature;
 use model_state::is_name;
 use op_form::Event;
@@ -22,6 +21,7 @@ use page_pool::Pool;
 use repo_state::{ReplayFault, Repo};
 use state_cache::Cache;
 use std::alloc::{AllocError, Global};
+use texts::Text;
 
 fn is_closed(repo: &Repo, ws: u32) -> bool
     ensures { result ≡ is_closed (workspace_of repo.now ws) }

@@ -5,10 +5,10 @@ ghost use Rattle.feature_writers.specs.Replies.{Gives, query_of, blame_of, query
 use crate::asked::{feature_of, id_of, version_of};
 use crate::fault::Fault;
 use crate::writers::{blame_lines, last_write};
-use ecore_meta::{List, Text};
 use repo_state::Repo;
 use script_lang::{Last, Refusal, Reply, Spec};
 use std::alloc::{AllocError, Global};
+use texts::{List, Text};
 
 /// What `query` asks for.
 #[tactic(auto, unfolding(crate::specs::Replies::query_of))]

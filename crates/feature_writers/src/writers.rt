@@ -9,10 +9,11 @@ ghost use Rattle.change_index.specs.Last.{last_of};
 ghost use Rattle.feature_writers.specs.Writers.{last_write, blame_line, lines_by, blame_lines};
 
 use change_index::{ChangeIndex, index_of, law_of_last_writes};
-use ecore_meta::{List, Metamodel, Text};
+use ecore_meta::Metamodel;
 use history_tree::History;
 use model_state::Id;
 use std::alloc::{AllocError, Global};
+use texts::{List, Text};
 
 /// The last version of a path that wrote the feature, by the index.
 fn last_on(index: &ChangeIndex, path: &List<u32>, e: &Id, f: u32) -> Option<u32>

@@ -1,5 +1,5 @@
 //! Buckets, as the calls that group conflicts give them.
-use ecore_meta::List;
+use texts::List;
 
 /// The places of the operations of one bucket, counted from 0 on each side, rising.
 #[derive(Drop)]

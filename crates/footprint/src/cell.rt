@@ -1,8 +1,8 @@
 //! Cells, and the cells of an operation.
 ghost use Rattle.footprint.specs.Order.{IsOrder};
 
-use ecore_meta::List;
 use model_state::Id;
+use texts::List;
 
 /// A part of a model that steps write or read as one. Cells stand in an order: by their sorts, and in one sort by what they are of.
 #[derive(PartialEq, Eq, PartialOrd, Ord, Drop)]

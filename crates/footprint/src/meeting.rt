@@ -6,7 +6,7 @@ ghost use Rattle.footprint.specs.Prints.{cells, hold_one};
 
 use crate::sorting::holds;
 use crate::{Cell, Print};
-use ecore_meta::List;
+use texts::List;
 
 fn hold_one(list: &[Cell], other: &[Cell], order: &[usize]) -> bool
     requires { IsOrder other.now order.now }

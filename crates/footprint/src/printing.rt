@@ -8,9 +8,10 @@ ghost use Rattle.footprint.specs.Prints.{seen, cells, shown, printed};
 
 use crate::sorting::order_of;
 use crate::{Cell, Print};
-use ecore_meta::{Kind, List, Metamodel};
+use ecore_meta::{Kind, Metamodel};
 use model_state::{Id, Operation, Place, Step, opposite_of};
 use std::alloc::{AllocError, Global};
+use texts::List;
 
 fn is_bounded(meta: &Metamodel, f: u32) -> bool
     ensures { result ≡ is_bounded meta.now f }

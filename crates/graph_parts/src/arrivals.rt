@@ -8,11 +8,11 @@ ghost use Rattle.model_state.specs.Keys.{attr_cmp};
 ghost use Rattle.graph_parts.specs.Parts.{arrived};
 
 use crate::copies::copied_sources;
-use ecore_meta::List;
 use model_state::{Id, Incoming};
 use std::alloc::{AllocError, Global};
 use std::collections::BTreeMap;
 use std::marker::Model;
+use texts::List;
 
 /// The rows of a tree, in their order.
 fn listed(alloc: Global, tree: &BTreeMap<(Id, u32), u64>) -> Result<List<Incoming>, AllocError>

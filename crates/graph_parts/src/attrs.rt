@@ -9,9 +9,10 @@ ghost use Rattle.graph_parts.specs.Parts.{flat};
 
 use crate::by_feature::{add, index_of, without};
 use crate::copies::copied_attrs;
-use ecore_meta::{List, Value};
+use ecore_meta::Value;
 use std::alloc::{AllocError, Global};
 use std::marker::Model;
+use texts::List;
 
 /// The values of an element's attributes that are set, by feature. An element has few, so they stand in one vector. It is
 /// searched from its beginning, and makes room for one attribute at a time.

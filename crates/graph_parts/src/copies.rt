@@ -7,11 +7,12 @@ ghost use Rattle.finite_maps.specs.Maps.{set_all};
 ghost use Rattle.finite_maps.specs.Tables.{table};
 ghost use Rattle.model_state.specs.Keys.{attr_cmp};
 
-use ecore_meta::{List, Value};
+use ecore_meta::Value;
 use model_state::Id;
 use ranked_lists::RankedList;
 use std::alloc::{AllocError, Global};
 use std::collections::BTreeMap;
+use texts::List;
 
 /// The same values in memory of their own, and in no more than they need.
 fn copied_values(alloc: Global, values: &[Value]) -> Result<List<Value>, AllocError>

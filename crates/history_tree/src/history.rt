@@ -11,9 +11,10 @@ ghost use Rattle.history_tree.specs.Room.{most_numbered};
 use crate::found::{FindFault, Found};
 use crate::names::NameIndex;
 use crate::version::{Branch, Tag, Version};
-use ecore_meta::{CompactList, List, Text};
+use ecore_meta::CompactList;
 use std::alloc::{AllocError, Global};
 use std::marker::Model;
+use texts::{List, Text};
 
 /// Versions, branches and tags, at most 4,294,967,295 of each. Contracts see its lists, and the room for further ones as a number.
 #[derive(Drop)]

@@ -6,8 +6,8 @@ ghost use Rattle.history_tree.specs.Marks.{is_flagged, Flagged, FlagsKnown};
 ghost use Rattle.history_tree.specs.MergeBase.{greatest, last_common, merge_base, IsLastCommon, IsMergeBase};
 
 use crate::history::History;
-use ecore_meta::List;
 use std::alloc::{AllocError, Global};
+use texts::List;
 
 /// Sets the flags of the versions.
 fn flag_all(flags: &mut Vec<bool>, versions: &[u32])

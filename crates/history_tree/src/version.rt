@@ -1,8 +1,9 @@
 //! Versions, branches and tags, one by one.
 
-use ecore_meta::{CompactList, List, Text};
+use ecore_meta::CompactList;
 use model_state::Operation;
 use std::mem::size_of;
+use texts::{List, Text};
 
 /// What one commit recorded after its parent. Versions and branches are numbered in the order in which they are made, from 0.
 #[derive(Drop)]

@@ -3,9 +3,9 @@ ghost use Rattle.std.specs.Prelude.{◌≡◌, ◌++◌, IfOk, OnOk, length};
 ghost use Rattle.merge_laws.specs.Merge.{kept, dropped};
 ghost use Rattle.merge_choices.specs.Flags.{is_flagged};
 
-use ecore_meta::List;
 use model_state::{Operation, Package};
 use std::alloc::{AllocError, Global};
+use texts::List;
 
 /// Puts the operations whose flags are not set after those that stand, in order.
 pub(crate) fn keep(

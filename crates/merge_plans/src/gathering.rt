@@ -2,10 +2,10 @@
 ghost use Rattle.std.specs.Prelude.{◌≡◌, ◌++◌, ◌<◌, All, IfOk, OnOk, length};
 ghost use Rattle.history_tree.specs.Since.{operations_after, path_after};
 
-use ecore_meta::List;
 use history_tree::History;
 use model_state::{Operation, Package};
 use std::alloc::{AllocError, Global};
+use texts::List;
 
 /// Puts copies of operations after those that are there.
 pub(crate) fn push_copies(

@@ -11,13 +11,14 @@ use crate::gathering::{copy_operations, operations_after, push_copies};
 use crate::letters::sides_of;
 use canoniser::tidy;
 use conflict_buckets::buckets;
-use ecore_meta::{List, Metamodel};
+use ecore_meta::Metamodel;
 use footprint::Buckets;
 use history_tree::History;
 use merge_choices::{ChoiceFault, merge_package, update_package};
 use model_state::{Operation, Package};
 use reversals::reverse;
 use std::alloc::{AllocError, Global};
+use texts::List;
 
 /// Two packages that begin at one model, and their buckets.
 #[derive(Drop)]

@@ -2,8 +2,8 @@
 ghost use Rattle.std.specs.Prelude.{◌≡◌};
 ghost use Rattle.metamodel_growth.specs.declared.fault.EvolveFault.TheVariants.{Memory};
 
-use ecore_meta::Text;
 use std::alloc::AllocError;
+use texts::Text;
 use thiserror::Error;
 
 /// Why there is no metamodel in the place of the old one.

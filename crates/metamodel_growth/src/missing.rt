@@ -7,9 +7,10 @@ ghost use Rattle.metamodel_growth.specs.Extension.{IsEnumIndex, class_kept, clas
 
 use crate::kept::{class_kept, enum_kept, feature_kept};
 use crate::names::{class_name, enum_name, feature_name, owner_name};
-use ecore_meta::{Metamodel, Text};
+use ecore_meta::Metamodel;
 use std::alloc::{AllocError, Global};
 use std::collections::BTreeMap;
+use texts::Text;
 
 /// The first class that the new metamodel does not have as the old one does.
 fn lost_class(alloc: Global, old: &Metamodel, next: &Metamodel) -> Result<Option<u32>, AllocError>

@@ -11,11 +11,10 @@ ghost use Rattle.metamodel_growth.specs.Renumbered.{class_moved, feature_moved, 
 
 use crate::kept::above_of;
 use crate::order::{Order, Orders, places};
-use ecore_meta::{
-    Class, Enum, EnumLiteral, Enums, Feature, Kind, List, Metamodel, Parts, Scalar, Text, Value,
-};
+use ecore_meta::{Class, Enum, EnumLiteral, Enums, Feature, Kind, Metamodel, Parts, Scalar, Value};
 use std::alloc::{AllocError, Global};
 use std::collections::BTreeSet;
+use texts::{List, Text};
 
 fn scalar_moved(to: &Orders, scalar: &Scalar) -> Scalar
     ensures { result ≡ scalar_moved to.now scalar.now }

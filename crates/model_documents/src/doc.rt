@@ -1,6 +1,7 @@
 //! The document that a model text describes: a row for each element, with its place, attributes and references by number.
-use ecore_meta::{List, Value};
+use ecore_meta::Value;
 use model_state::Id;
+use texts::List;
 
 /// The elements that a model text describes, each after the one that contains it.
 #[derive(Drop)]

@@ -1,7 +1,7 @@
 //! An element as the walk leaves it, with its references still as texts.
 use crate::doc::{DocAttr, DocParent};
-use ecore_meta::{List, Text};
 use model_state::Id;
+use texts::{List, Text};
 
 /// An element as the walk finds it, whose references are not looked up yet.
 #[derive(Drop)]

@@ -12,13 +12,14 @@ ghost use Rattle.model_state.specs.Keys.{IdBytes, id_cmp};
 ghost use Rattle.model_graph.specs.Seen.{Rewrites, either_node};
 
 use crate::writes::{drop_into, drop_out, put_into, put_out, rewrite_into};
-use ecore_meta::{List, Value};
+use ecore_meta::Value;
 use graph_parts::Node;
 use model_state::Id;
 use nodes::Nodes;
 use ranked_lists::RankedList;
 use std::alloc::{AllocError, Global};
 use std::marker::Model;
+use texts::List;
 
 /// A model over elements in slots, which contracts see as its state.
 ///

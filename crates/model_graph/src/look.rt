@@ -9,12 +9,13 @@ ghost use Rattle.model_graph.specs.Seen.{standing};
 
 use crate::Graph;
 use crate::graph::rank_out;
-use ecore_meta::{List, Value};
+use ecore_meta::Value;
 use graph_parts::Node;
 use model_state::{Entry, Id, Incoming, Look, Place, Placed};
 use nodes::Nodes;
 use ranked_lists::RankedList;
 use std::alloc::{AllocError, Global};
+use texts::List;
 
 /// The targets of a feature of an element. `None` stands for an empty list.
 pub(crate) fn targets_of<'a>(nodes: &'a Nodes<Node>, a: &Id, f: u32) -> Option<&'a RankedList>

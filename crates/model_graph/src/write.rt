@@ -5,11 +5,12 @@ use crate::Graph;
 use crate::lists::{list_in, list_out};
 use crate::look::targets_of;
 use crate::writes::{drop_attr, put_attr, write_placed};
-use ecore_meta::{List, Metamodel, Value};
+use ecore_meta::{Metamodel, Value};
 use graph_parts::Node;
 use model_state::{Change, Id, Look, Place, Placed, Step, StepFault};
 use std::alloc::{AllocError, Global};
 use step_rules::{Write, insert_in, remove_in, shift_in, take_step};
+use texts::List;
 
 impl Write for Graph {
     fn target_count(&self, a: &Id, f: u32) -> usize {

@@ -5,11 +5,12 @@ ghost use Rattle.finite_maps.specs.Maps.{set};
 ghost use Rattle.spread_maps.specs.Spread.{inner};
 ghost use Rattle.model_graph.specs.Seen.{Rewrites};
 
-use ecore_meta::{List, Value};
+use ecore_meta::Value;
 use graph_parts::Node;
 use model_state::{Id, Placed};
 use nodes::Nodes;
 use std::alloc::{AllocError, Global};
+use texts::List;
 
 /// Writes the values of an attribute of the element.
 pub fn put_attr(

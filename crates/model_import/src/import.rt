@@ -8,11 +8,12 @@ use crate::links::add_links;
 use crate::names::{any_in_use, names};
 use crate::news::news;
 use crate::values::add_values;
-use ecore_meta::{List, Metamodel, Text};
+use ecore_meta::Metamodel;
 use edit_laws::EditFault;
 use model_documents::{Doc, DocRow};
 use model_state::{Id, Look, Operation, Step};
 use std::alloc::{AllocError, Global};
+use texts::{List, Text};
 
 /// The steps: the elements are created, then they get their values, then they are linked.
 fn steps<L: Look>(

@@ -5,11 +5,12 @@ ghost use Rattle.import_laws.specs.Links.{is_made, link_to, links_from, links_ma
 use crate::indexes::Indexes;
 use crate::names::name_at;
 use crate::news::rank_of;
-use ecore_meta::{List, Metamodel};
+use ecore_meta::Metamodel;
 use model_documents::{DocRefs, DocRow};
 use model_state::{Id, Step, opposite_of};
 use opposites::link_step;
 use std::alloc::{AllocError, Global};
+use texts::List;
 
 /// Whether the link was made from the other side.
 fn is_made(opposite: Option<u32>, n: usize, f: u32, b: usize) -> bool

@@ -5,11 +5,11 @@ ghost use Rattle.model_documents.specs.Laws.{gives_id};
 ghost use Rattle.import_laws.specs.Names.{AreNames, IsName, any_in_use, in_use, is_taken, name_at};
 
 use crate::given::Given;
-use ecore_meta::List;
 use edits::numbered_id;
 use model_documents::DocRow;
 use model_state::{Id, Look};
 use std::alloc::{AllocError, Global};
+use texts::List;
 
 /// The id of a row, and the number from which fresh ones go on.
 #[derive(Drop)]

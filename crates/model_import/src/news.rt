@@ -12,12 +12,12 @@ ghost use Rattle.import_laws.specs.News.{element_made, has_room, news_made, plac
 use crate::counts::{count_up, counted};
 use crate::names::name_at;
 use crate::roots::add_root;
-use ecore_meta::List;
 use edit_laws::EditFault;
 use model_documents::{DocParent, DocRow};
 use model_state::{Entry, Id, Look, Place, RANK_GAP, Step};
 use std::alloc::{AllocError, Global};
 use std::collections::BTreeMap;
+use texts::List;
 
 /// The rank of the k-th entry of a new list, from 0.
 pub(crate) fn rank_of(k: usize) -> u64

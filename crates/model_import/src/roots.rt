@@ -8,10 +8,10 @@ ghost use Rattle.model_state.specs.declared.step.Step.TheVariants.{New};
 ghost use Rattle.import_laws.specs.Roots.{has_end, root_after, root_made, with_ranks};
 ghost use Rattle.model_state.specs.Ranks.{most_entries, rank_gap};
 
-use ecore_meta::List;
 use edit_laws::EditFault;
 use model_state::{Entry, Id, MOST_ENTRIES, Place, RANK_GAP, Step, rank_between};
 use std::alloc::{AllocError, Global};
+use texts::List;
 
 /// The rank after the last of the entries, None where none is left.
 fn rank_after(list: &[Entry]) -> Option<u64>

@@ -3,10 +3,11 @@ ghost use Rattle.std.specs.Prelude.{◌≡◌, ◌++◌, OnOk, length};
 ghost use Rattle.import_laws.specs.Values.{attr_made, attrs_made, inserts_made, put_made, values_made};
 
 use crate::names::name_at;
-use ecore_meta::{List, Metamodel, Value};
+use ecore_meta::{Metamodel, Value};
 use model_documents::{DocAttr, DocRow};
 use model_state::{Id, Step, is_attr};
 use std::alloc::{AllocError, Global};
+use texts::List;
 
 fn add_put(
     alloc: Global,

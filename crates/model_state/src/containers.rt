@@ -4,8 +4,8 @@ ghost use Rattle.model_state.specs.Keys.{IdBytes};
 ghost use Rattle.model_state.specs.Chains.{IsChain};
 
 use crate::{Id, Look, Place};
-use ecore_meta::List;
 use std::alloc::{AllocError, Global};
+use texts::List;
 
 /// The containers of a place, the innermost first, up to the root.
 pub fn chain<L: Look>(alloc: Global, look: &L, place: &Place) -> Result<List<Id>, AllocError>

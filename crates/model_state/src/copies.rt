@@ -3,8 +3,9 @@ ghost use Rattle.std.specs.Prelude.{◌≡◌, IfOk};
 ghost use Rattle.model_state.specs.declared.step.Step.TheVariants.{Put, Ins, Del, Shift, Link, Unlink, RerankRow, New, Gone, Move, RerankPlace};
 
 use crate::{Id, Place, Step};
-use ecore_meta::{Boxed, List, Value};
+use ecore_meta::{Boxed, Value};
 use std::alloc::{AllocError, Global};
+use texts::List;
 
 /// A copy of a value that may be missing.
 pub fn copy_value(alloc: Global, v: &Option<Value>) -> Result<Option<Value>, AllocError>

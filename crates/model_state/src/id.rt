@@ -7,10 +7,10 @@ ghost use Rattle.std.specs.List.{list_all};
 ghost use Rattle.model_state.specs.Ident.{is_id, is_id_byte, begins_as_id};
 ghost use Rattle.model_state.specs.Faults.{IsIdFault};
 
-use ecore_meta::Text;
 use std::alloc::{AllocError, Global};
 use std::cmp::Ordering;
 use std::marker::Model;
+use texts::Text;
 use thiserror::Error;
 
 /// The most bytes of an id.

@@ -3,9 +3,10 @@ ghost use Rattle.std.specs.Prelude.{◌≡◌, IfOk};
 ghost use Rattle.model_state.specs.Packages.{steps_of};
 
 use crate::Step;
-use ecore_meta::{CompactList, List, Text};
+use ecore_meta::CompactList;
 use std::alloc::{AllocError, Global};
 use std::mem::size_of;
+use texts::{List, Text};
 
 /// The kind of a simple operation, after the operations of EMFStore.
 #[derive(Clone, Copy, Debug, PartialEq, Eq, Drop)]

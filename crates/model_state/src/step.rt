@@ -5,9 +5,10 @@ ghost use Rattle.model_state.specs.Chains.{parent_of};
 ghost use Rattle.model_state.specs.State.{place_eq, is_inside};
 
 use crate::Id;
-use ecore_meta::{Boxed, List, Value};
+use ecore_meta::{Boxed, Value};
 use std::alloc::{AllocError, Global};
 use std::mem::size_of;
+use texts::List;
 use thiserror::Error;
 
 /// Where an element stands: at the root of the model, or in a containment of its parent.

@@ -7,7 +7,7 @@ ghost use Rattle.step_apply.specs.View.{plain_state};
 use crate::metamodels::metamodel;
 use crate::reading::{cut, id, prefixed, step, steps};
 use crate::steps::{TABLE, told};
-use ecore_meta::{List, Metamodel};
+use ecore_meta::Metamodel;
 use model_graph::Graph;
 use model_laws::replay;
 use model_state::{Change, Entry, Id, Look, Place, Step, StepFault};
@@ -16,6 +16,7 @@ use std::alloc::Global;
 use std::process::Abort;
 use std::test::Fail;
 use step_apply::Plain;
+use texts::List;
 
 // All that a model shows of a place.
 fn put_place<L: Look>(

@@ -3,10 +3,11 @@
 //! A place is `/`, or `a.4` inside the element a, in its feature 4. A value is `"Emma"`, with `\n` and `\"` in it as in JSON, `-5`, `true`, or `#1`,
 //! the literal of that number. Containers have commas between them. `-` is no value, no rank, or no containers. Only a value at the end may have
 //! blanks. Steps have `; ` between them. An operation is its steps, and before those of a composite stand its name and `: `.
-use ecore_meta::{Boxed, CompactList, List, Text, Value};
+use ecore_meta::{Boxed, CompactList, Value};
 use model_state::{Id, OpKind, Operation, Place, Step};
 use std::alloc::Global;
 use std::test::Fail;
+use texts::{List, Text};
 
 // What stands before the first mark and after it: the text and nothing, where there is none.
 pub(crate) fn cut<'a>(text: &'a str, mark: &str) -> (&'a str, &'a str) {

@@ -1,8 +1,8 @@
 //! Replies that no line of a session is answered: those of stores that are too large for one.
-use ecore_meta::List;
 use script_lang::{Last, Refusal, Reply, print_reply};
 use std::alloc::Global;
 use std::test::Fail;
+use texts::List;
 
 // Refusals of large stores, and the greatest offset; and their replies, in that order.
 const REFUSALS: [Refusal; 4] = [

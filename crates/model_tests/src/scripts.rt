@@ -1,6 +1,6 @@
 //! The lines of events, and which events a script can't hold: each reason, and what is just on its edge.
 use crate::reading::cut;
-use ecore_meta::{CompactList, List, Text, Value};
+use ecore_meta::{CompactList, Value};
 use history_tree::History;
 use model_state::{Id, OpKind, Operation, Step};
 use op_form::{Event, has_encoding};
@@ -9,6 +9,7 @@ use replay_script::{PrintFault, line_of};
 use std::alloc::Global;
 use std::process::Abort;
 use std::test::Fail;
+use texts::{List, Text};
 
 // The bytes of events, and their lines on the first history, or why they have none there. A line feed is written as `;`.
 const LINES: &str = r#"01 000000037b7d0a = init;{};.;

@@ -6,9 +6,10 @@
 
 use crate::fault::TimesFault;
 use crate::spread::{Spread, Turn};
-use ecore_meta::{Boxed, List, Text, Value};
+use ecore_meta::{Boxed, Value};
 use model_state::{Id, OpKind, Place, Step};
 use std::alloc::Global;
+use texts::{List, Text};
 
 /// The features of the metamodel, by their numbers.
 pub const LABEL: u32 = 0;

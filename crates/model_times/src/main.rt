@@ -16,7 +16,7 @@ ghost use Rattle.model_times.specs.Models.{AreGood};
 
 use anyhow::Result;
 use batches::{BATCHES, Batch, batch_of, building, pieces, steps_of_one};
-use ecore_meta::{CompactList, List, Metamodel};
+use ecore_meta::{CompactList, Metamodel};
 use fault::TimesFault;
 use growth::{measure_growth, read};
 use model_graph::Graph;
@@ -29,6 +29,7 @@ use std::alloc::Global;
 use std::time::{Duration, Instant};
 use std::{env, slice};
 use step_apply::Plain;
+use texts::List;
 
 /// How many elements a model has at least, so that each step of a batch has one of its own.
 const LEAST: u32 = 1000;

@@ -3,9 +3,9 @@
 use crate::batches::{CITES, INNER, LABEL, element};
 use crate::fault::TimesFault;
 use crate::spread::{Spread, Turn};
-use ecore_meta::List;
 use model_state::{Id, Look, Place};
 use std::alloc::Global;
+use texts::List;
 
 /// The queries.
 #[derive(Clone, Copy, Debug, Drop)]

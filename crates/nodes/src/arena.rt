@@ -7,12 +7,12 @@ ghost use Rattle.indexmap.specs.IndexMap.{IsUnique};
 ghost use Rattle.finite_maps.specs.Maps.{set};
 ghost use Rattle.nodes.specs.Tied.{id_in};
 
-use ecore_meta::List;
 use indexmap::IndexMap;
 use model_state::Id;
 use slab::Slab;
 use std::alloc::{AllocError, Global};
 use std::marker::Model;
+use texts::List;
 
 /// Values under ids, which contracts see as a finite map. A table leads from the text of an id to the slot that has the
 /// id and its value. So to find a value costs a look-up of a text in a hash table.

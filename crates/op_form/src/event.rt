@@ -3,8 +3,8 @@ ghost use Rattle.std.specs.Prelude.{◌≡◌};
 ghost use Rattle.op_form.specs.Formed.{is_event};
 
 use crate::formed::{are_operations, is_short_text, is_u32, is_u64};
-use ecore_meta::Text;
 use model_state::Package;
+use texts::Text;
 
 /// What an accepted command changes in the repository. The journal keeps one record an event.
 #[derive(Debug, Drop)]

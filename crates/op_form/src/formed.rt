@@ -8,8 +8,9 @@ ghost use Rattle.op_form.specs.Formed.{is_u32, is_u64, is_i64, is_short_text, is
 
 use crate::Event;
 use crate::event::is_event;
-use ecore_meta::{List, Text, Value};
+use ecore_meta::Value;
 use model_state::{Id, Operation, Package, Place, Step, is_name};
+use texts::{List, Text};
 
 /// Whether an event has an encoding, so that `encode_event` takes it. Each operation has a step, each composite a name
 /// of its form, and each text and list fewer than 2^32 bytes or items.

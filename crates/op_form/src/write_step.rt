@@ -7,9 +7,10 @@ ghost use Rattle.op_form.specs.Steps.{step_encoding};
 ghost use Rattle.op_form.specs.Formed.{IsGiven, IsIdText, IsList, IsValue, IsStep};
 
 use byte_form::Form;
-use ecore_meta::{List, Value};
+use ecore_meta::Value;
 use model_state::{Id, Place, Step};
 use std::alloc::AllocError;
+use texts::List;
 
 /// Writes an id as a text: the count of its bytes, and the bytes. The error is out of memory.
 pub(crate) fn put_id(form: &mut Form, id: &Id) -> Result<(), AllocError>

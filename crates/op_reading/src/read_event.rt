@@ -9,10 +9,11 @@ use crate::FormFault;
 use crate::read_step::take_step;
 use crate::read_value::take_text;
 use byte_form::Reader;
-use ecore_meta::{CompactList, List, Text};
+use ecore_meta::CompactList;
 use model_state::{OpKind, Operation, Package, Step, is_name};
 use op_form::Event;
 use std::alloc::Global;
+use texts::{List, Text};
 
 /// The package whose encoding all of the bytes are.
 ///

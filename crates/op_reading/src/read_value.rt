@@ -5,9 +5,10 @@ ghost use Rattle.op_reading.specs.Given.{Gives};
 
 use crate::FormFault;
 use byte_form::Reader;
-use ecore_meta::{List, Text, Value};
+use ecore_meta::Value;
 use model_state::{Id, IdFault, Place};
 use std::alloc::Global;
+use texts::{List, Text};
 
 /// A text: the count of its bytes in four bytes, and the bytes.
 pub(crate) fn take_text(alloc: Global, reader: &mut Reader<'_>) -> Result<Text, FormFault>

@@ -3,10 +3,11 @@
 
 ghost use Rattle.std.specs.Prelude.{◌≡◌};
 
-use ecore_meta::{CompactList, List};
+use ecore_meta::CompactList;
 use model_state::{Operation, Package, Step};
 use std::alloc::Global;
 use std::mem::replace;
+use texts::List;
 
 /// Gives back the room that a list doesn't use.
 fn fit_steps(alloc: Global, steps: &mut List<Step>)

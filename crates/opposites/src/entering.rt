@@ -8,9 +8,9 @@ ghost use Rattle.opposites.specs.Refusals.{IsRefusal, enter_refusal};
 use crate::LinkFault;
 use crate::link::index_or_end;
 use crate::openings::{Opening, rerank};
-use ecore_meta::List;
 use model_state::{Entry, Id, Look, Step, rank_between};
 use std::alloc::Global;
+use texts::List;
 
 /// The rank at an index of the others, None for their end. Refused with NoEntry before Bound.
 fn enter_list(

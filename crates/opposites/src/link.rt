@@ -12,9 +12,10 @@ use crate::LinkFault;
 use crate::bounds::has_room_for;
 use crate::entering::enter;
 use crate::there::{displace, enter_there};
-use ecore_meta::{List, Metamodel};
+use ecore_meta::Metamodel;
 use model_state::{Id, Look, Step, may_link, opposite_of};
 use std::alloc::{AllocError, Global};
+use texts::List;
 
 /// The link of a row and its mirror, written from the side whose feature has the lesser number.
 pub fn link_step(

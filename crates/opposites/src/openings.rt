@@ -5,9 +5,9 @@ ghost use Rattle.model_state.specs.Ranks.{rank_between, most_entries, rank_gap};
 ghost use Rattle.edit_laws.specs.Spot.{rank_for, ranks_of, evened, spot};
 ghost use Rattle.edit_laws.specs.Rows.{reranks};
 
-use ecore_meta::List;
 use model_state::{Entry, Id, MOST_ENTRIES, RANK_GAP, Step, rank_between};
 use std::alloc::{AllocError, Global};
+use texts::List;
 
 /// A list into which an entry is inserted.
 #[derive(Drop)]

@@ -11,9 +11,10 @@ ghost use Rattle.model_state.specs.Ranks.{most_entries};
 
 use crate::LinkFault;
 use crate::openings::{Opening, rerank};
-use ecore_meta::{List, Metamodel};
+use ecore_meta::Metamodel;
 use model_state::{Entry, Id, Look, Step};
 use std::alloc::{AllocError, Global};
+use texts::List;
 
 /// Whether the element stands at the index.
 pub fn stands_at(list: &[Entry], at: usize, b: &Id) -> bool

@@ -14,9 +14,10 @@ use crate::LinkFault;
 use crate::link::link_step;
 use crate::there::{displace, enter_there};
 use crate::unlink::unlinks;
-use ecore_meta::{List, Metamodel};
+use ecore_meta::Metamodel;
 use model_state::{Id, Look, RANK_GAP, Step, may_link, opposite_of};
 use std::alloc::Global;
+use texts::List;
 
 /// The steps that set a reference that isn't there. Refused with Bound.
 fn set_ref<L: Look>(

@@ -7,9 +7,10 @@ use crate::LinkFault;
 use crate::bounds::{has_room_for, holds_one};
 use crate::entering::enter_last;
 use crate::unlink::unlinks;
-use ecore_meta::{List, Metamodel};
+use ecore_meta::Metamodel;
 use model_state::{Id, Look, RANK_GAP, Step};
 use std::alloc::{AllocError, Global};
+use texts::List;
 
 /// Whether the opposite's list has room, once the entry that it displaces is removed.
 fn has_room_there<L: Look>(

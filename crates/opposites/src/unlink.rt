@@ -9,9 +9,10 @@ ghost use Rattle.opposites.specs.Refusals.{IsReference, IsRefusal};
 
 use crate::LinkFault;
 use crate::look_up::rank_of_mirror;
-use ecore_meta::{List, Metamodel};
+use ecore_meta::Metamodel;
 use model_state::{Entry, Id, Look, Step, opposite_of};
 use std::alloc::{AllocError, Global};
+use texts::List;
 
 /// The unlink of a reference and its mirror, written from the side whose feature has the lesser number.
 pub fn unlink_step(

@@ -5,9 +5,10 @@ ghost use Rattle.edit_laws.specs.References.{backwards, unset_made};
 
 use crate::look_up::rank_of_mirror;
 use crate::unlink::unlink_step;
-use ecore_meta::{List, Metamodel};
+use ecore_meta::Metamodel;
 use model_state::{Entry, Id, Look, Step, opposite_of};
 use std::alloc::{AllocError, Global};
+use texts::List;
 
 /// The unlinks of entries of a feature of an element, the last first.
 fn unlinks_backwards<L: Look>(

@@ -8,12 +8,12 @@ ghost use Rattle.model_state.specs.Listing.{entry_cmp, last_rank};
 ghost use Rattle.ranked_lists.specs.Ranks.{Ranks, entries_by_rank};
 ghost use Rattle.ranked_lists.specs.Ranked.{named, IsTableOf};
 
-use ecore_meta::List;
 use indexmap::IndexMap;
 use model_state::{Entry, Id};
 use std::alloc::{AllocError, Global};
 use std::collections::BTreeSet;
 use std::marker::Model;
+use texts::List;
 
 /// Elements with their ranks: each entry by the text of its id in a hash table, and once more in an ordered set.
 #[derive(Drop)]

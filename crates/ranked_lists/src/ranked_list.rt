@@ -10,10 +10,10 @@ ghost use Rattle.ranked_lists.specs.Ranked.{rank_map, AreRanked};
 
 use crate::few::{copied_entries, drop_among, put_among, rank_among};
 use crate::many::Many;
-use ecore_meta::List;
 use model_state::{Entry, Id};
 use std::alloc::{AllocError, Global};
 use std::marker::Model;
+use texts::List;
 
 /// How many entries one vector has at most.
 const FEW: usize = 16;

@@ -14,12 +14,13 @@ ghost use Rattle.edits.specs.Answers.{Answers};
 use crate::feature::{Named, read};
 use crate::operation::{one_step, operation};
 use crate::{many, reference};
-use ecore_meta::{Kind, List, Metamodel, Text, Value};
+use ecore_meta::{Kind, Metamodel, Value};
 use edit_laws::EditFault;
 use edits::Recorded;
 use model_state::{Id, Look, OpKind, Step, is_attr, is_default, is_many, is_plain, is_same_option};
 use opposites::holds_one;
 use std::alloc::{AllocError, Global};
+use texts::{List, Text};
 
 /// The single value of an attribute, None where it isn't set.
 fn single_value<L: Look>(

@@ -14,11 +14,12 @@ use crate::fresh::fresh_id;
 use crate::operation::operation;
 use crate::place::place_at;
 use containment::{Spot, create_at, creation_spot};
-use ecore_meta::{Metamodel, Text};
+use ecore_meta::Metamodel;
 use edit_laws::EditFault;
 use edits::{Destination, Recorded};
 use model_state::{Id, IdFault, Look, OpKind, Place, is_concrete};
 use std::alloc::Global;
+use texts::Text;
 
 /// The id that is given, or else a fresh one. BadId where the one that is given isn't of the form of an id.
 fn id_or_fresh<L: Look>(

@@ -8,11 +8,12 @@ ghost use Rattle.edit_laws.specs.declared.fault.EditFault.TheVariants.{Memory, N
 ghost use Rattle.edits.specs.Edits.{class_at, feature_at};
 ghost use Rattle.recorder.specs.Answers.{AnswersFeature, AnswersValue};
 
-use ecore_meta::{Metamodel, Scalar, Text, Value, ValueFault};
+use ecore_meta::{Metamodel, Scalar, Value, ValueFault};
 use edit_laws::EditFault;
 use emfjson_io::read_value;
 use model_state::{Id, IdFault, Look};
 use std::alloc::Global;
+use texts::Text;
 
 /// A live element and a feature of its class.
 #[derive(Drop)]

@@ -17,7 +17,7 @@ ghost use Rattle.model_state.specs.Listing.{values_at};
 use crate::feature::{Named, read};
 use crate::operation::{one_step, operation};
 use containment::dels;
-use ecore_meta::{Kind, List, Metamodel, Text, Value};
+use ecore_meta::{Kind, Metamodel, Value};
 use edit_laws::EditFault;
 use edits::Recorded;
 use model_state::{
@@ -25,6 +25,7 @@ use model_state::{
     upper_of,
 };
 use std::alloc::{AllocError, Global};
+use texts::{List, Text};
 
 /// Whether a list of n values has room for one more under the upper bound.
 fn has_room(meta: &Metamodel, f: u32, n: usize) -> bool

@@ -2,9 +2,10 @@
 ghost use Rattle.std.specs.Prelude.{◌≡◌, ◌∷◌, [], IfOk};
 ghost use Rattle.edits.specs.Edits.{operation_of};
 
-use ecore_meta::{CompactList, List};
+use ecore_meta::CompactList;
 use model_state::{OpKind, Operation, Step};
 use std::alloc::{AllocError, Global};
+use texts::List;
 
 /// A list of one step.
 pub fn one_step(alloc: Global, step: Step) -> Result<List<Step>, AllocError>

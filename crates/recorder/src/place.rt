@@ -11,11 +11,12 @@ ghost use Rattle.edits.specs.Answers.{Answers};
 use crate::feature::{Named, live};
 use crate::operation::operation;
 use containment::{MoveFault, delete_steps, is_containment, move_steps};
-use ecore_meta::{List, Metamodel, Text};
+use ecore_meta::Metamodel;
 use edit_laws::EditFault;
 use edits::{Destination, Recorded};
 use model_state::{Id, Look, OpKind, Place, Step};
 use std::alloc::Global;
+use texts::{List, Text};
 
 /// The place of a destination. Refused with NoElement, NoFeature and WrongKind, in this order.
 pub fn place_at<L: Look>(

@@ -13,11 +13,12 @@ ghost use Rattle.edits.specs.Answers.{Answers};
 
 use crate::feature::Named;
 use crate::{attribute, create, many, place, reference};
-use ecore_meta::{Metamodel, Text};
+use ecore_meta::Metamodel;
 use edit_laws::EditFault;
 use edits::{Edit, Recorded};
 use model_state::Look;
 use std::alloc::Global;
+use texts::Text;
 
 /// What is recorded of an edit of a feature that is found, by the edit's kind. Another edit is refused.
 #[tactic(auto, unfolding(crate::specs::Features::effect_on))]

@@ -15,7 +15,7 @@ ghost use Rattle.edits.specs.Answers.{Answers};
 
 use crate::feature::{Named, live, read};
 use crate::operation::operation;
-use ecore_meta::{List, Metamodel, Scalar, Text, Value};
+use ecore_meta::{Metamodel, Scalar, Value};
 use edit_laws::EditFault;
 use edits::Recorded;
 use model_state::{Id, IdFault, Look, OpKind, Step, is_plain};
@@ -23,6 +23,7 @@ use opposites::{
     holds_one, link_steps, reorder_steps, set_ref_steps, unlink_steps, unset_ref_steps,
 };
 use std::alloc::{AllocError, Global};
+use texts::{List, Text};
 
 /// What is recorded of the steps of a reference.
 fn recorded(steps: List<Step>) -> Recorded

@@ -8,9 +8,10 @@ ghost use Rattle.plain_repository.specs.Metamodels.{can_evolve, grown};
 use crate::fault::ReplayFault;
 use crate::making::read_meta;
 use crate::repo::Repo;
-use ecore_meta::{Metamodel, Text};
+use ecore_meta::Metamodel;
 use metamodel_growth::{EvolveFault, evolve, is_same};
 use std::alloc::Global;
+use texts::Text;
 
 /// The metamodel that a text extends another to, where it is another.
 fn extended(alloc: Global, old: &Metamodel, text: &Text) -> Result<Metamodel, ReplayFault>

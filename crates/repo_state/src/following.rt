@@ -7,10 +7,11 @@ ghost use Rattle.history_tree.specs.States.{state_of};
 ghost use Rattle.version_states.specs.Taking.{LedTo};
 
 use crate::merged::Updated;
-use ecore_meta::{List, Metamodel};
+use ecore_meta::Metamodel;
 use history_tree::History;
 use model_state::{Operation, Package};
 use std::alloc::{AllocError, Global};
+use texts::List;
 use version_states::{follow_all, take_back};
 use working_model::Working;
 

@@ -8,9 +8,9 @@ ghost use Rattle.repo_state.specs.Keeping.{plain_of};
 
 use crate::repo::Begun;
 use crate::workspace::Workspace;
-use ecore_meta::Text;
 use history_tree::{History, Signature};
 use std::alloc::{AllocError, Global};
+use texts::Text;
 
 /// Makes room for a version, a branch and a tag. Where 4,294,967,295 of a sort are there it answers out of memory. No
 /// store gets there, as it has at most so many events.

@@ -18,12 +18,13 @@ use crate::recent::to_keep;
 use crate::repo::{Begun, Repo};
 use crate::workspace::Workspace;
 use ecore_json::{EcoreFault, read_metamodel};
-use ecore_meta::{Metamodel, Text};
+use ecore_meta::Metamodel;
 use history_tree::{History, Signature};
 use model_state::Package;
 use page_pool::Pool;
 use state_cache::Cache;
 use std::alloc::{AllocError, Global};
+use texts::Text;
 use version_states::follow;
 use working_model::Working;
 

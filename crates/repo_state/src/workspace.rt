@@ -19,7 +19,7 @@ ghost use Rattle.repo_state.specs.Planning.{replaced, restarted, taken_up};
 
 use crate::following::{model_after, model_before, model_before_one, updated_model};
 use crate::merged::{Merged, Updated};
-use ecore_meta::{CompactList, List, Metamodel, Text};
+use ecore_meta::{CompactList, Metamodel};
 use history_tree::{History, Signature, Version};
 use model_state::{Operation, Package, Step, StepFault};
 use operation_room::fitted;
@@ -27,6 +27,7 @@ use page_pool::Pool;
 use state_cache::Cache;
 use std::alloc::{AllocError, Global};
 use std::mem::replace;
+use texts::{List, Text};
 use version_states::{follow, state_at, steps_out, take_steps};
 use working_model::Working;
 

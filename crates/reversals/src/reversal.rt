@@ -3,9 +3,10 @@ ghost use Rattle.std.specs.Prelude.{◌≡◌, IfOk};
 ghost use Rattle.model_state.specs.Steps.{rev, rev_all};
 ghost use Rattle.model_state.specs.Packages.{rev_kind, rev_op, rev_package};
 
-use ecore_meta::{CompactList, List};
+use ecore_meta::CompactList;
 use model_state::{OpKind, Operation, Package, Step};
 use std::alloc::{AllocError, Global};
+use texts::List;
 
 fn reversed(step: Step) -> Step
     ensures { result ≡ rev step }

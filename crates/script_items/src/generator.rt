@@ -7,8 +7,8 @@ ghost use Rattle.script_items.specs.Words.{most_rounds};
 
 use crate::item::Item;
 use crate::line::push_count;
-use ecore_meta::{List, Text};
 use std::alloc::{AllocError, Global};
+use texts::{List, Text};
 
 /// The most pages of a book.
 const MOST_PAGES: u64 = 1000;

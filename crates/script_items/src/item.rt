@@ -5,10 +5,10 @@ ghost use Rattle.host_port.specs.Cut.{script_from};
 ghost use Rattle.plain_repository.specs.Lines.{is_skipped, takes_block};
 ghost use Rattle.script_items.specs.Items.{IsShortItem, GotItem};
 
-use ecore_meta::Text;
 use host_port::{Got, Host, LineFault, Lines};
 use std::alloc::Global;
 use std::marker::Model;
+use texts::Text;
 
 /// A line, and its block.
 #[derive(Drop)]

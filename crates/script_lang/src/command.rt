@@ -1,7 +1,7 @@
 //! Commands, and how a line names a version.
 use crate::Bytes;
-use ecore_meta::Text;
 use edits::Edit;
+use texts::Text;
 
 /// How a line names a version.
 #[derive(Drop)]

@@ -6,11 +6,11 @@ ghost use Rattle.script_lang.specs.declared.command.Spec.TheVariants.{Tag};
 
 use crate::words::{Words, bad_line, number_of};
 use crate::{Bytes, Command, ParseFault, Spec};
-use ecore_meta::Text;
 use edits::{Destination, Edit};
 use hex::FromHexError;
 use model_state::is_name;
 use std::alloc::{AllocError, Global};
+use texts::Text;
 
 /// The command that a line spells.
 ///

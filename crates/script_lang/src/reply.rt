@@ -2,9 +2,9 @@
 ghost use Rattle.std.specs.Prelude.{◌≡◌, ◌++◌, ◌∷◌, [], IfOk, OnOk, string_bytes};
 ghost use Rattle.script_lang.specs.Reply.{refusal_text, with_fields, printed, printed_lines, last_line, ok_line};
 
-use ecore_meta::{List, Text};
 use std::alloc::{AllocError, Global};
 use std::fmt;
+use texts::{List, Text};
 
 /// Why a command is refused, with the number and the name that its reply has. After each of them the repository and the file are as before.
 #[derive(Drop)]

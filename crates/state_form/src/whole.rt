@@ -8,11 +8,12 @@ ghost use Rattle.op_form.specs.Packages.{package_encoding};
 ghost use Rattle.state_form.specs.Form.{as_package, state_encoding, state_size, IsStateForm};
 ghost use Rattle.state_form.specs.Spelled.{IsSpelled};
 
-use ecore_meta::{CompactList, List, Metamodel};
+use ecore_meta::{CompactList, Metamodel};
 use model_state::{Look, OpKind, Operation, Package, Step};
 use op_form::encode;
 use state_steps::as_steps;
 use std::alloc::{AllocError, Global};
+use texts::List;
 
 /// One operation with all steps.
 fn one_operation(alloc: Global, steps: List<Step>) -> Result<Package, AllocError>

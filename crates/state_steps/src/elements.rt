@@ -7,9 +7,10 @@ ghost use Rattle.state_steps.specs.Whole.{birth, births, elements_of};
 ghost use Rattle.edit_laws.specs.Standing.{ids_of};
 
 use containment::subtree;
-use ecore_meta::{List, Metamodel};
+use ecore_meta::Metamodel;
 use model_state::{Entry, Id, Look, Place, Step};
 use std::alloc::{AllocError, Global};
+use texts::List;
 
 /// Copies of ids, after those that are there.
 fn push_all(alloc: Global, ids: &[Id], found: &mut List<Id>) -> Result<(), AllocError>

@@ -6,9 +6,10 @@ ghost use Rattle.edit_laws.specs.Rows.{link_step, mirror_rank};
 ghost use Rattle.state_steps.specs.Whole.{leads, linked, all_linked};
 
 use containment::Slot;
-use ecore_meta::{List, Metamodel};
+use ecore_meta::Metamodel;
 use model_state::{Entry, Id, Look, Step, opposite_of};
 use std::alloc::{AllocError, Global};
+use texts::List;
 
 /// Whether the reference has no opposite, or one of a greater number.
 fn leads(meta: &Metamodel, slot: &Slot) -> bool

@@ -8,9 +8,10 @@ ghost use Rattle.state_steps.specs.Whole.{put_first, inserts, filled, all_filled
 ghost use Rattle.model_state.specs.Ranks.{most_entries};
 
 use containment::Slot;
-use ecore_meta::{List, Metamodel, Value};
+use ecore_meta::{Metamodel, Value};
 use model_state::{Id, Look, Step, is_attr};
 use std::alloc::{AllocError, Global};
+use texts::List;
 
 /// The step that sets a single attribute that isn't set.
 fn put(alloc: Global, e: &Id, f: u32, v: &Value) -> Result<Step, AllocError>

@@ -11,9 +11,10 @@ use crate::elements::{births, elements};
 use crate::links::link_all;
 use crate::values::fill_all;
 use containment::{Sort, slots_of};
-use ecore_meta::{List, Metamodel};
+use ecore_meta::Metamodel;
 use model_state::{Id, Look, Step};
 use std::alloc::{AllocError, Global};
+use texts::List;
 
 /// The steps after which the elements have their values.
 fn fill<L: Look>(

@@ -7,11 +7,12 @@ ghost use Rattle.finite_maps.specs.Equal.{text_eq};
 ghost use Rattle.std.specs.FinMap.{get, empty};
 ghost use Rattle.finite_maps.specs.Maps.{set, count};
 
-use ecore_meta::{List, Value};
+use ecore_meta::Value;
 use model_state::Id;
 use std::alloc::{AllocError, Global};
 use std::collections::BTreeMap;
 use std::marker::Model;
+use texts::List;
 
 /// Puts the values of an attribute among those of its element.
 fn write_in(

@@ -14,11 +14,11 @@ ghost use Rattle.model_state.specs.State.{place_eq};
 ghost use Rattle.step_apply.specs.Groups.{group_of, members_of, standing};
 ghost use Rattle.ranked_lists.specs.Ranks.{ranked_entry};
 
-use ecore_meta::List;
 use model_state::{Entry, Id, Place};
 use ranked_lists::RankedList;
 use std::alloc::{AllocError, Global};
 use std::collections::BTreeMap;
+use texts::List;
 
 /// The elements of each place and their ranks there. To find, put in or take out one, and to find the rank of the last,
 /// costs a logarithm. To list a place costs as many steps as elements stand in it. A list without elements is dropped.

@@ -6,11 +6,11 @@ ghost use Rattle.std.specs.FinMap.{get, empty, keys};
 ghost use Rattle.model_state.specs.Keys.{id_cmp};
 ghost use Rattle.finite_maps.specs.Maps.{set};
 
-use ecore_meta::List;
 use model_state::Id;
 use std::alloc::{AllocError, Global};
 use std::collections::BTreeMap;
 use std::marker::Model;
+use texts::List;
 
 /// The keys, in their order.
 fn keys_of(alloc: Global, tree: &BTreeMap<Id, u32>) -> Result<List<Id>, AllocError>

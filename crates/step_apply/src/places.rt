@@ -14,11 +14,11 @@ ghost use Rattle.model_state.specs.State.{place_eq, is_inside};
 ghost use Rattle.model_state.specs.Keys.{id_cmp};
 
 use crate::groups::{Groups, is_bare};
-use ecore_meta::List;
 use model_state::{Entry, Id, Place, Placed};
 use std::alloc::{AllocError, Global};
 use std::collections::BTreeMap;
 use std::marker::Model;
+use texts::List;
 
 /// How many elements stand inside an element.
 fn standing_inside(tree: &BTreeMap<Id, Placed>, e: &Id) -> usize

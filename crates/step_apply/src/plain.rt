@@ -9,9 +9,10 @@ use crate::attrs::Attrs;
 use crate::kinds::Kinds;
 use crate::places::Places;
 use crate::rows::Rows;
-use ecore_meta::{List, Value};
+use ecore_meta::Value;
 use model_state::{Entry, Id, Incoming, Look, Place, Placed};
 use std::alloc::{AllocError, Global};
+use texts::List;
 
 /// A model over ordered maps: classes, places with ranks, values of attributes, and references, with indexes of places and
 /// references.

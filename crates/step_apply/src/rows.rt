@@ -12,12 +12,12 @@ ghost use Rattle.model_state.specs.Keys.{IdBytes, RowKey, row_cmp};
 ghost use Rattle.model_state.specs.Listing.{row_incoming, last_rank, targets, incoming};
 
 use crate::groups::{drop_in, group_in, is_bare, put_in};
-use ecore_meta::List;
 use model_state::{Entry, Id, Incoming};
 use ranked_lists::RankedList;
 use std::alloc::{AllocError, Global};
 use std::collections::BTreeMap;
 use std::marker::Model;
+use texts::List;
 
 /// Whether the row begins or ends at an element.
 fn is_row_at(key: &(Id, u32, Id), e: &Id) -> bool

@@ -7,10 +7,11 @@ use crate::Plain;
 use crate::kinds::Kinds;
 use crate::places::Places;
 use crate::rows::{Rows, row_key};
-use ecore_meta::{List, Metamodel, Value};
+use ecore_meta::{Metamodel, Value};
 use model_state::{Change, Id, Place, Placed, Step, StepFault};
 use std::alloc::{AllocError, Global};
 use step_rules::{Write, take_step};
+use texts::List;
 
 /// Makes an element live, with its class.
 fn put_kind(kinds: &mut Kinds, alloc: Global, e: &Id, class: u32) -> Result<(), AllocError>

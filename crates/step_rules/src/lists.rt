@@ -3,9 +3,10 @@ ghost use Rattle.std.specs.Prelude.{◌≡◌, ◌≤◌, ◌<◌, OnOk, OnErr, 
 ghost use Rattle.std.specs.List.{insert, remove};
 ghost use Rattle.model_state.specs.Lists.{shifted};
 
-use ecore_meta::{List, Value};
+use ecore_meta::Value;
 use std::alloc::{AllocError, Global};
 use std::mem::replace;
+use texts::List;
 
 /// Puts a value in, before the one at the index or last. A list that has no room for it makes room for more. The error is
 /// out of memory.

@@ -9,8 +9,9 @@ ghost use Rattle.model_state.specs.declared.step.Step.TheVariants.{Move, RerankP
 
 use crate::Write;
 use crate::queries::{place_is_live, stands_at, stands_in};
-use ecore_meta::{List, Metamodel};
+use ecore_meta::Metamodel;
 use model_state::{Id, Place, StepFault, has_room, may_move};
+use texts::List;
 
 fn names(ids: &[Id], e: &Id) -> bool
     ensures { result ≡ list_any (text_eq e.now) ids.now }

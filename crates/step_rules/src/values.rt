@@ -12,11 +12,12 @@ ghost use Rattle.model_state.specs.Good.{Good};
 ghost use Rattle.model_state.specs.declared.step.Step.TheVariants.{Put};
 
 use crate::Write;
-use ecore_meta::{List, Metamodel, Value};
+use ecore_meta::{Metamodel, Value};
 use model_state::{
     Id, StepFault, attr_fits, class_has, is_attr, is_default, is_same_option, is_same_value,
 };
 use std::alloc::{AllocError, Global};
+use texts::List;
 
 fn may_be(meta: &Metamodel, f: u32, v: &Option<Value>) -> bool
     ensures { result ≡ value_fits meta.now f v.now }

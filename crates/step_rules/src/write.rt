@@ -9,9 +9,10 @@ ghost use Rattle.model_state.specs.State.{is_live, place_eq, row_count, value_co
 ghost use Rattle.model_state.specs.Steps.{place_live, mirror_given, mirror_write};
 
 use crate::lists::{copied, insert_in, remove_in, shift_in};
-use ecore_meta::{List, Value};
+use ecore_meta::Value;
 use model_state::{Id, Look, Place};
 use std::alloc::{AllocError, Global};
+use texts::List;
 
 /// A model whose maps can be written: what the steps ask of it beside its queries, and what they write. After an error,
 /// which is out of memory, nothing has changed.

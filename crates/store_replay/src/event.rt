@@ -7,7 +7,6 @@ ghost use Rattle.script_lang.specs.Reply.{printed};
 ghost use Rattle.script_lang.specs.declared.reply.Last.TheVariants.{No};
 ghost use Rattle.store_replay.specs.Printing.{IsPlayed, IsPlayedEvent, can_print, said_of};
 
-use ecore_meta::List;
 use history_tree::History;
 use op_form::Event;
 use replay_script::{PrintFault, line_of};
@@ -15,6 +14,7 @@ use repo_state::Repo;
 use script_lang::{Last, Refusal, Reply, print_reply};
 use std::alloc::{AllocError, Global};
 use store_session::Played;
+use texts::List;
 
 /// What is printed of an event.
 #[derive(Drop)]

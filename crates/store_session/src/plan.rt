@@ -18,7 +18,6 @@ ghost use Rattle.store_session.specs.declared.answered.SessionFault.TheVariants.
 
 use crate::answered::{Answered, SessionFault, kind_of};
 use commit_journal::{Journal, Prepared, give_up};
-use ecore_meta::Text;
 use event_play::play;
 use host_port::Host;
 use op_form::Event;
@@ -28,6 +27,7 @@ use repo_state::Repo;
 use script_lang::print_reply;
 use state_cache::Cache;
 use std::alloc::{AllocError, Global};
+use texts::Text;
 
 /// All that answering a command takes: the bytes of the reply, and the record of the event. No more memory is needed.
 #[derive(Drop)]

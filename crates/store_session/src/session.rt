@@ -17,7 +17,6 @@ use crate::answered::{Answered, SessionFault};
 use crate::opening::Opening;
 use crate::plan::{answer, answer_quietly};
 use commit_journal::Journal;
-use ecore_meta::Text;
 use host_port::Host;
 use page_pool::Pool;
 use repo_core::Counts;
@@ -25,6 +24,7 @@ use repo_state::Repo;
 use state_cache::Cache;
 use std::alloc::{AllocError, Global};
 use std::marker::Model;
+use texts::Text;
 
 /// A store that is open, its repository, and a pool of frames for its records and for states of versions, which a cache keeps. Between two
 /// commands the cache's frames alone are out.

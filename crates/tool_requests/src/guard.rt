@@ -7,10 +7,10 @@ ghost use Rattle.tool_requests.specs.Words.{command_in};
 ghost use Rattle.tool_requests.specs.Denials.{branch_at, rule_against, denial, refusal_by};
 
 use access_rules::{Access, Policy, check, workspace_in};
-use ecore_meta::{List, Text};
 use repo_state::Repo;
 use script_lang::{Command, Last, ParseFault, Refusal, Reply, parse_line, print_reply};
 use std::alloc::{AllocError, Global};
+use texts::{List, Text};
 
 /// The most bytes of a text that is read as a line.
 const MOST_LINE_BYTES: usize = 4_294_967_294;

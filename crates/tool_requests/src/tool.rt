@@ -1,7 +1,7 @@
 //! What the words of the command line ask for.
 use crate::guard::Guard;
-use ecore_meta::Text;
 use script_lang::Spec;
+use texts::Text;
 
 /// What the words of the command line ask for.
 #[derive(Drop)]

@@ -7,10 +7,10 @@ ghost use Rattle.tool_requests.specs.declared.tool.Tool.TheVariants.{Query, Blam
 use crate::guard::{Guard, command_in};
 use crate::tool::{Request, Tool};
 use access_rules::{Policy, PolicyFault, read_policy};
-use ecore_meta::Text;
 use model_state::is_name;
 use script_lang::{Command, Spec};
 use std::alloc::{AllocError, Global};
+use texts::Text;
 
 /// The most bytes of a policy.
 const MOST_POLICY_BYTES: usize = 4_294_967_295;

@@ -12,13 +12,14 @@ ghost use Rattle.version_states.specs.Cached.{AreForms, LeavesFirst, MayUse, Use
 ghost use Rattle.version_states.specs.Taking.{LedTo, StepsLedTo};
 
 use crate::cached::{cached_state, keep_state, nearest};
-use ecore_meta::{CompactList, List, Metamodel};
+use ecore_meta::{CompactList, Metamodel};
 use history_tree::History;
 use model_state::{OpKind, Operation, Package, Step, StepFault};
 use page_pool::Pool;
 use reversals::reverse;
 use state_cache::Cache;
 use std::alloc::{AllocError, Global};
+use texts::List;
 use working_model::Working;
 
 /// The steps of the one operation of a package.

@@ -8,11 +8,11 @@ ghost use Rattle.plain_repository.specs.Events.{playable_with, suits};
 ghost use Rattle.repo_core.specs.Decisions.{seen, CanMake, CanMakeIt};
 
 use commit_journal::{Fit, fits};
-use ecore_meta::{List, Text};
 use op_form::{Event, encode_event, has_encoding};
 use repo_state::Repo;
 use script_lang::{Last, Refusal, Reply};
 use std::alloc::{AllocError, Global};
+use texts::{List, Text};
 
 /// An event that is to be made, and its bytes.
 #[derive(Drop)]

@@ -25,7 +25,6 @@ ghost use Rattle.repo_state.specs.Working.{IsWorkingModel};
 
 use crate::deciding::answers::{Decision, refuse, refuse_or_fail, tell_lines, with_event};
 use crate::deciding::naming::unknown;
-use ecore_meta::List;
 use merge_plans::{copy_operations, first_interfering, have_pair, path_after};
 use model_state::Package;
 use op_form::Event;
@@ -36,6 +35,7 @@ use reversals::reverse;
 use script_lang::Refusal;
 use state_cache::Cache;
 use std::alloc::{AllocError, Global};
+use texts::List;
 use version_states::stop_in;
 use working_model::Working;
 

@@ -12,7 +12,6 @@ ghost use Rattle.repo_core.specs.Decisions.{seen, CanMakeIt};
 
 use crate::deciding::answers::{Decision, refuse, with_event, with_words};
 use crate::deciding::naming::{find, text_of, unknown};
-use ecore_meta::{List, Text};
 use history_tree::Found;
 use op_form::Event;
 use page_pool::Pool;
@@ -21,6 +20,7 @@ use script_lang::{Refusal, Spec};
 use state_cache::Cache;
 use std::alloc::{AllocError, Global};
 use std::fmt::Write;
+use texts::{List, Text};
 
 /// `checkout SPEC`: a workspace at the version, whose text is printed.
 #[tactic(auto, unfolding(plain_repository::specs::Checkouts::decide_checkout), using(version_states::proofs::Caching::uses_none))]

@@ -9,11 +9,11 @@ ghost use Rattle.repo_core.specs.Decisions.{seen, CanMakeIt};
 
 use crate::deciding::answers::{Decision, refuse, refuse_with};
 use data_lines::bucket_lines;
-use ecore_meta::Text;
 use footprint::Buckets;
 use merge_plans::are_choices;
 use script_lang::Refusal;
 use std::alloc::{AllocError, Global};
+use texts::Text;
 
 /// A text that may be left out, as the text or the empty one.
 pub(crate) fn text_or_empty(alloc: Global, text: &Option<Text>) -> Result<Text, AllocError>

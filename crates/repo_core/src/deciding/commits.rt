@@ -9,12 +9,12 @@ ghost use Rattle.repo_core.specs.Decisions.{seen, CanMakeIt, IsAuthor};
 use crate::deciding::answers::{Decision, refuse, tell_lines, with_event, with_number};
 use crate::deciding::choosing::text_or_empty;
 use crate::deciding::naming::{find, unknown};
-use ecore_meta::{List, Text};
 use history_tree::Signature;
 use op_form::Event;
 use repo_state::{Begun, Repo, Workspace};
 use script_lang::{Refusal, Spec};
 use std::alloc::{AllocError, Global};
+use texts::{List, Text};
 
 /// The event by which a workspace makes a version: Signed where there is a signature.
 fn version_event(ws: u32, signature: Option<Signature>, message: Text) -> Event

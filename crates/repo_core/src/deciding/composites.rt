@@ -5,11 +5,11 @@ ghost use Rattle.model_state.specs.Names.{is_name};
 ghost use Rattle.repo_core.specs.Decisions.{seen, CanMakeIt};
 
 use crate::deciding::answers::{Decision, refuse, with_event};
-use ecore_meta::Text;
 use op_form::Event;
 use repo_state::Repo;
 use script_lang::Refusal;
 use std::alloc::{AllocError, Global};
+use texts::Text;
 
 /// `begin WS NAME`.
 #[tactic(auto, unfolding(plain_repository::specs::Composites::decide_begin))]

@@ -4,11 +4,11 @@ ghost use Rattle.plain_repository.specs.Local.{decide_undo, decide_discard};
 ghost use Rattle.repo_core.specs.Decisions.{seen, CanMakeIt};
 
 use crate::deciding::answers::{Decision, refuse, tell_lines, with_event};
-use ecore_meta::List;
 use op_form::Event;
 use repo_state::Repo;
 use script_lang::Refusal;
 use std::alloc::{AllocError, Global};
+use texts::List;
 
 /// `undo WS`.
 #[tactic(auto, unfolding(plain_repository::specs::Local::decide_undo))]

@@ -10,13 +10,13 @@ ghost use Rattle.repo_core.specs.Decisions.{seen, CanMakeIt};
 
 use crate::deciding::answers::{Decision, refuse, tell_number, with_number};
 use crate::deciding::choosing::{refused_choices, text_or_empty};
-use ecore_meta::Text;
 use footprint::Buckets;
 use merge_plans::Plan;
 use op_form::Event;
 use repo_state::{Begun, Repo, Workspace};
 use script_lang::Refusal;
 use std::alloc::{AllocError, Global};
+use texts::Text;
 
 /// `update WS [CHOICES]`: the workspace comes to its branch's head.
 #[tactic(auto, unfolding(plain_repository::specs::Merging::decide_update))]

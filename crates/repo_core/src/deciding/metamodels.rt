@@ -7,12 +7,13 @@ ghost use Rattle.repo_core.specs.Decisions.{seen, CanMakeIt};
 
 use crate::deciding::answers::{Decision, refuse, tell_lines, with_event};
 use ecore_json::{EcoreFault, read_metamodel};
-use ecore_meta::{List, Metamodel, Text};
+use ecore_meta::Metamodel;
 use metamodel_growth::{EvolveFault, evolve, is_same};
 use op_form::Event;
 use repo_state::{Begun, Repo};
 use script_lang::Refusal;
 use std::alloc::{AllocError, Global};
+use texts::{List, Text};
 
 /// Whether a text is read as a metamodel, or its first fault.
 fn reads(alloc: Global, text: &str) -> Result<(), EcoreFault>

@@ -8,12 +8,12 @@ ghost use Rattle.repo_state.specs.Working.{IsWorkingModel};
 ghost use Rattle.repo_core.specs.Needs.{NeedsNone, creation_without_id, given_id, model_for, with_id};
 ghost use Rattle.script_lang.specs.Spelling.{IsCommand};
 
-use ecore_meta::Text;
 use edits::Edit;
 use model_graph::Graph;
 use repo_state::{Begun, Repo, Workspace};
 use script_lang::Command;
 use std::alloc::{AllocError, Global};
+use texts::Text;
 use working_model::Working;
 
 /// The workspace whose working model a command needs.

@@ -8,7 +8,7 @@ ghost use Rattle.version_states.specs.Cached.{LeavesFirst, MayUse, Uses};
 ghost use Rattle.repo_state.specs.Cached.{HasForms};
 
 use crate::versions::version_state;
-use ecore_meta::{List, Metamodel, Text};
+use ecore_meta::Metamodel;
 use emfjson_text::write_model;
 use history_tree::{FindFault, Found, History};
 use model_graph::Graph;
@@ -17,6 +17,7 @@ use repo_state::{Begun, Repo};
 use script_lang::{Refusal, Spec};
 use state_cache::Cache;
 use std::alloc::{AllocError, Global};
+use texts::{List, Text};
 
 /// The version that a word names, and its branch.
 pub(crate) fn find(history: &History, spec: &Spec) -> Result<Found, FindFault>

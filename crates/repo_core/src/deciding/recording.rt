@@ -8,7 +8,6 @@ ghost use Rattle.repo_core.specs.Decisions.{seen, CanMakeIt};
 
 use crate::deciding::answers::{Decision, number_words, refuse, tell, with_room};
 use crate::deciding::models::settle;
-use ecore_meta::{List, Text};
 use edit_laws::EditFault;
 use edits::{Edit, Recorded};
 use emfjson_model::read_model;
@@ -21,6 +20,7 @@ use recorder::take_edit;
 use repo_state::{Begun, Repo};
 use script_lang::Refusal;
 use std::alloc::{AllocError, Global};
+use texts::{List, Text};
 
 /// The refusal that an edit's fault is; out of memory is none.
 fn refusal_of(fault: EditFault) -> Option<Refusal>

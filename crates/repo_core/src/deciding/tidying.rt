@@ -6,13 +6,14 @@ ghost use Rattle.repo_core.specs.Decisions.{seen, CanMakeIt};
 
 use crate::deciding::answers::{Decision, refuse, tell_lines, with_event};
 use canoniser::is_tidy;
-use ecore_meta::{List, Metamodel};
+use ecore_meta::Metamodel;
 use merge_plans::copy_operations;
 use model_state::Operation;
 use op_form::Event;
 use repo_state::{Begun, Repo};
 use script_lang::Refusal;
 use std::alloc::{AllocError, Global};
+use texts::List;
 
 /// Whether operations are tidy.
 fn are_tidy(alloc: Global, operations: &[Operation], meta: &Metamodel) -> Result<bool, AllocError>

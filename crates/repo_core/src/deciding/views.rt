@@ -16,7 +16,7 @@ use crate::deciding::answers::{Decision, refuse, tell_lines};
 use crate::deciding::models::settle;
 use crate::deciding::naming::{find, model_lines, text_of, unknown};
 use data_lines::{log_lines, open_lines, operation_lines, package_lines, validate_lines};
-use ecore_meta::{List, Metamodel, Text};
+use ecore_meta::Metamodel;
 use merge_plans::copy_operations;
 use model_graph::Graph;
 use op_form::is_package;
@@ -25,6 +25,7 @@ use repo_state::{Begun, Composite, Repo};
 use script_lang::{Refusal, Spec};
 use state_cache::Cache;
 use std::alloc::{AllocError, Global};
+use texts::{List, Text};
 
 /// Lines come after others.
 fn push_lines(alloc: Global, lines: &mut List<Text>, more: &List<Text>) -> Result<(), AllocError>
