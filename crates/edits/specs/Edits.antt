@@ -292,7 +292,11 @@ operation_kind (Clears e f) = kinds.ManyAttribute
 operation_kind (Inserts e f k v) = kinds.ManyAttribute
 operation_kind (Removes e f k) = kinds.ManyAttribute
 operation_kind (Shifts e f from to) = kinds.ManyAttribute
-operation_kind effect = kinds.Reference
+operation_kind (Refers e f b) = kinds.Reference
+operation_kind (Forgets e f) = kinds.Reference
+operation_kind (Links e f b k) = kinds.Reference
+operation_kind (Unlinks e f b) = kinds.Reference
+operation_kind (Reorders e f b k) = kinds.Reference
 
 -- the id of the element that is created
 abbrev pub new_id : Effect → Option IdBytes

@@ -92,7 +92,23 @@ playable_with s (Some meta) (Drop ws) = is_some (workspace_of s ws)
 playable_with s (Some meta) (Evolve text) = can_evolve meta text
 playable_with s (Some meta) Upgrade = true
 playable_with s (Some meta) (Signed ws author moment message) = is_name author && can_commit s.history (workspace_of s ws)
-playable_with s meta event = false
+playable_with s None (Checkout version branch) = false
+playable_with s None (Edit ws operations) = false
+playable_with s None (Begin ws name) = false
+playable_with s None (End ws) = false
+playable_with s None (Undo ws) = false
+playable_with s None (Discard ws) = false
+playable_with s None (Tidy ws) = false
+playable_with s None (Commit ws message) = false
+playable_with s None (Branch ws name) = false
+playable_with s None (Tag name version) = false
+playable_with s None (Update ws letters) = false
+playable_with s None (Merge ws branch letters) = false
+playable_with s None (Drop ws) = false
+playable_with s None (Evolve text) = false
+playable_with s None Upgrade = false
+playable_with s None (Signed ws author moment message) = false
+playable_with s (Some meta) (Init text) = false
 
 -- Does the event suit a store that is upgraded, or one that is not? A version is signed in the one and not in the other.
 abbrev pub suits : Bool → Event → Bool

@@ -19,7 +19,29 @@ model_for (commands.Edit ws edit) = Some ws
 model_for (commands.Import ws) = Some ws
 model_for (commands.Show ws) = Some ws
 model_for (commands.Validate ws) = Some ws
-model_for command = None
+model_for commands.Init = None
+model_for commands.Evolve = None
+model_for (commands.Load ws) = None
+model_for (commands.Checkout spec) = None
+model_for (commands.Begin ws name) = None
+model_for (commands.End ws) = None
+model_for (commands.Undo ws) = None
+model_for (commands.Discard ws) = None
+model_for (commands.Tidy ws) = None
+model_for (commands.Apply ws bytes) = None
+model_for (commands.Changes ws) = None
+model_for (commands.Cat spec) = None
+model_for (commands.Commit ws message) = None
+model_for (commands.Signed ws author moment message) = None
+model_for (commands.Branch ws name) = None
+model_for (commands.Tag name spec) = None
+model_for commands.Log = None
+model_for (commands.Package spec) = None
+model_for (commands.Update ws choices) = None
+model_for (commands.Merge ws branch choices) = None
+model_for (commands.Revert ws version) = None
+model_for (commands.Drop ws) = None
+model_for commands.Upgrade = None
 
 -- the model is the one that a command needs
 abbrev pub IsModelFor : State → Command → models.State → Type 0
